@@ -1,0 +1,4 @@
+pub mod Cause
+pub mod History
+pub mod Crash
+pub mod Examples
