@@ -1,0 +1,30 @@
+//! The numbers that name things in an image, keys and their bytes, commands, answers and the names of what fails.
+//!
+//! Every other crate stands on these types. A command's and an answer's text is not here: see the grammar of scripts.
+#![tactic(auto)]
+
+mod answer;
+mod command;
+mod counters;
+mod fault;
+mod group;
+mod key;
+mod names;
+mod piece;
+mod refusal;
+mod rule;
+mod sequence;
+mod steps;
+
+pub use answer::{Answer, Row};
+pub use command::Command;
+pub use counters::{Counters, Which};
+pub use fault::{BlockFault, Cause, NoMemory, Stop};
+pub use group::GroupId;
+pub use key::Key;
+pub use names::{Address, Generation, Ino, RootId};
+pub use piece::Piece;
+pub use refusal::Refusal;
+pub use rule::Rule;
+pub use sequence::{GroupList, OwnerList, Pieces, Rows, Sequence};
+pub use steps::Steps;

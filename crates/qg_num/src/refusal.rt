@@ -1,0 +1,46 @@
+use crate::{GroupId, Which};
+
+/// Why a command is refused (this project's own). A refused command changes nothing.
+#[derive(Clone, Copy, Debug, PartialEq, Eq)]
+pub enum Refusal {
+    /// There is no such subvolume.
+    NoSub,
+    /// There is no such file there.
+    NoFile,
+    /// A position, length or size is no multiple of a sector, or a length is 0.
+    Align,
+    /// An end or a size is past the largest file, or a write is longer than the longest extent.
+    Far,
+    /// The source range ends past the source's size.
+    Source,
+    /// Both ranges are of one file and share a byte.
+    Overlap,
+    /// The reservation passes this limit of this group.
+    Quota { group: GroupId, which: Which },
+    /// No run of free sectors is that long.
+    NoRun,
+    /// Fewer slots are free than are needed.
+    NoNodes { free: u64, need: u64 },
+    /// Quota is off.
+    NoQuota,
+    /// Quota is on.
+    QuotaOn,
+    /// There is no such group.
+    NoGroup,
+    /// The group is there already.
+    GroupThere,
+    /// The group's level is not one that the command takes.
+    Level,
+    /// The relation is there already.
+    Related,
+    /// There is no such relation.
+    NotRelated,
+    /// The group has members, or is that of a live subvolume.
+    Busy,
+    /// The top-level subvolume is not deleted.
+    TopLevel,
+    /// The command would pass a limit of the store.
+    TooMany,
+    /// The generation to come is past the last one.
+    NoGeneration,
+}
