@@ -1,0 +1,32 @@
+-- The fields of a text of bytes: numbers with the lowest byte first, and zeros (on-disk format, "all fields are little-endian").
+use Rattle.std.specs.Prelude.{ℕ, List, drop, replicate, slice_range, Bool, ◌==◌}
+use Rattle.std.specs.List.{list_all}
+use Rattle.byteorder.specs.Endian.{little_bytes, little_number}
+
+-- a number in 8, 4 or 2 bytes
+unfoldable pub u64_bytes : ℕ → List ℕ
+u64_bytes n = little_bytes 8 n
+
+unfoldable pub u32_bytes : ℕ → List ℕ
+u32_bytes n = little_bytes 4 n
+
+unfoldable pub u16_bytes : ℕ → List ℕ
+u16_bytes n = little_bytes 2 n
+
+-- n bytes of 0
+abbrev pub zeros : ℕ → List ℕ
+zeros n = replicate n 0
+
+-- the number in the 8, 4 or 2 bytes from a place on
+unfoldable pub u64_at : ℕ → List ℕ → ℕ
+u64_at place bytes = little_number 8 (drop place bytes)
+
+unfoldable pub u32_at : ℕ → List ℕ → ℕ
+u32_at place bytes = little_number 4 (drop place bytes)
+
+unfoldable pub u16_at : ℕ → List ℕ → ℕ
+u16_at place bytes = little_number 2 (drop place bytes)
+
+-- the bytes from one place to another are 0
+abbrev pub is_zero : ℕ → ℕ → List ℕ → Bool
+is_zero from to bytes = list_all (λ byte. byte == 0) (slice_range bytes from to)
