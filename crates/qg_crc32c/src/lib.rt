@@ -1,0 +1,2 @@
+//! CRC-32C, the checksum of every node and superblock.
+#![tactic(auto)]
