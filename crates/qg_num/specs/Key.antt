@@ -1,14 +1,18 @@
 -- Keys: their order and their bytes (on-disk format, "Key").
-use Rattle.std.specs.Prelude.{ℕ, List, ◌∷◌, ◌++◌}
+use Rattle.std.specs.Prelude.{ℕ, ◌+◌, List, ◌∷◌, ◌++◌, slice_index}
 use Rattle.std.specs.Ordering.{nat_cmp, ordering_then}
 use Rattle.std.specs.declared.cmp.Ordering.{Ordering}
-use Rattle.byteorder.specs.Endian.{little_bytes}
+use Rattle.qg_bytes.specs.Fields.{u64_bytes, u64_at}
 use Rattle.qg_num.specs.declared.key.Key.{Key}
 
 -- by object, then by type, then by offset
 abbrev pub key_cmp : Key → Key → Ordering
 key_cmp a b = ordering_then (nat_cmp a.objectid b.objectid) (ordering_then (nat_cmp a.kind b.kind) (nat_cmp a.offset b.offset))
 
--- the object's number in 8 bytes, the type in one, the offset in 8, each number's lowest byte first
+-- the 17 bytes of a key: the object's number in 8, the type in one, the offset in 8
 abbrev pub key_bytes : Key → List ℕ
-key_bytes key = little_bytes 8 key.objectid ++ key.kind ∷ little_bytes 8 key.offset
+key_bytes key = u64_bytes key.objectid ++ key.kind ∷ u64_bytes key.offset
+
+-- the key whose 17 bytes stand at a place
+abbrev pub key_at : ℕ → List ℕ → Key
+key_at place bytes = record { objectid = u64_at place bytes; kind = slice_index bytes (place + 8); offset = u64_at (place + 9) bytes }
