@@ -1,0 +1,3 @@
+pub mod ItemText
+pub mod ItemReading
+pub mod Examples

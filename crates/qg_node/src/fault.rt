@@ -1,0 +1,27 @@
+/// The first rule that bytes break as a node, in the order in which the rules are looked at (this project's own).
+#[derive(Clone, Copy, Debug, PartialEq, Eq)]
+pub enum NodeFault {
+    /// The checksum field is not the checksum followed by zeros.
+    Csum,
+    /// The header names another address.
+    Place,
+    /// The level is greater than 7.
+    Level,
+    /// A node above the leaves has no pointer.
+    Empty,
+    /// Item headers, bodies or pointers do not fit, or a body does not begin where it should.
+    Bounds,
+    /// Keys do not ascend strictly.
+    Order,
+    /// A byte that should be 0 is not.
+    Slack,
+}
+
+/// Why no node was read.
+#[derive(Clone, Copy, Debug, PartialEq, Eq)]
+pub enum ReadFault {
+    /// The bytes are no node: the first rule that they break.
+    Bad(NodeFault),
+    /// Memory was refused.
+    NoMemory,
+}
