@@ -1,7 +1,11 @@
 -- The fields of a text of bytes: numbers with the lowest byte first, and zeros (on-disk format, "all fields are little-endian").
-use Rattle.std.specs.Prelude.{ℕ, List, drop, replicate, slice_range, Bool, ◌==◌}
+use Rattle.std.specs.Prelude.{ℕ, ◌<◌, List, drop, replicate, slice_index, slice_range, Bool, ◌==◌}
 use Rattle.std.specs.List.{list_all}
 use Rattle.byteorder.specs.Endian.{little_bytes, little_number}
+
+-- each number of the list is a byte
+abbrev pub IsBytes : List ℕ → Type 0
+IsBytes bytes = (i : ℕ) → slice_index bytes i < 256
 
 -- a number in 8, 4 or 2 bytes
 unfoldable pub u64_bytes : ℕ → List ℕ

@@ -1,0 +1,4 @@
+pub mod Zeros
+pub mod Numbers
+pub mod Standing
+pub mod Written
