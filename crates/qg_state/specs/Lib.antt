@@ -1,0 +1,11 @@
+pub mod Stage
+pub mod Record
+pub mod State
+pub mod Reach
+pub mod Members
+pub mod Counts
+pub mod Limits
+pub mod Space
+pub mod Owed
+pub mod Need
+pub mod Examples

@@ -1,0 +1,96 @@
+-- The state of the machine (this project's own, after btrfs-qgroup(8) and fs/btrfs/qgroup.c).
+--
+-- Each table ascends by number. Addresses, sizes and counters are in bytes.
+use Rattle.std.specs.Prelude.{ℕ, ◌+◌, Bool, List, Option, Some, None, [], is_some}
+use Rattle.std.specs.Option.{option_map}
+use Rattle.qg_num.specs.declared.command.Command.{Command}
+use Rattle.qg_num.specs.declared.counters.Counters.{Counters}
+use Rattle.qg_node.specs.declared.node.Node.{Node}
+use Rattle.qg_node.specs.Nodes.{header_of}
+use Rattle.qg_super.specs.declared.sizes.Sizes.{Sizes}
+use Rattle.qg_image.specs.Table.{value_at, has_key}
+use Rattle.qg_image.specs.FilesOf.{File}
+use Rattle.qg_state.specs.Record.{Record}
+
+-- a subvolume: its files by number, the address of its root node, and the generation of the commit that last made a snapshot of it or
+-- made it by one, else 0
+pub record Subvolume : Type 0 where
+  pub files : List (ℕ × File)
+  pub root : ℕ
+  pub last_snapshot : ℕ
+
+-- a node of the layout, and whether it owes its children shared references (FULL_BACKREF)
+pub record Placed : Type 0 where
+  pub node : Node
+  pub full : Bool
+
+-- a quota group: its stored counters, its limits, and the generation of the commit that last changed the counters
+pub record Group : Type 0 where
+  pub counters : Counters
+  pub max_rfer : Option ℕ
+  pub max_excl : Option ℕ
+  pub stamp : ℕ
+
+-- quota while it is on: the groups by number, and the relations, each a member and its parent
+pub record Quota : Type 0 where
+  pub groups : List (ℕ × Group)
+  pub pairs : List (ℕ × ℕ)
+
+-- a data extent, or a node, with its bytes
+pub record Element : Type 0 where
+  pub address : ℕ
+  pub bytes : ℕ
+
+-- an accepted file command: the subvolume that it edits and the bytes that it reserved, its need of slots and its copies when it was
+-- accepted, and what it touched
+pub record Accepted : Type 0 where
+  pub command : Command
+  pub sub : ℕ
+  pub amount : ℕ
+  pub need : ℕ
+  pub copies : ℕ
+  pub touched : ℕ
+
+-- what the last commit holds: the addresses of its nodes, those of the root, extent and quota trees among them; its data extents; and
+-- what the items of those three trees name
+pub record Committed : Type 0 where
+  pub nodes : List ℕ
+  pub extents : List Element
+  pub records : List Record
+
+-- the state: the sizes of the image, the committed generation, the subvolumes by number, the nodes that some subvolume reaches by
+-- address, quota (none while it is off), the file commands accepted since the last commit, the newest first, and what that commit holds
+pub record State : Type 0 where
+  pub sizes : Sizes
+  pub generation : ℕ
+  pub subvolumes : List (ℕ × Subvolume)
+  pub layout : List (ℕ × Placed)
+  pub quota : Option Quota
+  pub pending : List Accepted
+  pub held : Committed
+
+-- the generation to come
+abbrev pub next_generation : State → ℕ
+next_generation state = state.generation + 1
+
+-- the subvolume is there
+abbrev pub has_subvolume : State → ℕ → Bool
+has_subvolume state sub = has_key sub state.subvolumes
+
+-- a subvolume's file
+abbrev pub files_in_sub : State → ℕ → List (ℕ × File)
+files_in_sub state sub = files_or_none (value_at sub state.subvolumes) where
+  files_or_none : Option Subvolume → List (ℕ × File)
+  files_or_none None = []
+  files_or_none (Some subvolume) = subvolume.files
+
+abbrev pub file_at : State → ℕ → ℕ → Option File
+file_at state sub ino = value_at ino (files_in_sub state sub)
+
+-- the layout's node at an address
+abbrev pub node_at : List (ℕ × Placed) → ℕ → Option Node
+node_at layout address = option_map (λ placed. placed.node) (value_at address layout)
+
+-- quota is on
+abbrev pub is_quota_on : State → Bool
+is_quota_on state = is_some state.quota
