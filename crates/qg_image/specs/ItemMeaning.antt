@@ -28,6 +28,12 @@ abbrev pub some_passes : {A : Type 0} → (A → Bool) → Option A → Bool
 some_passes test None = false
 some_passes test (Some x) = test x
 
+-- the first of several that is something
+abbrev pub first_some : {A : Type 0} → List (Option A) → Option A
+first_some [] = None
+first_some (None ∷ later) = first_some later
+first_some (Some x ∷ later) = Some x
+
 -- the first of two that is something
 infixr 20 ◌orelse◌
 abbrev pub ◌orelse◌ : {A : Type 0} → Option A → Option A → Option A

@@ -1,20 +1,19 @@
 -- Small states, and what is counted, owed and needed in them. All numbers were worked out by hand.
-use Rattle.std.specs.Prelude.{◌≡◌, ℕ, ◌+◌, ◌*◌, ◌^◌, List, [], ◌∷◌, map, Some, None, refl}
+use Rattle.std.specs.Prelude.{◌≡◌, ℕ, ◌+◌, ◌*◌, ◌^◌, false, List, [], ◌∷◌, map, Some, None, refl}
 use Rattle.std.specs.List.{flat_map, sum_by}
-use Rattle.qg_bytes.specs.Fields.{u64_bytes, u32_bytes, u16_bytes, u64_at, u32_at}
+use Rattle.qg_bytes.specs.Fields.{u64_bytes, u16_bytes, u64_at}
 use Rattle.qg_num.specs.declared.piece.Piece.{Piece}
-use Rattle.qg_num.specs.declared.counters.Which.TheVariants.{Rfer, Excl}
+use Rattle.qg_num.specs.declared.counters.Which.TheVariants.{Rfer}
 use Rattle.qg_node.specs.declared.item.Item.{Item}
-use Rattle.qg_node.specs.declared.node.Node.{Node}
-use Rattle.qg_node.specs.declared.node.Node.TheVariants.{Leaf, Inner}
-use Rattle.qg_items.specs.declared.extent.Reference.TheVariants.{KeyedBlock, SharedBlock, KeyedData, SharedData}
+use Rattle.qg_node.specs.declared.node.Node.TheVariants.{Leaf}
+use Rattle.qg_items.specs.declared.extent.Reference.TheVariants.{KeyedBlock, KeyedData}
 use Rattle.qg_items.specs.ItemText.{inode_text, extent_data_text}
 use Rattle.qg_items.specs.ItemReading.{inode_read, extent_data_read}
 use Rattle.qg_super.specs.declared.sizes.Sizes.{Sizes}
 use Rattle.qg_super.specs.Places.{is_slot, is_run}
 use Rattle.qg_image.specs.FilesOf.{File}
 use Rattle.qg_image.specs.ItemMeaning.{file_part}
-use Rattle.qg_state.specs.State.{State, Subvolume, Placed, Group, Quota, Element}
+use Rattle.qg_state.specs.State.{State, Subvolume, Placed, Group, Quota}
 use Rattle.qg_state.specs.Reach.{pieces_of, reach_of_root, reach, owners}
 use Rattle.qg_state.specs.Members.{leads, is_below, members, next_subvolume}
 use Rattle.qg_state.specs.Counts.{reach_of_group, is_reached_outside, referenced, exclusive}
@@ -80,10 +79,10 @@ file size pieces = record { size = size; generation = 2; transid = 2; pieces = p
 
 -- ---- the first write: 8192 bytes in subvolume 5
 
-abbrev written : List (ℕ × File)
+abbrev pub written : List (ℕ × File)
 written = (257, file 8192 (piece 0 8192 0 ∷ [])) ∷ []
 
-abbrev first_write : State
+abbrev pub first_write : State
 first_write = state_of ((5, subvolume 1048576 written) ∷ []) (leaf 1048576 5 written ∷ []) (5 ∷ []) []
 
 first_write-referenced : referenced first_write (quota_of (5 ∷ []) []) 5 ≡ 24576
@@ -96,13 +95,13 @@ first_write-exclusive = refl
 
 -- ---- its snapshot: subvolume 256 has a root of its own and shares the extent; both groups are members of 1/1
 
-abbrev one_one : ℕ
+abbrev pub one_one : ℕ
 one_one = 2 ^ 48 + 1
 
-abbrev shared_groups : Quota
+abbrev pub shared_groups : Quota
 shared_groups = quota_of (5 ∷ 256 ∷ one_one ∷ []) ((5, one_one) ∷ (256, one_one) ∷ [])
 
-abbrev snapshot : State
+abbrev pub snapshot : State
 snapshot = state_of ((5, subvolume 1048576 written) ∷ (256, subvolume 1064960 written) ∷ []) (leaf 1048576 5 written ∷ leaf 1064960 256 written ∷ []) (5 ∷ 256 ∷ one_one ∷ []) ((5, one_one) ∷ (256, one_one) ∷ [])
 
 snapshot-referenced : referenced snapshot shared_groups 256 ≡ 24576
@@ -131,7 +130,7 @@ unfolding owed_count owed owed_by_node file_part inode_read extent_data_read ino
 snapshot-owed = refl
 
 -- a subvolume that is gone is a member while its group stands, and reaches nothing
-abbrev deleted : State
+abbrev pub deleted : State
 deleted = state_of ((5, subvolume 1048576 written) ∷ []) (leaf 1048576 5 written ∷ []) (5 ∷ 256 ∷ one_one ∷ []) ((5, one_one) ∷ (256, one_one) ∷ [])
 
 deleted-is_member : members shared_groups one_one ≡ 5 ∷ 256 ∷ []
@@ -144,13 +143,13 @@ deleted-referenced = refl
 
 -- ---- a diamond: 0/5 leads to 2/1 by 1/1 and by 1/2, and counts there once
 
-abbrev one_two : ℕ
+abbrev pub one_two : ℕ
 one_two = 2 ^ 48 + 2
 
-abbrev two_one : ℕ
+abbrev pub two_one : ℕ
 two_one = 2 * 2 ^ 48 + 1
 
-abbrev diamond : Quota
+abbrev pub diamond : Quota
 diamond = quota_of (5 ∷ one_one ∷ one_two ∷ two_one ∷ []) ((5, one_one) ∷ (5, one_two) ∷ (one_one, two_one) ∷ (one_two, two_one) ∷ [])
 
 diamond-members : members diamond two_one ≡ 5 ∷ []
@@ -163,7 +162,7 @@ diamond-referenced = refl
 
 -- ---- a clone inside the subvolume: two pieces of one extent count it once
 
-abbrev cloned_inside : List (ℕ × File)
+abbrev pub cloned_inside : List (ℕ × File)
 cloned_inside = (257, file 16384 (piece 0 8192 0 ∷ piece 8192 8192 0 ∷ [])) ∷ []
 
 clone_inside-referenced : referenced (state_of ((5, subvolume 1048576 cloned_inside) ∷ []) (leaf 1048576 5 cloned_inside ∷ []) (5 ∷ []) []) (quota_of (5 ∷ []) []) 5 ≡ 24576
@@ -177,7 +176,7 @@ clone_inside-owed = refl
 
 -- ---- a clone between two subvolumes: the extent is exclusive to neither
 
-abbrev cloned_between : State
+abbrev pub cloned_between : State
 cloned_between = state_of ((5, subvolume 1048576 written) ∷ (256, subvolume 1064960 written) ∷ []) (leaf 1048576 5 written ∷ leaf 1064960 256 written ∷ []) (5 ∷ 256 ∷ []) []
 
 clone_between-referenced : referenced cloned_between (quota_of (5 ∷ 256 ∷ []) []) 5 ≡ 24576
@@ -190,7 +189,7 @@ clone_between-exclusive = refl
 
 -- ---- a cut piece: its extent counts whole
 
-abbrev cut : List (ℕ × File)
+abbrev pub cut : List (ℕ × File)
 cut = (257, file 4096 (piece 0 4096 0 ∷ [])) ∷ []
 
 cut_piece-referenced : referenced (state_of ((5, subvolume 1048576 cut) ∷ []) (leaf 1048576 5 cut ∷ []) (5 ∷ []) []) (quota_of (5 ∷ []) []) 5 ≡ 24576
@@ -199,7 +198,7 @@ cut_piece-referenced = refl
 
 -- ---- a piece whose position is less than its offset: the reference's offset is 2^64 less 4096
 
-abbrev behind : List (ℕ × File)
+abbrev pub behind : List (ℕ × File)
 behind = (258, file 4096 (piece 0 4096 4096 ∷ [])) ∷ []
 
 behind-owed : owed_count (state_of ((5, subvolume 1048576 behind) ∷ []) (leaf 1048576 5 behind ∷ []) [] []) 67174400 (KeyedData 5 258 18446744073709547520) ≡ 1
@@ -208,7 +207,7 @@ behind-owed = refl
 
 -- ---- need: a fresh image of 64 slots, with what its root, extent and quota trees name
 
-abbrev fresh : State
+abbrev pub fresh : State
 fresh = record {
   sizes = small;
   generation = 1;
@@ -255,7 +254,7 @@ fresh-next_subvolume = refl
 
 -- ---- limits: a reservation that reaches a limit is accepted, one byte more is not
 
-abbrev limited : ℕ → Quota
+abbrev pub limited : ℕ → Quota
 limited max = record { groups = (5, record { counters = record { rfer = 16384; excl = 16384 }; max_rfer = Some max; max_excl = None; stamp = 1 }) ∷ []; pairs = [] }
 
 equality_is_accepted : over fresh (limited 36864) 5 20480 ≡ None

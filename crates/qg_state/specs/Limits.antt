@@ -1,11 +1,11 @@
 -- Reservations and limits of quota groups (btrfs-qgroup(8), "limits"; how much is reserved is this project's own). All in bytes.
-use Rattle.std.specs.Prelude.{ℕ, ◌+◌, Bool, List, Option, Some, None, nat_lt, slice_get, if◌then◌else◌}
+use Rattle.std.specs.Prelude.{ℕ, ◌+◌, Bool, Option, Some, None, nat_lt, slice_get, if◌then◌else◌}
 use Rattle.std.specs.List.{filter, filter_map, sum_by}
 use Rattle.std.specs.Option.{option_map}
 use Rattle.qg_num.specs.declared.counters.Which.{Which}
 use Rattle.qg_num.specs.declared.counters.Which.TheVariants.{Rfer, Excl}
 use Rattle.qg_image.specs.ItemMeaning.{some_passes, when}
-use Rattle.qg_state.specs.State.{State, Quota, Group, Accepted}
+use Rattle.qg_state.specs.State.{State, Quota, Group}
 use Rattle.qg_state.specs.Members.{is_member}
 
 -- what the accepted commands since the last commit reserved into members of a group

@@ -1,8 +1,8 @@
 -- Quota groups and their members (btrfs-qgroup(8), "hierarchical quota groups").
-use Rattle.std.specs.Prelude.{ℕ, zero, suc, ◌+◌, ◌*◌, ◌/◌, ◌%◌, ◌^◌, max, Bool, ◌&&◌, ◌||◌, List, length, map, ◌==◌, nat_le, nat_lt}
+use Rattle.std.specs.Prelude.{ℕ, zero, suc, ◌+◌, ◌/◌, ◌%◌, ◌^◌, max, Bool, ◌&&◌, ◌||◌, List, length, ◌==◌}
 use Rattle.std.specs.List.{list_any, filter, fold}
 use Rattle.qg_image.specs.Table.{keys_of}
-use Rattle.qg_state.specs.State.{State, Quota, Group}
+use Rattle.qg_state.specs.State.{Quota}
 
 -- a group's number is level * 2^48 + id
 abbrev pub level_of_group : ℕ → ℕ

@@ -1,6 +1,6 @@
 -- How many node slots a command needs, so that no commit ever wants one (this project's own). Weights are in bytes, the rest in slots.
-use Rattle.std.specs.Prelude.{◌≡◌, ℕ, ◌+◌, ◌-◌, ◌*◌, ◌/◌, ◌≤◌, Bool, true, false, List, [], ◌∷◌, ◌++◌, length, map, Option, Some, None, if◌then◌else◌}
-use Rattle.std.specs.List.{filter_map, flat_map, sum_by}
+use Rattle.std.specs.Prelude.{ℕ, ◌+◌, ◌-◌, ◌*◌, ◌/◌, ◌≤◌, List, [], ◌∷◌, ◌++◌, length, map, Option, Some, None, if◌then◌else◌}
+use Rattle.std.specs.List.{flat_map, sum_by}
 use Rattle.qg_items.specs.declared.tree.TheConstants.{EXTENT_TREE, QUOTA_TREE}
 use Rattle.qg_node.specs.Nodes.{header_of}
 use Rattle.qg_super.specs.Places.{capacity}
@@ -8,7 +8,7 @@ use Rattle.qg_image.specs.Table.{keys_of}
 use Rattle.qg_image.specs.FilesOf.{File}
 use Rattle.qg_state.specs.Stage.{records_references}
 use Rattle.qg_state.specs.Record.{Record, RootOf, ExtentOf, NodeOf, ReferenceTo, Status, InfoOf, LimitOf, RelationOf, records_bytes}
-use Rattle.qg_state.specs.State.{State, Quota, Placed, Element, Accepted}
+use Rattle.qg_state.specs.State.{State, Quota, Accepted}
 use Rattle.qg_state.specs.Owed.{owed, layout_extents}
 use Rattle.qg_state.specs.Space.{free_slots}
 

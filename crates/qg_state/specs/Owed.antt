@@ -2,18 +2,15 @@
 -- project's own, chosen after Btrfs). Addresses are in bytes.
 use Rattle.std.specs.Prelude.{◌≡◌, ℕ, ◌+◌, ◌-◌, ◌%◌, ◌^◌, Bool, true, false, ◌&&◌, ◌||◌, not, List, [], ◌∷◌, ◌++◌, map, Option, Some, None, ◌==◌, nat_lt, if◌then◌else◌}
 use Rattle.std.specs.List.{list_any, list_all, filter, filter_map, flat_map, sum_by, count_by, find}
-use Rattle.qg_node.specs.declared.item.Item.{Item}
 use Rattle.qg_node.specs.declared.node.Header.{Header}
-use Rattle.qg_node.specs.declared.node.Node.{Node}
 use Rattle.qg_node.specs.Nodes.{header_of, own_items, own_pointers}
 use Rattle.qg_items.specs.declared.extent.Reference.{Reference}
 use Rattle.qg_items.specs.declared.extent.Reference.TheVariants.{KeyedBlock, SharedBlock, KeyedData, SharedData}
-use Rattle.qg_items.specs.declared.extent.ExtentItem.{ExtentItem}
 use Rattle.qg_image.specs.Table.{value_at, keys_of, number_set}
 use Rattle.qg_image.specs.ItemMeaning.{FilePart, Inode, PieceOf, file_part, ExtentPart, DataRecord, NodeRecord, Referenced}
 use Rattle.qg_state.specs.Record.{same_reference}
 use Rattle.qg_state.specs.State.{State, Placed, Element}
-use Rattle.qg_state.specs.Reach.{extent_of, pieces_of, is_among, reaches}
+use Rattle.qg_state.specs.Reach.{extent_of, pieces_of, reaches}
 
 -- ---- what is owed
 

@@ -4,13 +4,12 @@ use Rattle.std.specs.Prelude.{ℕ, zero, suc, Bool, List, [], ◌∷◌, ◌++�
 use Rattle.std.specs.List.{list_any, filter, filter_map, flat_map}
 use Rattle.std.specs.Option.{option_and_then}
 use Rattle.qg_num.specs.declared.piece.Piece.{Piece}
-use Rattle.qg_node.specs.declared.item.Item.{Item}
 use Rattle.qg_node.specs.declared.pointer.Pointer.{Pointer}
 use Rattle.qg_node.specs.declared.node.Node.{Node}
 use Rattle.qg_node.specs.Nodes.{header_of, own_items, own_pointers}
 use Rattle.qg_image.specs.Table.{value_at, keys_of}
 use Rattle.qg_image.specs.ItemMeaning.{FilePart, Inode, PieceOf, file_part}
-use Rattle.qg_state.specs.State.{State, Subvolume, Placed, Element, node_at}
+use Rattle.qg_state.specs.State.{State, Subvolume, Element, node_at}
 
 -- ---- one node
 
@@ -74,6 +73,10 @@ reaches state sub address = is_among address (reach state sub)
 -- the subvolumes that reach what begins at an address, ascending
 unfoldable pub owners : State → ℕ → List ℕ
 owners state address = filter (λ sub. reaches state sub address) (keys_of state.subvolumes)
+
+-- some subvolume reaches what begins at an address
+abbrev pub is_reached : State → ℕ → Bool
+is_reached state address = list_any (λ sub. reaches state sub address) (keys_of state.subvolumes)
 
 -- the set: each element once
 abbrev pub distinct : List Element → List Element

@@ -1,8 +1,7 @@
 -- Which runs of sectors and which node slots are free: those that neither the present state nor the last commit holds (this project's own).
 -- Addresses and lengths are in bytes.
-use Rattle.std.specs.Prelude.{ℕ, zero, suc, ◌+◌, ◌*◌, Bool, true, false, ◌&&◌, not, List, ◌++◌, map, Option, Some, None, ◌==◌, nat_lt}
+use Rattle.std.specs.Prelude.{ℕ, zero, suc, ◌+◌, Bool, true, false, ◌&&◌, not, List, ◌++◌, map, Option, Some, None, ◌==◌, nat_lt}
 use Rattle.std.specs.List.{list_any, flat_map, count_by, range_with_len}
-use Rattle.qg_super.specs.declared.sizes.Sizes.{Sizes}
 use Rattle.qg_super.specs.Places.{is_run, is_slot, slot_at, sector_at}
 use Rattle.qg_image.specs.Table.{has_key}
 use Rattle.qg_state.specs.State.{State, Element}

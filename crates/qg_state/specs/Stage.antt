@@ -1,5 +1,5 @@
 -- What is served so far (this project's own). Each line is lifted by writing `true` for `false`; nothing else is narrowed.
-use Rattle.std.specs.Prelude.{Bool, true, false}
+use Rattle.std.specs.Prelude.{Bool, false}
 
 -- The layout follows each file command by copy on write, and the need of slots is that of copies. Until then the layout is told at
 -- commits alone, and a file command needs the slots of a commit that builds all trees anew.

@@ -6,7 +6,6 @@ use Rattle.std.specs.Option.{option_map}
 use Rattle.qg_num.specs.declared.command.Command.{Command}
 use Rattle.qg_num.specs.declared.counters.Counters.{Counters}
 use Rattle.qg_node.specs.declared.node.Node.{Node}
-use Rattle.qg_node.specs.Nodes.{header_of}
 use Rattle.qg_super.specs.declared.sizes.Sizes.{Sizes}
 use Rattle.qg_image.specs.Table.{value_at, has_key}
 use Rattle.qg_image.specs.FilesOf.{File}

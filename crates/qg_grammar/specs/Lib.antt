@@ -1,0 +1,4 @@
+pub mod ScriptText
+pub mod ReplyText
+pub mod Served
+pub mod Examples

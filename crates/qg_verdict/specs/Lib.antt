@@ -1,0 +1,6 @@
+pub mod Failure
+pub mod Walk
+pub mod StateOf
+pub mod Verdict
+pub mod IsFresh
+pub mod Examples

@@ -1,0 +1,148 @@
+-- The walk of one tree, depth first, children in order, each node judged before its children (this project's own).
+use Rattle.std.specs.Prelude.{ℕ, zero, suc, ◌+◌, ◌-◌, Bool, true, false, ◌&&◌, not, List, [], ◌∷◌, Option, Some, None, Result, Ok, Err, slice_range, ◌==◌, nat_le, nat_lt}
+use Rattle.std.specs.List.{list_all}
+use Rattle.std.specs.Ordering.{is_lt}
+use Rattle.qg_num.specs.Key.{key_cmp}
+use Rattle.qg_num.specs.declared.key.Key.{Key}
+use Rattle.qg_num.specs.declared.rule.Rule.TheVariants as rule
+use Rattle.qg_node.specs.declared.fault.NodeFault.{NodeFault}
+use Rattle.qg_node.specs.declared.item.Item.{Item}
+use Rattle.qg_node.specs.declared.pointer.Pointer.{Pointer}
+use Rattle.qg_node.specs.declared.node.Node.{Node}
+use Rattle.qg_node.specs.Nodes.{header_of, own_items, own_keys, own_pointers}
+use Rattle.qg_node.specs.Reading.{node_read}
+use Rattle.qg_items.specs.declared.tree.TheConstants.{ROOT_TREE, EXTENT_TREE, QUOTA_TREE}
+use Rattle.qg_super.specs.declared.superblock.Super.{Super}
+use Rattle.qg_super.specs.Places.{is_slot}
+use Rattle.qg_super.specs.SuperText.{sizes_of}
+use Rattle.qg_image.specs.IsShaped.{is_shaped}
+use Rattle.qg_image.specs.ItemMeaning.{QuotaPart, Status, Info, Limits, Relation, some_passes, is_subvolume_number, root_part, root_part_stamps, extent_part, extent_part_stamps, quota_part, quota_part_stamps}
+use Rattle.qg_image.specs.FilesOf.{is_file_item}
+use Rattle.qg_verdict.specs.Failure.{Failure, Broken, kept, first_failure, rule_of}
+
+-- ---- what a tree may hold
+
+-- which of the trees is walked
+pub data Tree : Type 0 where
+  Roots : Tree
+  Extents : Tree
+  Quotas : Tree
+  Files : Tree
+
+-- a node of the tree may have this owner
+abbrev pub is_owner : Tree → ℕ → Bool
+is_owner Roots owner = owner == ROOT_TREE
+is_owner Extents owner = owner == EXTENT_TREE
+is_owner Quotas owner = owner == QUOTA_TREE
+is_owner Files owner = is_subvolume_number owner
+
+-- no generation is past this one
+abbrev pub are_by : ℕ → List ℕ → Bool
+are_by generation stamps = list_all (λ stamp. nat_le stamp generation) stamps
+
+-- the state of quota tells the superblock's generation
+abbrev pub tells_generation : ℕ → QuotaPart → Bool
+tells_generation generation (Status status) = status.generation == generation
+tells_generation generation (Info group info) = true
+tells_generation generation (Limits group limit) = true
+tells_generation generation (Relation group other) = true
+
+-- the tree may hold this item in an image of this generation
+unfoldable pub is_item_of : Tree → ℕ → Item → Bool
+is_item_of Roots generation item = some_passes (λ part. are_by generation (root_part_stamps part)) (root_part item)
+is_item_of Extents generation item = some_passes (λ part. are_by generation (extent_part_stamps part)) (extent_part item)
+is_item_of Quotas generation item = some_passes (λ part. are_by generation (quota_part_stamps part) && tells_generation generation part) (quota_part item)
+is_item_of Files generation item = is_file_item generation item
+
+-- ---- what a walk expects of a node
+
+-- its level and generation, where they are told; the key that the pointer to it tells; and the next key on the way, past its own
+pub record Expected : Type 0 where
+  pub level : Option ℕ
+  pub generation : Option ℕ
+  pub from : Option Key
+  pub to : Option Key
+
+-- a number is the one that was told, if one was
+abbrev pub is_told : Option ℕ → ℕ → Bool
+is_told None n = true
+is_told (Some told) n = told == n
+
+abbrev pub same_key : Key → Key → Bool
+same_key a b = (a.objectid == b.objectid) && (a.kind == b.kind) && (a.offset == b.offset)
+
+-- the first of the keys is the pointer's, and none is less
+abbrev pub begins_at : Option Key → List Key → Bool
+begins_at None keys = true
+begins_at (Some from) [] = true
+begins_at (Some from) (key ∷ keys) = same_key key from && list_all (λ later. not (is_lt (key_cmp later from))) keys
+
+-- each key is less than the next one on the way
+abbrev pub ends_before : Option Key → List Key → Bool
+ends_before None keys = true
+ends_before (Some to) keys = list_all (λ key. is_lt (key_cmp key to)) keys
+
+-- a generation that a node may have
+abbrev pub is_generation : ℕ → Option ℕ → ℕ → Bool
+is_generation last told generation = is_told told generation && nat_lt 0 generation && nat_le generation last
+
+-- the rules on a node that was read, in their order; a root is what no pointer leads to
+unfoldable pub node_failure : Tree → Super → Expected → ℕ → Node → Option Failure
+node_failure tree super expected address node = first_failure
+    (kept (is_told expected.level (header_of node).level) rule.Depth address
+    ∷ kept (is_owner tree (header_of node).owner) rule.Owner address
+    ∷ kept (is_generation super.generation expected.generation (header_of node).generation) rule.Gen address
+    ∷ kept (begins_at expected.from (own_keys node) && ends_before expected.to (own_keys node)) rule.Range address
+    ∷ kept (is_shaped super.nodesize (is_root expected.from) node) rule.Shape address
+    ∷ kept (list_all (is_item_of tree super.generation) (own_items node)) rule.Item address
+    ∷ []) where
+      is_root : Option Key → Bool
+      is_root None = true
+      is_root (Some from) = false
+
+-- ---- the walk
+
+-- what stands at an address of an image: a node, or the first rule that is broken there
+unfoldable pub node_found : Super → List ℕ → ℕ → Result Node Failure
+node_found super image address = elim (is_slot (sizes_of super) address) [
+  | false ↦ Err (Broken rule.Slot address)
+  | true ↦ found (node_read address (slice_range image address (address + super.nodesize)))
+] where
+  found : Result Node NodeFault → Result Node Failure
+  found (Ok node) = Ok node
+  found (Err fault) = Err (Broken (rule_of fault) address)
+
+-- the key of the first pointer, or else the one on the way
+abbrev pub next_key : Option Key → List Pointer → Option Key
+next_key to [] = to
+next_key to (pointer ∷ pointers) = Some pointer.key
+
+-- the first failure under pointers, in their order
+abbrev pub pointers_failure : (Expected → ℕ → Option Failure) → ℕ → Option Key → List Pointer → Option Failure
+pointers_failure walk level to [] = None
+pointers_failure walk level to (pointer ∷ pointers) = first_failure
+    (walk (record { level = Some level; generation = Some pointer.generation; from = Some pointer.key; to = next_key to pointers }) pointer.child
+    ∷ pointers_failure walk level to pointers
+    ∷ [])
+
+-- the first failure at a node and below it
+abbrev pub found_failure : Tree → Super → (Expected → ℕ → Option Failure) → Expected → ℕ → Result Node Failure → Option Failure
+found_failure tree super walk expected address (Err failure) = Some failure
+found_failure tree super walk expected address (Ok node) = first_failure
+    (node_failure tree super expected address node
+    ∷ pointers_failure walk ((header_of node).level - 1) expected.to (own_pointers node)
+    ∷ [])
+
+-- the first failure of the walk from an address down, so many levels deep at most
+unfoldable pub walk_failure : Tree → Super → List ℕ → ℕ → Expected → ℕ → Option Failure
+walk_failure tree super image zero expected address = found_failure tree super (λ expected address. None) expected address (node_found super image address)
+walk_failure tree super image (suc depth) expected address = found_failure tree super (walk_failure tree super image depth) expected address (node_found super image address)
+
+-- the greatest level of a node
+abbrev pub deepest : ℕ
+deepest = 7
+
+-- the first failure of a tree whose root lies at an address, with the level and generation that its ROOT_ITEM tells
+unfoldable pub tree_failure : Tree → Super → List ℕ → Option ℕ → Option ℕ → ℕ → Option Failure
+tree_failure tree super image level generation address =
+    walk_failure tree super image deepest (record { level = level; generation = generation; from = None; to = None }) address
