@@ -48,10 +48,10 @@ is_kept state sub address = list_any (λ other. not (other == sub)) (owners stat
 abbrev pub is_full_after : State → Placed → ℕ → Bool
 is_full_after new placed address = placed.full || not (reaches new (header_of placed.node).owner address)
 
--- a node that is kept stays as it is, or goes where nobody reaches it
+-- a node that stays is full where it must be, and where it is kept it stays as it is; any node goes where nobody reaches it
 abbrev pub KeepsNode : State → State → ℕ → ℕ × Placed → Type 0
-KeepsNode old new sub entry = IsTrue (is_kept old sub entry.0)
-    → (placed : Placed) → value_at entry.0 new.layout ≡ Some placed → (placed.node ≡ entry.1.node) × (placed.full ≡ is_full_after new entry.1 entry.0)
+KeepsNode old new sub entry = (placed : Placed) → value_at entry.0 new.layout ≡ Some placed
+    → (placed.full ≡ is_full_after new entry.1 entry.0) × (IsTrue (is_kept old sub entry.0) → placed.node ≡ entry.1.node)
 
 -- a node that was not there lies in a free slot, is the subvolume's, of the generation to come, and not full
 abbrev pub is_made_node : State → ℕ → ℕ × Placed → Bool
