@@ -133,10 +133,10 @@ found_failure tree super walk expected address (Ok node) = first_failure
     ∷ pointers_failure walk ((header_of node).level - 1) expected.to (own_pointers node)
     ∷ [])
 
--- the first failure of the walk from an address down, so many levels deep at most
-unfoldable pub walk_failure : Tree → Super → List ℕ → ℕ → Expected → ℕ → Option Failure
-walk_failure tree super image zero expected address = found_failure tree super (λ expected address. None) expected address (node_found super image address)
-walk_failure tree super image (suc depth) expected address = found_failure tree super (walk_failure tree super image depth) expected address (node_found super image address)
+-- the first failure of the walk from an address down, so many levels deep at most, where `found` tells what stands at an address
+unfoldable pub walk_failure : Tree → Super → (ℕ → Result Node Failure) → ℕ → Expected → ℕ → Option Failure
+walk_failure tree super found zero expected address = found_failure tree super (λ expected address. None) expected address (found address)
+walk_failure tree super found (suc depth) expected address = found_failure tree super (walk_failure tree super found depth) expected address (found address)
 
 -- the greatest level of a node
 abbrev pub deepest : ℕ
@@ -145,4 +145,4 @@ deepest = 7
 -- the first failure of a tree whose root lies at an address, with the level and generation that its ROOT_ITEM tells
 unfoldable pub tree_failure : Tree → Super → List ℕ → Option ℕ → Option ℕ → ℕ → Option Failure
 tree_failure tree super image level generation address =
-    walk_failure tree super image deepest (record { level = level; generation = generation; from = None; to = None }) address
+    walk_failure tree super (node_found super image) deepest (record { level = level; generation = generation; from = None; to = None }) address
