@@ -1,5 +1,5 @@
 -- What an item of each tree stands for (on-disk format, "item types"): nothing where its key or body is none that the tree holds.
-use Rattle.std.specs.Prelude.{ℕ, ◌^◌, Bool, false, ◌&&◌, ◌||◌, List, [], ◌∷◌, length, Option, Some, None, ◌==◌, nat_le, nat_lt}
+use Rattle.std.specs.Prelude.{ℕ, ◌^◌, Bool, true, false, ◌&&◌, ◌||◌, List, [], ◌∷◌, length, Option, Some, None, ◌==◌, nat_le, nat_lt}
 use Rattle.std.specs.Option.{option_map, option_and_then}
 use Rattle.std.specs.Bool.{then_some}
 use Rattle.qg_num.specs.declared.piece.Piece.{Piece}
@@ -21,7 +21,8 @@ use Rattle.qg_items.specs.ItemReading.{inode_read, extent_data_read, root_read, 
 
 -- what is given, where the test passes
 abbrev pub when : {A : Type 0} → Bool → Option A → Option A
-when test given = option_and_then (λ x. then_some test x) given
+when true given = given
+when false given = None
 
 -- there is something, and it passes the test
 abbrev pub some_passes : {A : Type 0} → (A → Bool) → Option A → Bool

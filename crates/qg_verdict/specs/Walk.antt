@@ -1,5 +1,5 @@
 -- The walk of one tree, depth first, children in order, each node judged before its children (this project's own).
-use Rattle.std.specs.Prelude.{ℕ, zero, suc, ◌+◌, ◌-◌, Bool, true, false, ◌&&◌, not, List, [], ◌∷◌, Option, Some, None, Result, Ok, Err, slice_range, ◌==◌, nat_le, nat_lt}
+use Rattle.std.specs.Prelude.{ℕ, zero, suc, ◌+◌, ◌-◌, Bool, true, false, ◌&&◌, not, List, [], ◌∷◌, Option, Some, None, Result, Ok, Err, slice_range, is_none, ◌==◌, nat_le, nat_lt}
 use Rattle.std.specs.List.{list_all}
 use Rattle.std.specs.Ordering.{is_lt}
 use Rattle.qg_num.specs.Key.{key_cmp}
@@ -93,7 +93,7 @@ node_failure tree super expected address node = first_failure
     ∷ kept (is_owner tree (header_of node).owner) rule.Owner address
     ∷ kept (is_generation super.generation expected.generation (header_of node).generation) rule.Gen address
     ∷ kept (begins_at expected.from (own_keys node) && ends_before expected.to (own_keys node)) rule.Range address
-    ∷ kept (is_shaped super.nodesize (is_root expected.from) node) rule.Shape address
+    ∷ kept (is_shaped super.nodesize (is_none expected.from) node) rule.Shape address
     ∷ kept (list_all (is_item_of tree super.generation) (own_items node)) rule.Item address
     ∷ []) where
       is_root : Option Key → Bool
@@ -102,15 +102,20 @@ node_failure tree super expected address node = first_failure
 
 -- ---- the walk
 
+-- what was read at an address, or the rule that its bytes break
+abbrev pub read_there : ℕ → Result Node NodeFault → Result Node Failure
+read_there address (Ok node) = Ok node
+read_there address (Err fault) = Err (Broken (rule_of fault) address)
+
+-- what stands at an address, if it is that of a slot
+abbrev pub in_slot : Bool → ℕ → Result Node NodeFault → Result Node Failure
+in_slot true address read = read_there address read
+in_slot false address read = Err (Broken rule.Slot address)
+
 -- what stands at an address of an image: a node, or the first rule that is broken there
 unfoldable pub node_found : Super → List ℕ → ℕ → Result Node Failure
-node_found super image address = elim (is_slot (sizes_of super) address) [
-  | false ↦ Err (Broken rule.Slot address)
-  | true ↦ found (node_read address (slice_range image address (address + super.nodesize)))
-] where
-  found : Result Node NodeFault → Result Node Failure
-  found (Ok node) = Ok node
-  found (Err fault) = Err (Broken (rule_of fault) address)
+node_found super image address =
+    in_slot (is_slot (sizes_of super) address) address (node_read address (slice_range image address (address + super.nodesize)))
 
 -- the key of the first pointer, or else the one on the way
 abbrev pub next_key : Option Key → List Pointer → Option Key
