@@ -35,7 +35,7 @@ fn pieces_of_any_size_give_one_checksum(rt: HostRuntime) -> Result<(), Fail> {
     }
     assert_eq!(rt; crc32c(&text), 0x787E_A13D);
     for size in [
-        1, 7, 8, 15, 16, 17, 63, 64, 65, 127, 128, 129, 1_000, 4_096, 9_999, 10_000,
+        1, 7, 8, 9, 31, 32, 33, 127, 128, 129, 159, 160, 161, 4_096, 9_999, 10_000,
     ] {
         let mut running = Running::new();
         for piece in text.chunks(size) {

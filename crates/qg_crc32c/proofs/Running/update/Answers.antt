@@ -1,6 +1,6 @@
 use Rattle.std.proofs.Common.{◌∙◌, refl}
-use Rattle.qg_crc32c.proofs.Laws.{remainder-append}
+use Rattle.qg_crc32c.proofs.Remainders.{remainder-append}
 use Rattle.qg_crc32c.proofs.Running.update.Goals as goal
 
 pub returns : goal.returns
-returns c = λ so_far taken. record { is = c.after-self-inside.ensures ∙ rw (c.self.view_is, taken.is, remainder-append) refl }
+returns c = λ so_far taken. record { is = c.remainder_after-self-inside.ensures ∙ rw (c.self.view_is, taken.is, remainder-append) refl }
