@@ -1,0 +1,5 @@
+use Rattle.std.specs.Io.KnownBytes.{Keeps}
+use Rattle.qg_edge.proofs.adapters.read_once.Given as goal
+
+abbrev pub invariant-reads : goal.invariant-reads
+invariant-reads g l = Keeps (g.R.Read.remaining l.fn.reader) (g.R.Read.remaining l.reader)
