@@ -1,3 +1,4 @@
 pub mod ItemText
 pub mod ItemReading
+pub mod Laws
 pub mod Examples

@@ -1,0 +1,10 @@
+use Rattle.std.proofs.Common.{arith}
+use Rattle.qg_bytes.specs.Fields.{IsBytes}
+use Rattle.qg_items.proofs.ExtentBodies.{extent_text-from_fields}
+use Rattle.qg_items.proofs.extent.read_extent.Goals as goal
+
+pub returns-clause-spelled : goal.returns-clause-spelled
+returns-clause-spelled c =
+    let are : IsBytes c.args.bytes.now = λ i. omega (arith, c.type_inv.bytes i) in
+    let spelled = extent_text-from_fields c.args.bytes.now are c.if-bytes-ne-EXTENT_ITEM_BYTES.false in
+    cc
