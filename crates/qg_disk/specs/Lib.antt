@@ -1,0 +1,5 @@
+pub mod Buffer
+pub mod Call
+pub mod Disk
+pub mod FileDisk
+pub mod MemDisk

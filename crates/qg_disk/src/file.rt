@@ -1,0 +1,158 @@
+// A disk that is a file.
+ghost use Rattle.std.specs.Prelude.{◌≡◌, ◌+◌, ◌-◌, ◌^◌, ◌<◌, ◌≤◌, None, length, min, max, OnOk, OnErr};
+ghost use Rattle.qg_device.specs.Cause.{HasCause};
+ghost use Rattle.qg_disk.specs.FileDisk.{CountsFault};
+
+use crate::{Disk, DiskFault};
+use std::fs::{File, OpenFile};
+use std::io::{Read, Seek, SeekFrom, Write};
+use std::marker::Model;
+
+/// A disk that is a file (this project's own). It tells nothing of what the file holds, and never wants
+/// memory. A write of 0 bytes and a short read are faults.
+///
+/// It keeps the length itself: first what it was made with, then what each call made of it. A write that
+/// fails counts the bytes that the file took before, so that the length stays the file's, and what is
+/// written past it later leaves a gap of zeros. A contract sees the length and the count of faults.
+#[derive(Drop)]
+pub struct FileDisk<F = File> {
+    file: F,
+    len: u64,
+    faults: u64,
+}
+
+impl<F> Model for FileDisk<F> {
+    ghost use Rattle.qg_disk.specs.FileDisk.{KnownFile};
+
+    ghost Value = { KnownFile };
+
+    ghost view = { λ d. record { len = d.len; faults = d.faults } };
+}
+
+impl<F: Read + Write + Seek + OpenFile> FileDisk<F> {
+    /// The file, whose length is `len`.
+    pub fn new(file: F, len: u64) -> FileDisk<F>
+        ensures { result ≡ record { len = len; faults = 0 } }
+    {
+        FileDisk {
+            file,
+            len,
+            faults: 0,
+        }
+    }
+}
+
+// Counts a fault, up to the last number of 64 bits.
+fn fault(faults: &mut u64) -> DiskFault
+    ensures failed { result ≡ DiskFault.Failed }
+    ensures counted { faults.new ≡ min (faults.old + 1) (2 ^ 64 - 1) }
+    ensures no_less { faults.old ≤ faults.new }
+{
+    *faults = faults.saturating_add(1);
+    DiskFault::Failed
+}
+
+// Fills the buffer from a place of the file on. It is false where that could not be done.
+fn read_whole<F: Read + Seek>(file: &mut F, at: u64, buf: &mut [u8]) -> bool {
+    if file.seek(SeekFrom::Start(at)).is_err() {
+        return false;
+    }
+    let mut done = 0;
+    while done < buf.len() {
+        match file.read(&mut buf[done..]) {
+            Ok(count) if count > 0 => done += count,
+            _ => return false,
+        }
+    }
+    true
+}
+
+// Writes the bytes from a place of the file on, and says how many of them the file took.
+fn write_whole<F: Write + Seek>(file: &mut F, at: u64, bytes: &[u8]) -> usize
+    ensures { result ≤ length bytes.now }
+{
+    let mut done = 0;
+    if file.seek(SeekFrom::Start(at)).is_err() {
+        return done;
+    }
+    while done < bytes.len() {
+        match file.write(&bytes[done..]) {
+            Ok(count) if count > 0 => done += count,
+            _ => return done,
+        }
+    }
+    done
+}
+
+impl<F: Read + Write + Seek + OpenFile> Disk for FileDisk<F> {
+    ghost history = { λ _. None };
+
+    ghost size = { λ d. d.len };
+
+    ghost faults = { λ d. d.faults };
+
+    ghost sized = { λ d events told. Prim.cc };
+
+    fn len(&self) -> u64 {
+        self.len
+    }
+
+    fn read(&mut self, at: u64, buf: &mut [u8]) -> Result<(), DiskFault>
+        requires { at + length buf.old ≤ self.old.len }
+        ensures size { self.new.len ≡ self.old.len }
+        ensures counts { CountsFault self.old self.new result }
+        ensures cause { HasCause DiskFault.Failed self.old.faults self.new.faults result }
+    {
+        if !read_whole(&mut self.file, at, buf) {
+            return Err(fault(&mut self.faults));
+        }
+        Ok(())
+    }
+
+    fn write_at(&mut self, at: u64, bytes: &[u8]) -> Result<(), DiskFault>
+        requires { at + length bytes.now < 2 ^ 64 }
+        ensures size { OnOk result (self.new.len ≡ max self.old.len (at + length bytes.now)) }
+        ensures no_less { self.old.len ≤ self.new.len }
+        ensures no_more { self.new.len ≤ max self.old.len (at + length bytes.now) }
+        ensures counts { CountsFault self.old self.new result }
+        ensures cause { HasCause DiskFault.Failed self.old.faults self.new.faults result }
+    {
+        if self.len < at {
+            if self.file.set_len(at).is_err() {
+                return Err(fault(&mut self.faults));
+            }
+            self.len = at;
+        }
+        let done = write_whole(&mut self.file, at, bytes);
+        self.len = self.len.max(at + done as u64);
+        if done < bytes.len() {
+            return Err(fault(&mut self.faults));
+        }
+        Ok(())
+    }
+
+    fn cut(&mut self, len: u64) -> Result<(), DiskFault>
+        requires { len ≤ self.old.len }
+        ensures ok { OnOk result (self.new.len ≡ len) }
+        ensures err { OnErr result (self.new.len ≡ self.old.len) }
+        ensures counts { CountsFault self.old self.new result }
+        ensures cause { HasCause DiskFault.Failed self.old.faults self.new.faults result }
+    {
+        if self.file.set_len(len).is_err() {
+            return Err(fault(&mut self.faults));
+        }
+        self.len = len;
+        Ok(())
+    }
+
+    fn sync(&mut self) -> Result<(), DiskFault>
+        ensures size { self.new.len ≡ self.old.len }
+        ensures counts { CountsFault self.old self.new result }
+        ensures cause { HasCause DiskFault.Failed self.old.faults self.new.faults result }
+    {
+        if self.file.sync_all().is_err() {
+            return Err(fault(&mut self.faults));
+        }
+        Ok(())
+    }
+}

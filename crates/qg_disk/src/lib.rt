@@ -1,0 +1,21 @@
+//! A disk as the layers above see it, by what was done to it, and three disks: one in memory that fails where
+//! it is told to, one in memory that never fails, and a file.
+#![tactic(auto)]
+
+mod call;
+mod calls;
+mod fault;
+mod file;
+mod fill;
+mod memory;
+mod sure;
+#[cfg(test)]
+mod tests;
+mod traits;
+
+pub use call::{Bytes, Call, Request};
+pub use fault::DiskFault;
+pub use file::FileDisk;
+pub use memory::MemDisk;
+pub use sure::SureDisk;
+pub use traits::Disk;
