@@ -1,6 +1,6 @@
 -- What a piece leaves that is written over a text of bytes.
-use Rattle.std.proofs.Common.{◌≡◌, ℕ, ◌+◌, ◌≤◌, List, [], ◌++◌, length, take, drop, refl, sym, ap, subst, ◌∙◌, arith}
-use Rattle.std.proofs.lemmas.List.{append-nil, append_assoc, drop-drop, drop_all, drop_at, length-append, length-drop, length-replicate, length-take, length-take-le, take-append-drop, take-append-le, take-take, take_at}
+use Rattle.std.proofs.Common.{◌≡◌, ℕ, ◌+◌, ◌≤◌, ◌<◌, List, [], ◌∷◌, ◌++◌, add-one, set, length, take, drop, refl, sym, ap, subst, ◌∙◌, arith}
+use Rattle.std.proofs.lemmas.List.{append-nil, append_assoc, drop-drop, drop_all, drop_at, length-append, length-drop, length-replicate, length-take, length-take-le, set_split, take-append-drop, take-append-le, take-take, take_at}
 use Rattle.std.proofs.lemmas.Slice.{between_is, drop-put_mid}
 use Rattle.std.specs.Prelude.{slice_range}
 use Rattle.qg_bytes.specs.Fields.{u16_bytes, u32_bytes, u64_bytes, zeros}
@@ -25,6 +25,29 @@ put_same place n piece bytes is =
     ∙ ap (λ (text : List ℕ). take place bytes ++ (text ++ drop n (drop place bytes))) is
     ∙ ap (λ (rest : List ℕ). take place bytes ++ rest) (take-append-drop n (drop place bytes))
     ∙ take-append-drop place bytes
+
+-- one byte
+pub put_byte : (place byte : ℕ) (bytes : List ℕ) → place < length bytes → set bytes place byte ≡ take place bytes ++ ((byte ∷ []) ++ drop (place + 1) bytes)
+put_byte place byte bytes within = rw add-one (set_split bytes place byte within)
+
+-- one piece, and another behind it
+pub put_then : (place n m : ℕ) (first second old mid new : List ℕ) → place + n ≤ length old → length first ≡ n
+    → mid ≡ take place old ++ (first ++ drop (place + n) old) → new ≡ take (place + n) mid ++ (second ++ drop (place + n + m) mid)
+    → new ≡ take place old ++ ((first ++ second) ++ drop (place + n + m) old)
+put_then place n m first second old mid new within long was is =
+    let head = take place old in
+    let rest = drop (place + n) old in
+    let front : mid ≡ (head ++ first) ++ rest = was ∙ sym (append_assoc head first rest) in
+    let to : length (head ++ first) ≡ place + n = omega (arith, length-append head first, length-take place old) in
+    let start : take (place + n) mid ≡ head ++ first = ap (take (place + n)) front ∙ take_at (head ++ first) rest (place + n) to in
+    let behind : drop (place + n) mid ≡ rest = ap (drop (place + n)) front ∙ drop_at (head ++ first) rest (place + n) to in
+    let end : drop (place + n + m) mid ≡ drop (place + n + m) old =
+    sym (drop-drop m (place + n) mid) ∙ ap (drop m) behind ∙ drop-drop m (place + n) old in
+    is
+    ∙ ap (λ (xs : List ℕ). xs ++ (second ++ drop (place + n + m) mid)) start
+    ∙ ap (λ (xs : List ℕ). (head ++ first) ++ (second ++ xs)) end
+    ∙ append_assoc head first (second ++ drop (place + n + m) old)
+    ∙ ap (λ (xs : List ℕ). head ++ xs) (sym (append_assoc first second (drop (place + n + m) old)))
 
 -- the text is no longer and no shorter
 pub length-put : (place n : ℕ) (piece old new : List ℕ) → place + n ≤ length old → length piece ≡ n

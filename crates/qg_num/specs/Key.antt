@@ -1,5 +1,5 @@
 -- Keys: their order and their bytes (on-disk format, "Key").
-use Rattle.std.specs.Prelude.{ℕ, ◌+◌, List, ◌∷◌, ◌++◌, slice_index}
+use Rattle.std.specs.Prelude.{ℕ, ◌+◌, ◌^◌, ◌<◌, List, ◌∷◌, ◌++◌, slice_index}
 use Rattle.std.specs.Ordering.{nat_cmp, ordering_then}
 use Rattle.std.specs.declared.cmp.Ordering.{Ordering}
 use Rattle.qg_bytes.specs.Fields.{u64_bytes, u64_at}
@@ -16,3 +16,9 @@ key_bytes key = u64_bytes key.objectid ++ key.kind ∷ u64_bytes key.offset
 -- the key whose 17 bytes stand at a place
 abbrev pub key_at : ℕ → List ℕ → Key
 key_at place bytes = record { objectid = u64_at place bytes; kind = slice_index bytes (place + 8); offset = u64_at (place + 9) bytes }
+
+-- each number of the key fits its field
+pub record IsKey (key : Key) : Type 0 where
+  pub objectid : key.objectid < 2 ^ 64
+  pub kind : key.kind < 256
+  pub offset : key.offset < 2 ^ 64

@@ -9,6 +9,7 @@ mod counters;
 mod fault;
 mod group;
 mod key;
+mod laws;
 mod names;
 mod piece;
 mod refusal;
@@ -22,9 +23,13 @@ pub use counters::{Counters, Which};
 pub use fault::{BlockFault, Cause, NoMemory, Stop};
 pub use group::GroupId;
 pub use key::Key;
+pub use laws::{key_order, key_round_trip};
 pub use names::{Address, Generation, Ino, RootId};
 pub use piece::Piece;
 pub use refusal::Refusal;
 pub use rule::Rule;
 pub use sequence::{GroupList, OwnerList, Pieces, Rows, Sequence};
 pub use steps::Steps;
+
+#[cfg(test)]
+mod tests;

@@ -3,7 +3,7 @@ ghost use Rattle.std.specs.Prelude.{◌≡◌, ℕ};
 
 use std::marker::Model;
 
-/// A place in the image, in bytes.
+/// A place in the image, in bytes from its start (this project's own; on-disk format, "logical address").
 #[derive(Clone, Copy, Debug, PartialEq, Eq, PartialOrd, Ord)]
 pub struct Address {
     number: u64,
@@ -18,12 +18,14 @@ impl Model for Address {
 }
 
 impl Address {
-    pub fn new(number: u64) -> Self
+    /// The address of a place.
+    pub fn new(number: u64) -> Address
         ensures { result ≡ number }
     {
         Address { number }
     }
 
+    /// Its place, in bytes.
     pub fn value(self) -> u64
         ensures { result ≡ self }
     {
@@ -31,7 +33,7 @@ impl Address {
     }
 }
 
-/// The number of a tree.
+/// The number of a tree (on-disk format, ROOT_ITEM).
 #[derive(Clone, Copy, Debug, PartialEq, Eq, PartialOrd, Ord)]
 pub struct RootId {
     number: u64,
@@ -46,12 +48,14 @@ impl Model for RootId {
 }
 
 impl RootId {
-    pub fn new(number: u64) -> Self
+    /// The tree of a number.
+    pub fn new(number: u64) -> RootId
         ensures { result ≡ number }
     {
         RootId { number }
     }
 
+    /// Its number.
     pub fn value(self) -> u64
         ensures { result ≡ self }
     {
@@ -59,7 +63,7 @@ impl RootId {
     }
 }
 
-/// The number of a file.
+/// The number of a file in its subvolume (on-disk format, INODE_ITEM).
 #[derive(Clone, Copy, Debug, PartialEq, Eq, PartialOrd, Ord)]
 pub struct Ino {
     number: u64,
@@ -74,12 +78,14 @@ impl Model for Ino {
 }
 
 impl Ino {
-    pub fn new(number: u64) -> Self
+    /// The file of a number.
+    pub fn new(number: u64) -> Ino
         ensures { result ≡ number }
     {
         Ino { number }
     }
 
+    /// Its number.
     pub fn value(self) -> u64
         ensures { result ≡ self }
     {
@@ -87,7 +93,7 @@ impl Ino {
     }
 }
 
-/// The number of a commit.
+/// The number of a commit (on-disk format, "generation").
 #[derive(Clone, Copy, Debug, PartialEq, Eq, PartialOrd, Ord)]
 pub struct Generation {
     number: u64,
@@ -102,12 +108,14 @@ impl Model for Generation {
 }
 
 impl Generation {
-    pub fn new(number: u64) -> Self
+    /// The commit of a number.
+    pub fn new(number: u64) -> Generation
         ensures { result ≡ number }
     {
         Generation { number }
     }
 
+    /// Its number.
     pub fn value(self) -> u64
         ensures { result ≡ self }
     {

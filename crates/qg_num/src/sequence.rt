@@ -1,5 +1,5 @@
 // A list that clauses see as one.
-ghost use Rattle.std.specs.Prelude.{◌≡◌, ◌∷◌, ◌++◌, [], OnOk, OnErr, length};
+ghost use Rattle.std.specs.Prelude.{◌≡◌, ◌==◌, ◌∷◌, ◌++◌, [], OnOk, OnErr, length};
 
 use crate::{GroupId, Piece, RootId, Row};
 use std::alloc::{AllocError, Global};
@@ -17,7 +17,7 @@ pub type Pieces = Sequence<Piece>;
 /// Quota groups with their counters and limits, ascending by number.
 pub type Rows = Sequence<Row>;
 
-/// A growing list. A contract sees the list of its items, without where they lie.
+/// A growing list (this project's own). A contract sees its items in order, and not where they lie.
 #[derive(Debug, Drop)]
 pub struct Sequence<T> {
     items: Vec<T>,
@@ -32,8 +32,8 @@ impl<T> Model for Sequence<T> {
 }
 
 impl<T: Drop> Sequence<T> {
-    /// The empty list.
-    pub fn new(alloc: Global) -> Self
+    /// The empty list, which takes no memory yet.
+    pub fn new(alloc: Global) -> Sequence<T>
         ensures { result ≡ [] }
     {
         Sequence {
@@ -41,7 +41,7 @@ impl<T: Drop> Sequence<T> {
         }
     }
 
-    /// Puts an item at the end.
+    /// Puts an item at the end. Where memory is refused, the list stays as it was and the item is dropped.
     pub fn push(&mut self, item: T) -> Result<(), AllocError>
         ensures ok { OnOk result (self.new ≡ self.old ++ item ∷ []) }
         ensures err { OnErr result (self.new ≡ self.old) }
@@ -55,5 +55,24 @@ impl<T: Drop> Sequence<T> {
         ensures { result.now ≡ self.now }
     {
         self.items.as_slice()
+    }
+
+    /// How many items there are.
+    pub fn len(&self) -> usize
+        ensures { result ≡ length self.now }
+    {
+        self.items.len()
+    }
+
+    /// Whether there is none.
+    pub fn is_empty(&self) -> bool
+        ensures { result ≡ (length self.now == 0) }
+    {
+        self.items.is_empty()
+    }
+
+    /// What it takes memory from. Another list can be made from the same.
+    pub fn allocator(&self) -> Global {
+        *self.items.allocator()
     }
 }
