@@ -1,9 +1,9 @@
 -- A key's bytes give the key, and the key gives its bytes.
-use Rattle.std.proofs.Common.{◌≡◌, ℕ, ◌+◌, ◌≤◌, List, [], ◌∷◌, ◌++◌, length, take, drop, set, sym, ap, subst, ◌∙◌, arith}
+use Rattle.std.proofs.Common.{◌≡◌, ℕ, zero, suc, ◌+◌, ◌≤◌, ◌<◌, List, [], ◌∷◌, ◌++◌, length, take, drop, set, sym, ap, subst, ◌∙◌, arith}
 use Rattle.std.specs.Prelude.{slice_index}
 use Rattle.std.proofs.lemmas.List.{append_assoc, length-append}
 use Rattle.qg_bytes.specs.Fields.{IsBytes, u64_bytes, u64_at}
-use Rattle.qg_bytes.proofs.Numbers.{length-u64_bytes}
+use Rattle.qg_bytes.proofs.Numbers.{IsBytes-append, IsBytes-u64_bytes, length-u64_bytes, u64_at-lt}
 use Rattle.qg_bytes.proofs.Standing.{Stands, Stands-first, Stands-second, Stands-then, byte_stands, slice_index-stands, u64_at-stands, u64_stands, whole_stands}
 use Rattle.qg_bytes.proofs.Written.{length-put, put_byte, put_then}
 use Rattle.qg_num.specs.declared.key.Key.{Key}
@@ -63,3 +63,17 @@ key_put key place old mid new within was is =
     put_then place 9 8 (object ++ kind) (u64_bytes key.offset) old two new (omega arith) front so_far is
     ∙ ap (λ (to : ℕ). take place old ++ (((object ++ kind) ++ u64_bytes key.offset) ++ drop to old)) all
     ∙ ap (λ (text : List ℕ). take place old ++ (text ++ drop (place + 17) old)) (append_assoc object kind (u64_bytes key.offset))
+
+-- ---- which lists and keys fit
+
+pub IsKey-key_at : (bytes : List ℕ) (place : ℕ) → IsBytes bytes → IsKey (key_at place bytes)
+IsKey-key_at bytes place are = record { objectid = u64_at-lt place bytes are; kind = are (place + 8); offset = u64_at-lt (place + 9) bytes are }
+
+byte : (n : ℕ) → n < 256 → IsBytes (n ∷ [])
+byte n fits zero = fits
+byte n fits (suc i) = omega arith
+
+pub IsBytes-key_bytes : (key : Key) → IsKey key → IsBytes (key_bytes key)
+IsBytes-key_bytes key fits =
+    IsBytes-append (u64_bytes key.objectid) (key.kind ∷ u64_bytes key.offset) (IsBytes-u64_bytes key.objectid)
+    (IsBytes-append (key.kind ∷ []) (u64_bytes key.offset) (byte key.kind fits.kind) (IsBytes-u64_bytes key.offset))
