@@ -5,7 +5,7 @@ use Rattle.std.proofs.lemmas.Bool.{cases_lt}
 use lib.Ieee.Fits.{and_l, and_r}
 use Rattle.qg_crc32c.specs.Crc32c.{shift, shifts}
 use Rattle.qg_crc32c.specs.Rows.{by_halves}
-use Rattle.qg_crc32c.proofs.Shifts.{half_below, shifts-xor}
+use Rattle.qg_crc32c.proofs.Shifts.{xor-above_half, shifts-xor}
 use Rattle.qg_crc32c.proofs.Spread.{spread, spread-xor, Moves}
 use Rattle.qg_crc32c.specs.declared.rows.TheConstants.{SECOND_LOW, SECOND_HIGH, THIRD_LOW, THIRD_HIGH, FOURTH_LOW, FOURTH_HIGH, NEXT_LOW, NEXT_HIGH}
 
@@ -34,7 +34,7 @@ pub tables_move : Moves (by_halves SECOND_LOW SECOND_HIGH) (by_halves THIRD_LOW 
 tables_move b fits =
     let low = b % 16 in
     let high = b / 16 in
-    let whole : b ≡ bit_xor (low * 1) (high * 16) = sym (ap (λ (z : ℕ). bit_xor z (high * 16)) (omega arith) ∙ half_below low high (omega arith) ∙ omega arith) in
+    let whole : b ≡ bit_xor (low * 1) (high * 16) = sym (ap (λ (z : ℕ). bit_xor z (high * 16)) (omega arith) ∙ xor-above_half low high (omega arith) ∙ omega arith) in
     ap (shifts 1024) whole ∙ shifts-xor 1024 (low * 1) (high * 16)
     ∙ rw (halves_move-at 1 SECOND_LOW THIRD_LOW FOURTH_LOW NEXT_LOW 16 low low_moves (omega arith), halves_move-at 16 SECOND_HIGH THIRD_HIGH FOURTH_HIGH NEXT_HIGH 16 high high_moves (omega arith)) refl
     ∙ sym (spread-xor (get_or SECOND_LOW low 0) (get_or THIRD_LOW low 0) (get_or FOURTH_LOW low 0) (get_or NEXT_LOW low 0) (get_or SECOND_HIGH high 0) (get_or THIRD_HIGH high 0) (get_or FOURTH_HIGH high 0) (get_or NEXT_HIGH high 0))

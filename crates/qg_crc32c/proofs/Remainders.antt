@@ -5,7 +5,7 @@ use Rattle.std.specs.Int.Bits.{xor_assoc, xor_zero_l, xor_zero_r}
 use Rattle.std.specs.Simd.Lanes.{zip2}
 use Rattle.std.proofs.lemmas.Simd.{length-zip2}
 use Rattle.qg_crc32c.specs.Crc32c.{shifts, remainder}
-use Rattle.qg_crc32c.proofs.Shifts.{xor_swap, shifts-xor, shifts-none, shifts-add, shifts-byte_of_zeros, byte_below}
+use Rattle.qg_crc32c.proofs.Shifts.{xor_swap, shifts-xor, shifts-none, shifts-add, shifts-byte_of_zeros, xor-above_byte}
 
 -- a text in two parts
 pub remainder-append : (r : ℕ) (a b : List ℕ) → remainder r (a ++ b) ≡ remainder (remainder r a) b
@@ -61,5 +61,5 @@ remainder-number r [] fits = sym (shifts-none (bit_xor r 0) ∙ xor_zero_r r)
 remainder-number r (b ∷ bs) fits =
     let n : 8 * length (b ∷ bs) ≡ 8 + 8 * length bs = omega arith in
     remainder-number (shifts 8 (bit_xor r b)) bs (λ k. fits (suc k))
-    ∙ ap (shifts (8 * length bs)) (ap (bit_xor (shifts 8 (bit_xor r b))) (sym (shifts-byte_of_zeros (number bs))) ∙ sym (shifts-xor 8 (bit_xor r b) (number bs * 256)) ∙ ap (shifts 8) (xor_assoc r b (number bs * 256) ∙ ap (bit_xor r) (byte_below b (number bs) (fits 0))))
+    ∙ ap (shifts (8 * length bs)) (ap (bit_xor (shifts 8 (bit_xor r b))) (sym (shifts-byte_of_zeros (number bs))) ∙ sym (shifts-xor 8 (bit_xor r b) (number bs * 256)) ∙ ap (shifts 8) (xor_assoc r b (number bs * 256) ∙ ap (bit_xor r) (xor-above_byte b (number bs) (fits 0))))
     ∙ sym (shifts-add 8 (8 * length bs) (bit_xor r (b + 256 * number bs))) ∙ ap (λ (z : ℕ). shifts z (bit_xor r (b + 256 * number bs))) (sym n)

@@ -90,16 +90,16 @@ shifts-byte_of_zeros h =
     rw (e, shift-twice (2 * (2 * (2 * (2 * (2 * (2 * (2 * h))))))), shift-twice (2 * (2 * (2 * (2 * (2 * (2 * h)))))), shift-twice (2 * (2 * (2 * (2 * (2 * h))))), shift-twice (2 * (2 * (2 * (2 * h)))), shift-twice (2 * (2 * (2 * h))), shift-twice (2 * (2 * h)), shift-twice (2 * h), shift-twice h) refl
 
 -- a byte and what stands above it
-pub byte_below : (b h : ℕ) → b < 256 → bit_xor b (h * 256) ≡ b + 256 * h
-byte_below b h fits =
+pub xor-above_byte : (b h : ℕ) → b < 256 → bit_xor b (h * 256) ≡ b + 256 * h
+xor-above_byte b h fits =
     let low : 0 * 2 ^ 8 + b ≡ b = omega arith in
     let high : h * 2 ^ 8 + 0 ≡ h * 256 = omega arith in
     ap (λ (z : ℕ). bit_xor z (h * 256)) (sym low) ∙ ap (λ (z : ℕ). bit_xor (0 * 2 ^ 8 + b) z) (sym high)
     ∙ xor_block 8 0 h b 0 (omega arith) (omega arith) ∙ rw (xor_zero_l h, xor_zero_r b) (omega arith)
 
 -- half a byte and what stands above it
-pub half_below : (b h : ℕ) → b < 16 → bit_xor b (h * 16) ≡ b + 16 * h
-half_below b h fits =
+pub xor-above_half : (b h : ℕ) → b < 16 → bit_xor b (h * 16) ≡ b + 16 * h
+xor-above_half b h fits =
     let low : 0 * 2 ^ 4 + b ≡ b = omega arith in
     let high : h * 2 ^ 4 + 0 ≡ h * 16 = omega arith in
     ap (λ (z : ℕ). bit_xor z (h * 16)) (sym low) ∙ ap (λ (z : ℕ). bit_xor (0 * 2 ^ 4 + b) z) (sym high)
@@ -109,5 +109,5 @@ half_below b h fits =
 pub shifts-split : (n r : ℕ) → shifts (n + 8) r ≡ bit_xor (shifts (n + 8) (r % 256)) (shifts n (r / 256))
 shifts-split n r =
     let e : n + 8 ≡ 8 + n = omega arith in
-    rw e (shifts-add 8 n r ∙ ap (shifts n) (ap (shifts 8) (sym (byte_below (r % 256) (r / 256) (omega arith) ∙ omega arith)) ∙ shifts-xor 8 (r % 256) (r / 256 * 256) ∙ ap (λ (z : ℕ). bit_xor (shifts 8 (r % 256)) z) (shifts-byte_of_zeros (r / 256)))
+    rw e (shifts-add 8 n r ∙ ap (shifts n) (ap (shifts 8) (sym (xor-above_byte (r % 256) (r / 256) (omega arith) ∙ omega arith)) ∙ shifts-xor 8 (r % 256) (r / 256 * 256) ∙ ap (λ (z : ℕ). bit_xor (shifts 8 (r % 256)) z) (shifts-byte_of_zeros (r / 256)))
     ∙ shifts-xor n (shifts 8 (r % 256)) (r / 256) ∙ ap (λ (z : ℕ). bit_xor z (shifts n (r / 256))) (sym (shifts-add 8 n (r % 256))))

@@ -50,10 +50,10 @@ row_moves f g h i moves (b ∷ bs) fits =
     ∙ rw (shifts-turn 1024 bits b, moves b (fits 0), shifts-spread bits (f b) (g b) (h b) (i b), row_moves f g h i moves bs (λ k. fits (suc k))) refl
     ∙ sym (spread-xor (shifts bits (f b)) (shifts bits (g b)) (shifts bits (h b)) (shifts bits (i b)) (remainder 0 (map f bs)) (remainder 0 (map g bs)) (remainder 0 (map h bs)) (remainder 0 (map i bs))))
 
-pub five_rows : (f g h i : ℕ → ℕ) → Moves f g h i → (first second third fourth next : List ℕ) → IsRow first → IsRow second → IsRow third → IsRow fourth → IsRow next
+pub remainder-five_rows : (f g h i : ℕ → ℕ) → Moves f g h i → (first second third fourth next : List ℕ) → IsRow first → IsRow second → IsRow third → IsRow fourth → IsRow next
     → remainder 0 (zip2 bit_xor second (map f first) ++ (zip2 bit_xor third (map g first) ++ (zip2 bit_xor fourth (map h first) ++ zip2 bit_xor next (map i first))))
     ≡ remainder 0 ((first ++ (second ++ (third ++ fourth))) ++ next)
-five_rows f g h i moves first second third fourth next r1 r2 r3 r4 r5 =
+remainder-five_rows f g h i moves first second third fourth next r1 r2 r3 r4 r5 =
     let long = λ (k : ℕ → ℕ) (row : List ℕ) (l : length row ≡ 32). l ∙ sym (length-map first k ∙ r1.len) in
     let longer = λ (k : ℕ → ℕ) (row : List ℕ) (l : length row ≡ 32). length-zip2 bit_xor row (map k first) (long k row l) ∙ l in
     let others = remainder 0 (second ++ (third ++ (fourth ++ next))) in

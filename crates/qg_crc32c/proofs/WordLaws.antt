@@ -28,24 +28,24 @@ one_more_byte word place result d lt before =
 pub all_bytes : (word place result : ℕ) → place ≡ 8 → result ≡ shifts (8 * place) (word / 2 ^ (64 - 8 * place)) → result ≡ shifts 64 word
 all_bytes word place result e is = is ∙ rw e (ap (shifts 64) (omega arith))
 
-number_of_eight : (bytes : List ℕ) → length bytes ≡ 8 → from_le_bytes w64 bytes ≡ number bytes
-number_of_eight (a ∷ b ∷ c ∷ d ∷ e ∷ f ∷ g ∷ h ∷ []) long = omega arith
-number_of_eight (a ∷ b ∷ c ∷ d ∷ e ∷ f ∷ g ∷ h ∷ i ∷ bytes) long = absurd (omega arith)
-number_of_eight (a ∷ b ∷ c ∷ d ∷ e ∷ f ∷ g ∷ []) long = absurd (omega arith)
-number_of_eight (a ∷ b ∷ c ∷ d ∷ e ∷ f ∷ []) long = absurd (omega arith)
-number_of_eight (a ∷ b ∷ c ∷ d ∷ e ∷ []) long = absurd (omega arith)
-number_of_eight (a ∷ b ∷ c ∷ d ∷ []) long = absurd (omega arith)
-number_of_eight (a ∷ b ∷ c ∷ []) long = absurd (omega arith)
-number_of_eight (a ∷ b ∷ []) long = absurd (omega arith)
-number_of_eight (a ∷ []) long = absurd (omega arith)
-number_of_eight [] long = absurd (omega arith)
+from_le_bytes-number : (bytes : List ℕ) → length bytes ≡ 8 → from_le_bytes w64 bytes ≡ number bytes
+from_le_bytes-number (a ∷ b ∷ c ∷ d ∷ e ∷ f ∷ g ∷ h ∷ []) long = omega arith
+from_le_bytes-number (a ∷ b ∷ c ∷ d ∷ e ∷ f ∷ g ∷ h ∷ i ∷ bytes) long = absurd (omega arith)
+from_le_bytes-number (a ∷ b ∷ c ∷ d ∷ e ∷ f ∷ g ∷ []) long = absurd (omega arith)
+from_le_bytes-number (a ∷ b ∷ c ∷ d ∷ e ∷ f ∷ []) long = absurd (omega arith)
+from_le_bytes-number (a ∷ b ∷ c ∷ d ∷ e ∷ []) long = absurd (omega arith)
+from_le_bytes-number (a ∷ b ∷ c ∷ d ∷ []) long = absurd (omega arith)
+from_le_bytes-number (a ∷ b ∷ c ∷ []) long = absurd (omega arith)
+from_le_bytes-number (a ∷ b ∷ []) long = absurd (omega arith)
+from_le_bytes-number (a ∷ []) long = absurd (omega arith)
+from_le_bytes-number [] long = absurd (omega arith)
 
 -- a word is divided as its number is
 pub remainder-word : (register number_of_word : ℕ) (word : List ℕ) → length word ≡ 8 → ((k : ℕ) → get_or word k 0 < 256) → number_of_word ≡ from_le_bytes w64 word
     → remainder register word ≡ shifts 64 (bit_xor register number_of_word)
 remainder-word register number_of_word word long fits is =
     let bits : 8 * length word ≡ 64 = omega arith in
-    remainder-number register word fits ∙ rw (bits, is, number_of_eight word long) refl
+    remainder-number register word fits ∙ rw (bits, is, from_le_bytes-number word long) refl
 
 -- one byte
 pub remainder-byte : (register byte : ℕ) → byte < 256 → (d : List ℕ) → remainder register (byte ∷ []) ≡ bit_xor (get_or (get_or AFTER 0 d) (bit_xor register byte % 256) 0) (register / 256)

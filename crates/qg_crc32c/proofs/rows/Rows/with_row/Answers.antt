@@ -2,7 +2,7 @@ use Rattle.std.proofs.Common.{◌++◌, List, ℕ, rules, ap, ◌∙◌}
 use Rattle.qg_crc32c.specs.Crc32c.{remainder}
 use Rattle.qg_crc32c.specs.Rows.{IsRow}
 use Rattle.qg_crc32c.proofs.Lanes.{row-xor}
-use Rattle.qg_crc32c.proofs.Spread.{five_rows}
+use Rattle.qg_crc32c.proofs.Spread.{remainder-five_rows}
 use Rattle.qg_crc32c.proofs.HalfTables.{tables_move}
 use Rattle.qg_crc32c.proofs.rows.Rows.with_row.Goals as goal
 
@@ -23,4 +23,4 @@ returns c =
     let are = c.self.invariant in
     let next : IsRow c.args.row.now = record { len = search rules; bytes = search rules } in
     rw (c.moved.ensures.bytes, c.moved-2.ensures.bytes, c.moved-3.ensures.bytes, c.moved-4.ensures.bytes)
-    (five_rows _ _ _ _ tables_move rows.first rows.second rows.third rows.fourth c.args.row.now are.0 are.1 are.2 are.3 next ∙ ap (λ (l : List ℕ). remainder 0 (l ++ c.args.row.now)) c.self.view_is)
+    (remainder-five_rows _ _ _ _ tables_move rows.first rows.second rows.third rows.fourth c.args.row.now are.0 are.1 are.2 are.3 next ∙ ap (λ (l : List ℕ). remainder 0 (l ++ c.args.row.now)) c.self.view_is)
