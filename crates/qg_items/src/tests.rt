@@ -1,6 +1,7 @@
 use super::*;
 use qg_num::{Address, Generation, Ino, RootId};
 
+// 8192 bytes at position 0, written in generation 2.
 const FIRST_PIECE: [u8; EXTENT_DATA_BYTES] = [
     0x02, 0x00, 0x00, 0x00, 0x00, 0x00, 0x00, 0x00, 0x00, 0x20, 0x00, 0x00, 0x00, 0x00, 0x00, 0x00,
     0x00, 0x00, 0x00, 0x00, 0x01, 0x00, 0x00, 0x01, 0x04, 0x00, 0x00, 0x00, 0x00, 0x00, 0x20, 0x00,
@@ -10,7 +11,7 @@ const FIRST_PIECE: [u8; EXTENT_DATA_BYTES] = [
 
 // The bytes of all bodies here are written out by hand.
 #[test]
-fn files_and_trees(rt: HostRuntime) {
+fn the_first_piece(rt: HostRuntime) {
     let piece = ExtentData {
         generation: Generation::new(2),
         ram_bytes: 8192,
@@ -23,7 +24,10 @@ fn files_and_trees(rt: HostRuntime) {
     write_extent_data(&piece, &mut bytes);
     assert_eq!(rt; bytes, FIRST_PIECE);
     assert_eq!(rt; read_extent_data(&FIRST_PIECE), Some(piece));
+}
 
+#[test]
+fn inodes_and_trees(rt: HostRuntime) {
     let inode = InodeItem {
         generation: Generation::new(2),
         transid: Generation::new(3),
@@ -145,40 +149,35 @@ fn quota(rt: HostRuntime) {
     assert_eq!(rt; read_limit(&wanted), Some(limit));
 }
 
-// Whether the place is one of the fields of a ROOT_ITEM.
-fn is_root_field(place: usize) -> bool {
-    matches!(place, 160..168 | 176..184 | 200..208 | 216..220 | 238)
+// The bytes with a bit changed at a place, if there is such a place.
+fn with_change<const N: usize>(mut bytes: [u8; N], place: usize) -> [u8; N] {
+    if place < N {
+        bytes[place] ^= 0x80;
+    }
+    bytes
 }
 
 #[test]
 fn each_constant_byte_is_looked_at(rt: HostRuntime) {
-    for place in 0..INODE_ITEM_BYTES {
-        let mut bytes = [0; INODE_ITEM_BYTES];
-        bytes[place] = 0x80;
-        assert_eq!(rt; read_inode(&bytes).is_none(), place >= 32, "at {place}");
-    }
-    for place in 0..EXTENT_DATA_BYTES {
-        let mut bytes = FIRST_PIECE;
-        bytes[place] ^= 0x80;
-        let wanted = place >= 16 && place < 21;
-        assert_eq!(rt; read_extent_data(&bytes).is_none(), wanted, "at {place}");
-    }
+    let mut version_1 = [0; QGROUP_STATUS_BYTES];
+    version_1[0] = 1;
     for place in 0..ROOT_ITEM_BYTES {
-        let mut bytes = [0; ROOT_ITEM_BYTES];
-        bytes[place] = 0x80;
-        let wanted = !is_root_field(place);
-        assert_eq!(rt; read_root(&bytes).is_none(), wanted, "at {place}");
-    }
-    for place in 0..QGROUP_STATUS_BYTES {
-        let mut bytes = [0; QGROUP_STATUS_BYTES];
-        bytes[0] = 1;
-        bytes[place] ^= 0x80;
-        assert_eq!(rt; read_status(&bytes).is_none(), place < 8, "at {place}");
-    }
-    for place in 0..QGROUP_LIMIT_BYTES {
-        let mut bytes = [0; QGROUP_LIMIT_BYTES];
-        bytes[place] = 0x80;
-        assert_eq!(rt; read_limit(&bytes).is_none(), place >= 24, "at {place}");
+        let inode = with_change([0; INODE_ITEM_BYTES], place);
+        let piece = with_change(FIRST_PIECE, place);
+        let root = with_change([0; ROOT_ITEM_BYTES], place);
+        let is_root_field = matches!(place, 160..168 | 176..184 | 200..208 | 216..220 | 238);
+        let status = with_change(version_1, place);
+        let limit = with_change([0; QGROUP_LIMIT_BYTES], place);
+        let table = [
+            (read_inode(&inode).is_none(), matches!(place, 32..160)),
+            (read_extent_data(&piece).is_none(), matches!(place, 16..21)),
+            (read_root(&root).is_none(), !is_root_field),
+            (read_status(&status).is_none(), matches!(place, 0..8)),
+            (read_limit(&limit).is_none(), matches!(place, 24..40)),
+        ];
+        for (is_none, wanted) in table {
+            assert_eq!(rt; is_none, wanted, "at {place}");
+        }
     }
 }
 

@@ -1,3 +1,5 @@
+use crate::places::{DATA_BEGIN, SECTOR};
+
 /// How large an image is (this project's own).
 #[derive(Clone, Copy, Debug, PartialEq, Eq)]
 pub struct Sizes {
@@ -7,4 +9,30 @@ pub struct Sizes {
     pub slots: u64,
     /// The number of data sectors of 4096 bytes.
     pub sectors: u64,
+}
+
+impl Sizes {
+    ghost use Rattle.std.specs.Prelude.{◌≡◌, IsTrue};
+    ghost use Rattle.qg_super.specs.Places.{is_served, total_bytes};
+
+    /// Whether images of these sizes are served: a nodesize of 4096 with at most 16128 slots or of 16384 with at most 4032, at
+    /// least 64 slots, from 16 to 16777216 sectors (this project's own).
+    #[tactic(auto, unfolding(crate::specs::Places::is_served))]
+    pub fn is_served(&self) -> bool
+        ensures { result ≡ is_served self.now }
+    {
+        ((self.nodesize == 4096 && self.slots <= 16128)
+            || (self.nodesize == 16384 && self.slots <= 4032))
+            && 64 <= self.slots
+            && 16 <= self.sectors
+            && self.sectors <= 16777216
+    }
+
+    /// The bytes of an image of these sizes, from its begin to the end of the data area (this project's own).
+    pub fn total_bytes(&self) -> u64
+        requires { IsTrue (is_served self.now) }
+        ensures { result ≡ total_bytes self.now }
+    {
+        DATA_BEGIN + self.sectors * SECTOR
+    }
 }
