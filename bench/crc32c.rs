@@ -37,7 +37,7 @@ const fn tables() -> [[u32; 256]; 16] {
 }
 
 /// The look-ups that wait for the register come last, which is the fastest order.
-fn crc32c(bytes: &[u8]) -> u32 {
+pub fn crc32c(bytes: &[u8]) -> u32 {
     let mut register = 0xFFFF_FFFFu32;
     let mut b = bytes;
     while b.len() >= 16 {

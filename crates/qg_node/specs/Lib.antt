@@ -1,3 +1,5 @@
 pub mod Nodes
 pub mod NodeText
 pub mod Reading
+pub mod Fits
+pub mod Laws

@@ -1,7 +1,7 @@
 -- The one text of a node, field by field (on-disk format, "header", "internal node", "leaf node").
 --
 -- All sizes and places are in bytes. What the text has as `zeros` is 0 in this project's own profile.
-use Rattle.std.specs.Prelude.{◌≡◌, ℕ, ◌+◌, ◌-◌, ◌*◌, ◌≤◌, List, [], ◌∷◌, ◌++◌, length, IsTrue}
+use Rattle.std.specs.Prelude.{◌≡◌, ◌⊎◌, ℕ, ◌+◌, ◌-◌, ◌*◌, ◌≤◌, List, [], ◌∷◌, ◌++◌, length, IsTrue}
 use Rattle.std.specs.List.{flat_map}
 use Rattle.qg_bytes.specs.Fields.{u64_bytes, u32_bytes, zeros}
 use Rattle.qg_crc32c.specs.Crc32c.{crc32c_of}
@@ -44,6 +44,10 @@ unfoldable pub inner_text : ℕ → List Pointer → List ℕ
 inner_text room pointers = flat_map pointer_text pointers ++ zeros (room - 33 * length pointers)
 
 -- ---- nodes
+
+-- how many bytes a node may have
+abbrev pub IsNodeSize : ℕ → Type 0
+IsNodeSize size = (size ≡ 4096) ⊎ (size ≡ 16384)
 
 -- the header from its 32nd byte on: fsid, address, flags and chunk tree's uuid, generation, owner, number of items, level
 unfoldable pub header_text : Header → ℕ → List ℕ

@@ -1,7 +1,7 @@
 -- What bytes are read as at an address: a node, or the first rule that they break as one.
 --
 -- The rules are looked at in one order (this project's own): csum, place, level, empty, bounds, order, slack.
-use Rattle.std.specs.Prelude.{ℕ, zero, suc, ◌+◌, ◌-◌, ◌*◌, Bool, ◌&&◌, ◌||◌, not, List, [], ◌∷◌, length, drop, map, slice_index, slice_range, Result, Ok, Err, nat_le, ◌==◌, if◌then◌else◌}
+use Rattle.std.specs.Prelude.{◌≡◌, ⊤, ℕ, zero, suc, ◌+◌, ◌-◌, ◌*◌, Bool, ◌&&◌, ◌||◌, not, List, [], ◌∷◌, length, drop, map, slice_index, slice_range, Result, Ok, Err, nat_le, ◌==◌, if◌then◌else◌}
 use Rattle.qg_bytes.specs.Fields.{u64_at, u32_at, is_zero}
 use Rattle.qg_crc32c.specs.Crc32c.{crc32c_of}
 use Rattle.qg_num.specs.Key.{key_at}
@@ -12,6 +12,8 @@ use Rattle.qg_node.specs.declared.node.Node.{Node}
 use Rattle.qg_node.specs.declared.node.Node.TheVariants.{Leaf, Inner}
 use Rattle.qg_node.specs.declared.fault.NodeFault.{NodeFault}
 use Rattle.qg_node.specs.declared.fault.NodeFault.TheVariants.{Csum, Place, Level, Empty, Bounds, Order, Slack}
+use Rattle.qg_node.specs.declared.fault.ReadFault.{ReadFault}
+use Rattle.qg_node.specs.declared.fault.ReadFault.TheVariants.{Bad, NoMemory}
 use Rattle.qg_node.specs.Nodes.{is_ascending}
 
 infixl 10 ◌>>=◌
@@ -95,3 +97,11 @@ node_read address bytes =
     (check (nat_le (slice_index bytes 100) 7) Level
     (check ((slice_index bytes 100 == 0) || not (count_at bytes == 0)) Empty
     (if slice_index bytes 100 == 0 then leaf_at bytes else inner_at bytes))))
+
+-- ---- what a reader answers
+
+-- what it returned is what reading gives, unless memory was refused
+abbrev pub ReadsAs : {A : Type 0} → Result A ReadFault → Result A NodeFault → Type 0
+ReadsAs (Ok read) wanted = wanted ≡ Ok read
+ReadsAs (Err (Bad fault)) wanted = wanted ≡ Err fault
+ReadsAs (Err NoMemory) wanted = ⊤

@@ -1,3 +1,9 @@
+// Why bytes are no node.
+ghost use Rattle.std.specs.Prelude.{◌≡◌};
+ghost use Rattle.qg_node.specs.declared.fault.ReadFault.TheVariants.{NoMemory};
+
+use std::alloc::{AllocError, AllocFailed};
+
 /// The first rule that bytes break as a node, in the order in which the rules are looked at (this project's own).
 #[derive(Clone, Copy, Debug, PartialEq, Eq)]
 pub enum NodeFault {
@@ -24,4 +30,20 @@ pub enum ReadFault {
     Bad(NodeFault),
     /// Memory was refused.
     NoMemory,
+}
+
+impl From<AllocError> for ReadFault {
+    ghost from_gives = { λ _ fault. fault ≡ NoMemory };
+
+    fn from(_: AllocError) -> ReadFault {
+        ReadFault::NoMemory
+    }
+}
+
+impl<T: Drop> From<AllocFailed<T>> for ReadFault {
+    ghost from_gives = { λ _ fault. fault ≡ NoMemory };
+
+    fn from(_: AllocFailed<T>) -> ReadFault {
+        ReadFault::NoMemory
+    }
 }

@@ -3,10 +3,20 @@
 
 mod fault;
 mod item;
+mod keyed;
+mod laws;
 mod node;
 mod pointer;
+mod reading;
+mod writing;
 
 pub use fault::{NodeFault, ReadFault};
 pub use item::{Body, Item, Items};
+pub use laws::round_trips;
 pub use node::{Header, Node};
 pub use pointer::{Pointer, Pointers};
+pub use reading::read_node;
+pub use writing::write_node;
+
+#[cfg(test)]
+mod tests;

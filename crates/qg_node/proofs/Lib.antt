@@ -1,0 +1,6 @@
+pub mod ReadingLoops
+pub mod Texts
+pub mod Filling
+pub mod TextBytes
+pub mod Found
+pub mod Again
