@@ -31,7 +31,8 @@ joined under [] = Some []
 joined under (pointer ∷ pointers) = option_and_then (λ first. option_and_then (λ rest. Some (first ++ rest)) (joined under pointers)) (under pointer)
 
 -- the items under the node of a level at an address: a leaf's own; above, the children's, one list after the other. Undefined where
--- a node on the way is missing or is not of its level
+-- a node on the way is missing, or is not a leaf exactly at level 0. What else a node must be (its level as it tells it, owner,
+-- generation, range of keys) is asked by the walk
 abbrev pub items_under : (ℕ → Option Node) → ℕ → ℕ → Option (List Item)
 items_under nodes zero address = option_and_then leaf_items (nodes address)
 items_under nodes (suc level) address =

@@ -118,7 +118,7 @@ unfolding refusal
 nothing_to_commit = (refl, (refl, refl))
 
 -- the stored counters are shown
-fresh_is_shown : Step fresh Show (answer.Shown (record { group = 5; counters = record { rfer = 0; excl = 0 }; max_rfer = None; max_excl = None } ∷ [])) [] fresh
+fresh_is_shown : Step fresh Show (answer.Shown (record { group = 5; counters = record { rfer = 16384; excl = 16384 }; max_rfer = None; max_excl = None } ∷ [])) [] fresh
 unfolding refusal
 fresh_is_shown = (refl, (refl, refl))
 

@@ -1,37 +1,59 @@
 -- Which layouts of nodes the machine may come to: slots and the cut of trees are its only free choices (this project's own).
-use Rattle.std.specs.Prelude.{◌≡◌, ℕ, ◌≤◌, Bool, true, false, ◌&&◌, ◌||◌, not, List, [], ◌∷◌, length, map, Some, ◌==◌, IsTrue}
+use Rattle.std.specs.Prelude.{◌≡◌, ℕ, ◌≤◌, Bool, ◌&&◌, ◌||◌, not, List, length, map, Option, Some, None, Result, Ok, Err, ◌==◌, IsTrue}
 use Rattle.std.specs.List.{list_all, list_any, filter, AllByRecursion}
+use Rattle.qg_num.specs.declared.rule.Rule.TheVariants as rule
 use Rattle.qg_node.specs.declared.item.Item.{Item}
 use Rattle.qg_node.specs.declared.node.Node.{Node}
 use Rattle.qg_node.specs.Nodes.{header_of}
+use Rattle.qg_node.specs.NodeText.{IsNode}
+use Rattle.qg_super.specs.declared.superblock.Super.{Super}
 use Rattle.qg_super.specs.Places.{is_slot}
 use Rattle.qg_image.specs.Table.{value_at, has_key}
-use Rattle.qg_image.specs.ItemsUnder.{items_under, nodes_under}
-use Rattle.qg_image.specs.IsShaped.{is_shaped}
+use Rattle.qg_image.specs.ItemsUnder.{items_under}
 use Rattle.qg_image.specs.FilesOf.{files_of}
+use Rattle.qg_state.specs.Stage.{copies_on_write}
 use Rattle.qg_state.specs.State.{State, Subvolume, Placed, node_at, next_generation}
 use Rattle.qg_state.specs.Reach.{level_of, reaches, is_reached, owners}
 use Rattle.qg_state.specs.Space.{is_free_slot}
+use Rattle.qg_verdict.specs.Failure.{Failure, Broken}
+use Rattle.qg_verdict.specs.Walk.{Files, walk_failure, deepest}
 
 -- ---- a state whose layout is that of its files
 
--- the nodes of a tree are as full as they must be, the first being its root
-abbrev pub are_shaped : ℕ → List Node → Bool
-are_shaped nodesize [] = true
-are_shaped nodesize (root ∷ nodes) = is_shaped nodesize true root && list_all (is_shaped nodesize false) nodes
+-- what the layout has at an address
+abbrev pub found_in : List (ℕ × Placed) → ℕ → Result Node Failure
+found_in layout address = there (node_at layout address) where
+  there : Option Node → Result Node Failure
+  there None = Err (Broken rule.Slot address)
+  there (Some node) = Ok node
 
--- the nodes under a subvolume's root hold the items of its files, and are as full as they must be
+-- the superblock that the next commit would write, its root left open
+abbrev pub super_to_come : State → Super
+super_to_come state = record {
+  generation = next_generation state;
+  root = 0;
+  nodesize = state.sizes.nodesize;
+  slots = state.sizes.slots;
+  sectors = state.sizes.sectors;
+  format = 1;
+}
+
+-- the tree under a subvolume's root breaks no rule of the walk over an image that the next commit would write (levels, owners,
+-- generations, key ranges, shape, items), and holds the items of its files
 pub record IsTreeOf (state : State) (subvolume : Subvolume) : Type 0 where
   pub items : List Item
-  pub nodes : List Node
+  pub walked :
+      walk_failure Files (super_to_come state) (found_in state.layout) deepest
+      (record { level = None; generation = None; from = None; to = None }) subvolume.root
+      ≡ None
   pub under : items_under (node_at state.layout) (level_of (node_at state.layout subvolume.root)) subvolume.root ≡ Some items
   pub files : files_of (next_generation state) items ≡ Some subvolume.files
-  pub walked : nodes_under (node_at state.layout) (level_of (node_at state.layout subvolume.root)) subvolume.root ≡ Some nodes
-  pub shaped : IsTrue (are_shaped state.sizes.nodesize nodes)
 
--- each node of the layout stands under its address, and some subvolume reaches it
-abbrev pub IsReached : State → ℕ × Placed → Type 0
-IsReached state entry = ((header_of entry.1.node).address ≡ entry.0) × IsTrue (is_reached state entry.0)
+-- a node of the layout is one of the format and stands under its address, and some subvolume reaches it
+pub record IsReached (state : State) (entry : ℕ × Placed) : Type 0 where
+  pub node_of_format : IsNode state.sizes.nodesize entry.1.node
+  pub placed : (header_of entry.1.node).address ≡ entry.0
+  pub reached : IsTrue (is_reached state entry.0)
 
 -- the layout is that of the files: each subvolume has its tree, and there are no other nodes
 pub record IsWhole (state : State) : Type 0 where
@@ -48,10 +70,21 @@ is_kept state sub address = list_any (λ other. not (other == sub)) (owners stat
 abbrev pub is_full_after : State → Placed → ℕ → Bool
 is_full_after new placed address = placed.full || not (reaches new (header_of placed.node).owner address)
 
--- a node that stays is full where it must be, and where it is kept it stays as it is; any node goes where nobody reaches it
+-- a node that is edited where it lies has the owner, the generation and the level that it had
+abbrev pub has_same_maker : Node → Node → Bool
+has_same_maker node other =
+    ((header_of node).owner == (header_of other).owner) && ((header_of node).generation == (header_of other).generation)
+    && ((header_of node).level == (header_of other).level)
+
+-- a node that stays is full where it must be and has its maker; where it is kept it stays as it is
+pub record StaysAs (old new : State) (sub : ℕ) (entry : ℕ × Placed) (placed : Placed) : Type 0 where
+  pub full : placed.full ≡ is_full_after new entry.1 entry.0
+  pub maker : IsTrue (has_same_maker placed.node entry.1.node)
+  pub kept : IsTrue (is_kept old sub entry.0) → placed.node ≡ entry.1.node
+
+-- a node of the layout stays as it may; any node goes where nobody reaches it
 abbrev pub KeepsNode : State → State → ℕ → ℕ × Placed → Type 0
-KeepsNode old new sub entry = (placed : Placed) → value_at entry.0 new.layout ≡ Some placed
-    → (placed.full ≡ is_full_after new entry.1 entry.0) × (IsTrue (is_kept old sub entry.0) → placed.node ≡ entry.1.node)
+KeepsNode old new sub entry = (placed : Placed) → value_at entry.0 new.layout ≡ Some placed → StaysAs old new sub entry placed
 
 -- a node that was not there lies in a free slot, is the subvolume's, of the generation to come, and not full
 abbrev pub is_made_node : State → ℕ → ℕ × Placed → Bool
@@ -89,7 +122,9 @@ pub record Rebuilds (old new : State) : Type 0 where
 
 -- ---- the other trees
 
--- the nodes of the root, extent and quota trees lie in slots that the layout leaves, free ones or such as the last commit held
+-- the nodes of the root, extent and quota trees lie in slots that the layout leaves: free ones, or once these trees are edited by copy on
+-- write such as the last commit held
 abbrev pub is_other_slot : State → State → ℕ → Bool
 is_other_slot old new address =
-    is_slot old.sizes address && not (has_key address new.layout) && (is_free_slot old address || list_any (λ node. node == address) old.held.nodes)
+    is_slot old.sizes address && not (has_key address new.layout)
+    && (is_free_slot old address || (copies_on_write && list_any (λ node. node == address) old.held.nodes))

@@ -212,8 +212,8 @@ fresh = record {
   sizes = small;
   generation = 1;
   subvolumes = (5, subvolume 1097728 []) ∷ [];
-  layout = leaf 1097728 5 [] ∷ [];
-  quota = Some (quota_of (5 ∷ []) []);
+  layout = (1097728, record { node = Leaf (record { address = 1097728; generation = 1; owner = 5; level = 0 }) []; full = false }) ∷ [];
+  quota = Some (record { groups = (5, record { counters = record { rfer = 16384; excl = 16384 }; max_rfer = None; max_excl = None; stamp = 1 }) ∷ []; pairs = [] });
   pending = [];
   held = record {
     nodes = 1048576 ∷ 1064960 ∷ 1081344 ∷ 1097728 ∷ [];

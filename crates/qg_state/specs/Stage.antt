@@ -1,4 +1,5 @@
--- What is served so far (this project's own). Each line is lifted by writing `true` for `false`; nothing else is narrowed.
+-- What is served so far (this project's own). Each line is lifted by writing `true` for `false`. Which lines of a script
+-- are served is a definition of its own, with the grammar; nothing else is narrowed.
 use Rattle.std.specs.Prelude.{Bool, false}
 
 -- The layout follows each file command by copy on write, and the need of slots is that of copies. Until then the layout is told at

@@ -95,10 +95,7 @@ node_failure tree super expected address node = first_failure
     ∷ kept (begins_at expected.from (own_keys node) && ends_before expected.to (own_keys node)) rule.Range address
     ∷ kept (is_shaped super.nodesize (is_none expected.from) node) rule.Shape address
     ∷ kept (list_all (is_item_of tree super.generation) (own_items node)) rule.Item address
-    ∷ []) where
-      is_root : Option Key → Bool
-      is_root None = true
-      is_root (Some from) = false
+    ∷ [])
 
 -- ---- the walk
 
