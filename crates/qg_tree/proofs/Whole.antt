@@ -1,0 +1,94 @@
+-- A tree whose levels are put one after the other.
+use Rattle.std.proofs.Common.{◌≡◌, ℕ, zero, suc, ◌+◌, ◌-◌, ◌*◌, ◌≤◌, ◌<◌, ◌^◌, true, List, [], ◌∷◌, ◌++◌, map, sym, ap, ◌∙◌, subst, length, arith, get_or, length-append}
+use Rattle.std.specs.Prelude.{Option, Some, None, ◌==◌}
+use Rattle.std.specs.Option.{option_and_then}
+use Rattle.std.specs.List.{IsDistinct, sum_by}
+use Rattle.std.proofs.lemmas.List.{append-nil, length-map}
+use Rattle.qg_node.specs.declared.item.Item.{Item}
+use Rattle.qg_node.specs.declared.pointer.Pointer.{Pointer}
+use Rattle.qg_node.specs.declared.node.Node.{Node}
+use Rattle.qg_node.specs.Nodes.{is_ascending, item_bytes, items_bytes, own_items, own_pointers}
+use Rattle.qg_node.specs.NodeText.{IsNodeSize}
+use Rattle.qg_super.specs.Places.{capacity}
+use Rattle.qg_image.specs.ItemsUnder.{items_under}
+use Rattle.qg_state.specs.Need.{nodes_filled}
+use Rattle.qg_verdict.specs.Walk.{deepest}
+use Rattle.qg_tree.specs.Build.{node_among, IsBuilt}
+use Rattle.qg_tree.specs.Row.{pointer_to, PutsRow}
+use Rattle.qg_tree.proofs.Counts.{IsCounted, counted_leaves, counted_inners, fewer_above, most_on, room_above, wide}
+use Rattle.qg_tree.proofs.Growing.{sum_by-same}
+use Rattle.qg_tree.proofs.Levels.{risen_leaves, risen_inners}
+use Rattle.qg_tree.proofs.Reached.{only_reached}
+use Rattle.qg_tree.proofs.Rising.{HasRisen}
+
+-- the levels so far
+pub record HasLevels (nodesize owner generation : ℕ) (items : List Item) (slots : List ℕ) (nodes : List Node) (level : ℕ) (pointers : List Pointer) : Type 0 where
+  pub risen : HasRisen nodesize owner generation items slots nodes level pointers
+  pub counted : IsCounted (nodes_filled nodesize (items_bytes items)) (length nodes) (length pointers) level
+
+module _ (nodesize owner generation : ℕ) (items : List Item) (slots : List ℕ) (size : IsNodeSize nodesize) (distinct : IsDistinct (λ a b. a == b) slots) where
+  pub HasLevels-none : (nodes : List Node) (pointers : List Pointer) → is_ascending (map (λ item. item.key) items) ≡ true → 5 * nodes_filled nodesize (items_bytes items) + 1 ≤ length slots → length slots ≤ 16128
+      → PutsRow own_items item_bytes nodesize owner generation 0 slots items [] nodes pointers → HasLevels nodesize owner generation items slots nodes 0 pointers
+  HasLevels-none nodes pointers ascending room few put =
+      let big = wide nodesize size in
+      let risen : HasRisen nodesize owner generation items slots put.row 0 (map pointer_to put.row) = risen_leaves nodesize owner generation items slots put.row (omega (arith, big)) distinct ascending put.is in
+      let counted : IsCounted (nodes_filled nodesize (items_bytes items)) (length put.row) (length put.row) 0 = counted_leaves nodesize (items_bytes items) (length put.row) (length slots) size put.is.some put.few room few in
+      let made : HasLevels nodesize owner generation items slots put.row 0 (map pointer_to put.row) =
+      record { risen = risen; counted = subst (λ (n : ℕ). IsCounted (nodes_filled nodesize (items_bytes items)) (length put.row) n 0) (sym (length-map put.row pointer_to)) counted } in
+      rw (put.grown, put.pointed) made
+
+  pub HasLevels-more : (nodes : List Node) (level : ℕ) (pointers : List Pointer) (new : List Node) (above : List Pointer) → HasLevels nodesize owner generation items slots nodes level pointers → 2 ≤ length pointers
+      → PutsRow own_pointers (λ _. 33) nodesize owner generation (level + 1) slots pointers nodes new above → HasLevels nodesize owner generation items slots new (level + 1) above
+  HasLevels-more nodes level pointers new above is many put =
+      let big = wide nodesize size in
+      let risen : HasRisen nodesize owner generation items slots (nodes ++ put.row) (level + 1) (map pointer_to put.row) =
+      risen_inners nodesize owner generation items slots nodes level pointers put.row (omega (arith, big)) distinct many is.risen put.is in
+      let heavy : 2 ≤ length put.row → capacity nodesize * length put.row ≤ 4 * (33 * length pointers) = λ two. omega (arith, put.few two, sum_by-same 33 pointers) in
+      let counted : IsCounted (nodes_filled nodesize (items_bytes items)) (length nodes + length put.row) (length put.row) (level + 1) =
+      counted_inners nodesize (nodes_filled nodesize (items_bytes items)) (length nodes) (length pointers) level (length put.row) size is.counted many put.is.some heavy in
+      let made : HasLevels nodesize owner generation items slots (nodes ++ put.row) (level + 1) (map pointer_to put.row) = record {
+        risen = risen;
+        counted = rw (length-append nodes put.row, length-map put.row pointer_to) counted;
+      } in
+      rw (put.grown, put.pointed) made
+
+  pub above_fewer : (nodes : List Node) (level above_level : ℕ) (pointers : List Pointer) (new : List Node) (above : List Pointer) → 2 ≤ length pointers
+      → PutsRow own_pointers (λ _. 33) nodesize owner generation above_level slots pointers nodes new above → length above < length pointers
+  above_fewer nodes level above_level pointers new above many put =
+      let heavy : 2 ≤ length put.row → capacity nodesize * length put.row ≤ 4 * (33 * length pointers) = λ two. omega (arith, put.few two, sum_by-same 33 pointers) in
+      let fewer : length put.row < length pointers = fewer_above nodesize (length pointers) (length put.row) size many heavy in
+      rw put.pointed (rw (length-map put.row pointer_to) fewer)
+
+  pub light_enough : (nodes : List Node) (level : ℕ) (pointers : List Pointer) → HasLevels nodesize owner generation items slots nodes level pointers → 2 ≤ length pointers → length slots ≤ 16128
+      → sum_by (λ _. 33) pointers < 2 ^ 32
+  light_enough nodes level pointers is many few = omega (arith, sum_by-same 33 pointers, most level, is.counted.low) where
+    most : (level : ℕ) → most_on level ≤ 16128
+    most zero = omega arith
+    most (suc zero) = omega arith
+    most (suc (suc zero)) = omega arith
+    most (suc (suc (suc level))) = omega arith
+
+  pub room_for_more : (nodes : List Node) (level : ℕ) (pointers : List Pointer) → HasLevels nodesize owner generation items slots nodes level pointers → 2 ≤ length pointers
+      → 5 * nodes_filled nodesize (items_bytes items) + 1 ≤ length slots → 4 * sum_by (λ _. 33) pointers < capacity nodesize * (length slots - length nodes)
+  room_for_more nodes level pointers is many room =
+      rw (sum_by-same 33 pointers) (room_above nodesize (nodes_filled nodesize (items_bytes items)) (length nodes) (length pointers) level (length slots) size is.counted many room)
+
+  pub IsBuilt-all : (nodes : List Node) (level : ℕ) (pointers : List Pointer) (root : Pointer) → HasLevels nodesize owner generation items slots nodes level pointers → length pointers ≤ 1 → root ≡ get_or pointers 0 root
+      → IsBuilt nodesize owner generation items slots nodes root.child level
+  IsBuilt-all nodes level [] root is one there = absurd (omega (arith, is.counted.some))
+  IsBuilt-all nodes level (first ∷ second ∷ others) root is one there = absurd (omega (arith, one))
+  IsBuilt-all nodes level (only ∷ []) root is one there =
+      let low : level ≤ deepest = omega (arith, is.counted.flat) in
+      let made : IsBuilt nodesize owner generation items slots nodes only.child level = record {
+        reached = only_reached nodes level only is.risen.reached;
+        under = alone (items_under (node_among nodes) level only.child) is.risen.under;
+        walked = λ tree super same owned made hold. is.risen.walked tree super (record { size = same; owned = owned; made = made }) hold deepest low;
+        made = is.risen.made;
+        placed = is.risen.placed;
+        few = is.counted.few;
+        low = low;
+      } in
+      rw there made where
+        alone : (under : Option (List Item)) → option_and_then (λ first. option_and_then (λ rest. Some (first ++ rest)) (Some [])) under ≡ Some items → under ≡ Some items
+        alone (Some own) h = ap (λ (all : List Item). Some all) (sym (append-nil own)) ∙ h
+        alone None h = absurd cc

@@ -1,0 +1,14 @@
+use Rattle.std.proofs.Common.{◌≡◌, length}
+use Rattle.qg_tree.proofs.Whole.{HasLevels}
+use Rattle.qg_tree.proofs.building.build.Given as goal
+
+abbrev pub invariant-levels : goal.invariant-levels
+invariant-levels l = record {
+  size : l.level.nodesize ≡ l.fn.nodesize;
+  owned : l.level.owner ≡ l.fn.owner;
+  made : l.level.generation ≡ l.fn.next;
+  levels : HasLevels l.fn.nodesize l.fn.owner l.fn.next l.items l.slots l.nodes l.level.level l.pointers;
+}
+
+abbrev pub decreases-levels : goal.decreases-levels
+decreases-levels l = length l.pointers

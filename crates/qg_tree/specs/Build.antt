@@ -1,0 +1,55 @@
+-- What a tree is that is built of items in order (on-disk format, "B-tree"; how full its nodes are is this project's own).
+use Rattle.std.specs.Prelude.{◌≡◌, ℕ, ◌+◌, ◌*◌, ◌≤◌, List, [], ◌∷◌, map, length, take, Option, Some, None, Result, Ok, Err, ◌==◌, if◌then◌else◌, IsTrue}
+use Rattle.std.specs.List.{list_all, AllByRecursion}
+use Rattle.std.specs.List.Sorted.{IsPermutation}
+use Rattle.qg_num.specs.declared.rule.Rule.TheVariants as rule
+use Rattle.qg_node.specs.declared.item.Item.{Item}
+use Rattle.qg_node.specs.declared.node.Node.{Node}
+use Rattle.qg_node.specs.Nodes.{header_of, items_bytes}
+use Rattle.qg_node.specs.NodeText.{IsNode}
+use Rattle.qg_super.specs.declared.superblock.Super.{Super}
+use Rattle.qg_image.specs.ItemsUnder.{items_under, nodes_under}
+use Rattle.qg_state.specs.Need.{nodes_filled}
+use Rattle.qg_verdict.specs.Failure.{Failure, Broken}
+use Rattle.qg_verdict.specs.Walk.{Tree, is_owner, is_generation, is_item_of, walk_failure, deepest}
+
+-- the node at an address, among some
+abbrev pub node_among : List Node → ℕ → Option Node
+node_among [] address = None
+node_among (node ∷ nodes) address = if (header_of node).address == address then Some node else node_among nodes address
+
+-- what a walk finds where there are these nodes and no others
+abbrev pub found_in : Option Node → ℕ → Result Node Failure
+found_in None address = Err (Broken rule.Slot address)
+found_in (Some node) address = Ok node
+
+abbrev pub found_among : List Node → ℕ → Result Node Failure
+found_among nodes address = found_in (node_among nodes address) address
+
+-- the node is one of the format, with this owner and generation
+pub record IsMadeFor (nodesize owner generation : ℕ) (node : Node) : Type 0 where
+  pub node_of_format : IsNode nodesize node
+  pub owned : (header_of node).owner ≡ owner
+  pub made : (header_of node).generation ≡ generation
+
+-- the tree's walk meets no failure in any image whose superblock allows such nodes and items
+abbrev pub IsWalkedWell : ℕ → ℕ → ℕ → List Item → List Node → ℕ → ℕ → Type 0
+IsWalkedWell nodesize owner generation items nodes root level = (tree : Tree) (super : Super) → super.nodesize ≡ nodesize
+    → IsTrue (is_owner tree owner) → IsTrue (is_generation super.generation None generation) → IsTrue (list_all (is_item_of tree super.generation) items)
+    → walk_failure tree super (found_among nodes) deepest (record { level = Some level; generation = Some generation; from = None; to = None }) root ≡ None
+
+-- the nodes under the one at an address are all of these, each once
+pub record Reaches (nodes : List Node) (level root : ℕ) : Type 0 where
+  pub those : List Node
+  pub under : nodes_under (node_among nodes) level root ≡ Some those
+  pub same : IsPermutation those nodes
+
+-- the nodes are a tree of these items: they lie in the first of the slots, in their order, and there are no more than the items' weight asks for
+pub record IsBuilt (nodesize owner generation : ℕ) (items : List Item) (slots : List ℕ) (nodes : List Node) (root level : ℕ) : Type 0 where
+  pub under : items_under (node_among nodes) level root ≡ Some items
+  pub reached : Reaches nodes level root
+  pub walked : IsWalkedWell nodesize owner generation items nodes root level
+  pub made : AllByRecursion (IsMadeFor nodesize owner generation) nodes
+  pub placed : map (λ node. (header_of node).address) nodes ≡ take (length nodes) slots
+  pub few : length nodes ≤ 5 * nodes_filled nodesize (items_bytes items) + 1
+  pub low : level ≤ deepest

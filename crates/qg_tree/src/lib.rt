@@ -1,0 +1,11 @@
+//! Trees of nodes: a sorted list of keys and bodies, kept within the shape rule.
+#![tactic(auto)]
+
+mod building;
+mod cut;
+mod part;
+mod row;
+#[cfg(test)]
+mod tests;
+
+pub use building::{Built, build};
