@@ -58,25 +58,25 @@ two_puts_between place gap begin front body header back long fits end =
     rw (first, between, last) (sym (append_assoc front header (zeros (begin - (place + 25)) ++ (body ++ back))))
 
 -- the room of `size` bytes after i of the items, where the bodies begin at `begin`
-pub record HasItems (items : List Item) (i begin size : ℕ) (room : List ℕ) : Type 0 where
+pub record HoldsItems (items : List Item) (i begin size : ℕ) (room : List ℕ) : Type 0 where
   pub is : room ≡ item_headers size (take i items) ++ (zeros (begin - 25 * i) ++ bodies (take i items))
   pub ends : begin + length (bodies (take i items)) ≡ size
   pub fits : 25 * i + items_bytes (drop i items) ≤ begin
   pub fit : All ItemFits (take i items)
 
-pub HasItems-none : (items : List Item) (room : List ℕ) → room ≡ zeros (length room) → items_bytes items ≤ length room → HasItems items 0 (length room) (length room) room
+pub HoldsItems-none : (items : List Item) (room : List ℕ) → room ≡ zeros (length room) → items_bytes items ≤ length room → HoldsItems items 0 (length room) (length room) room
 unfolding item_headers bodies
-HasItems-none items room zero fits =
+HoldsItems-none items room zero fits =
     let size = length room in
     let same : size ≡ size - 25 * 0 = omega arith in
     record { is = zero ∙ sym (append-nil (zeros size)) ∙ ap (λ (n : ℕ). zeros n ++ []) same; ends = omega arith; fits = omega arith; fit = All-nil ItemFits }
 
-pub HasItems-more : (items : List Item) (i end size begin : ℕ) (room new : List ℕ) (item : Item) → i < length items → item ≡ get_or items i item → ItemFits item → HasItems items i end size room
+pub HoldsItems-more : (items : List Item) (i end size begin : ℕ) (room new : List ℕ) (item : Item) → i < length items → item ≡ get_or items i item → ItemFits item → HoldsItems items i end size room
     → begin + length item.body ≡ end
     → new ≡ take (25 * i) room ++ (item_header end item ++ (slice_range room (25 * i + 25) begin ++ (item.body ++ drop end room)))
-    → HasItems items (i + 1) begin size new
+    → HoldsItems items (i + 1) begin size new
 unfolding item_headers bodies
-HasItems-more items i end size begin room new item within is small so_far ends put =
+HoldsItems-more items i end size begin room new item within is small so_far ends put =
     let done = take i items in
     let more : take (i + 1) items ≡ done ++ item ∷ [] = take_more items i item within ∙ ap (λ (x : Item). done ++ x ∷ []) (sym is) in
     let left = items_bytes-drop items i item within is in
@@ -103,34 +103,34 @@ HasItems-more items i end size begin room new item within is small so_far ends p
       fit = rw more (All-push ItemFits done item so_far.fit small);
     }
 
-pub HasItems-all : (items : List Item) (i begin size : ℕ) (room : List ℕ) → length items ≤ i → i ≤ length items → HasItems items i begin size room → room ≡ leaf_text size items
+pub HoldsItems-all : (items : List Item) (i begin size : ℕ) (room : List ℕ) → length items ≤ i → i ≤ length items → HoldsItems items i begin size room → room ≡ leaf_text size items
 unfolding leaf_text
-HasItems-all items i begin size room done within so_far =
+HoldsItems-all items i begin size room done within so_far =
     let all : take i items ≡ items = take_all i items (omega arith) in
     let ends : begin + length (bodies items) ≡ size = ap (λ (xs : List Item). begin + length (bodies xs)) (sym all) ∙ so_far.ends in
     let zero : begin - 25 * i ≡ size - items_bytes items = omega (arith, items_bytes-parts items) in
     so_far.is ∙ rw (all, zero) refl
 
-pub HasItems-fit : (items : List Item) (i begin size : ℕ) (room : List ℕ) → length items ≤ i → HasItems items i begin size room → All ItemFits items
-HasItems-fit items i begin size room done so_far = rw (take_all i items done) at so_far.fit
+pub HoldsItems-fit : (items : List Item) (i begin size : ℕ) (room : List ℕ) → length items ≤ i → HoldsItems items i begin size room → All ItemFits items
+HoldsItems-fit items i begin size room done so_far = rw (take_all i items done) at so_far.fit
 
 -- ---- pointers
 
 -- the room of `size` bytes after i of the pointers
-pub record HasPointers (pointers : List Pointer) (i size : ℕ) (room : List ℕ) : Type 0 where
+pub record HoldsPointers (pointers : List Pointer) (i size : ℕ) (room : List ℕ) : Type 0 where
   pub is : room ≡ flat_map pointer_text (take i pointers) ++ zeros (size - 33 * i)
   pub fit : All PointerFits (take i pointers)
 
-pub HasPointers-none : (pointers : List Pointer) (room : List ℕ) → room ≡ zeros (length room) → HasPointers pointers 0 (length room) room
-HasPointers-none pointers room zero =
+pub HoldsPointers-none : (pointers : List Pointer) (room : List ℕ) → room ≡ zeros (length room) → HoldsPointers pointers 0 (length room) room
+HoldsPointers-none pointers room zero =
     let same : length room ≡ length room - 33 * 0 = omega arith in
     record { is = zero ∙ ap zeros same; fit = All-nil PointerFits }
 
-pub HasPointers-more : (pointers : List Pointer) (i size : ℕ) (room new text : List ℕ) (pointer : Pointer) → i < length pointers → pointer ≡ get_or pointers i pointer → PointerFits pointer → 33 * length pointers ≤ size
-    → HasPointers pointers i size room → text ≡ pointer_text pointer
+pub HoldsPointers-more : (pointers : List Pointer) (i size : ℕ) (room new text : List ℕ) (pointer : Pointer) → i < length pointers → pointer ≡ get_or pointers i pointer → PointerFits pointer → 33 * length pointers ≤ size
+    → HoldsPointers pointers i size room → text ≡ pointer_text pointer
     → new ≡ take (33 * i) room ++ (text ++ drop (33 * i + length text) room)
-    → HasPointers pointers (i + 1) size new
-HasPointers-more pointers i size room new text pointer within is small fits so_far spelled put =
+    → HoldsPointers pointers (i + 1) size new
+HoldsPointers-more pointers i size room new text pointer within is small fits so_far spelled put =
     let done = take i pointers in
     let front = flat_map pointer_text done in
     let more : take (i + 1) pointers ≡ done ++ pointer ∷ [] = take_more pointers i pointer within ∙ ap (λ (x : Pointer). done ++ x ∷ []) (sym is) in
@@ -150,11 +150,11 @@ HasPointers-more pointers i size room new text pointer within is small fits so_f
       fit = rw more (All-push PointerFits done pointer so_far.fit small);
     }
 
-pub HasPointers-all : (pointers : List Pointer) (i size : ℕ) (room : List ℕ) → length pointers ≤ i → i ≤ length pointers → HasPointers pointers i size room → room ≡ inner_text size pointers
+pub HoldsPointers-all : (pointers : List Pointer) (i size : ℕ) (room : List ℕ) → length pointers ≤ i → i ≤ length pointers → HoldsPointers pointers i size room → room ≡ inner_text size pointers
 unfolding inner_text
-HasPointers-all pointers i size room done within so_far =
+HoldsPointers-all pointers i size room done within so_far =
     let all : i ≡ length pointers = omega arith in
     so_far.is ∙ rw (take_all i pointers done, all) refl
 
-pub HasPointers-fit : (pointers : List Pointer) (i size : ℕ) (room : List ℕ) → length pointers ≤ i → HasPointers pointers i size room → All PointerFits pointers
-HasPointers-fit pointers i size room done so_far = rw (take_all i pointers done) at so_far.fit
+pub HoldsPointers-fit : (pointers : List Pointer) (i size : ℕ) (room : List ℕ) → length pointers ≤ i → HoldsPointers pointers i size room → All PointerFits pointers
+HoldsPointers-fit pointers i size room done so_far = rw (take_all i pointers done) at so_far.fit

@@ -1,5 +1,5 @@
 // Writing a node.
-ghost use Rattle.std.specs.Prelude.{◌≡◌, ◌+◌, ◌-◌, ◌*◌, ◌≤◌, ◌<◌, ◌^◌, ◌++◌, length, take, drop, slice_range, All};
+ghost use Rattle.std.specs.Prelude.{◌≡◌, ◌+◌, ◌*◌, ◌≤◌, ◌<◌, ◌^◌, ◌++◌, length, take, drop, slice_range, All};
 ghost use Rattle.qg_bytes.specs.Fields.{u32_bytes, zeros};
 ghost use Rattle.qg_num.specs.Key.{IsKey, key_bytes};
 ghost use Rattle.qg_node.specs.Fits.{HeaderFits, ItemFits, NodeFits, PointerFits};

@@ -1,5 +1,5 @@
 // Reading a leaf, whose header keeps the rules.
-ghost use Rattle.std.specs.Prelude.{◌≡◌, ◌+◌, ◌*◌, ◌≤◌, ◌<◌, ◌^◌, length, IfOk};
+ghost use Rattle.std.specs.Prelude.{◌+◌, ◌*◌, ◌≤◌, length, IfOk};
 ghost use Rattle.qg_node.specs.NodeText.{IsNodeSize};
 ghost use Rattle.qg_node.specs.Reading.{ReadsAs, item_at, items_at, leaf_at};
 
