@@ -1,0 +1,273 @@
+-- The nodes and the superblock of a fresh image can be written, and are read again.
+use Rattle.std.proofs.Common.{◌≡◌, ℕ, zero, suc, ◌+◌, ◌*◌, ◌^◌, ◌≤◌, ◌<◌, inl, inr, true, List, [], ◌∷◌, map, ◌++◌, Ok, refl, arith, lit<}
+use Rattle.std.specs.Prelude.{◌==◌, ◌&&◌, ◌||◌, nat_le, nat_lt}
+use Rattle.std.specs.List.{AllByRecursion}
+use Rattle.std.proofs.lemmas.Bool.Decides.{nat_tests}
+use Rattle.std.proofs.lemmas.Bool.{and_parts, eqb-true, leb-true, or_cases}
+use Rattle.std.proofs.lemmas.List.Elements.{All-from_recursion}
+use Rattle.qg_bytes.specs.Fields.{IsBytes, zeros, u32_bytes, u64_bytes}
+use Rattle.qg_bytes.proofs.Numbers.{IsBytes-append, IsBytes-zeros, IsBytes-u64_bytes, IsBytes-u32_bytes}
+use Rattle.qg_node.specs.Fits.{ItemFits, NodeFits}
+use Rattle.qg_node.specs.Reading.{node_read}
+use Rattle.qg_node.proofs.Again.{text_again}
+use Rattle.qg_items.specs.declared.quota.QgroupStatus.{QgroupStatus}
+use Rattle.qg_items.specs.declared.quota.QgroupInfo.{QgroupInfo}
+use Rattle.qg_items.specs.declared.quota.QgroupLimit.{QgroupLimit}
+use Rattle.qg_node.specs.declared.item.Item.{Item}
+use Rattle.qg_node.specs.Nodes.{items_bytes, is_ascending, ascends_from}
+use Rattle.qg_node.specs.NodeText.{IsNode, IsNodeSize, node_text}
+use Rattle.qg_items.specs.Laws.{RootFits}
+use Rattle.qg_items.specs.ItemText.{root_text, status_text, info_text, limit_text}
+use Rattle.qg_items.proofs.RootBody.{length-root_text, root_read-root_text}
+use Rattle.qg_items.proofs.QuotaBodies.{length-status_text, length-info_text, length-limit_text, status_read-status_text, info_read-info_text, limit_read-limit_text}
+use Rattle.qg_super.specs.declared.sizes.Sizes.{Sizes}
+use Rattle.qg_super.specs.Places.{is_served, slot_at}
+use Rattle.qg_super.specs.SuperText.{is_super}
+use Rattle.qg_commit.specs.Fresh.{fresh_leaf_of, fresh_root, root_item, root_items, quota_items, fresh_super, fresh_nodes}
+use Rattle.qg_commit.specs.Calls.{IsWritable}
+use Rattle.qg_commit.proofs.FreshImage.{ReadsBack}
+
+-- ---- sizes that are served
+
+pub record SizesServed (sizes : Sizes) : Type 0 where
+  pub nodesize : IsNodeSize sizes.nodesize
+  pub slots : 64 ≤ sizes.slots
+  pub area : sizes.slots * sizes.nodesize ≤ 66060288
+  pub sectors : 16 ≤ sizes.sectors
+  pub few_sectors : sizes.sectors ≤ 16777216
+
+pub SizesServed-is_served : (sizes : Sizes) → is_served sizes ≡ true → SizesServed sizes
+unfolding is_served
+SizesServed-is_served sizes served =
+    let small = (sizes.nodesize == 4096) && nat_le sizes.slots 16128 in
+    let large = (sizes.nodesize == 16384) && nat_le sizes.slots 4032 in
+    let to_sectors = and_parts ((small || large) && nat_le 64 sizes.slots && nat_le 16 sizes.sectors) (nat_le sizes.sectors 16777216) served in
+    let to_few = and_parts ((small || large) && nat_le 64 sizes.slots) (nat_le 16 sizes.sectors) to_sectors.0 in
+    let to_slots = and_parts (small || large) (nat_le 64 sizes.slots) to_few.0 in
+    let few : sizes.sectors ≤ 16777216 = leb-true sizes.sectors 16777216 to_sectors.1 in
+    let some : 16 ≤ sizes.sectors = leb-true 16 sizes.sectors to_few.1 in
+    let slots : 64 ≤ sizes.slots = leb-true 64 sizes.slots to_slots.1 in
+    elim (or_cases small large to_slots.0) [
+      | inl is ↦
+          let parts = and_parts (sizes.nodesize == 4096) (nat_le sizes.slots 16128) is in
+          let nodesize : sizes.nodesize ≡ 4096 = eqb-true sizes.nodesize 4096 parts.0 in
+          let most : sizes.slots ≤ 16128 = leb-true sizes.slots 16128 parts.1 in
+          record { nodesize = inl nodesize; slots = slots; area = rw nodesize (omega arith); sectors = some; few_sectors = few }
+      | inr is ↦
+          let parts = and_parts (sizes.nodesize == 16384) (nat_le sizes.slots 4032) is in
+          let nodesize : sizes.nodesize ≡ 16384 = eqb-true sizes.nodesize 16384 parts.0 in
+          let most : sizes.slots ≤ 4032 = leb-true sizes.slots 4032 parts.1 in
+          record { nodesize = inr nodesize; slots = slots; area = rw nodesize (omega arith); sectors = some; few_sectors = few }
+    ]
+
+-- the bounds of a node's size
+pub node_size_bounds : (n : ℕ) → IsNodeSize n → (4096 ≤ n) × (n ≤ 16384)
+node_size_bounds n (inl is) = (omega arith, omega arith)
+node_size_bounds n (inr is) = (omega arith, omega arith)
+
+-- ---- the superblock
+
+pub fresh-is_super : (sizes : Sizes) → is_served sizes ≡ true → is_super (fresh_super sizes (slot_at sizes 0)) ≡ true
+unfolding is_super
+fresh-is_super sizes served =
+    let fits : nat_lt (slot_at sizes 0) 18446744073709551616 ≡ true = grind (arith, nat_tests) in
+    rw served (rw fits refl)
+
+-- ---- the nodes
+
+fresh_leaf-IsNode : (size owner address : ℕ) (items : List Item) → 101 + items_bytes items ≤ size
+    → is_ascending (map (λ item. item.key) items) ≡ true → IsNode size (fresh_leaf_of owner address items)
+fresh_leaf-IsNode size owner address items fits ascending = record { levelled = refl; ascending = ascending; fits = fits }
+
+root_items-bytes : (extents files quotas : ℕ) → items_bytes (root_items extents files quotas) ≡ 1392
+root_items-bytes extents files quotas = simp length-root_text refl
+
+quota_items-bytes : (nodesize : ℕ) → items_bytes (quota_items nodesize) ≡ 187
+quota_items-bytes nodesize = simp (length-status_text, length-info_text, length-limit_text) refl
+
+root_items-ascending : (extents files quotas : ℕ) → is_ascending (map (λ item. item.key) (root_items extents files quotas)) ≡ true
+unfolding is_ascending ascends_from
+root_items-ascending extents files quotas = refl
+
+quota_items-ascending : (nodesize : ℕ) → is_ascending (map (λ item. item.key) (quota_items nodesize)) ≡ true
+unfolding is_ascending ascends_from
+quota_items-ascending nodesize = refl
+
+no_items-ascending : is_ascending (map (λ (item : Item). item.key) []) ≡ true
+unfolding is_ascending
+no_items-ascending = refl
+
+-- each of the four is a node of the format
+pub root_leaf-IsNode : (n address extents files quotas : ℕ) → IsNodeSize n
+    → IsNode n (fresh_leaf_of 1 address (root_items extents files quotas))
+root_leaf-IsNode n address extents files quotas size =
+    let bounds = node_size_bounds n size in
+    fresh_leaf-IsNode n 1 address (root_items extents files quotas) (omega (arith, root_items-bytes extents files quotas)) (root_items-ascending extents files quotas)
+
+pub quota_leaf-IsNode : (n address : ℕ) → IsNodeSize n → IsNode n (fresh_leaf_of 8 address (quota_items n))
+quota_leaf-IsNode n address size =
+    let bounds = node_size_bounds n size in
+    fresh_leaf-IsNode n 8 address (quota_items n) (omega (arith, quota_items-bytes n)) (quota_items-ascending n)
+
+pub empty_leaf-IsNode : (n owner address : ℕ) → IsNodeSize n → IsNode n (fresh_leaf_of owner address [])
+empty_leaf-IsNode n owner address size =
+    let bounds = node_size_bounds n size in
+    let none : items_bytes [] ≡ 0 = refl in
+    fresh_leaf-IsNode n owner address [] (omega arith) no_items-ascending
+
+-- and each can be written into its slot
+pub fresh-writable : (sizes : Sizes) → is_served sizes ≡ true → AllByRecursion (IsWritable sizes.nodesize) (fresh_nodes sizes)
+fresh-writable sizes served =
+    let fit = SizesServed-is_served sizes served in
+    let bounds = node_size_bounds sizes.nodesize fit.nodesize in
+    let n = sizes.nodesize in
+    let root = root_leaf-IsNode n (slot_at sizes 0) (slot_at sizes 1) (slot_at sizes 2) (slot_at sizes 3) fit.nodesize in
+    let extents = empty_leaf-IsNode n 2 (slot_at sizes 1) fit.nodesize in
+    let files = empty_leaf-IsNode n 5 (slot_at sizes 2) fit.nodesize in
+    let quotas = quota_leaf-IsNode n (slot_at sizes 3) fit.nodesize in
+    let root_writable : IsWritable n (fresh_leaf_of 1 (slot_at sizes 0) (root_items (slot_at sizes 1) (slot_at sizes 2) (slot_at sizes 3))) =
+    record { node_of_format = root; ends = omega arith } in
+    let extents_writable : IsWritable n (fresh_leaf_of 2 (slot_at sizes 1) []) = record { node_of_format = extents; ends = omega arith } in
+    let files_writable : IsWritable n (fresh_leaf_of 5 (slot_at sizes 2) []) = record { node_of_format = files; ends = omega arith } in
+    let quotas_writable : IsWritable n (fresh_leaf_of 8 (slot_at sizes 3) (quota_items n)) = record { node_of_format = quotas; ends = omega arith } in
+    (root_writable, (extents_writable, (files_writable, (quotas_writable, tt))))
+
+-- ---- what is read again
+
+-- bodies are bytes
+record AreBytes (bytes : List ℕ) : Type 0 where
+  are : IsBytes bytes
+
+AreBytes-append : {front back : List ℕ} → AreBytes front → AreBytes back → AreBytes (front ++ back)
+AreBytes-append {front} {back} first second = record { are = IsBytes-append front back first.are second.are }
+
+IsBytes-byte : (byte : ℕ) → byte < 256 → IsBytes (byte ∷ [])
+IsBytes-byte byte small zero = small
+IsBytes-byte byte small (suc i) = lit< tt
+
+AreBytes-byte : (byte : ℕ) → byte < 256 → AreBytes (byte ∷ [])
+AreBytes-byte byte small = record { are = IsBytes-byte byte small }
+
+AreBytes-zeros : (n : ℕ) → AreBytes (zeros n)
+AreBytes-zeros n = record { are = IsBytes-zeros n }
+
+AreBytes-u64 : (n : ℕ) → AreBytes (u64_bytes n)
+AreBytes-u64 n = record { are = IsBytes-u64_bytes n }
+
+AreBytes-u32 : (n : ℕ) → AreBytes (u32_bytes n)
+AreBytes-u32 n = record { are = IsBytes-u32_bytes n }
+
+root_text-AreBytes : (address : ℕ) → AreBytes (root_text (fresh_root address))
+unfolding root_text
+root_text-AreBytes address =
+    let generation = AreBytes-append (AreBytes-zeros 160) (AreBytes-u64 1) in
+    let bytenr = AreBytes-append (AreBytes-append generation (AreBytes-zeros 8)) (AreBytes-u64 address) in
+    let last_snapshot = AreBytes-append (AreBytes-append bytenr (AreBytes-zeros 16)) (AreBytes-u64 0) in
+    let refs = AreBytes-append (AreBytes-append last_snapshot (AreBytes-zeros 8)) (AreBytes-u32 1) in
+    let level = AreBytes-append (AreBytes-append refs (AreBytes-zeros 18)) (AreBytes-byte 0 (lit< tt)) in
+    AreBytes-append level (AreBytes-zeros 200)
+
+status_text-AreBytes : (status : QgroupStatus) → AreBytes (status_text status)
+unfolding status_text
+status_text-AreBytes status =
+    AreBytes-append (AreBytes-append (AreBytes-append (AreBytes-u64 1) (AreBytes-u64 status.generation)) (AreBytes-u64 status.flags)) (AreBytes-u64 status.cursor)
+
+info_text-AreBytes : (info : QgroupInfo) → AreBytes (info_text info)
+unfolding info_text
+info_text-AreBytes info =
+    let rfer = AreBytes-append (AreBytes-append (AreBytes-u64 info.generation) (AreBytes-u64 info.rfer)) (AreBytes-u64 info.rfer_cmpr) in
+    AreBytes-append (AreBytes-append rfer (AreBytes-u64 info.excl)) (AreBytes-u64 info.excl_cmpr)
+
+limit_text-AreBytes : (limit : QgroupLimit) → AreBytes (limit_text limit)
+unfolding limit_text
+limit_text-AreBytes limit =
+    AreBytes-append (AreBytes-append (AreBytes-append (AreBytes-u64 limit.flags) (AreBytes-u64 limit.max_rfer)) (AreBytes-u64 limit.max_excl)) (AreBytes-zeros 16)
+
+-- the numbers of a leaf and of its items fit
+leaf-NodeFits : (owner address : ℕ) (items : List Item) → owner < 2 ^ 64 → address < 2 ^ 64 → AllByRecursion ItemFits items
+    → NodeFits (fresh_leaf_of owner address items)
+leaf-NodeFits owner address items owned placed items_fit =
+    (record { address = placed; generation = lit< tt; owner = owned; level = lit< tt }, All-from_recursion ItemFits items items_fit)
+
+root_item-ItemFits : (tree address : ℕ) → tree < 2 ^ 64 → ItemFits (root_item tree address)
+root_item-ItemFits tree address fits = record { key = record { objectid = fits; kind = lit< tt; offset = lit< tt }; body = (root_text-AreBytes address).are }
+
+quota_item-ItemFits : (kind group : ℕ) (bytes : List ℕ) → kind < 256 → group < 2 ^ 64 → AreBytes bytes
+    → ItemFits (record { key = record { objectid = 0; kind = kind; offset = group }; body = bytes })
+quota_item-ItemFits kind group bytes kind_fits group_fits bytes_are =
+    record { key = record { objectid = lit< tt; kind = kind_fits; offset = group_fits }; body = bytes_are.are }
+
+quota_items-fit : (n : ℕ) → AllByRecursion ItemFits (quota_items n)
+quota_items-fit n =
+    let status : QgroupStatus = record { generation = 1; flags = 1; cursor = 0 } in
+    let info : QgroupInfo = record { generation = 1; rfer = n; rfer_cmpr = n; excl = n; excl_cmpr = n } in
+    let limit : QgroupLimit = record { flags = 0; max_rfer = 0; max_excl = 0 } in
+    let status_item = quota_item-ItemFits 240 0 (status_text status) (lit< tt) (lit< tt) (status_text-AreBytes status) in
+    let info_item = quota_item-ItemFits 242 5 (info_text info) (lit< tt) (lit< tt) (info_text-AreBytes info) in
+    let limit_item = quota_item-ItemFits 244 5 (limit_text limit) (lit< tt) (lit< tt) (limit_text-AreBytes limit) in
+    (status_item, (info_item, (limit_item, tt)))
+
+-- a leaf's text is read as that leaf
+leaf-again : (n owner address : ℕ) (items : List Item) → IsNodeSize n → IsNode n (fresh_leaf_of owner address items)
+    → NodeFits (fresh_leaf_of owner address items)
+    → node_read address (node_text n (fresh_leaf_of owner address items)) ≡ Ok (fresh_leaf_of owner address items)
+leaf-again n owner address items size node fits =
+    let bounds = node_size_bounds n size in
+    text_again n (fresh_leaf_of owner address items) (omega arith) fits node
+
+-- the four nodes are read again
+pub record ReadAgain (sizes : Sizes) : Type 0 where
+  pub root :
+      let leaf = fresh_leaf_of 1 (slot_at sizes 0) (root_items (slot_at sizes 1) (slot_at sizes 2) (slot_at sizes 3)) in
+      node_read (slot_at sizes 0) (node_text sizes.nodesize leaf) ≡ Ok leaf
+  pub extents : node_read (slot_at sizes 1) (node_text sizes.nodesize (fresh_leaf_of 2 (slot_at sizes 1) [])) ≡ Ok (fresh_leaf_of 2 (slot_at sizes 1) [])
+  pub files : node_read (slot_at sizes 2) (node_text sizes.nodesize (fresh_leaf_of 5 (slot_at sizes 2) [])) ≡ Ok (fresh_leaf_of 5 (slot_at sizes 2) [])
+  pub quotas :
+      node_read (slot_at sizes 3) (node_text sizes.nodesize (fresh_leaf_of 8 (slot_at sizes 3) (quota_items sizes.nodesize)))
+      ≡ Ok (fresh_leaf_of 8 (slot_at sizes 3) (quota_items sizes.nodesize))
+
+pub fresh-ReadAgain : (sizes : Sizes) → is_served sizes ≡ true → ReadAgain sizes
+fresh-ReadAgain sizes served =
+    let fit = SizesServed-is_served sizes served in
+    let bounds = node_size_bounds sizes.nodesize fit.nodesize in
+    let n = sizes.nodesize in
+    let roots = root_items (slot_at sizes 1) (slot_at sizes 2) (slot_at sizes 3) in
+    let root_node = root_leaf-IsNode n (slot_at sizes 0) (slot_at sizes 1) (slot_at sizes 2) (slot_at sizes 3) fit.nodesize in
+    let extents_item = root_item-ItemFits 2 (slot_at sizes 1) (lit< tt) in
+    let files_item = root_item-ItemFits 5 (slot_at sizes 2) (lit< tt) in
+    let quotas_item = root_item-ItemFits 8 (slot_at sizes 3) (lit< tt) in
+    let root_fits = leaf-NodeFits 1 (slot_at sizes 0) roots (lit< tt) (omega arith) (extents_item, (files_item, (quotas_item, tt))) in
+    let extents_fits = leaf-NodeFits 2 (slot_at sizes 1) [] (lit< tt) (omega arith) tt in
+    let files_fits = leaf-NodeFits 5 (slot_at sizes 2) [] (lit< tt) (omega arith) tt in
+    let quotas_fits = leaf-NodeFits 8 (slot_at sizes 3) (quota_items n) (lit< tt) (omega arith) (quota_items-fit n) in
+    record {
+      root = leaf-again n 1 (slot_at sizes 0) roots fit.nodesize root_node root_fits;
+      extents = leaf-again n 2 (slot_at sizes 1) [] fit.nodesize (empty_leaf-IsNode n 2 (slot_at sizes 1) fit.nodesize) extents_fits;
+      files = leaf-again n 5 (slot_at sizes 2) [] fit.nodesize (empty_leaf-IsNode n 5 (slot_at sizes 2) fit.nodesize) files_fits;
+      quotas = leaf-again n 8 (slot_at sizes 3) (quota_items n) fit.nodesize (quota_leaf-IsNode n (slot_at sizes 3) fit.nodesize) quotas_fits;
+    }
+
+-- and so are the bodies
+pub fresh-ReadsBack : (sizes : Sizes) → is_served sizes ≡ true → ReadsBack sizes (slot_at sizes 1) (slot_at sizes 2) (slot_at sizes 3)
+fresh-ReadsBack sizes served =
+    let fit = SizesServed-is_served sizes served in
+    let bounds = node_size_bounds sizes.nodesize fit.nodesize in
+    let extents_fit : RootFits (fresh_root (slot_at sizes 1)) =
+    record { generation = lit< tt; bytenr = omega arith; last_snapshot = lit< tt; refs = lit< tt; level = lit< tt } in
+    let files_fit : RootFits (fresh_root (slot_at sizes 2)) =
+    record { generation = lit< tt; bytenr = omega arith; last_snapshot = lit< tt; refs = lit< tt; level = lit< tt } in
+    let quotas_fit : RootFits (fresh_root (slot_at sizes 3)) =
+    record { generation = lit< tt; bytenr = omega arith; last_snapshot = lit< tt; refs = lit< tt; level = lit< tt } in
+    let n = sizes.nodesize in
+    let info : QgroupInfo = record { generation = 1; rfer = n; rfer_cmpr = n; excl = n; excl_cmpr = n } in
+    record {
+      extents_root = root_read-root_text (fresh_root (slot_at sizes 1)) extents_fit;
+      files_root = root_read-root_text (fresh_root (slot_at sizes 2)) files_fit;
+      quotas_root = root_read-root_text (fresh_root (slot_at sizes 3)) quotas_fit;
+      status = status_read-status_text (record { generation = 1; flags = 1; cursor = 0 })
+          (record { generation = lit< tt; flags = lit< tt; cursor = lit< tt });
+      info = info_read-info_text info
+          (record { generation = lit< tt; rfer = omega arith; rfer_cmpr = omega arith; excl = omega arith; excl_cmpr = omega arith });
+      limit = limit_read-limit_text (record { flags = 0; max_rfer = 0; max_excl = 0 })
+          (record { flags = lit< tt; max_rfer = lit< tt; max_excl = lit< tt });
+    }

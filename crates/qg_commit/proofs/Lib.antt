@@ -1,0 +1,6 @@
+pub mod FreshImage
+pub mod Ranges
+pub mod ImageMade
+pub mod FreshNodes
+pub mod Made
+pub mod MakingCalls

@@ -1,0 +1,31 @@
+-- The calls that make an image, one after the other.
+use Rattle.std.proofs.Common.{◌≡◌, ℕ, ◌-◌, List, ◌∷◌, Option, Some, None, refl, ap, ◌∙◌}
+use Rattle.std.specs.Option.{option_map}
+use Rattle.qg_bytes.specs.Fields.{zeros}
+use Rattle.qg_device.specs.History.{Event, Wrote, Cut, with_event}
+use Rattle.qg_node.specs.declared.node.Node.{Node}
+use Rattle.qg_super.specs.declared.sizes.Sizes.{Sizes}
+use Rattle.qg_super.specs.declared.superblock.Super.{Super}
+use Rattle.qg_super.specs.Places.{slot_at, total_bytes}
+use Rattle.qg_commit.specs.Fresh.{fresh_nodes, fresh_super}
+use Rattle.qg_commit.specs.Calls.{with_commit, with_image}
+
+-- a cut, the last sector and a commit, of a history that is told or not
+calls_one_by_one : (super : Super) (nodes : List Node) (at : ℕ) (old : Option (List Event))
+    → option_map (with_commit super nodes) (with_event (Wrote at (zeros 4096)) (with_event (Cut 0) old))
+    ≡ option_map (λ events. with_commit super nodes (Wrote at (zeros 4096) ∷ Cut 0 ∷ events)) old
+calls_one_by_one super nodes at None = refl
+calls_one_by_one super nodes at (Some events) = refl
+
+-- they are the calls that make an image of these sizes
+pub image_calls : (sizes : Sizes) (super : Super) (nodes : List Node) (total : ℕ) → super ≡ fresh_super sizes (slot_at sizes 0)
+    → nodes ≡ fresh_nodes sizes → total ≡ total_bytes sizes → (old cut written new : Option (List Event)) → cut ≡ with_event (Cut 0) old
+    → written ≡ with_event (Wrote (total - 4096) (zeros 4096)) cut → new ≡ option_map (with_commit super nodes) written
+    → new ≡ option_map (with_image (fresh_super sizes (slot_at sizes 0)) (fresh_nodes sizes)) old
+image_calls sizes super nodes total superblock are long old cut written new first second third =
+    let zeroed = with_event (Wrote (total - 4096) (zeros 4096)) in
+    let both : written ≡ zeroed (with_event (Cut 0) old) = second ∙ ap zeroed first in
+    let made : new ≡ option_map (with_commit super nodes) (zeroed (with_event (Cut 0) old)) =
+    third ∙ ap (option_map (with_commit super nodes)) both in
+    let fresh = fresh_super sizes (slot_at sizes 0) in
+    made ∙ rw superblock (rw are (rw long (calls_one_by_one fresh (fresh_nodes sizes) (total_bytes sizes - 4096) old)))

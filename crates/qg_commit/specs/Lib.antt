@@ -1,0 +1,4 @@
+pub mod Fresh
+pub mod Calls
+pub mod Mkfs
+pub mod Fault

@@ -1,0 +1,60 @@
+// A fresh image.
+ghost use Rattle.std.specs.Prelude.{◌≡◌, ◌≤◌, ◌↔◌, List, Some, OnOk, IsErrOf, IsTrue, false};
+ghost use Rattle.std.specs.Option.{option_map};
+ghost use Rattle.qg_device.specs.Cause.{HasCause};
+ghost use Rattle.qg_device.specs.History.{Event};
+ghost use Rattle.qg_super.specs.Places.{is_served, slot_at, total_bytes};
+ghost use Rattle.qg_commit.specs.Fresh.{fresh_nodes, fresh_super};
+ghost use Rattle.qg_commit.specs.Calls.{with_image};
+ghost use Rattle.qg_commit.specs.Mkfs.{HoldsFreshImage};
+
+use crate::MkfsFault;
+use crate::fresh::{nodes_of, slot_address};
+use crate::write::write_commit;
+use qg_disk::Disk;
+use qg_num::{Address, Generation};
+use qg_super::{SECTOR, Sizes, Super};
+use std::alloc::Global;
+
+/// Makes a fresh image of these sizes: generation 1, quota on, the top-level subvolume empty, its group with its counts and no limit
+/// (this project's own).
+pub fn mkfs<D: Disk>(alloc: Global, disk: &mut D, sizes: Sizes) -> Result<(), MkfsFault>
+    // Sizes that are not served are refused before any call.
+    ensures size { IsErrOf result MkfsFault.Size ↔ (is_served sizes ≡ false) }
+    ensures untouched { IsErrOf result MkfsFault.Size → disk.new ≡ disk.old }
+
+    // The calls that are made, and what then stands.
+    ensures calls { OnOk result (D.history disk.new
+        ≡ option_map (with_image (fresh_super sizes (slot_at sizes 0)) (fresh_nodes sizes)) (D.history disk.old)) }
+    ensures fresh { (before : List Event) → D.history disk.old ≡ Some before
+        → OnOk result (HoldsFreshImage sizes (D.history disk.new)) }
+    ensures long { OnOk result (total_bytes sizes ≤ D.size disk.new) }
+    ensures cause { HasCause MkfsFault.Disk (D.faults disk.old) (D.faults disk.new) result }
+{
+    if !sizes.is_served() {
+        return Err(MkfsFault::Size);
+    }
+    let nodes = nodes_of(alloc, sizes)?;
+    let mut buffer = vec![in alloc; 0; sizes.nodesize as usize]?;
+    let superblock = fresh_superblock(sizes);
+    disk.cut(0)?;
+    disk.write_at(sizes.total_bytes() - SECTOR, &[0; SECTOR as usize])?;
+    write_commit(disk, &superblock, &nodes, &mut buffer)?;
+    Ok(())
+}
+
+// The superblock of a fresh image.
+#[tactic(auto, unfolding(qg_super::specs::Places::is_served))]
+fn fresh_superblock(sizes: Sizes) -> Super
+    requires { IsTrue (is_served sizes) }
+    ensures { result ≡ fresh_super sizes (slot_at sizes 0) }
+{
+    Super {
+        generation: Generation::new(1),
+        root: Address::new(slot_address(sizes, 0)),
+        nodesize: sizes.nodesize as u32,
+        slots: sizes.slots,
+        sectors: sizes.sectors,
+        format: 1,
+    }
+}

@@ -1,0 +1,223 @@
+// What no clause says: that an image is made where memory is ample, with which calls, and its bytes by hand.
+use super::*;
+use qg_bytes::put_bytes;
+use qg_disk::{Call, Disk, DiskFault, MemDisk, Request};
+use qg_super::Sizes;
+use std::process::Abort;
+use std::test::Fail;
+
+// The least image.
+const LEAST: Sizes = Sizes {
+    nodesize: 4096,
+    slots: 64,
+    sectors: 16,
+};
+
+#[test]
+fn sizes_at_the_ends_of_their_ranges(rt: HostRuntime) {
+    let table = [
+        (4096, 64, 16, true),
+        (4096, 16128, 16777216, true),
+        (16384, 64, 16777216, true),
+        (16384, 4032, 16, true),
+        (8192, 64, 16, false),
+        (4096, 63, 16, false),
+        (4096, 16129, 16, false),
+        (16384, 63, 16, false),
+        (16384, 4033, 16, false),
+        (4096, 64, 15, false),
+        (4096, 64, 16777217, false),
+    ];
+    for (nodesize, slots, sectors, wanted) in table {
+        let sizes = Sizes {
+            nodesize,
+            slots,
+            sectors,
+        };
+        let mut disk = MemDisk::new(rt.alloc());
+        let made = mkfs(rt.alloc(), &mut disk, sizes);
+        if wanted {
+            assert!(rt; made.is_ok(), "of {sizes:?}");
+            assert_eq!(rt; disk.len(), 67174400 + sectors * 4096);
+        } else {
+            assert!(rt; matches!(made, Err(MkfsFault::Size)), "of {sizes:?}");
+            assert!(rt; disk.calls().is_empty(), "of {sizes:?}");
+        }
+    }
+}
+
+// What a call does to a disk, but for the bytes that it writes.
+#[derive(Debug, PartialEq, Eq, Drop)]
+enum Step {
+    Read,
+    Write(u64, usize),
+    Cut(u64),
+    Sync,
+}
+
+fn step_of(call: &Call) -> Step {
+    match &call.request {
+        Request::Read { .. } => Step::Read,
+        Request::Write { at, bytes } => Step::Write(*at, bytes.as_slice().len()),
+        Request::Cut { len } => Step::Cut(*len),
+        Request::Sync => Step::Sync,
+    }
+}
+
+// The calls that make the least image.
+const STEPS: [Step; 11] = [
+    Step::Cut(0),
+    Step::Write(67235840, 4096),
+    Step::Write(1048576, 4096),
+    Step::Write(1052672, 4096),
+    Step::Write(1056768, 4096),
+    Step::Write(1060864, 4096),
+    Step::Sync,
+    Step::Write(65536, 4096),
+    Step::Sync,
+    Step::Write(67108864, 4096),
+    Step::Sync,
+];
+
+#[test]
+fn calls_of_the_least_image(rt: HostRuntime) -> Result<(), Fail> {
+    let mut disk = MemDisk::new(rt.alloc());
+    mkfs(rt.alloc(), &mut disk, LEAST)?;
+    assert_eq!(rt; disk.calls().len(), STEPS.len());
+    for (call, wanted) in disk.calls().iter().zip(&STEPS) {
+        assert!(rt; !call.failed);
+        assert_eq!(rt; step_of(call), *wanted);
+    }
+    Ok(())
+}
+
+#[test]
+fn each_call_that_fails_is_told(rt: HostRuntime) -> Result<(), Fail> {
+    for number in 1..=11 {
+        let mut disk = MemDisk::new(rt.alloc());
+        disk.fail_at(vec![in rt.alloc(); number]?);
+        let made = mkfs(rt.alloc(), &mut disk, LEAST);
+        assert!(rt; matches!(made, Err(MkfsFault::Disk)), "at {number}");
+        assert_eq!(rt; disk.calls().len() as u64, number);
+        for (place, call) in disk.calls().iter().enumerate() {
+            assert_eq!(rt; call.failed, place as u64 + 1 == number);
+        }
+    }
+    Ok(())
+}
+
+// A piece of some bytes: where it stands among them, and its own.
+type Piece = (usize, &'static [u8]);
+
+// Reads so many bytes, which are to be 0 where no piece stands.
+fn has_pieces(
+    rt: &impl Abort,
+    disk: &mut MemDisk,
+    place: u64,
+    count: usize,
+    own: &[Piece],
+    common: &[Piece],
+) -> Result<(), DiskFault> {
+    let mut wanted = [0; 16384];
+    for (at, piece) in own.iter().chain(common) {
+        assert!(rt; *at <= 16384 && piece.len() <= 16384 - *at);
+        put_bytes(&mut wanted, *at, piece);
+    }
+    let mut read = [0xee; 16384];
+    assert!(rt; count <= 16384 && place < 1 << 40 && place + count as u64 <= disk.len());
+    disk.read(place, &mut read[..count])?;
+    assert!(rt; read[..count] == wanted[..count], "at {place}");
+    Ok(())
+}
+
+// The fields that are the same at both places of a superblock.
+const SUPER_FIELDS: [Piece; 9] = [
+    (64, b"QGRPIMG1"),
+    (72, &[1]),
+    (82, &[0x10]),
+    (112, &[0x00, 0x00, 0x41, 0x04]),
+    (145, &[0x10]),
+    (149, &[0x40]),
+    (2049, &[0x04]),
+    (2057, &[0x04]),
+    (2064, &[1]),
+];
+
+// The root tree's node: its header, and three items, each with its body.
+const ROOT_NODE: [Piece; 19] = [
+    (0, &[0x18, 0x28, 0x6c, 0xcb]),
+    (50, &[0x10]),
+    (88, &[1]),
+    (96, &[3]),
+    (101, &[2, 0, 0, 0, 0, 0, 0, 0, 132]),
+    (118, &[0xe4, 0x3d, 0x00, 0x00, 0xb7, 0x01]),
+    (16105, &[1]),
+    (16122, &[0x40, 0x10]),
+    (16161, &[1]),
+    (126, &[5, 0, 0, 0, 0, 0, 0, 0, 132]),
+    (143, &[0x2d, 0x3c, 0x00, 0x00, 0xb7, 0x01]),
+    (15666, &[1]),
+    (15683, &[0x80, 0x10]),
+    (15722, &[1]),
+    (151, &[8, 0, 0, 0, 0, 0, 0, 0, 132]),
+    (168, &[0x76, 0x3a, 0x00, 0x00, 0xb7, 0x01]),
+    (15227, &[1]),
+    (15244, &[0xc0, 0x10]),
+    (15283, &[1]),
+];
+
+// The quota tree's node: its header, the status, and the top-level subvolume's counts and limits, which are 0.
+const QUOTA_NODE: [Piece; 18] = [
+    (0, &[0x9f, 0xb8, 0x32, 0x07]),
+    (49, &[0xc0, 0x10]),
+    (88, &[8]),
+    (96, &[3]),
+    (109, &[240]),
+    (118, &[0x7b, 0x3f, 0x00, 0x00, 32]),
+    (16352, &[1]),
+    (16360, &[1]),
+    (16368, &[1]),
+    (134, &[242, 5]),
+    (143, &[0x53, 0x3f, 0x00, 0x00, 40]),
+    (16312, &[1]),
+    (16321, &[0x40]),
+    (16329, &[0x40]),
+    (16337, &[0x40]),
+    (16345, &[0x40]),
+    (159, &[244, 5]),
+    (168, &[0x2b, 0x3f, 0x00, 0x00, 40]),
+];
+
+// All bytes here are written out by hand; the checksums were computed by another program.
+#[test]
+fn bytes_of_a_fresh_image(rt: HostRuntime) -> Result<(), Fail> {
+    let sizes = Sizes {
+        nodesize: 16384,
+        slots: 1024,
+        sectors: 1024,
+    };
+    let mut disk = MemDisk::new(rt.alloc());
+    mkfs(rt.alloc(), &mut disk, sizes)?;
+    let first: [Piece; 2] = [(0, &[0xff, 0x4a, 0x52, 0x1a]), (50, &[0x01])];
+    let second: [Piece; 2] = [(0, &[0x5f, 0x2b, 0x7a, 0xd4]), (51, &[0x04])];
+    let extents: [Piece; 3] = [
+        (0, &[0x91, 0xc5, 0xa5, 0x75]),
+        (49, &[0x40, 0x10]),
+        (88, &[2]),
+    ];
+    let files: [Piece; 3] = [
+        (0, &[0xaa, 0x78, 0x73, 0x4e]),
+        (49, &[0x80, 0x10]),
+        (88, &[5]),
+    ];
+    // A node's generation.
+    let node: [Piece; 1] = [(80, &[1])];
+    has_pieces(&rt, &mut disk, 65536, 4096, &first, &SUPER_FIELDS)?;
+    has_pieces(&rt, &mut disk, 67108864, 4096, &second, &SUPER_FIELDS)?;
+    has_pieces(&rt, &mut disk, 1048576, 16384, &ROOT_NODE, &node)?;
+    has_pieces(&rt, &mut disk, 1064960, 16384, &extents, &node)?;
+    has_pieces(&rt, &mut disk, 1081344, 16384, &files, &node)?;
+    has_pieces(&rt, &mut disk, 1097728, 16384, &QUOTA_NODE, &node)?;
+    assert_eq!(rt; disk.len(), 71368704);
+    Ok(())
+}

@@ -1,0 +1,56 @@
+// The device calls of a commit.
+ghost use Rattle.std.specs.Prelude.{◌≡◌, ◌≤◌, length, OnOk, IsTrue};
+ghost use Rattle.std.specs.Option.{option_map};
+ghost use Rattle.std.specs.List.{AllByRecursion};
+ghost use Rattle.qg_device.specs.Cause.{HasCause};
+ghost use Rattle.qg_node.specs.NodeText.{IsNodeSize};
+ghost use Rattle.qg_super.specs.SuperText.{is_super};
+ghost use Rattle.qg_commit.specs.Calls.{with_nodes, with_commit, IsWritable};
+
+use qg_disk::{Disk, DiskFault};
+use qg_node::{Node, write_node};
+use qg_super::{FIRST_PLACE, SECOND_PLACE, SUPER_BYTES, Super, write_super};
+
+// Writes nodes into their slots, one after the other, over a buffer of a node's size.
+fn write_nodes<D: Disk>(disk: &mut D, nodes: &[Node], buffer: &mut [u8]) -> Result<(), DiskFault>
+    requires size { IsNodeSize (length buffer.old) }
+    requires nodes { AllByRecursion (IsWritable (length buffer.old)) nodes.now }
+    ensures calls { OnOk result (D.history disk.new
+        ≡ option_map (with_nodes (length buffer.old) nodes.now) (D.history disk.old)) }
+    ensures no_less { D.size disk.old ≤ D.size disk.new }
+    ensures cause { HasCause DiskFault.Failed (D.faults disk.old) (D.faults disk.new) result }
+{
+    for node in nodes {
+        write_node(node, buffer);
+        disk.write_at(node.header().address.value(), buffer)?;
+    }
+    Ok(())
+}
+
+/// Writes new nodes, then the first superblock, then the second, each once what was before is made sure of (this project's own).
+pub fn write_commit<D: Disk>(
+    disk: &mut D,
+    superblock: &Super,
+    nodes: &[Node],
+    buffer: &mut [u8],
+) -> Result<(), DiskFault>
+    requires superblock { IsTrue (is_super superblock.now) }
+    requires size { length buffer.old ≡ superblock.now.nodesize }
+    requires node_size { IsNodeSize (length buffer.old) }
+    requires nodes { AllByRecursion (IsWritable (length buffer.old)) nodes.now }
+    ensures calls { OnOk result (D.history disk.new
+        ≡ option_map (with_commit superblock.now nodes.now) (D.history disk.old)) }
+    ensures no_less { D.size disk.old ≤ D.size disk.new }
+    ensures cause { HasCause DiskFault.Failed (D.faults disk.old) (D.faults disk.new) result }
+{
+    let mut text = [0; SUPER_BYTES];
+    write_nodes(disk, nodes, buffer)?;
+    disk.sync()?;
+    write_super(superblock, FIRST_PLACE, &mut text);
+    disk.write_at(FIRST_PLACE, &text)?;
+    disk.sync()?;
+    write_super(superblock, SECOND_PLACE, &mut text);
+    disk.write_at(SECOND_PLACE, &text)?;
+    disk.sync()?;
+    Ok(())
+}
