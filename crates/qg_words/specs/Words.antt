@@ -1,0 +1,29 @@
+-- The words of a command line (this project's own).
+use Rattle.std.specs.Prelude.{◌≡◌, ℕ, ◌^◌, ◌<◌, List, [], ◌∷◌, map, codes, string_bytes, String}
+use Rattle.std.specs.Fmt.{decimal}
+use Rattle.std.specs.declared.alloc.Global.{Global}
+use Rattle.qg_super.specs.declared.sizes.Sizes.{Sizes}
+
+-- the text of each word
+abbrev pub texts : List (String Global) → List (List ℕ)
+texts words = map string_bytes words
+
+-- the words that ask for an image of these sizes, the numbers in decimal without leading zeros
+abbrev pub mkfs_words : Sizes → List (List ℕ)
+mkfs_words sizes = codes "mkfs" ∷ decimal sizes.nodesize ∷ decimal sizes.slots ∷ decimal sizes.sectors ∷ []
+
+-- the numbers have 64 bits
+pub record SizesFit (sizes : Sizes) : Type 0 where
+  pub nodesize : sizes.nodesize < 2 ^ 64
+  pub slots : sizes.slots < 2 ^ 64
+  pub sectors : sizes.sectors < 2 ^ 64
+
+-- the words ask for an image of these sizes
+pub record AskForImage (words : List (List ℕ)) (sizes : Sizes) : Type 0 where
+  pub fits : SizesFit sizes
+  pub are : words ≡ mkfs_words sizes
+
+-- the words are those of a form: so far there is this one
+pub record HaveForm (words : List (List ℕ)) : Type 0 where
+  pub sizes : Sizes
+  pub ask : AskForImage words sizes

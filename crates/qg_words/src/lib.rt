@@ -1,0 +1,10 @@
+//! The words of the command line, read exactly where they are those of a form.
+#![tactic(auto)]
+
+mod form;
+mod number;
+#[cfg(test)]
+mod tests;
+
+pub use form::read_words;
+pub use number::decimal_of;
