@@ -5,17 +5,40 @@ use Rattle.std.specs.Fmt.{decimal}
 use Rattle.qg_super.specs.declared.sizes.Sizes.{Sizes}
 use Rattle.qg_words.specs.Words.{SizesFit, AskForImage, HaveForm, texts}
 
-pub four_words : (words : List (String Global)) (a b c d : String Global) → 4 ≤ length words → length words < 5 → a ≡ get_or words 0 a → b ≡ get_or words 1 b → c ≡ get_or words 2 c → d ≡ get_or words 3 d → texts words ≡ string_bytes a ∷ string_bytes b ∷ string_bytes c ∷ string_bytes d ∷ []
-four_words [] a b c d some few is_a is_b is_c is_d = absurd (omega arith)
-four_words (w ∷ []) a b c d some few is_a is_b is_c is_d = absurd (omega arith)
-four_words (w ∷ x ∷ []) a b c d some few is_a is_b is_c is_d = absurd (omega arith)
-four_words (w ∷ x ∷ y ∷ []) a b c d some few is_a is_b is_c is_d = absurd (omega arith)
-four_words (w ∷ x ∷ y ∷ z ∷ []) a b c d some few is_a is_b is_c is_d = rw is_a (rw is_b (rw is_c (rw is_d refl)))
-four_words (w ∷ x ∷ y ∷ z ∷ v ∷ words) a b c d some few is_a is_b is_c is_d = absurd (omega arith)
+-- a word at a place, and its text
+pub record IsWord (words : List (String Global)) (place : ℕ) (word : String Global) (text : List ℕ) : Type 0 where
+  pub stands : word ≡ get_or words place word
+  pub text_is : text ≡ string_bytes word
 
--- where the last three are no sizes, the four have no form
-pub no_form : (words : List (List ℕ)) (name nodesize slots sectors : List ℕ) → words ≡ name ∷ nodesize ∷ slots ∷ sectors ∷ [] → ((sizes : Sizes) → SizesFit sizes → nodesize ≡ decimal sizes.nodesize → slots ≡ decimal sizes.slots → sectors ≡ decimal sizes.sectors → ⊥) → HaveForm words → ⊥
-no_form words name nodesize slots sectors are none form =
+-- the texts of four words
+pub four_texts :
+    {words : List (String Global)} {a b c d : String Global} {ta tb tc td : List ℕ}
+    → 4 ≤ length words → length words < 5
+    → IsWord words 0 a ta → IsWord words 1 b tb → IsWord words 2 c tc → IsWord words 3 d td
+    → texts words ≡ ta ∷ tb ∷ tc ∷ td ∷ []
+four_texts {words = []} some few a b c d = absurd (omega arith)
+four_texts {words = w ∷ []} some few a b c d = absurd (omega arith)
+four_texts {words = w ∷ x ∷ []} some few a b c d = absurd (omega arith)
+four_texts {words = w ∷ x ∷ y ∷ []} some few a b c d = absurd (omega arith)
+four_texts {words = w ∷ x ∷ y ∷ z ∷ []} some few a b c d =
+    rw a.text_is (rw b.text_is (rw c.text_is (rw d.text_is (rw a.stands (rw b.stands (rw c.stands (rw d.stands refl)))))))
+four_texts {words = w ∷ x ∷ y ∷ z ∷ v ∷ words} some few a b c d = absurd (omega arith)
+
+-- the last three are these sizes
+abbrev pub SpellSizes : List ℕ → List ℕ → List ℕ → Sizes → Type 0
+SpellSizes nodesize slots sectors sizes =
+    (nodesize ≡ decimal sizes.nodesize) × (slots ≡ decimal sizes.slots) × (sectors ≡ decimal sizes.sectors)
+
+-- the last three are no sizes
+abbrev pub SpellNone : List ℕ → List ℕ → List ℕ → Type 0
+SpellNone nodesize slots sectors =
+    (sizes : Sizes) → SizesFit sizes → nodesize ≡ decimal sizes.nodesize → slots ≡ decimal sizes.slots → sectors ≡ decimal sizes.sectors → ⊥
+
+-- where they are no sizes, the four have no form
+no_form :
+    {words : List (List ℕ)} {name nodesize slots sectors : List ℕ}
+    → words ≡ name ∷ nodesize ∷ slots ∷ sectors ∷ [] → SpellNone nodesize slots sectors → HaveForm words → ⊥
+no_form {words} {name} {nodesize} {slots} {sectors} are none form =
     let same = sym are ∙ form.ask.are in
     let first : nodesize ≡ decimal form.sizes.nodesize = cc in
     let second : slots ≡ decimal form.sizes.slots = cc in
@@ -23,11 +46,17 @@ no_form words name nodesize slots sectors are none form =
     none form.sizes form.ask.fits first second third
 
 -- what is read of the last three is what the four ask for
-pub ask-found : (result : Option Sizes) (words : List (List ℕ)) (name nodesize slots sectors : List ℕ) → words ≡ name ∷ nodesize ∷ slots ∷ sectors ∷ [] → name ≡ codes "mkfs" → IfSome result SizesFit → IfSome result (λ sizes. (nodesize ≡ decimal sizes.nodesize) × (slots ≡ decimal sizes.slots) × (sectors ≡ decimal sizes.sectors)) → IfSome result (λ sizes. AskForImage words sizes)
-ask-found None words name nodesize slots sectors are named fits found = tt
-ask-found (Some sizes) words name nodesize slots sectors are named fits found = record { fits = fits; are = are ∙ rw named (rw found.0 (rw found.1 (rw found.2 refl))) }
+pub ask-found :
+    (result : Option Sizes) {words : List (List ℕ)} {name nodesize slots sectors : List ℕ}
+    → words ≡ name ∷ nodesize ∷ slots ∷ sectors ∷ [] → name ≡ codes "mkfs" → IfSome result SizesFit
+    → IfSome result (λ sizes. SpellSizes nodesize slots sectors sizes) → IfSome result (λ sizes. AskForImage words sizes)
+ask-found None are named fits found = tt
+ask-found (Some sizes) are named fits found =
+    record { fits = fits; are = are ∙ rw named (rw found.0 (rw found.1 (rw found.2 refl))) }
 
 -- and where nothing is read they have no form
-pub none-found : (result : Option Sizes) (words : List (List ℕ)) (name nodesize slots sectors : List ℕ) → words ≡ name ∷ nodesize ∷ slots ∷ sectors ∷ [] → IfNone result ((sizes : Sizes) → SizesFit sizes → nodesize ≡ decimal sizes.nodesize → slots ≡ decimal sizes.slots → sectors ≡ decimal sizes.sectors → ⊥) → IfNone result (HaveForm words → ⊥)
-none-found None words name nodesize slots sectors are none = no_form words name nodesize slots sectors are none
-none-found (Some sizes) words name nodesize slots sectors are none = tt
+pub none-found :
+    (result : Option Sizes) {words : List (List ℕ)} {name nodesize slots sectors : List ℕ}
+    → words ≡ name ∷ nodesize ∷ slots ∷ sectors ∷ [] → IfNone result (SpellNone nodesize slots sectors) → IfNone result (HaveForm words → ⊥)
+none-found None are none = no_form are none
+none-found (Some sizes) are none = tt
