@@ -1,4 +1,4 @@
-// Which calls fail and which bytes move: in memory by tables, and over readers, writers and a file.
+// Which calls fail and which bytes move: in memory by tables, and over readers, writers, a file and a pipe.
 ghost use Rattle.std.specs.Prelude.{◌≤◌, length, IfOk};
 
 use crate::{
@@ -222,5 +222,22 @@ fn what_is_put_into_a_file_is_taken_from_it(rt: HostRuntime) -> Result<(), Fail>
     assert_eq!(rt; puts, [Ok(()), Ok(()), Ok(())]);
     assert_eq!(rt; taken.as_slice(), b"what is put".as_slice());
     assert_eq!(rt; counts.as_slice(), [8, 3, 0, 0].as_slice());
+    Ok(())
+}
+
+#[test]
+fn what_is_put_into_a_pipe_is_taken_from_it(rt: HostRuntime) -> Result<(), Fail> {
+    let (reader, writer) = io::pipe(&rt)?;
+    let mut source = StdSource::new(reader);
+    let mut sink = StdSink::new(writer);
+    let mut buf = [0u8; 8];
+    assert_eq!(rt; sink.put(b"through"), Ok(()));
+    assert_eq!(rt; take_into(&mut source, &mut buf, 8)?, 7);
+    assert_eq!(rt; buf[..7], b"through"[..]);
+    assert_eq!(rt; sink.put(b"a pipe"), Ok(()));
+    drop(sink);
+    assert_eq!(rt; take_into(&mut source, &mut buf, 4)?, 4);
+    assert_eq!(rt; take_into(&mut source, &mut buf, 8)?, 2);
+    assert_eq!(rt; take_into(&mut source, &mut buf, 8)?, 0);
     Ok(())
 }
