@@ -1,5 +1,7 @@
--- Small steps of the machine. All were worked out by hand.
+-- Small steps of the machine, and a key's bytes. All were worked out by hand.
 use Rattle.std.specs.Prelude.{◌≡◌, ◌+◌, ◌*◌, ◌^◌, [], ◌∷◌, Some, None, refl}
+use Rattle.qg_bytes.specs.Fields.{u64_bytes}
+use Rattle.qg_num.specs.Key.{key_bytes}
 use Rattle.qg_num.specs.declared.piece.Piece.{Piece}
 use Rattle.qg_num.specs.declared.command.Command.TheVariants.{Write, Commit, SubCreate, Snap, Delete, QuotaOn, Show, Assign}
 use Rattle.qg_num.specs.declared.answer.Answer.TheVariants as answer
@@ -126,3 +128,10 @@ fresh_is_shown = (refl, (refl, refl))
 
 relations_ascend : with_pair (5, 7) ((5, 8) ∷ (6, 7) ∷ []) ≡ (5, 7) ∷ (5, 8) ∷ (6, 7) ∷ []
 relations_ascend = refl
+
+-- ---- keys
+
+-- the 17 bytes of the key of a piece: its inode, EXTENT_DATA, its position
+key_has_its_bytes : key_bytes (record { objectid = 257; kind = 108; offset = 4096 }) ≡ 1 ∷ 1 ∷ 0 ∷ 0 ∷ 0 ∷ 0 ∷ 0 ∷ 0 ∷ 108 ∷ 0 ∷ 16 ∷ 0 ∷ 0 ∷ 0 ∷ 0 ∷ 0 ∷ 0 ∷ []
+unfolding u64_bytes
+key_has_its_bytes = refl
