@@ -70,11 +70,9 @@ is_kept state sub address = list_any (λ other. not (other == sub)) (owners stat
 abbrev pub is_full_after : State → Placed → ℕ → Bool
 is_full_after new placed address = placed.full || not (reaches new (header_of placed.node).owner address)
 
--- a node that is edited where it lies has the owner, the generation and the level that it had
+-- a node that is edited where it lies has the owner and the generation that it had
 abbrev pub has_same_maker : Node → Node → Bool
-has_same_maker node other =
-    ((header_of node).owner == (header_of other).owner) && ((header_of node).generation == (header_of other).generation)
-    && ((header_of node).level == (header_of other).level)
+has_same_maker node other = ((header_of node).owner == (header_of other).owner) && ((header_of node).generation == (header_of other).generation)
 
 -- a node that stays is full where it must be and has its maker; where it is kept it stays as it is
 pub record StaysAs (old new : State) (sub : ℕ) (entry : ℕ × Placed) (placed : Placed) : Type 0 where
