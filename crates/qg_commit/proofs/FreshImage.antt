@@ -1,69 +1,61 @@
 -- An image with two superblocks and four leaves is sound, and its state is fresh.
-use Rattle.std.proofs.Common.{◌≡◌, ℕ, ◌+◌, Bool, true, false, List, [], ◌∷◌, length, Option, Some, None, Ok, Err, refl, sym}
-use Rattle.std.specs.Prelude.{IsTrue, nat_le, slice_range, Result, cond}
-use Rattle.std.specs.Result.{result_ok}
+use Rattle.std.proofs.Common.{◌≡◌, ℕ, true, List, [], ◌∷◌, length, Some, None, Ok, refl, sym}
+use Rattle.std.specs.Prelude.{IsTrue, nat_le}
 use Rattle.std.proofs.Common.{eq-eqb, zero-add}
-use Rattle.qg_node.specs.declared.fault.NodeFault.{NodeFault}
 use Rattle.qg_node.specs.declared.item.Item.{Item}
-use Rattle.qg_node.specs.declared.node.Node.{Node}
-use Rattle.qg_node.specs.Reading.{node_read}
 use Rattle.qg_items.specs.ItemText.{root_text, status_text, info_text, limit_text}
 use Rattle.qg_items.specs.ItemReading.{root_read, status_read, info_read, limit_read}
 use Rattle.qg_super.specs.declared.sizes.Sizes.{Sizes}
 use Rattle.qg_super.specs.declared.superblock.Super.{Super}
-use Rattle.qg_super.specs.Places.{is_slot, total_bytes, first_place, second_place}
-use Rattle.qg_super.specs.SuperText.{sizes_of}
-use Rattle.qg_image.specs.ItemsUnder.{node_in}
+use Rattle.qg_super.specs.Places.{total_bytes, first_place, second_place}
 use Rattle.qg_image.specs.IsShaped.{is_shaped}
 use Rattle.qg_image.specs.FilesOf.{are_files, files_of}
-use Rattle.qg_image.specs.ItemMeaning.{is_subvolume_number, root_part, quota_part, Status, Info, Limits}
+use Rattle.qg_image.specs.declared.part.QuotaPart.TheVariants.{Status, Info, Limits}
+use Rattle.qg_image.specs.ItemMeaning.{is_subvolume_number, root_part, quota_part}
 use Rattle.qg_state.specs.State.{node_at}
 use Rattle.qg_state.specs.Reach.{reach, reach_of_root, pieces_of}
 use Rattle.qg_state.specs.Members.{members, is_below, leads}
 use Rattle.qg_state.specs.Counts.{referenced, exclusive, reach_of_group, is_reached_outside}
 use Rattle.qg_state.specs.Space.{present_extents}
-use Rattle.qg_verdict.specs.Walk.{Tree, Roots, Extents, Quotas, Files, in_slot, node_found, tree_failure, walk_failure, node_failure, is_item_of}
+use Rattle.qg_verdict.specs.declared.tree.Tree.{Tree}
+use Rattle.qg_verdict.specs.declared.tree.Tree.TheVariants.{Roots, Extents, Quotas, Files}
+use Rattle.qg_verdict.specs.declared.expected.Expected.{Expected}
+use Rattle.qg_verdict.specs.Walk.{root_expected, root_told, is_item_of, way_failure, node_failure, node_found, walk_failure, tree_failure}
+use Rattle.qg_verdict.specs.ItemsUnder.{is_way}
 use Rattle.qg_verdict.specs.StateOf.{StateOf, super_in, super_of, tree_items, tree_nodes, roots_in, extent_parts, quota_parts, layout_in, subvolumes_in, quota_told, state_in}
 use Rattle.qg_verdict.specs.Verdict.{verdict, image_failure, are_roots, is_quota, are_few, space_failure, counts_failure, IsSound}
 use Rattle.qg_verdict.specs.IsFresh.{fresh_state, fresh_leaf}
+use Rattle.qg_commit.proofs.Ways.{walked-is_way}
 use Rattle.qg_commit.specs.Fresh.{fresh_leaf_of, fresh_root, root_items, quota_items, fresh_super}
-
-in_slot-ok : (slot : Bool) (address : ℕ) (read : Result Node NodeFault) (node : Node) → in_slot slot address read ≡ Ok node
-    → cond slot (result_ok read) None ≡ Some node
-in_slot-ok true address (Ok read) node found = cc
-in_slot-ok true address (Err fault) node found = absurd cc
-in_slot-ok false address read node found = absurd cc
-
--- what the walk finds is the node that the image has there
-pub found-node_in : (super : Super) (image : List ℕ) (address : ℕ) (node : Node) → node_found super image address ≡ Ok node
-    → node_in (sizes_of super) image address ≡ Some node
-unfolding node_found node_in
-found-node_in super image address node found =
-    in_slot-ok (is_slot (sizes_of super) address) address (node_read address (slice_range image address (address + super.nodesize))) node found
 
 -- ---- a tree of one leaf
 
-pub leaf-tree_items : (super : Super) (image : List ℕ) (owner address : ℕ) (items : List Item)
-    → node_found super image address ≡ Ok (fresh_leaf_of owner address items) → tree_items super image address ≡ items
-unfolding tree_items
-leaf-tree_items super image owner address items found =
-    let there : node_in (sizes_of super) image address ≡ Some (fresh_leaf_of owner address items) = found-node_in super image address (fresh_leaf_of owner address items) found in
-    rw there (rw there refl)
+-- the walk of the tree meets no failure, and the leaf with its own items is all that the tree has
+pub record IsLeafTree (tree : Tree) (super : Super) (image : List ℕ) (expected : Expected) (owner address : ℕ) (own : List Item) : Type 0 where
+  pub walked : tree_failure tree super image expected address ≡ None
+  pub items : tree_items tree super image expected address ≡ own
+  pub nodes : tree_nodes tree super image expected address ≡ fresh_leaf_of owner address own ∷ []
 
-pub leaf-tree_nodes : (super : Super) (image : List ℕ) (owner address : ℕ) (items : List Item)
-    → node_found super image address ≡ Ok (fresh_leaf_of owner address items)
-    → tree_nodes super image address ≡ fresh_leaf_of owner address items ∷ []
-unfolding tree_nodes
-leaf-tree_nodes super image owner address items found =
-    let there : node_in (sizes_of super) image address ≡ Some (fresh_leaf_of owner address items) = found-node_in super image address (fresh_leaf_of owner address items) found in
-    rw there (rw there refl)
-
-pub leaf-tree_failure : (tree : Tree) (super : Super) (image : List ℕ) (level generation : Option ℕ) (owner address : ℕ) (items : List Item)
-    → node_found super image address ≡ Ok (fresh_leaf_of owner address items)
-    → node_failure tree super (record { level = level; generation = generation; from = None; to = None }) address (fresh_leaf_of owner address items) ≡ None
-    → tree_failure tree super image level generation address ≡ None
+leaf-tree_failure : (tree : Tree) (super : Super) (image : List ℕ) (expected : Expected) (owner address : ℕ) (own : List Item)
+    → node_found super image address ≡ Ok (fresh_leaf_of owner address own)
+    → node_failure tree super expected address (fresh_leaf_of owner address own) ≡ None → tree_failure tree super image expected address ≡ None
 unfolding tree_failure walk_failure
-leaf-tree_failure tree super image level generation owner address items found none = rw found (rw none refl)
+leaf-tree_failure tree super image expected owner address own found none = rw found (rw none refl)
+
+tree_failure-is_way : (tree : Tree) (super : Super) (image : List ℕ) (expected : Expected) (address : ℕ)
+    → tree_failure tree super image expected address ≡ None → is_way tree super (node_found super image) expected address ≡ true
+unfolding tree_failure
+tree_failure-is_way tree super image expected address none = walked-is_way tree super (node_found super image) expected address none
+
+leaf-IsLeafTree : (tree : Tree) (super : Super) (image : List ℕ) (expected : Expected) (owner address : ℕ) (own : List Item)
+    → node_found super image address ≡ Ok (fresh_leaf_of owner address own)
+    → node_failure tree super expected address (fresh_leaf_of owner address own) ≡ None
+    → IsLeafTree tree super image expected owner address own
+unfolding tree_items tree_nodes
+leaf-IsLeafTree tree super image expected owner address own found none =
+    let walked = leaf-tree_failure tree super image expected owner address own found none in
+    let way = tree_failure-is_way tree super image expected address walked in
+    record { walked = walked; items = rw way (rw found (rw found refl)); nodes = rw way (rw found (rw found refl)) }
 
 -- ---- an image with four leaves
 
@@ -88,13 +80,45 @@ pub record ReadsBack (sizes : Sizes) (extents files quotas : ℕ) : Type 0 where
       ≡ Some (record { generation = 1; rfer = sizes.nodesize; rfer_cmpr = sizes.nodesize; excl = sizes.nodesize; excl_cmpr = sizes.nodesize })
   pub limit : limit_read (limit_text (record { flags = 0; max_rfer = 0; max_excl = 0 })) ≡ Some (record { flags = 0; max_rfer = 0; max_excl = 0 })
 
+-- ---- its trees
+
+pub fresh-root_tree : (sizes : Sizes) (image : List ℕ) (root extents files quotas : ℕ) → HasFresh sizes image root extents files quotas
+    → ReadsBack sizes extents files quotas
+    → IsLeafTree Roots (fresh_super sizes root) image (root_expected None None) 1 root (root_items extents files quotas)
+unfolding node_failure way_failure is_item_of root_part is_subvolume_number is_shaped
+fresh-root_tree sizes image root extents files quotas has reads =
+    leaf-IsLeafTree Roots (fresh_super sizes root) image (root_expected None None) 1 root (root_items extents files quotas) has.root_leaf
+    (rw reads.extents_root (rw reads.files_root (rw reads.quotas_root refl)))
+
+pub fresh-extents_tree : (sizes : Sizes) (image : List ℕ) (root extents files quotas : ℕ) → HasFresh sizes image root extents files quotas
+    → IsLeafTree Extents (fresh_super sizes root) image (root_told (fresh_root extents)) 2 extents []
+unfolding node_failure way_failure is_shaped
+fresh-extents_tree sizes image root extents files quotas has =
+    leaf-IsLeafTree Extents (fresh_super sizes root) image (root_told (fresh_root extents)) 2 extents [] has.extents_leaf refl
+
+pub fresh-files_tree : (sizes : Sizes) (image : List ℕ) (root extents files quotas : ℕ) → HasFresh sizes image root extents files quotas
+    → IsLeafTree Files (fresh_super sizes root) image (root_told (fresh_root files)) 5 files []
+unfolding node_failure way_failure is_shaped is_subvolume_number
+fresh-files_tree sizes image root extents files quotas has =
+    leaf-IsLeafTree Files (fresh_super sizes root) image (root_told (fresh_root files)) 5 files [] has.files_leaf refl
+
+pub fresh-quotas_tree : (sizes : Sizes) (image : List ℕ) (root extents files quotas : ℕ) → HasFresh sizes image root extents files quotas
+    → ReadsBack sizes extents files quotas
+    → IsLeafTree Quotas (fresh_super sizes root) image (root_told (fresh_root quotas)) 8 quotas (quota_items sizes.nodesize)
+unfolding node_failure way_failure is_item_of quota_part is_shaped
+fresh-quotas_tree sizes image root extents files quotas has reads =
+    leaf-IsLeafTree Quotas (fresh_super sizes root) image (root_told (fresh_root quotas)) 8 quotas (quota_items sizes.nodesize) has.quotas_leaf
+    (rw reads.status (rw reads.info (rw reads.limit refl)))
+
+-- ---- its state
+
 pub fresh-roots_in : (sizes : Sizes) (image : List ℕ) (root extents files quotas : ℕ) → HasFresh sizes image root extents files quotas
     → ReadsBack sizes extents files quotas
     → roots_in (fresh_super sizes root) image ≡ (2, fresh_root extents) ∷ (5, fresh_root files) ∷ (8, fresh_root quotas) ∷ []
 unfolding roots_in root_part is_subvolume_number
 fresh-roots_in sizes image root extents files quotas has reads =
-    let items = leaf-tree_items (fresh_super sizes root) image 1 root (root_items extents files quotas) has.root_leaf in
-    rw items (rw reads.extents_root (rw reads.files_root (rw reads.quotas_root refl)))
+    let tree = fresh-root_tree sizes image root extents files quotas has reads in
+    rw tree.items (rw reads.extents_root (rw reads.files_root (rw reads.quotas_root refl)))
 
 pub fresh-quota_parts : (sizes : Sizes) (image : List ℕ) (root extents files quotas : ℕ) → HasFresh sizes image root extents files quotas
     → ReadsBack sizes extents files quotas
@@ -106,16 +130,16 @@ pub fresh-quota_parts : (sizes : Sizes) (image : List ℕ) (root extents files q
 unfolding quota_parts quota_part
 fresh-quota_parts sizes image root extents files quotas has reads =
     let roots = fresh-roots_in sizes image root extents files quotas has reads in
-    let items = leaf-tree_items (fresh_super sizes root) image 8 quotas (quota_items sizes.nodesize) has.quotas_leaf in
-    rw roots (rw items (rw reads.status (rw reads.info (rw reads.limit refl))))
+    let tree = fresh-quotas_tree sizes image root extents files quotas has reads in
+    rw roots (rw tree.items (rw reads.status (rw reads.info (rw reads.limit refl))))
 
 pub fresh-extent_parts : (sizes : Sizes) (image : List ℕ) (root extents files quotas : ℕ) → HasFresh sizes image root extents files quotas
     → ReadsBack sizes extents files quotas → extent_parts (fresh_super sizes root) image ≡ []
 unfolding extent_parts
 fresh-extent_parts sizes image root extents files quotas has reads =
     let roots = fresh-roots_in sizes image root extents files quotas has reads in
-    let items = leaf-tree_items (fresh_super sizes root) image 2 extents [] has.extents_leaf in
-    rw roots (rw items refl)
+    let tree = fresh-extents_tree sizes image root extents files quotas has in
+    rw roots (rw tree.items refl)
 
 pub fresh-state_in : (sizes : Sizes) (image : List ℕ) (root extents files quotas : ℕ) → HasFresh sizes image root extents files quotas
     → ReadsBack sizes extents files quotas
@@ -125,13 +149,11 @@ fresh-state_in sizes image root extents files quotas has reads =
     let roots = fresh-roots_in sizes image root extents files quotas has reads in
     let parts = fresh-quota_parts sizes image root extents files quotas has reads in
     let none = fresh-extent_parts sizes image root extents files quotas has reads in
-    let super = fresh_super sizes root in
-    let root_nodes = leaf-tree_nodes super image 1 root (root_items extents files quotas) has.root_leaf in
-    let extents_nodes = leaf-tree_nodes super image 2 extents [] has.extents_leaf in
-    let files_nodes = leaf-tree_nodes super image 5 files [] has.files_leaf in
-    let quotas_nodes = leaf-tree_nodes super image 8 quotas (quota_items sizes.nodesize) has.quotas_leaf in
-    let items = leaf-tree_items super image 5 files [] has.files_leaf in
-    simp (roots, parts, none, root_nodes, extents_nodes, files_nodes, quotas_nodes, items) refl
+    let root_tree = fresh-root_tree sizes image root extents files quotas has reads in
+    let extents_tree = fresh-extents_tree sizes image root extents files quotas has in
+    let files_tree = fresh-files_tree sizes image root extents files quotas has in
+    let quotas_tree = fresh-quotas_tree sizes image root extents files quotas has reads in
+    simp (roots, parts, none, root_tree.nodes, extents_tree.nodes, files_tree.nodes, quotas_tree.nodes, files_tree.items) refl
 
 -- ---- no rule fails
 
@@ -143,32 +165,6 @@ fresh-counts_failure sizes others files =
     let here : node_at ((files, fresh_leaf files) ∷ []) files ≡ Some (fresh_leaf files).node = rw (eq-eqb files files refl) refl in
     simp (here, zero-add, eq-eqb sizes.nodesize sizes.nodesize refl) refl
 
-pub fresh-root_failure : (sizes : Sizes) (image : List ℕ) (root extents files quotas : ℕ) → HasFresh sizes image root extents files quotas
-    → ReadsBack sizes extents files quotas → tree_failure Roots (fresh_super sizes root) image None None root ≡ None
-unfolding node_failure is_item_of root_part is_subvolume_number is_shaped
-fresh-root_failure sizes image root extents files quotas has reads =
-    leaf-tree_failure Roots (fresh_super sizes root) image None None 1 root (root_items extents files quotas) has.root_leaf
-    (rw reads.extents_root (rw reads.files_root (rw reads.quotas_root refl)))
-
-pub fresh-extents_failure : (sizes : Sizes) (image : List ℕ) (root extents files quotas : ℕ)
-    → HasFresh sizes image root extents files quotas → tree_failure Extents (fresh_super sizes root) image (Some 0) (Some 1) extents ≡ None
-unfolding node_failure is_shaped
-fresh-extents_failure sizes image root extents files quotas has =
-    leaf-tree_failure Extents (fresh_super sizes root) image (Some 0) (Some 1) 2 extents [] has.extents_leaf refl
-
-pub fresh-files_failure : (sizes : Sizes) (image : List ℕ) (root extents files quotas : ℕ) → HasFresh sizes image root extents files quotas
-    → tree_failure Files (fresh_super sizes root) image (Some 0) (Some 1) files ≡ None
-unfolding node_failure is_shaped is_subvolume_number
-fresh-files_failure sizes image root extents files quotas has =
-    leaf-tree_failure Files (fresh_super sizes root) image (Some 0) (Some 1) 5 files [] has.files_leaf refl
-
-pub fresh-quotas_failure : (sizes : Sizes) (image : List ℕ) (root extents files quotas : ℕ) → HasFresh sizes image root extents files quotas
-    → ReadsBack sizes extents files quotas → tree_failure Quotas (fresh_super sizes root) image (Some 0) (Some 1) quotas ≡ None
-unfolding node_failure is_item_of quota_part is_shaped
-fresh-quotas_failure sizes image root extents files quotas has reads =
-    leaf-tree_failure Quotas (fresh_super sizes root) image (Some 0) (Some 1) 8 quotas (quota_items sizes.nodesize) has.quotas_leaf
-    (rw reads.status (rw reads.info (rw reads.limit refl)))
-
 pub fresh-image_failure : (sizes : Sizes) (image : List ℕ) (root extents files quotas : ℕ) → HasFresh sizes image root extents files quotas
     → ReadsBack sizes extents files quotas → image_failure (fresh_super sizes root) image ≡ None
 unfolding image_failure are_roots is_quota are_few are_files space_failure present_extents is_subvolume_number
@@ -176,18 +172,17 @@ fresh-image_failure sizes image root extents files quotas has reads =
     let roots = fresh-roots_in sizes image root extents files quotas has reads in
     let parts = fresh-quota_parts sizes image root extents files quotas has reads in
     let state = fresh-state_in sizes image root extents files quotas has reads in
-    let root_walk = fresh-root_failure sizes image root extents files quotas has reads in
-    let extents_walk = fresh-extents_failure sizes image root extents files quotas has in
-    let files_walk = fresh-files_failure sizes image root extents files quotas has in
-    let quotas_walk = fresh-quotas_failure sizes image root extents files quotas has reads in
-    let files_items = leaf-tree_items (fresh_super sizes root) image 5 files [] has.files_leaf in
+    let root_tree = fresh-root_tree sizes image root extents files quotas has reads in
+    let extents_tree = fresh-extents_tree sizes image root extents files quotas has in
+    let files_tree = fresh-files_tree sizes image root extents files quotas has in
+    let quotas_tree = fresh-quotas_tree sizes image root extents files quotas has reads in
     let counts = fresh-counts_failure sizes (root ∷ extents ∷ quotas ∷ []) files in
     let same_root = eq-eqb root root refl in
     let same_nodesize = eq-eqb sizes.nodesize sizes.nodesize refl in
     let same_slots = eq-eqb sizes.slots sizes.slots refl in
     let same_sectors = eq-eqb sizes.sectors sizes.sectors refl in
-    rw has.long (rw has.first (rw has.second (rw root_walk (rw roots (rw extents_walk (rw quotas_walk (rw parts (rw files_walk
-    (rw files_items (rw state (rw counts (simp (same_root, same_nodesize, same_slots, same_sectors) refl))))))))))))
+    rw has.long (rw has.first (rw has.second (rw root_tree.walked (rw roots (rw extents_tree.walked (rw quotas_tree.walked (rw parts (rw files_tree.walked
+    (rw files_tree.items (rw state (rw counts (simp (same_root, same_nodesize, same_slots, same_sectors) refl))))))))))))
 
 -- ---- the two sentences
 

@@ -1,3 +1,4 @@
+pub mod Ways
 pub mod FreshImage
 pub mod Ranges
 pub mod ImageMade

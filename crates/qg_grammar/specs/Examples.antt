@@ -4,8 +4,10 @@ use Rattle.std.specs.Fmt.{digits}
 use Rattle.qg_num.specs.declared.command.Command.TheVariants.{Write, Snap, Limit, Ls}
 use Rattle.qg_num.specs.declared.answer.Answer.TheVariants.{Commit, Shown, File, Owners, Refused}
 use Rattle.qg_num.specs.declared.counters.Which.TheVariants.{Rfer, Excl}
+use Rattle.qg_num.specs.declared.rule.Rule.TheVariants as rule
 use Rattle.qg_num.specs.declared.refusal.Refusal.TheVariants.{Quota, NoNodes}
 use Rattle.qg_grammar.specs.ScriptText.{script_lines, command_text, is_in_grammar}
+use Rattle.qg_grammar.specs.FailureText.{rule_text, broken_text, differs_text}
 use Rattle.qg_grammar.specs.ReplyText.{reply_text, refusal_text, row_text, piece_text}
 
 -- an empty line is a line, and so is what is behind the last newline
@@ -74,3 +76,11 @@ quota_reply = refl
 need_reply : reply_text (Refused (NoNodes 60 228)) ≡ codes "no nodes 60 228" ++ 10 ∷ []
 unfolding reply_text refusal_text digits
 need_reply = refl
+
+broken_line : broken_text rule.Super 65536 ≡ codes "broken super 65536" ++ 10 ∷ []
+unfolding rule_text digits
+broken_line = refl
+
+differs_line : differs_text 5 Rfer 0 16384 ≡ codes "differs 0/5 rfer 0 16384" ++ 10 ∷ []
+unfolding digits
+differs_line = refl

@@ -1,4 +1,5 @@
 pub mod ScriptText
 pub mod ReplyText
+pub mod FailureText
 pub mod Served
 pub mod Examples

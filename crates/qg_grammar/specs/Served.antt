@@ -1,5 +1,5 @@
 -- Which commands are served so far (this project's own). A line of one that is not is no command's, until it is.
-use Rattle.std.specs.Prelude.{Bool, false}
+use Rattle.std.specs.Prelude.{Bool, true, false}
 use Rattle.qg_num.specs.declared.command.Command.{Command}
 use Rattle.qg_num.specs.declared.command.Command.TheVariants.{Write, Clone, Truncate, Unlink, Commit, SubCreate, Snap, Delete, QuotaOn, QuotaOff, GroupCreate, GroupDestroy, Assign, Remove, Limit, Show, Ls, Owners}
 
@@ -19,6 +19,6 @@ is_served (GroupDestroy group) = false
 is_served (Assign member parent) = false
 is_served (Remove member parent) = false
 is_served (Limit group which max) = false
-is_served Show = false
+is_served Show = true
 is_served (Ls sub ino) = false
 is_served (Owners address) = false

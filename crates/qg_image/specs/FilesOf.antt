@@ -8,8 +8,11 @@ use Rattle.qg_num.specs.declared.piece.Piece.{Piece}
 use Rattle.qg_node.specs.declared.item.Item.{Item}
 use Rattle.qg_items.specs.declared.file.InodeItem.{InodeItem}
 use Rattle.qg_super.specs.Places.{sector}
+use Rattle.qg_image.specs.declared.file.File.{File}
 use Rattle.qg_image.specs.Table.{has_key}
-use Rattle.qg_image.specs.ItemMeaning.{FilePart, Inode, PieceOf, some_passes, file_part, file_part_stamps}
+use Rattle.qg_image.specs.declared.part.FilePart.{FilePart}
+use Rattle.qg_image.specs.declared.part.FilePart.TheVariants.{Inode, PieceOf}
+use Rattle.qg_image.specs.ItemMeaning.{some_passes, file_part, file_part_stamps}
 
 -- the largest size of a file, and the first number past those of files
 abbrev pub largest_size : ℕ
@@ -20,13 +23,6 @@ least_inode = 257
 
 abbrev pub inodes_end : ℕ
 inodes_end = 2 ^ 48
-
--- a file: its size, the generations of its making and of its last change, and its pieces, ascending by position
-pub record File : Type 0 where
-  pub size : ℕ
-  pub generation : ℕ
-  pub transid : ℕ
-  pub pieces : List Piece
 
 -- where a piece ends in its file
 abbrev pub piece_end : Piece → ℕ

@@ -6,15 +6,16 @@ use Rattle.qg_num.specs.declared.piece.Piece.{Piece}
 use Rattle.qg_node.specs.declared.item.Item.{Item}
 use Rattle.qg_items.specs.declared.kind.TheConstants.{INODE_ITEM, EXTENT_DATA, ROOT_ITEM, EXTENT_ITEM, METADATA_ITEM, TREE_BLOCK_REF, EXTENT_DATA_REF, SHARED_BLOCK_REF, SHARED_DATA_REF, QGROUP_STATUS, QGROUP_INFO, QGROUP_LIMIT, QGROUP_RELATION}
 use Rattle.qg_items.specs.declared.tree.TheConstants.{EXTENT_TREE, TOP_LEVEL, QUOTA_TREE, FIRST_FREE}
-use Rattle.qg_items.specs.declared.file.InodeItem.{InodeItem}
 use Rattle.qg_items.specs.declared.file.ExtentData.{ExtentData}
 use Rattle.qg_items.specs.declared.root.RootItem.{RootItem}
-use Rattle.qg_items.specs.declared.extent.ExtentItem.{ExtentItem}
-use Rattle.qg_items.specs.declared.extent.Reference.{Reference}
 use Rattle.qg_items.specs.declared.extent.Reference.TheVariants.{KeyedBlock, SharedBlock, KeyedData, SharedData}
 use Rattle.qg_items.specs.declared.quota.QgroupStatus.{QgroupStatus}
-use Rattle.qg_items.specs.declared.quota.QgroupInfo.{QgroupInfo}
-use Rattle.qg_items.specs.declared.quota.QgroupLimit.{QgroupLimit}
+use Rattle.qg_image.specs.declared.part.FilePart.{FilePart}
+use Rattle.qg_image.specs.declared.part.FilePart.TheVariants.{Inode, PieceOf}
+use Rattle.qg_image.specs.declared.part.ExtentPart.{ExtentPart}
+use Rattle.qg_image.specs.declared.part.ExtentPart.TheVariants.{DataRecord, NodeRecord, Referenced}
+use Rattle.qg_image.specs.declared.part.QuotaPart.{QuotaPart}
+use Rattle.qg_image.specs.declared.part.QuotaPart.TheVariants.{Status, Info, Limits, Relation}
 use Rattle.qg_items.specs.ItemReading.{inode_read, extent_data_read, root_read, extent_read, data_ref_read, shared_data_ref_read, status_read, info_read, limit_read}
 
 -- ---- cases
@@ -46,11 +47,6 @@ abbrev pub has_key : ℕ → ℕ → ℕ → Item → Bool
 has_key objectid kind offset item = (item.key.objectid == objectid) && (item.key.kind == kind) && (item.key.offset == offset)
 
 -- ---- subvolumes
-
--- an item of a subvolume's tree: a file, or a piece of one
-pub data FilePart : Type 0 where
-  Inode : (ino : ℕ) (inode : InodeItem) → FilePart
-  PieceOf : (ino : ℕ) (piece : Piece) → FilePart
 
 -- the piece that an item at a position tells; its extent's length stands in it twice
 abbrev pub piece_told : ℕ → ExtentData → Option Piece
@@ -85,12 +81,6 @@ root_part_stamps part = part.1.generation ∷ part.1.last_snapshot ∷ []
 
 -- ---- the extent tree
 
--- an item of the extent tree: the record of a data extent or of a node, or a reference with its count
-pub data ExtentPart : Type 0 where
-  DataRecord : (address bytes : ℕ) (extent : ExtentItem) → ExtentPart
-  NodeRecord : (address level : ℕ) (extent : ExtentItem) → ExtentPart
-  Referenced : (address : ℕ) (reference : Reference) (count : ℕ) → ExtentPart
-
 unfoldable pub extent_part : Item → Option ExtentPart
 extent_part item =
     when (item.key.kind == EXTENT_ITEM) (option_map (DataRecord item.key.objectid item.key.offset) (extent_read item.body))
@@ -108,13 +98,6 @@ extent_part_stamps (NodeRecord address level extent) = extent.generation ∷ []
 extent_part_stamps (Referenced address reference count) = []
 
 -- ---- the quota tree
-
--- an item of the quota tree: the state of quota, a group's counters or limits, or one end of a relation
-pub data QuotaPart : Type 0 where
-  Status : (status : QgroupStatus) → QuotaPart
-  Info : (group : ℕ) (info : QgroupInfo) → QuotaPart
-  Limits : (group : ℕ) (limit : QgroupLimit) → QuotaPart
-  Relation : (group other : ℕ) → QuotaPart
 
 -- quota is on, and no rescan runs
 abbrev pub is_status : QgroupStatus → Bool

@@ -1,5 +1,5 @@
 pub mod Table
-pub mod ItemsUnder
+pub mod Below
 pub mod IsShaped
 pub mod ItemMeaning
 pub mod FilesOf

@@ -5,7 +5,9 @@ use Rattle.qg_num.specs.declared.counters.Counters.{Counters}
 use Rattle.qg_num.specs.declared.counters.Which.{Which}
 use Rattle.qg_num.specs.declared.counters.Which.TheVariants.{Rfer, Excl}
 use Rattle.qg_image.specs.Table.{value_at, with_value, without_key}
-use Rattle.qg_state.specs.State.{State, Quota, Group}
+use Rattle.qg_state.specs.declared.quota.Quota.{Quota}
+use Rattle.qg_state.specs.declared.quota.Group.{Group}
+use Rattle.qg_state.specs.State.{State}
 use Rattle.qg_state.specs.Counts.{direct_count}
 
 -- a group that is made in this generation: nothing counted, no limit

@@ -9,14 +9,16 @@ use Rattle.qg_node.specs.NodeText.{IsNode}
 use Rattle.qg_super.specs.declared.superblock.Super.{Super}
 use Rattle.qg_super.specs.Places.{is_slot}
 use Rattle.qg_image.specs.Table.{value_at, has_key}
-use Rattle.qg_image.specs.ItemsUnder.{items_under}
 use Rattle.qg_image.specs.FilesOf.{files_of}
 use Rattle.qg_state.specs.Stage.{copies_on_write}
 use Rattle.qg_state.specs.State.{State, Subvolume, Placed, node_at, next_generation}
 use Rattle.qg_state.specs.Reach.{level_of, reaches, is_reached, owners}
 use Rattle.qg_state.specs.Space.{is_free_slot}
-use Rattle.qg_verdict.specs.Failure.{Failure, Broken}
-use Rattle.qg_verdict.specs.Walk.{Files, walk_failure, deepest}
+use Rattle.qg_verdict.specs.declared.failure.Failure.{Failure}
+use Rattle.qg_verdict.specs.declared.failure.Failure.TheVariants.{Broken}
+use Rattle.qg_verdict.specs.declared.tree.Tree.TheVariants.{Files}
+use Rattle.qg_verdict.specs.Walk.{root_expected, node_failure, walk_failure, deepest}
+use Rattle.qg_verdict.specs.ItemsUnder.{items_under}
 
 -- ---- a state whose layout is that of its files
 
@@ -42,11 +44,10 @@ super_to_come state = record {
 -- generations, key ranges, shape, items), and holds the items of its files
 pub record IsTreeOf (state : State) (subvolume : Subvolume) : Type 0 where
   pub items : List Item
-  pub walked :
-      walk_failure Files (super_to_come state) (found_in state.layout) deepest
-      (record { level = None; generation = None; from = None; to = None }) subvolume.root
-      ≡ None
-  pub under : items_under (node_at state.layout) (level_of (node_at state.layout subvolume.root)) subvolume.root ≡ Some items
+  pub walked : walk_failure (node_failure Files (super_to_come state)) (found_in state.layout) deepest (root_expected None None) subvolume.root ≡ None
+  pub under :
+      items_under Files (super_to_come state) (found_in state.layout) (level_of (node_at state.layout subvolume.root)) (root_expected None None) subvolume.root
+      ≡ Some items
   pub files : files_of (next_generation state) items ≡ Some subvolume.files
 
 -- a node of the layout is one of the format and stands under its address, and some subvolume reaches it

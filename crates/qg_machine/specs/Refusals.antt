@@ -10,9 +10,11 @@ use Rattle.qg_num.specs.declared.refusal.Refusal.TheVariants as why
 use Rattle.qg_items.specs.declared.tree.TheConstants.{TOP_LEVEL}
 use Rattle.qg_image.specs.Table.{has_key, value_at, with_value, keys_of}
 use Rattle.qg_image.specs.ItemMeaning.{some_passes, first_some}
-use Rattle.qg_image.specs.FilesOf.{File, largest_size, is_aligned}
+use Rattle.qg_image.specs.declared.file.File.{File}
+use Rattle.qg_image.specs.FilesOf.{largest_size, is_aligned}
 use Rattle.qg_state.specs.Stage.{copies_on_write}
-use Rattle.qg_state.specs.State.{State, Subvolume, Quota, has_subvolume, file_at, node_at, is_quota_on}
+use Rattle.qg_state.specs.declared.quota.Quota.{Quota}
+use Rattle.qg_state.specs.State.{State, Subvolume, has_subvolume, file_at, node_at, is_quota_on}
 use Rattle.qg_state.specs.Reach.{level_of, reach, distinct}
 use Rattle.qg_state.specs.Members.{level_of_group, next_subvolume}
 use Rattle.qg_state.specs.Limits.{over}

@@ -10,9 +10,11 @@ use Rattle.qg_num.specs.declared.command.Command.TheVariants as command
 use Rattle.qg_node.specs.declared.node.Node.{Node}
 use Rattle.qg_node.specs.declared.node.Node.TheVariants.{Leaf, Inner}
 use Rattle.qg_image.specs.Table.{value_at, with_value, without_key, keys_of}
-use Rattle.qg_image.specs.FilesOf.{File}
+use Rattle.qg_image.specs.declared.file.File.{File}
 use Rattle.qg_state.specs.Stage.{copies_on_write}
-use Rattle.qg_state.specs.State.{State, Subvolume, Placed, Group, Quota, Accepted, next_generation, node_at, file_at}
+use Rattle.qg_state.specs.declared.quota.Group.{Group}
+use Rattle.qg_state.specs.declared.quota.Quota.{Quota}
+use Rattle.qg_state.specs.State.{State, Subvolume, Placed, Accepted, next_generation, node_at, file_at}
 use Rattle.qg_state.specs.Reach.{owners, is_reached}
 use Rattle.qg_state.specs.Space.{is_free_slot, first_run}
 use Rattle.qg_verdict.specs.StateOf.{as_committed}

@@ -3,7 +3,9 @@ use Rattle.std.specs.Prelude.{ℕ, Bool, ◌&&◌, not, List}
 use Rattle.std.specs.List.{list_any, filter, flat_map, sum_by}
 use Rattle.qg_num.specs.declared.counters.Counters.{Counters}
 use Rattle.qg_image.specs.Table.{keys_of}
-use Rattle.qg_state.specs.State.{State, Quota, Element}
+use Rattle.qg_state.specs.declared.quota.Quota.{Quota}
+use Rattle.qg_state.specs.declared.element.Element.{Element}
+use Rattle.qg_state.specs.State.{State}
 use Rattle.qg_state.specs.Reach.{reach, reaches, distinct}
 use Rattle.qg_state.specs.Members.{members, is_member}
 

@@ -11,9 +11,11 @@ use Rattle.qg_items.specs.ItemText.{inode_text, extent_data_text}
 use Rattle.qg_items.specs.ItemReading.{inode_read, extent_data_read}
 use Rattle.qg_super.specs.declared.sizes.Sizes.{Sizes}
 use Rattle.qg_super.specs.Places.{is_slot, is_run}
-use Rattle.qg_image.specs.FilesOf.{File}
+use Rattle.qg_image.specs.declared.file.File.{File}
 use Rattle.qg_image.specs.ItemMeaning.{file_part}
-use Rattle.qg_state.specs.State.{State, Subvolume, Placed, Group, Quota}
+use Rattle.qg_state.specs.declared.quota.Group.{Group}
+use Rattle.qg_state.specs.declared.quota.Quota.{Quota}
+use Rattle.qg_state.specs.State.{State, Subvolume, Placed}
 use Rattle.qg_state.specs.Reach.{pieces_of, reach_of_root, reach, owners}
 use Rattle.qg_state.specs.Members.{leads, is_below, members, next_subvolume}
 use Rattle.qg_state.specs.Counts.{reach_of_group, is_reached_outside, referenced, exclusive}

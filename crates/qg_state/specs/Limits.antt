@@ -5,7 +5,9 @@ use Rattle.std.specs.Option.{option_map}
 use Rattle.qg_num.specs.declared.counters.Which.{Which}
 use Rattle.qg_num.specs.declared.counters.Which.TheVariants.{Rfer, Excl}
 use Rattle.qg_image.specs.ItemMeaning.{some_passes, when}
-use Rattle.qg_state.specs.State.{State, Quota, Group}
+use Rattle.qg_state.specs.declared.quota.Quota.{Quota}
+use Rattle.qg_state.specs.declared.quota.Group.{Group}
+use Rattle.qg_state.specs.State.{State}
 use Rattle.qg_state.specs.Members.{is_member}
 
 -- what the accepted commands since the last commit reserved into members of a group

@@ -2,7 +2,7 @@
 use Rattle.std.specs.Prelude.{ℕ, zero, suc, ◌+◌, ◌/◌, ◌%◌, ◌^◌, max, Bool, ◌&&◌, ◌||◌, List, length, ◌==◌}
 use Rattle.std.specs.List.{list_any, filter, fold}
 use Rattle.qg_image.specs.Table.{keys_of}
-use Rattle.qg_state.specs.State.{Quota}
+use Rattle.qg_state.specs.declared.quota.Quota.{Quota}
 
 -- a group's number is level * 2^48 + id
 abbrev pub level_of_group : ℕ → ℕ

@@ -5,10 +5,11 @@ use Rattle.qg_items.specs.declared.tree.TheConstants.{EXTENT_TREE, QUOTA_TREE}
 use Rattle.qg_node.specs.Nodes.{header_of}
 use Rattle.qg_super.specs.Places.{capacity}
 use Rattle.qg_image.specs.Table.{keys_of}
-use Rattle.qg_image.specs.FilesOf.{File}
+use Rattle.qg_image.specs.declared.file.File.{File}
 use Rattle.qg_state.specs.Stage.{records_references}
 use Rattle.qg_state.specs.Record.{Record, RootOf, ExtentOf, NodeOf, ReferenceTo, Status, InfoOf, LimitOf, RelationOf, records_bytes}
-use Rattle.qg_state.specs.State.{State, Quota, Accepted}
+use Rattle.qg_state.specs.declared.quota.Quota.{Quota}
+use Rattle.qg_state.specs.State.{State, Accepted}
 use Rattle.qg_state.specs.Owed.{owed, layout_extents}
 use Rattle.qg_state.specs.Space.{free_slots}
 

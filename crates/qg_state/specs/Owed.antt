@@ -7,9 +7,14 @@ use Rattle.qg_node.specs.Nodes.{header_of, own_items, own_pointers}
 use Rattle.qg_items.specs.declared.extent.Reference.{Reference}
 use Rattle.qg_items.specs.declared.extent.Reference.TheVariants.{KeyedBlock, SharedBlock, KeyedData, SharedData}
 use Rattle.qg_image.specs.Table.{value_at, keys_of, number_set}
-use Rattle.qg_image.specs.ItemMeaning.{FilePart, Inode, PieceOf, file_part, ExtentPart, DataRecord, NodeRecord, Referenced}
+use Rattle.qg_image.specs.declared.part.FilePart.{FilePart}
+use Rattle.qg_image.specs.declared.part.FilePart.TheVariants.{Inode, PieceOf}
+use Rattle.qg_image.specs.declared.part.ExtentPart.{ExtentPart}
+use Rattle.qg_image.specs.declared.part.ExtentPart.TheVariants.{DataRecord, NodeRecord, Referenced}
+use Rattle.qg_image.specs.ItemMeaning.{file_part}
 use Rattle.qg_state.specs.Record.{same_reference}
-use Rattle.qg_state.specs.State.{State, Placed, Element}
+use Rattle.qg_state.specs.declared.element.Element.{Element}
+use Rattle.qg_state.specs.State.{State, Placed}
 use Rattle.qg_state.specs.Reach.{extent_of, pieces_of, reaches}
 
 -- ---- what is owed

@@ -8,8 +8,11 @@ use Rattle.qg_node.specs.declared.pointer.Pointer.{Pointer}
 use Rattle.qg_node.specs.declared.node.Node.{Node}
 use Rattle.qg_node.specs.Nodes.{header_of, own_items, own_pointers}
 use Rattle.qg_image.specs.Table.{value_at, keys_of}
-use Rattle.qg_image.specs.ItemMeaning.{FilePart, Inode, PieceOf, file_part}
-use Rattle.qg_state.specs.State.{State, Subvolume, Element, node_at}
+use Rattle.qg_image.specs.declared.part.FilePart.{FilePart}
+use Rattle.qg_image.specs.declared.part.FilePart.TheVariants.{Inode, PieceOf}
+use Rattle.qg_image.specs.ItemMeaning.{file_part}
+use Rattle.qg_state.specs.declared.element.Element.{Element}
+use Rattle.qg_state.specs.State.{State, Subvolume, node_at}
 
 -- ---- one node
 

@@ -4,7 +4,8 @@ use Rattle.std.specs.Prelude.{ℕ, zero, suc, ◌+◌, Bool, true, false, ◌&&�
 use Rattle.std.specs.List.{list_any, flat_map, count_by, range_with_len}
 use Rattle.qg_super.specs.Places.{is_run, is_slot, slot_at, sector_at}
 use Rattle.qg_image.specs.Table.{has_key}
-use Rattle.qg_state.specs.State.{State, Element}
+use Rattle.qg_state.specs.declared.element.Element.{Element}
+use Rattle.qg_state.specs.State.{State}
 use Rattle.qg_state.specs.Reach.{extent_of}
 
 -- the extents that the present files name

@@ -4,11 +4,12 @@
 use Rattle.std.specs.Prelude.{ℕ, ◌+◌, Bool, List, Option, Some, None, [], is_some}
 use Rattle.std.specs.Option.{option_map}
 use Rattle.qg_num.specs.declared.command.Command.{Command}
-use Rattle.qg_num.specs.declared.counters.Counters.{Counters}
 use Rattle.qg_node.specs.declared.node.Node.{Node}
 use Rattle.qg_super.specs.declared.sizes.Sizes.{Sizes}
+use Rattle.qg_state.specs.declared.quota.Quota.{Quota}
+use Rattle.qg_state.specs.declared.element.Element.{Element}
 use Rattle.qg_image.specs.Table.{value_at, has_key}
-use Rattle.qg_image.specs.FilesOf.{File}
+use Rattle.qg_image.specs.declared.file.File.{File}
 use Rattle.qg_state.specs.Record.{Record}
 
 -- a subvolume: its files by number, the address of its root node, and the generation of the commit that last made a snapshot of it or
@@ -22,23 +23,6 @@ pub record Subvolume : Type 0 where
 pub record Placed : Type 0 where
   pub node : Node
   pub full : Bool
-
--- a quota group: its stored counters, its limits, and the generation of the commit that last changed the counters
-pub record Group : Type 0 where
-  pub counters : Counters
-  pub max_rfer : Option ℕ
-  pub max_excl : Option ℕ
-  pub stamp : ℕ
-
--- quota while it is on: the groups by number, and the relations, each a member and its parent
-pub record Quota : Type 0 where
-  pub groups : List (ℕ × Group)
-  pub pairs : List (ℕ × ℕ)
-
--- a data extent, or a node, with its bytes
-pub record Element : Type 0 where
-  pub address : ℕ
-  pub bytes : ℕ
 
 -- an accepted file command: the subvolume that it edits and the bytes that it reserved, its need of slots and its copies when it was
 -- accepted, and what it touched

@@ -1,3 +1,8 @@
-//! The state of the accounting machine: what subvolumes reach, what groups count, what is owed, and what is free. It has definitions
-//! and no code.
+//! The state of the machine, and what is reached, counted, limited, free, needed and owed in it. It has definitions and types, and no code.
 #![tactic(auto)]
+
+mod element;
+mod quota;
+
+pub use element::Element;
+pub use quota::{Group, Quota};

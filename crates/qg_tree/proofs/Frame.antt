@@ -2,6 +2,7 @@
 use Rattle.std.proofs.Common.{◌≡◌, ℕ, zero, suc, Bool, true, false, cond, List, [], ◌∷◌, ◌++◌, map, refl, sym, ap, ◌∙◌, ◌-◌, append_assoc}
 use Rattle.std.specs.Prelude.{Option, Some, None, Result, Ok, Err, ◌==◌}
 use Rattle.std.specs.Option.{option_and_then}
+use Rattle.std.specs.Result.{result_ok}
 use Rattle.std.specs.List.{AllByRecursion, IsDistinct}
 use Rattle.std.proofs.lemmas.Bool.{eq-eqb}
 use Rattle.qg_num.specs.declared.key.Key.{Key}
@@ -10,10 +11,12 @@ use Rattle.qg_node.specs.declared.pointer.Pointer.{Pointer}
 use Rattle.qg_node.specs.declared.node.Node.{Node}
 use Rattle.qg_node.specs.declared.node.Node.TheVariants.{Leaf, Inner}
 use Rattle.qg_node.specs.Nodes.{header_of, own_pointers}
-use Rattle.qg_super.specs.declared.superblock.Super.{Super}
-use Rattle.qg_image.specs.ItemsUnder.{leaf_items, inner_pointers, joined, items_under}
-use Rattle.qg_verdict.specs.Failure.{Failure, first_failure}
-use Rattle.qg_verdict.specs.Walk.{Tree, Expected, found_failure, node_failure, next_key, pointers_failure, walk_failure}
+use Rattle.qg_image.specs.Below.{leaf_items, inner_pointers, joined, items_below}
+use Rattle.qg_verdict.specs.declared.failure.Failure.{Failure}
+use Rattle.qg_verdict.specs.Failure.{first_failure}
+use Rattle.qg_verdict.specs.ItemsUnder.{nodes_of}
+use Rattle.qg_verdict.specs.declared.expected.Expected.{Expected}
+use Rattle.qg_verdict.specs.Walk.{found_failure, next_key, pointers_failure, walk_failure}
 use Rattle.qg_tree.specs.Build.{node_among, found_in, found_among}
 use Rattle.qg_tree.specs.Row.{address_of}
 
@@ -33,6 +36,10 @@ among_kept (node ∷ nodes) more address found h = cases (address_of node == add
 
 pub Keeps-append : (nodes more : List Node) → Keeps (node_among nodes) (node_among (nodes ++ more))
 Keeps-append nodes more = record { each = among_kept nodes more }
+
+-- what is among the nodes is what a walk finds
+pub Keeps-found : (nodes : List Node) → Keeps (node_among nodes) (nodes_of (found_among nodes))
+Keeps-found nodes = record { each = λ address node there. ap (λ (found : Option Node). result_ok (found_in found address)) there }
 
 -- each node is found at its address
 abbrev pub AreFound : List Node → List Node → Type 0
@@ -114,17 +121,21 @@ inner_kept f g each (Some (Inner header pointers)) new items keeps h = rw (keeps
 inner_kept f g each (Some (Leaf header own)) new items keeps h = absurd cc
 inner_kept f g each None new items keeps h = absurd cc
 
-pub under_kept : (old new : ℕ → Option Node) → Keeps old new → (level address : ℕ) (items : List Item) → items_under old level address ≡ Some items → items_under new level address ≡ Some items
+pub under_kept : (old new : ℕ → Option Node) → Keeps old new → (level address : ℕ) (items : List Item) → items_below old level address ≡ Some items → items_below new level address ≡ Some items
 under_kept old new keeps zero address items h = leaf_kept (old address) (new address) items (keeps.each address) h
 under_kept old new keeps (suc level) address items h =
-    inner_kept (λ pointer. items_under old level pointer.child) (λ pointer. items_under new level pointer.child) (λ pointer own. under_kept old new keeps level pointer.child own) (old address) (new address) items (keeps.each address) h
+    inner_kept (λ pointer. items_below old level pointer.child) (λ pointer. items_below new level pointer.child) (λ pointer own. under_kept old new keeps level pointer.child own) (old address) (new address) items (keeps.each address) h
 
 pub all_under_kept : (old new : ℕ → Option Node) → Keeps old new → (level : ℕ) (pointers : List Pointer) (items : List Item)
-    → joined (λ pointer. items_under old level pointer.child) pointers ≡ Some items → joined (λ pointer. items_under new level pointer.child) pointers ≡ Some items
+    → joined (λ pointer. items_below old level pointer.child) pointers ≡ Some items → joined (λ pointer. items_below new level pointer.child) pointers ≡ Some items
 all_under_kept old new keeps level pointers items h =
-    joined_kept (λ pointer. items_under old level pointer.child) (λ pointer. items_under new level pointer.child) (λ pointer own. under_kept old new keeps level pointer.child own) pointers items h
+    joined_kept (λ pointer. items_below old level pointer.child) (λ pointer. items_below new level pointer.child) (λ pointer own. under_kept old new keeps level pointer.child own) pointers items h
 
 -- ---- the walk
+
+-- what tells the rule that a node breaks
+abbrev pub Judge : Type 0
+Judge = Expected → ℕ → Node → Option Failure
 
 -- of two failures neither is one
 pub neither : (a b : Option Failure) → first_failure (a ∷ b ∷ []) ≡ None → (a ≡ None) × (b ≡ None)
@@ -143,31 +154,31 @@ pointers_kept old new each level to (pointer ∷ pointers) h =
     let parts = neither (old expected pointer.child) (pointers_failure old level to pointers) h in
     none_of_two (new expected pointer.child) (pointers_failure new level to pointers) (each expected pointer.child parts.0) (pointers_kept old new each level to pointers parts.1)
 
-found_kept : (tree : Tree) (super : Super) (old new : Expected → ℕ → Option Failure) → ((expected : Expected) (address : ℕ) → old expected address ≡ None → new expected address ≡ None)
+found_kept : (judge : Judge) (old new : Expected → ℕ → Option Failure) → ((expected : Expected) (address : ℕ) → old expected address ≡ None → new expected address ≡ None)
     → (expected : Expected) (address : ℕ) (found more : Result Node Failure) → ((node : Node) → found ≡ Ok node → more ≡ Ok node)
-    → found_failure tree super old expected address found ≡ None → found_failure tree super new expected address more ≡ None
-found_kept tree super old new each expected address (Ok node) more keeps h =
+    → found_failure judge old expected address found ≡ None → found_failure judge new expected address more ≡ None
+found_kept judge old new each expected address (Ok node) more keeps h =
     let level = (header_of node).level in
-    let parts = neither (node_failure tree super expected address node) (pointers_failure old (level - 1) expected.to (own_pointers node)) h in
+    let parts = neither (judge expected address node) (pointers_failure old (level - 1) expected.to (own_pointers node)) h in
     rw (keeps node refl)
-    (none_of_two (node_failure tree super expected address node) (pointers_failure new (level - 1) expected.to (own_pointers node)) parts.0 (pointers_kept old new each (level - 1) expected.to (own_pointers node) parts.1))
-found_kept tree super old new each expected address (Err failure) more keeps h = absurd cc
+    (none_of_two (judge expected address node) (pointers_failure new (level - 1) expected.to (own_pointers node)) parts.0 (pointers_kept old new each (level - 1) expected.to (own_pointers node) parts.1))
+found_kept judge old new each expected address (Err failure) more keeps h = absurd cc
 
 -- a walk that meets no failure meets none where more is found
-pub walk_kept : (tree : Tree) (super : Super) (old new : ℕ → Result Node Failure) → ((address : ℕ) (node : Node) → old address ≡ Ok node → new address ≡ Ok node)
-    → (depth : ℕ) (expected : Expected) (address : ℕ) → walk_failure tree super old depth expected address ≡ None → walk_failure tree super new depth expected address ≡ None
+pub walk_kept : (judge : Judge) (old new : ℕ → Result Node Failure) → ((address : ℕ) (node : Node) → old address ≡ Ok node → new address ≡ Ok node)
+    → (depth : ℕ) (expected : Expected) (address : ℕ) → walk_failure judge old depth expected address ≡ None → walk_failure judge new depth expected address ≡ None
 unfolding walk_failure
-walk_kept tree super old new keeps zero expected address h =
-    found_kept tree super (λ expected address. None) (λ expected address. None) (λ expected address none. none) expected address (old address) (new address) (keeps address) h
-walk_kept tree super old new keeps (suc depth) expected address h =
-    found_kept tree super (walk_failure tree super old depth) (walk_failure tree super new depth) (walk_kept tree super old new keeps depth) expected address (old address) (new address) (keeps address) h
+walk_kept judge old new keeps zero expected address h =
+    found_kept judge (λ expected address. None) (λ expected address. None) (λ expected address none. none) expected address (old address) (new address) (keeps address) h
+walk_kept judge old new keeps (suc depth) expected address h =
+    found_kept judge (walk_failure judge old depth) (walk_failure judge new depth) (walk_kept judge old new keeps depth) expected address (old address) (new address) (keeps address) h
 
 found_among_kept : (address : ℕ) (found more : Option Node) (node : Node) → ((node : Node) → found ≡ Some node → more ≡ Some node) → found_in found address ≡ Ok node → found_in more address ≡ Ok node
 found_among_kept address (Some there) more node keeps h = rw (keeps there refl) h
 found_among_kept address None more node keeps h = absurd cc
 
-pub all_walked_kept : (tree : Tree) (super : Super) (old new : List Node) → Keeps (node_among old) (node_among new) → (depth level : ℕ) (to : Option Key) (pointers : List Pointer)
-    → pointers_failure (walk_failure tree super (found_among old) depth) level to pointers ≡ None → pointers_failure (walk_failure tree super (found_among new) depth) level to pointers ≡ None
-all_walked_kept tree super old new keeps depth level to pointers h =
-    pointers_kept (walk_failure tree super (found_among old) depth) (walk_failure tree super (found_among new) depth)
-    (walk_kept tree super (found_among old) (found_among new) (λ address node. found_among_kept address (node_among old address) (node_among new address) node (keeps.each address)) depth) level to pointers h
+pub all_walked_kept : (judge : Judge) (old new : List Node) → Keeps (node_among old) (node_among new) → (depth level : ℕ) (to : Option Key) (pointers : List Pointer)
+    → pointers_failure (walk_failure judge (found_among old) depth) level to pointers ≡ None → pointers_failure (walk_failure judge (found_among new) depth) level to pointers ≡ None
+all_walked_kept judge old new keeps depth level to pointers h =
+    pointers_kept (walk_failure judge (found_among old) depth) (walk_failure judge (found_among new) depth)
+    (walk_kept judge (found_among old) (found_among new) (λ address node. found_among_kept address (node_among old address) (node_among new address) node (keeps.each address)) depth) level to pointers h

@@ -11,7 +11,8 @@ use Rattle.qg_num.specs.Key.{key_cmp}
 use Rattle.qg_num.specs.declared.key.Key.{Key}
 use Rattle.qg_node.specs.declared.node.Node.{Node}
 use Rattle.qg_node.specs.Nodes.{own_keys, ascends_from, is_ascending}
-use Rattle.qg_verdict.specs.Walk.{same_key, begins_at, ends_before}
+use Rattle.qg_image.specs.IsShaped.{same_key, is_first}
+use Rattle.qg_verdict.specs.Walk.{begins_at, ends_before}
 use Rattle.qg_tree.specs.Row.{first_key}
 
 pub key_cmp_total : IsTotalOrder key_cmp
@@ -94,6 +95,10 @@ begins_itself [] some h = absurd (omega arith)
 begins_itself (key ∷ keys) some h =
     and_from (same_key key key) (list_all (λ later. not (is_lt (key_cmp later key))) keys) (same_itself key)
     (passes_after (λ later. not (is_lt (key_cmp later key))) key (λ later less. not_less key later less) keys h)
+
+pub first_itself : (keys : List Key) → 1 ≤ length keys → is_first (first_key keys) keys ≡ true
+first_itself [] some = absurd (omega arith)
+first_itself (key ∷ keys) some = same_itself key
 
 ends_from : (before : Key) (front : List Key) (to : Key) (back : List Key) → ascends_from before (front ++ to ∷ back) ≡ true
     → (is_lt (key_cmp before to) ≡ true) × (list_all (λ key. is_lt (key_cmp key to)) front ≡ true)

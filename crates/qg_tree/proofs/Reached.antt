@@ -10,14 +10,14 @@ use Rattle.qg_node.specs.declared.pointer.Pointer.{Pointer}
 use Rattle.qg_node.specs.declared.node.Node.{Node}
 use Rattle.qg_node.specs.declared.node.Node.TheVariants.{Leaf, Inner}
 use Rattle.qg_node.specs.Nodes.{own_pointers}
-use Rattle.qg_image.specs.ItemsUnder.{leaf_items, inner_pointers, joined, nodes_under}
+use Rattle.qg_image.specs.Below.{leaf_items, inner_pointers, joined, nodes_below}
 use Rattle.qg_tree.specs.Build.{node_among, Reaches}
 use Rattle.qg_tree.specs.Row.{pointer_to, address_of, IsRowNode}
 use Rattle.qg_tree.proofs.Frame.{AreFound, Keeps, Keeps-append, both, joined-append, joined_kept}
 
 -- the nodes under several pointers of a level
 abbrev pub all_nodes : List Node → ℕ → List Pointer → Option (List Node)
-all_nodes nodes level pointers = joined (λ pointer. nodes_under (node_among nodes) level pointer.child) pointers
+all_nodes nodes level pointers = joined (λ pointer. nodes_below (node_among nodes) level pointer.child) pointers
 
 -- they are all of the nodes, each once
 pub record AreReached (nodes : List Node) (level : ℕ) (pointers : List Pointer) : Type 0 where
@@ -46,10 +46,10 @@ inner_kept f g each (Some (Inner header pointers)) new own keeps h =
 inner_kept f g each (Some (Leaf header items)) new own keeps h = absurd cc
 inner_kept f g each None new own keeps h = absurd cc
 
-pub nodes_kept : (old new : ℕ → Option Node) → Keeps old new → (level address : ℕ) (nodes : List Node) → nodes_under old level address ≡ Some nodes → nodes_under new level address ≡ Some nodes
+pub nodes_kept : (old new : ℕ → Option Node) → Keeps old new → (level address : ℕ) (nodes : List Node) → nodes_below old level address ≡ Some nodes → nodes_below new level address ≡ Some nodes
 nodes_kept old new keeps zero address nodes h = leaf_kept (old address) (new address) nodes (keeps.each address) h
 nodes_kept old new keeps (suc level) address nodes h =
-    inner_kept (λ pointer. nodes_under old level pointer.child) (λ pointer. nodes_under new level pointer.child) (λ pointer own. nodes_kept old new keeps level pointer.child own) (old address) (new address) nodes (keeps.each address) h
+    inner_kept (λ pointer. nodes_below old level pointer.child) (λ pointer. nodes_below new level pointer.child) (λ pointer own. nodes_kept old new keeps level pointer.child own) (old address) (new address) nodes (keeps.each address) h
 
 -- ---- leaves
 
@@ -77,7 +77,7 @@ between own later row below same =
     let right : (row ++ own) ++ below ≡ row ++ (own ++ below) = append_assoc row own below in
     subst (λ (to : List Node). IsPermutation (own ++ later) to) right (IsPermutation-trans (own ++ later) ((own ++ row) ++ below) ((row ++ own) ++ below) (subst (λ (to : List Node). IsPermutation (own ++ later) to) left first) swapped)
 
-one_reaches : (all row : List Node) (level : ℕ) (node : Node) (own rest below : List Node) → nodes_under (node_among all) (suc level) (address_of node) ≡ Some (node ∷ own) → own ++ rest ≡ below → RowReaches all row level rest
+one_reaches : (all row : List Node) (level : ℕ) (node : Node) (own rest below : List Node) → nodes_below (node_among all) (suc level) (address_of node) ≡ Some (node ∷ own) → own ++ rest ≡ below → RowReaches all row level rest
     → RowReaches all (node ∷ row) level below
 one_reaches all row level node own rest below here parted later = record {
   those = node ∷ (own ++ later.those);
@@ -87,7 +87,7 @@ one_reaches all row level node own rest below here parted later = record {
 }
 
 inner_nodes : (all : List Node) (level : ℕ) (node : Node) (pointers : List Pointer) (own : List Node) → inner_pointers node ≡ Some pointers → node_among all (address_of node) ≡ Some node → all_nodes all level pointers ≡ Some own
-    → nodes_under (node_among all) (suc level) (address_of node) ≡ Some (node ∷ own)
+    → nodes_below (node_among all) (suc level) (address_of node) ≡ Some (node ∷ own)
 inner_nodes all level node pointers own holds found under = rw (found, holds, under) refl
 
 row_reaches : (nodesize owner generation level : ℕ) (all row : List Node) (below : List Node) → AllByRecursion (IsRowNode nodesize owner generation (suc level)) row → AreFound all row
@@ -95,7 +95,7 @@ row_reaches : (nodesize owner generation level : ℕ) (all row : List Node) (bel
 row_reaches nodesize owner generation level all [] below are found h = let none : [] ≡ below = cc in record { those = []; under = refl; same = rw (← none) (IsPermutation-refl []) }
 row_reaches nodesize owner generation level all (Leaf header items ∷ row) below are found h = absurd (omega (arith, are.0.levelled, are.0.stands))
 row_reaches nodesize owner generation level all (Inner header pointers ∷ row) below are found h =
-    let under : Pointer → Option (List Node) = λ pointer. nodes_under (node_among all) level pointer.child in
+    let under : Pointer → Option (List Node) = λ pointer. nodes_below (node_among all) level pointer.child in
     let parts = both (joined under pointers) (joined under (flat_map own_pointers row)) below (sym (joined-append under pointers (flat_map own_pointers row)) ∙ h) in
     one_reaches all row level (Inner header pointers) parts.0 parts.1 below (inner_nodes all level (Inner header pointers) pointers parts.0 refl found.0 parts.2) parts.4
     (row_reaches nodesize owner generation level all row parts.1 are.1 found.1 parts.3)
@@ -104,7 +104,7 @@ pub inners_reached : (nodesize owner generation level : ℕ) (nodes row : List N
     → flat_map own_pointers row ≡ pointers → AreReached nodes level pointers → AreReached (nodes ++ row) (suc level) (map pointer_to row)
 inners_reached nodesize owner generation level nodes row pointers are found whole reached =
     let kept : all_nodes (nodes ++ row) level pointers ≡ Some reached.those =
-    joined_kept (λ pointer. nodes_under (node_among nodes) level pointer.child) (λ pointer. nodes_under (node_among (nodes ++ row)) level pointer.child)
+    joined_kept (λ pointer. nodes_below (node_among nodes) level pointer.child) (λ pointer. nodes_below (node_among (nodes ++ row)) level pointer.child)
     (λ pointer own. nodes_kept (node_among nodes) (node_among (nodes ++ row)) (Keeps-append nodes row) level pointer.child own) pointers reached.those reached.under in
     let now = row_reaches nodesize owner generation level (nodes ++ row) row reached.those are found (ap (all_nodes (nodes ++ row) level) whole ∙ kept) in
     let first : IsPermutation (row ++ reached.those) (row ++ nodes) = IsPermutation-append_right row reached.those nodes reached.same in
@@ -118,7 +118,7 @@ inners_reached nodesize owner generation level nodes row pointers are found whol
 
 pub only_reached : (nodes : List Node) (level : ℕ) (root : Pointer) → AreReached nodes level (root ∷ []) → Reaches nodes level root.child
 only_reached nodes level root reached =
-    let parts = both (nodes_under (node_among nodes) level root.child) (Some []) reached.those reached.under in
+    let parts = both (nodes_below (node_among nodes) level root.child) (Some []) reached.those reached.under in
     let none : [] ≡ parts.1 = cc in
     let all : parts.0 ≡ reached.those = sym (append-nil parts.0) ∙ ap (λ (rest : List Node). parts.0 ++ rest) none ∙ parts.4 in
     record { those = parts.0; under = parts.2; same = rw all reached.same }

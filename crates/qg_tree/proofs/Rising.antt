@@ -1,5 +1,5 @@
 -- A tree that is built level by level: what holds of its nodes so far and of the pointers to the highest level, and that it goes on to hold.
-use Rattle.std.proofs.Common.{◌≡◌, ℕ, suc, ◌≤◌, true, List, [], ◌∷◌, ◌++◌, map, refl, sym, ap, ◌∙◌, subst, length, arith, append_assoc, take, drop}
+use Rattle.std.proofs.Common.{◌≡◌, ℕ, suc, ◌≤◌, Bool, true, List, [], ◌∷◌, ◌++◌, map, refl, sym, ap, ◌∙◌, subst, length, arith, append_assoc, take, drop}
 use Rattle.std.specs.Prelude.{Option, Some, None, Result, Ok, ◌==◌}
 use Rattle.std.specs.List.{AllByRecursion, IsDistinct, flat_map, list_all}
 use Rattle.std.proofs.lemmas.Bool.{and_parts, and_from}
@@ -10,34 +10,34 @@ use Rattle.qg_node.specs.declared.pointer.Pointer.{Pointer}
 use Rattle.qg_node.specs.declared.node.Node.{Node}
 use Rattle.qg_node.specs.declared.node.Node.TheVariants.{Leaf, Inner}
 use Rattle.qg_node.specs.Nodes.{own_items, own_keys, own_pointers, ascends_from, is_ascending}
-use Rattle.qg_super.specs.declared.superblock.Super.{Super}
 use Rattle.qg_image.specs.IsShaped.{is_shaped}
-use Rattle.qg_image.specs.ItemsUnder.{joined, items_under}
-use Rattle.qg_verdict.specs.Failure.{Failure}
-use Rattle.qg_verdict.specs.Walk.{Tree, Expected, is_item_of, pointers_failure, walk_failure}
+use Rattle.qg_image.specs.Below.{joined, items_below}
+use Rattle.qg_verdict.specs.declared.failure.Failure.{Failure}
+use Rattle.qg_verdict.specs.declared.expected.Expected.{Expected}
+use Rattle.qg_verdict.specs.Walk.{pointers_failure, root_expected, walk_failure}
 use Rattle.qg_tree.specs.Build.{node_among, found_in, found_among, IsMadeFor}
 use Rattle.qg_tree.specs.Row.{first_key, pointer_to, address_of, IsRowNode, IsFull}
 use Rattle.qg_tree.proofs.Keys.{HasKeys, firsts_ascend, ascending_back, ascending_front}
-use Rattle.qg_tree.proofs.Frame.{AreFound, AllByRecursion-back, AllByRecursion-weaker, IsDistinct-front, all_found}
+use Rattle.qg_tree.proofs.Frame.{Judge, AreFound, AllByRecursion-back, AllByRecursion-weaker, IsDistinct-front, all_found}
 use Rattle.qg_tree.proofs.Reached.{AreReached}
-use Rattle.qg_tree.proofs.Passing.{Allows, HoldsItems, PassBelow, from_there, root_passes, row_passes}
+use Rattle.qg_tree.proofs.Passing.{Accepts, HoldsItems, PassBelow, from_there, root_passes, row_passes}
 
 -- no failure under these pointers of a level, where a single one leads to a root
 abbrev pub Pass : (Expected → ℕ → Option Failure) → ℕ → ℕ → List Pointer → Type 0
 Pass walk level generation [] = Unit {0}
-Pass walk level generation (pointer ∷ []) = walk (record { level = Some level; generation = Some generation; from = None; to = None }) pointer.child ≡ None
+Pass walk level generation (pointer ∷ []) = walk (root_expected (Some level) (Some generation)) pointer.child ≡ None
 Pass walk level generation (first ∷ second ∷ others) = pointers_failure walk level None (first ∷ second ∷ others) ≡ None
 
 abbrev pub all_under : List Node → ℕ → List Pointer → Option (List Item)
-all_under nodes level pointers = joined (λ pointer. items_under (node_among nodes) level pointer.child) pointers
+all_under nodes level pointers = joined (λ pointer. items_below (node_among nodes) level pointer.child) pointers
 
 -- what holds of the nodes so far and of the pointers to the highest level
 pub record HasRisen (nodesize owner generation : ℕ) (items : List Item) (slots : List ℕ) (nodes : List Node) (level : ℕ) (pointers : List Pointer) : Type 0 where
   pub under : all_under nodes level pointers ≡ Some items
   pub reached : AreReached nodes level pointers
   pub ascending : is_ascending (map (λ pointer. pointer.key) pointers) ≡ true
-  pub walked : (tree : Tree) (super : Super) → Allows tree super nodesize owner generation → list_all (is_item_of tree super.generation) items ≡ true
-      → (depth : ℕ) → level ≤ depth → Pass (walk_failure tree super (found_among nodes) depth) level generation pointers
+  pub walked : (judge : Judge) (holds : Item → Bool) → Accepts judge holds nodesize owner generation → list_all holds items ≡ true
+      → (depth : ℕ) → level ≤ depth → Pass (walk_failure judge (found_among nodes) depth) level generation pointers
   pub made : AllByRecursion (IsMadeFor nodesize owner generation) nodes
   pub placed : map address_of nodes ≡ take (length nodes) slots
 
@@ -92,24 +92,24 @@ pointers_ascend nodesize (first ∷ second ∷ row) wide full ascending =
       key_of_each : (nodes : List Node) → is_ascending (map (λ pointer. pointer.key) (map pointer_to nodes)) ≡ is_ascending (map (λ node. first_key (own_keys node)) nodes)
       key_of_each nodes = ap is_ascending (keys_same nodes)
 
--- the items of each node are ones that the tree may hold
-pub hold_each : (tree : Tree) (super : Super) (row : List Node) → list_all (is_item_of tree super.generation) (flat_map own_items row) ≡ true → AllByRecursion (HoldsItems tree super) row
-hold_each tree super [] h = tt
-hold_each tree super (node ∷ row) h =
+-- the items of each node pass a test that all items pass
+pub hold_each : (holds : Item → Bool) (row : List Node) → list_all holds (flat_map own_items row) ≡ true → AllByRecursion (HoldsItems holds) row
+hold_each holds [] h = tt
+hold_each holds (node ∷ row) h =
     let parts = all_parts (own_items node) (flat_map own_items row) h in
-    (parts.0, hold_each tree super row parts.1) where
-      all_parts : (front back : List Item) → list_all (is_item_of tree super.generation) (front ++ back) ≡ true
-          → (list_all (is_item_of tree super.generation) front ≡ true) × (list_all (is_item_of tree super.generation) back ≡ true)
+    (parts.0, hold_each holds row parts.1) where
+      all_parts : (front back : List Item) → list_all holds (front ++ back) ≡ true
+          → (list_all holds front ≡ true) × (list_all holds back ≡ true)
       all_parts [] back h = (refl, h)
       all_parts (item ∷ front) back h =
-          let here = and_parts (is_item_of tree super.generation item) (list_all (is_item_of tree super.generation) (front ++ back)) h in
+          let here = and_parts (holds item) (list_all holds (front ++ back)) h in
           let later = all_parts front back here.1 in
           (and_from _ _ here.0 later.0, later.1)
 
-pub inners_hold : (tree : Tree) (super : Super) (nodesize owner generation level : ℕ) (row : List Node) → AllByRecursion (IsRowNode nodesize owner generation (suc level)) row → AllByRecursion (HoldsItems tree super) row
-inners_hold tree super nodesize owner generation level [] are = tt
-inners_hold tree super nodesize owner generation level (Leaf header items ∷ row) are = absurd (omega (arith, are.0.levelled, are.0.stands))
-inners_hold tree super nodesize owner generation level (Inner header pointers ∷ row) are = (refl, inners_hold tree super nodesize owner generation level row are.1)
+pub inners_hold : (holds : Item → Bool) (nodesize owner generation level : ℕ) (row : List Node) → AllByRecursion (IsRowNode nodesize owner generation (suc level)) row → AllByRecursion (HoldsItems holds) row
+inners_hold holds nodesize owner generation level [] are = tt
+inners_hold holds nodesize owner generation level (Leaf header items ∷ row) are = absurd (omega (arith, are.0.levelled, are.0.stands))
+inners_hold holds nodesize owner generation level (Inner header pointers ∷ row) are = (refl, inners_hold holds nodesize owner generation level row are.1)
 
 -- ---- where they are found
 
@@ -133,16 +133,16 @@ found_ok all (node ∷ row) found = (ap (λ (there : Option Node). found_in ther
 
 -- ---- a row passes
 
-pub row_pass : (tree : Tree) (super : Super) (nodesize owner generation level : ℕ) (found : ℕ → Result Node Failure) (below : Expected → ℕ → Option Failure) (row : List Node)
-    → 102 ≤ nodesize → Allows tree super nodesize owner generation → AllByRecursion (IsRowNode nodesize owner generation level) row → AllByRecursion (HoldsItems tree super) row
+pub row_pass : (judge : Judge) (holds : Item → Bool) (nodesize owner generation level : ℕ) (found : ℕ → Result Node Failure) (below : Expected → ℕ → Option Failure) (row : List Node)
+    → 102 ≤ nodesize → Accepts judge holds nodesize owner generation → AllByRecursion (IsRowNode nodesize owner generation level) row → AllByRecursion (HoldsItems holds) row
     → AllByRecursion (λ node. found (address_of node) ≡ Ok node) row → (2 ≤ length row → AllByRecursion (IsFull nodesize) row)
-    → (length row ≡ 1 → AllByRecursion (λ node. is_shaped nodesize true node ≡ true) row)
+    → (length row ≡ 1 → AllByRecursion (λ node. is_shaped nodesize None node ≡ true) row)
     → is_ascending (flat_map own_keys row) ≡ true → PassBelow below level row
-    → Pass (from_there tree super found below) level generation (map pointer_to row)
-row_pass tree super nodesize owner generation level found below [] wide allows are items there full shaped ascending under = tt
-row_pass tree super nodesize owner generation level found below (node ∷ []) wide allows are items there full shaped ascending under =
-    root_passes tree super nodesize owner generation level found below node allows are.0 items.0 there.0 (shaped refl).0 under.0
-row_pass tree super nodesize owner generation level found below (first ∷ second ∷ row) wide allows are items there full shaped ascending under =
+    → Pass (from_there judge found below) level generation (map pointer_to row)
+row_pass judge holds nodesize owner generation level found below [] wide accepts are items there full shaped ascending under = tt
+row_pass judge holds nodesize owner generation level found below (node ∷ []) wide accepts are items there full shaped ascending under =
+    root_passes judge holds nodesize owner generation level found below node accepts are.0 items.0 there.0 (shaped refl).0 under.0
+row_pass judge holds nodesize owner generation level found below (first ∷ second ∷ row) wide accepts are items there full shaped ascending under =
     let all_full : AllByRecursion (IsFull nodesize) (first ∷ second ∷ row) = full (omega arith) in
-    row_passes tree super nodesize owner generation level found below (first ∷ second ∷ row) allows are items there
+    row_passes judge holds nodesize owner generation level found below (first ∷ second ∷ row) accepts are items there
     (AllByRecursion-weaker (IsFull nodesize) HasKeys (λ node. keys_of_full nodesize node wide) (first ∷ second ∷ row) all_full) all_full ascending under

@@ -1,25 +1,51 @@
 -- A tree whose levels are put one after the other.
-use Rattle.std.proofs.Common.{◌≡◌, ℕ, zero, suc, ◌+◌, ◌-◌, ◌*◌, ◌≤◌, ◌<◌, ◌^◌, true, List, [], ◌∷◌, ◌++◌, map, sym, ap, ◌∙◌, subst, length, arith, get_or, length-append}
-use Rattle.std.specs.Prelude.{Option, Some, None, ◌==◌}
+use Rattle.std.proofs.Common.{◌≡◌, ℕ, zero, suc, ◌+◌, ◌-◌, ◌*◌, ◌≤◌, ◌<◌, ◌^◌, true, List, [], ◌∷◌, ◌++◌, map, refl, sym, ap, ◌∙◌, subst, length, arith, get_or, length-append}
+use Rattle.std.specs.Prelude.{Option, Some, None, ◌==◌, is_none}
 use Rattle.std.specs.Option.{option_and_then}
-use Rattle.std.specs.List.{IsDistinct, sum_by}
+use Rattle.std.specs.List.{IsDistinct, list_all, sum_by}
 use Rattle.std.proofs.lemmas.List.{append-nil, length-map}
 use Rattle.qg_node.specs.declared.item.Item.{Item}
 use Rattle.qg_node.specs.declared.pointer.Pointer.{Pointer}
 use Rattle.qg_node.specs.declared.node.Node.{Node}
 use Rattle.qg_node.specs.Nodes.{is_ascending, item_bytes, items_bytes, own_items, own_pointers}
 use Rattle.qg_node.specs.NodeText.{IsNodeSize}
+use Rattle.qg_super.specs.declared.superblock.Super.{Super}
 use Rattle.qg_super.specs.Places.{capacity}
-use Rattle.qg_image.specs.ItemsUnder.{items_under}
+use Rattle.qg_image.specs.Below.{items_below}
+use Rattle.qg_image.specs.ItemMeaning.{when}
 use Rattle.qg_state.specs.Need.{nodes_filled}
-use Rattle.qg_verdict.specs.Walk.{deepest}
-use Rattle.qg_tree.specs.Build.{node_among, IsBuilt}
+use Rattle.qg_verdict.specs.declared.failure.Failure.{Failure}
+use Rattle.qg_verdict.specs.ItemsUnder.{is_way, items_under, nodes_of}
+use Rattle.qg_verdict.specs.declared.tree.Tree.{Tree}
+use Rattle.qg_verdict.specs.declared.expected.Expected.{Expected}
+use Rattle.qg_verdict.specs.Walk.{deepest, is_item_of, node_failure, root_expected, shape_failure, walk_failure, way_failure}
+use Rattle.qg_tree.specs.Build.{node_among, found_among, IsBuilt}
 use Rattle.qg_tree.specs.Row.{pointer_to, PutsRow}
 use Rattle.qg_tree.proofs.Counts.{IsCounted, counted_leaves, counted_inners, fewer_above, most_on, room_above, wide}
+use Rattle.qg_tree.proofs.Frame.{Keeps-found, under_kept}
 use Rattle.qg_tree.proofs.Growing.{sum_by-same}
 use Rattle.qg_tree.proofs.Levels.{risen_leaves, risen_inners}
+use Rattle.qg_tree.proofs.Passing.{node_accepts, shape_accepts, way_accepts}
 use Rattle.qg_tree.proofs.Reached.{only_reached}
 use Rattle.qg_tree.proofs.Rising.{HasRisen}
+
+-- ---- the items that a walk meets
+
+-- each item passes where no test is made
+all_pass : (items : List Item) → list_all (λ item. true) items ≡ true
+all_pass [] = refl
+all_pass (item ∷ items) = all_pass items
+
+-- where the walk meets no failure on its way, the items are those of the nodes below
+under_walk : (tree : Tree) (super : Super) (nodes : List Node) (expected : Expected) (level root : ℕ) (items : List Item)
+    → walk_failure (way_failure tree super) (found_among nodes) deepest expected root ≡ None → items_below (node_among nodes) level root ≡ Some items
+    → items_under tree super (found_among nodes) level expected root ≡ Some items
+unfolding is_way
+under_walk tree super nodes expected level root items way held =
+    ap (λ (failure : Option Failure). when (is_none failure) (items_below (nodes_of (found_among nodes)) level root)) way
+    ∙ under_kept (node_among nodes) (nodes_of (found_among nodes)) (Keeps-found nodes) level root items held
+
+-- ---- level by level
 
 -- the levels so far
 pub record HasLevels (nodesize owner generation : ℕ) (items : List Item) (slots : List ℕ) (nodes : List Node) (level : ℕ) (pointers : List Pointer) : Type 0 where
@@ -79,10 +105,15 @@ module _ (nodesize owner generation : ℕ) (items : List Item) (slots : List ℕ
   IsBuilt-all nodes level (first ∷ second ∷ others) root is one there = absurd (omega (arith, one))
   IsBuilt-all nodes level (only ∷ []) root is one there =
       let low : level ≤ deepest = omega (arith, is.counted.flat) in
+      let held : items_below (node_among nodes) level only.child ≡ Some items = alone (items_below (node_among nodes) level only.child) is.risen.under in
       let made : IsBuilt nodesize owner generation items slots nodes only.child level = record {
         reached = only_reached nodes level only is.risen.reached;
-        under = alone (items_under (node_among nodes) level only.child) is.risen.under;
-        walked = λ tree super same owned made hold. is.risen.walked tree super (record { size = same; owned = owned; made = made }) hold deepest low;
+        under = λ tree super allows.
+            under_walk tree super nodes (root_expected (Some level) (Some generation)) level only.child items
+            (is.risen.walked (way_failure tree super) (λ item. true) (way_accepts tree super nodesize owner generation allows) (all_pass items) deepest low) held;
+        held = held;
+        shaped = is.risen.walked (shape_failure nodesize) (λ item. true) (shape_accepts nodesize owner generation) (all_pass items) deepest low;
+        walked = λ tree super allows hold. is.risen.walked (node_failure tree super) (is_item_of tree super.generation) (node_accepts tree super nodesize owner generation allows) hold deepest low;
         made = is.risen.made;
         placed = is.risen.placed;
         few = is.counted.few;

@@ -8,10 +8,13 @@ use Rattle.qg_node.specs.declared.node.Node.{Node}
 use Rattle.qg_node.specs.Nodes.{header_of, items_bytes}
 use Rattle.qg_node.specs.NodeText.{IsNode}
 use Rattle.qg_super.specs.declared.superblock.Super.{Super}
-use Rattle.qg_image.specs.ItemsUnder.{items_under, nodes_under}
+use Rattle.qg_image.specs.Below.{items_below, nodes_below}
 use Rattle.qg_state.specs.Need.{nodes_filled}
-use Rattle.qg_verdict.specs.Failure.{Failure, Broken}
-use Rattle.qg_verdict.specs.Walk.{Tree, is_owner, is_generation, is_item_of, walk_failure, deepest}
+use Rattle.qg_verdict.specs.declared.failure.Failure.{Failure}
+use Rattle.qg_verdict.specs.declared.failure.Failure.TheVariants.{Broken}
+use Rattle.qg_verdict.specs.declared.tree.Tree.{Tree}
+use Rattle.qg_verdict.specs.Walk.{is_owner, is_generation, is_item_of, node_failure, shape_failure, walk_failure, deepest, root_expected}
+use Rattle.qg_verdict.specs.ItemsUnder.{items_under}
 
 -- the node at an address, among some
 abbrev pub node_among : List Node → ℕ → Option Node
@@ -32,22 +35,34 @@ pub record IsMadeFor (nodesize owner generation : ℕ) (node : Node) : Type 0 wh
   pub owned : (header_of node).owner ≡ owner
   pub made : (header_of node).generation ≡ generation
 
--- the tree's walk meets no failure in any image whose superblock allows such nodes and items
+-- a superblock and a tree allow nodes of this size, owner and generation
+pub record Allows (tree : Tree) (super : Super) (nodesize owner generation : ℕ) : Type 0 where
+  pub same : super.nodesize ≡ nodesize
+  pub owned : IsTrue (is_owner tree owner)
+  pub made : IsTrue (is_generation super.generation None generation)
+
+-- the tree's walk meets no failure in any image that allows such nodes, where the tree may hold the items
 abbrev pub IsWalkedWell : ℕ → ℕ → ℕ → List Item → List Node → ℕ → ℕ → Type 0
-IsWalkedWell nodesize owner generation items nodes root level = (tree : Tree) (super : Super) → super.nodesize ≡ nodesize
-    → IsTrue (is_owner tree owner) → IsTrue (is_generation super.generation None generation) → IsTrue (list_all (is_item_of tree super.generation) items)
-    → walk_failure tree super (found_among nodes) deepest (record { level = Some level; generation = Some generation; from = None; to = None }) root ≡ None
+IsWalkedWell nodesize owner generation items nodes root level = (tree : Tree) (super : Super) → Allows tree super nodesize owner generation
+    → IsTrue (list_all (is_item_of tree super.generation) items)
+    → walk_failure (node_failure tree super) (found_among nodes) deepest (root_expected (Some level) (Some generation)) root ≡ None
 
 -- the nodes under the one at an address are all of these, each once
 pub record Reaches (nodes : List Node) (level root : ℕ) : Type 0 where
   pub those : List Node
-  pub under : nodes_under (node_among nodes) level root ≡ Some those
+  pub under : nodes_below (node_among nodes) level root ≡ Some those
   pub same : IsPermutation those nodes
 
 -- the nodes are a tree of these items: they lie in the first of the slots, in their order, and there are no more than the items' weight asks for
 pub record IsBuilt (nodesize owner generation : ℕ) (items : List Item) (slots : List ℕ) (nodes : List Node) (root level : ℕ) : Type 0 where
-  pub under : items_under (node_among nodes) level root ≡ Some items
+  -- in any image that allows such nodes, the items under the root are those given
+  pub under : (tree : Tree) (super : Super) → Allows tree super nodesize owner generation
+      → items_under tree super (found_among nodes) level (root_expected (Some level) (Some generation)) root ≡ Some items
+  -- and so they are where no image allows them
+  pub held : items_below (node_among nodes) level root ≡ Some items
   pub reached : Reaches nodes level root
+  -- each node on the walk is shaped
+  pub shaped : walk_failure (shape_failure nodesize) (found_among nodes) deepest (root_expected (Some level) (Some generation)) root ≡ None
   pub walked : IsWalkedWell nodesize owner generation items nodes root level
   pub made : AllByRecursion (IsMadeFor nodesize owner generation) nodes
   pub placed : map (λ node. (header_of node).address) nodes ≡ take (length nodes) slots

@@ -8,12 +8,15 @@ use Rattle.qg_super.specs.declared.sizes.Sizes.{Sizes}
 use Rattle.qg_super.specs.declared.superblock.Super.{Super}
 use Rattle.qg_super.specs.Places.{is_run}
 use Rattle.qg_image.specs.IsShaped.{is_shaped}
-use Rattle.qg_image.specs.ItemMeaning.{QuotaPart, Status, Info, Limits, is_subvolume_number}
+use Rattle.qg_image.specs.declared.part.QuotaPart.{QuotaPart}
+use Rattle.qg_image.specs.declared.part.QuotaPart.TheVariants.{Status, Info, Limits}
+use Rattle.qg_image.specs.ItemMeaning.{is_subvolume_number}
 use Rattle.qg_state.specs.Reach.{pieces_of, reach_of_root, reach}
 use Rattle.qg_state.specs.Members.{leads, is_below, members}
 use Rattle.qg_state.specs.Counts.{reach_of_group, is_reached_outside, referenced, exclusive}
-use Rattle.qg_verdict.specs.Failure.{Broken, Differs}
-use Rattle.qg_verdict.specs.Walk.{Files, Expected, node_failure}
+use Rattle.qg_verdict.specs.declared.failure.Failure.TheVariants.{Broken, Differs}
+use Rattle.qg_verdict.specs.declared.tree.Tree.TheVariants.{Files}
+use Rattle.qg_verdict.specs.Walk.{root_expected, node_failure, way_failure}
 use Rattle.qg_verdict.specs.Verdict.{is_quota, space_failure, counts_failure}
 use Rattle.qg_verdict.specs.IsFresh.{fresh_state}
 
@@ -29,26 +32,23 @@ super = record { generation = 2; root = 1048576; nodesize = 16384; slots = 64; s
 abbrev pub leaf : Node
 leaf = Leaf (record { address = 1064960; generation = 2; owner = 5; level = 0 }) []
 
-abbrev pub root_of : ℕ → ℕ → Expected
-root_of level generation = record { level = Some level; generation = Some generation; from = None; to = None }
-
-empty_root_is_sound : node_failure Files super (root_of 0 2) 1064960 leaf ≡ None
-unfolding node_failure is_subvolume_number is_shaped
+empty_root_is_sound : node_failure Files super (root_expected (Some 0) (Some 2)) 1064960 leaf ≡ None
+unfolding node_failure way_failure is_subvolume_number is_shaped
 empty_root_is_sound = refl
 
-another_level : node_failure Files super (root_of 1 2) 1064960 leaf ≡ Some (Broken rule.Depth 1064960)
-unfolding node_failure is_subvolume_number is_shaped
+another_level : node_failure Files super (root_expected (Some 1) (Some 2)) 1064960 leaf ≡ Some (Broken rule.Depth 1064960)
+unfolding node_failure way_failure is_subvolume_number is_shaped
 another_level = refl
 
-another_generation : node_failure Files super (root_of 0 1) 1064960 leaf ≡ Some (Broken rule.Gen 1064960)
-unfolding node_failure is_subvolume_number is_shaped
+another_generation : node_failure Files super (root_expected (Some 0) (Some 1)) 1064960 leaf ≡ Some (Broken rule.Gen 1064960)
+unfolding node_failure way_failure is_subvolume_number is_shaped
 another_generation = refl
 
 -- an empty leaf below a pointer has no first key that could be another, and is too empty
 empty_leaf_below :
     node_failure Files super (record { level = Some 0; generation = Some 2; from = Some (record { objectid = 257; kind = 1; offset = 0 }); to = None }) 1064960 leaf
     ≡ Some (Broken rule.Shape 1064960)
-unfolding node_failure is_subvolume_number is_shaped
+unfolding node_failure way_failure is_subvolume_number is_shaped
 empty_leaf_below = refl
 
 -- ---- space

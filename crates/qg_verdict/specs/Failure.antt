@@ -1,16 +1,12 @@
 -- Why an image is not sound (this project's own).
 use Rattle.std.specs.Prelude.{ℕ, Bool, List, Option, Some, None, if◌then◌else◌}
-use Rattle.qg_num.specs.declared.counters.Which.{Which}
 use Rattle.qg_num.specs.declared.rule.Rule.{Rule}
 use Rattle.qg_num.specs.declared.rule.Rule.TheVariants as rule
 use Rattle.qg_image.specs.ItemMeaning.{first_some}
+use Rattle.qg_verdict.specs.declared.failure.Failure.{Failure}
+use Rattle.qg_verdict.specs.declared.failure.Failure.TheVariants.{Broken}
 use Rattle.qg_node.specs.declared.fault.NodeFault.{NodeFault}
 use Rattle.qg_node.specs.declared.fault.NodeFault.TheVariants.{Csum, Place, Level, Empty, Bounds, Order, Slack}
-
--- a rule that is broken, at an address in bytes, or a stored counter that is not the direct count
-pub data Failure : Type 0 where
-  Broken : (broken : Rule) (address : ℕ) → Failure
-  Differs : (group : ℕ) (which : Which) (stored counted : ℕ) → Failure
 
 -- the rule is kept where the test passes
 abbrev pub kept : Bool → Rule → ℕ → Option Failure

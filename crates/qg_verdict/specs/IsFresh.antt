@@ -5,7 +5,8 @@ use Rattle.qg_node.specs.declared.node.Node.TheVariants.{Leaf}
 use Rattle.qg_items.specs.declared.tree.TheConstants.{TOP_LEVEL}
 use Rattle.qg_super.specs.declared.sizes.Sizes.{Sizes}
 use Rattle.qg_super.specs.Places.{is_slot}
-use Rattle.qg_state.specs.State.{State, Group, Placed}
+use Rattle.qg_state.specs.declared.quota.Group.{Group}
+use Rattle.qg_state.specs.State.{State, Placed}
 use Rattle.qg_verdict.specs.StateOf.{as_committed}
 
 -- the group of the top-level subvolume: it counts the root node alone, and has no limit

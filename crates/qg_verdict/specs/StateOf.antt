@@ -1,5 +1,5 @@
 -- The state that a sound image stands for (this project's own). For an image that is not sound these words say nothing of use.
-use Rattle.std.specs.Prelude.{◌≡◌, ℕ, ◌+◌, ◌/◌, ◌%◌, Bool, false, ◌&&◌, List, [], ◌++◌, map, Option, Some, None, slice_range, ◌==◌, nat_lt, unwrap_or}
+use Rattle.std.specs.Prelude.{◌≡◌, ℕ, ◌+◌, ◌/◌, ◌%◌, Bool, false, ◌&&◌, List, [], ◌++◌, map, Option, Some, None, Result, Ok, Err, slice_range, ◌==◌, nat_lt, unwrap_or}
 use Rattle.std.specs.Bool.{then_some}
 use Rattle.std.specs.List.{list_any, filter, filter_map, flat_map, fold}
 use Rattle.std.specs.Option.{option_map, option_and_then}
@@ -14,10 +14,21 @@ use Rattle.qg_super.specs.declared.superblock.Super.{Super}
 use Rattle.qg_super.specs.Places.{first_place, second_place}
 use Rattle.qg_super.specs.SuperText.{super_read, choose, sizes_of}
 use Rattle.qg_image.specs.Table.{value_at, with_value, keys_of}
-use Rattle.qg_image.specs.ItemsUnder.{node_in, items_under, nodes_under}
-use Rattle.qg_image.specs.ItemMeaning.{ExtentPart, DataRecord, NodeRecord, Referenced, QuotaPart, Status, Info, Limits, Relation, is_subvolume_number, root_part, extent_part, quota_part}
+use Rattle.qg_image.specs.declared.part.ExtentPart.{ExtentPart}
+use Rattle.qg_image.specs.declared.part.ExtentPart.TheVariants.{DataRecord, NodeRecord, Referenced}
+use Rattle.qg_image.specs.declared.part.QuotaPart.{QuotaPart}
+use Rattle.qg_image.specs.declared.part.QuotaPart.TheVariants.{Status, Info, Limits, Relation}
+use Rattle.qg_image.specs.ItemMeaning.{is_subvolume_number, root_part, extent_part, quota_part}
 use Rattle.qg_image.specs.FilesOf.{files_of}
-use Rattle.qg_state.specs.State.{State, Subvolume, Placed, Group, Quota, Committed}
+use Rattle.qg_verdict.specs.declared.failure.Failure.{Failure}
+use Rattle.qg_verdict.specs.declared.tree.Tree.{Tree}
+use Rattle.qg_verdict.specs.declared.tree.Tree.TheVariants.{Roots, Extents, Quotas, Files}
+use Rattle.qg_verdict.specs.declared.expected.Expected.{Expected}
+use Rattle.qg_verdict.specs.Walk.{root_expected, root_told, node_found}
+use Rattle.qg_verdict.specs.ItemsUnder.{items_under, nodes_under}
+use Rattle.qg_state.specs.declared.quota.Group.{Group}
+use Rattle.qg_state.specs.declared.quota.Quota.{Quota}
+use Rattle.qg_state.specs.State.{State, Subvolume, Placed, Committed}
 use Rattle.qg_state.specs.Members.{level_of_group}
 use Rattle.qg_state.specs.Space.{present_extents}
 use Rattle.qg_state.specs.Need.{present_records}
@@ -36,44 +47,56 @@ super_of image = choose (super_in image first_place) (super_in image second_plac
 
 -- the level of the node at an address of the image
 abbrev pub level_in : Super → List ℕ → ℕ → ℕ
-level_in super image address = level_told (node_in (sizes_of super) image address) where
-  level_told : Option Node → ℕ
-  level_told None = 0
-  level_told (Some node) = (header_of node).level
+level_in super image address = level_told (node_found super image address) where
+  level_told : Result Node Failure → ℕ
+  level_told (Err failure) = 0
+  level_told (Ok node) = (header_of node).level
 
--- the items and the nodes of a tree, by the address of its root
-unfoldable pub tree_items : Super → List ℕ → ℕ → List Item
-tree_items super image root = unwrap_or (items_under (node_in (sizes_of super) image) (level_in super image root) root) []
+-- the items and the nodes of a tree, by what is expected of its root and the root's address
+unfoldable pub tree_items : Tree → Super → List ℕ → Expected → ℕ → List Item
+tree_items tree super image expected root = unwrap_or (items_under tree super (node_found super image) (level_in super image root) expected root) []
 
-unfoldable pub tree_nodes : Super → List ℕ → ℕ → List Node
-tree_nodes super image root = unwrap_or (nodes_under (node_in (sizes_of super) image) (level_in super image root) root) []
+unfoldable pub tree_nodes : Tree → Super → List ℕ → Expected → ℕ → List Node
+tree_nodes tree super image expected root = unwrap_or (nodes_under tree super (node_found super image) (level_in super image root) expected root) []
+
+-- the items and the nodes of the root tree
+abbrev pub root_items : Super → List ℕ → List Item
+root_items super image = tree_items Roots super image (root_expected None None) super.root
+
+abbrev pub root_nodes : Super → List ℕ → List Node
+root_nodes super image = tree_nodes Roots super image (root_expected None None) super.root
 
 -- the trees by number, with their ROOT_ITEMs
 unfoldable pub roots_in : Super → List ℕ → List (ℕ × RootItem)
-roots_in super image = filter_map root_part (tree_items super image super.root)
+roots_in super image = filter_map root_part (root_items super image)
 
 -- the ROOT_ITEMs of subvolumes
 abbrev pub subvolume_roots : List (ℕ × RootItem) → List (ℕ × RootItem)
 subvolume_roots roots = filter (λ entry. is_subvolume_number entry.0) roots
 
--- the items and the nodes of a tree by its number; a tree that is not there has none
-abbrev pub items_of_tree : Super → List ℕ → ℕ → List Item
-items_of_tree super image tree = items_told (value_at tree (roots_in super image)) where
-  items_told : Option RootItem → List Item
-  items_told None = []
-  items_told (Some root) = tree_items super image root.bytenr
+-- the items and the nodes of a tree by its ROOT_ITEM
+abbrev pub items_of_root : Tree → Super → List ℕ → RootItem → List Item
+items_of_root tree super image root = tree_items tree super image (root_told root) root.bytenr
 
-abbrev pub nodes_of_tree : Super → List ℕ → ℕ → List Node
-nodes_of_tree super image tree = nodes_told (value_at tree (roots_in super image)) where
-  nodes_told : Option RootItem → List Node
-  nodes_told None = []
-  nodes_told (Some root) = tree_nodes super image root.bytenr
+abbrev pub nodes_of_root : Tree → Super → List ℕ → RootItem → List Node
+nodes_of_root tree super image root = tree_nodes tree super image (root_told root) root.bytenr
+
+-- a list of a tree by its number; of a tree that is not there it is empty
+abbrev pub of_tree : {A : Type 0} → (RootItem → List A) → Option RootItem → List A
+of_tree list None = []
+of_tree list (Some root) = list root
+
+abbrev pub extent_root : Super → List ℕ → Option RootItem
+extent_root super image = value_at EXTENT_TREE (roots_in super image)
+
+abbrev pub quota_root : Super → List ℕ → Option RootItem
+quota_root super image = value_at QUOTA_TREE (roots_in super image)
 
 unfoldable pub extent_parts : Super → List ℕ → List ExtentPart
-extent_parts super image = filter_map extent_part (items_of_tree super image EXTENT_TREE)
+extent_parts super image = filter_map extent_part (of_tree (items_of_root Extents super image) (extent_root super image))
 
 unfoldable pub quota_parts : Super → List ℕ → List QuotaPart
-quota_parts super image = filter_map quota_part (items_of_tree super image QUOTA_TREE)
+quota_parts super image = filter_map quota_part (of_tree (items_of_root Quotas super image) (quota_root super image))
 
 -- ---- the layout
 
@@ -91,13 +114,13 @@ placed parts node = record { node = node; full = list_any (is_full_record (heade
 unfoldable pub layout_in : Super → List ℕ → List (ℕ × Placed)
 layout_in super image =
     fold (λ layout node. with_value (header_of node).address (placed (extent_parts super image) node) layout) []
-    (flat_map (λ entry. tree_nodes super image entry.1.bytenr) (subvolume_roots (roots_in super image)))
+    (flat_map (λ entry. nodes_of_root Files super image entry.1) (subvolume_roots (roots_in super image)))
 
 -- ---- subvolumes
 
 abbrev pub subvolume_in : Super → List ℕ → RootItem → Subvolume
 subvolume_in super image root = record {
-  files = unwrap_or (files_of super.generation (tree_items super image root.bytenr)) [];
+  files = unwrap_or (files_of super.generation (items_of_root Files super image root)) [];
   root = root.bytenr;
   last_snapshot = root.last_snapshot;
 }
@@ -150,14 +173,16 @@ quota_told parts = record {
 
 -- quota is on where the quota tree is there
 abbrev pub quota_in : Super → List ℕ → Option Quota
-quota_in super image = option_map (λ root. quota_told (quota_parts super image)) (value_at QUOTA_TREE (roots_in super image))
+quota_in super image = option_map (λ root. quota_told (quota_parts super image)) (quota_root super image)
 
 -- ---- the state
 
 -- the addresses of the nodes of the root, extent and quota trees
 abbrev pub other_nodes : Super → List ℕ → List ℕ
 other_nodes super image =
-    map (λ node. (header_of node).address) (tree_nodes super image super.root ++ nodes_of_tree super image EXTENT_TREE ++ nodes_of_tree super image QUOTA_TREE)
+    map (λ node. (header_of node).address) (root_nodes super image
+    ++ of_tree (nodes_of_root Extents super image) (extent_root super image)
+    ++ of_tree (nodes_of_root Quotas super image) (quota_root super image))
 
 -- what a commit of a state holds, the root, extent and quota trees having these nodes: the items of those trees are what the state has
 abbrev pub committed_by : List ℕ → State → Committed

@@ -14,17 +14,26 @@ use Rattle.qg_super.specs.declared.superblock.Super.{Super}
 use Rattle.qg_super.specs.Places.{first_place, second_place, total_bytes, is_run}
 use Rattle.qg_super.specs.SuperText.{sizes_of, same_super}
 use Rattle.qg_image.specs.Table.{has_key, value_at, keys_of}
-use Rattle.qg_image.specs.ItemMeaning.{QuotaPart, Status, Info, Limits, Relation, is_subvolume_number}
+use Rattle.qg_image.specs.declared.part.QuotaPart.{QuotaPart}
+use Rattle.qg_image.specs.declared.part.QuotaPart.TheVariants.{Status, Info, Limits, Relation}
+use Rattle.qg_image.specs.ItemMeaning.{is_subvolume_number}
 use Rattle.qg_image.specs.FilesOf.{file_parts, are_files}
 use Rattle.qg_state.specs.Stage.{records_references, serves_subvolumes, serves_groups}
-use Rattle.qg_state.specs.State.{State, Quota, Group, Element}
+use Rattle.qg_state.specs.declared.quota.Quota.{Quota}
+use Rattle.qg_state.specs.declared.quota.Group.{Group}
+use Rattle.qg_state.specs.declared.element.Element.{Element}
+use Rattle.qg_state.specs.State.{State}
 use Rattle.qg_state.specs.Members.{level_of_group, id_of_group}
 use Rattle.qg_state.specs.Counts.{referenced, exclusive}
 use Rattle.qg_state.specs.Space.{present_extents}
 use Rattle.qg_state.specs.Owed.{disagreement, homeless}
-use Rattle.qg_verdict.specs.Failure.{Failure, Broken, Differs, kept, first_failure}
-use Rattle.qg_verdict.specs.Walk.{Roots, Extents, Quotas, Files, tree_failure}
-use Rattle.qg_verdict.specs.StateOf.{super_in, super_of, tree_items, roots_in, subvolume_roots, extent_parts, quota_parts, info_told, limit_told, max_rfer_told, max_excl_told, state_in}
+use Rattle.qg_verdict.specs.declared.failure.Failure.{Failure}
+use Rattle.qg_verdict.specs.declared.failure.Failure.TheVariants.{Broken, Differs}
+use Rattle.qg_verdict.specs.Failure.{kept, first_failure}
+use Rattle.qg_verdict.specs.declared.tree.Tree.{Tree}
+use Rattle.qg_verdict.specs.declared.tree.Tree.TheVariants.{Roots, Extents, Quotas, Files}
+use Rattle.qg_verdict.specs.Walk.{root_expected, root_told, tree_failure}
+use Rattle.qg_verdict.specs.StateOf.{super_in, super_of, items_of_root, roots_in, subvolume_roots, extent_parts, quota_parts, info_told, limit_told, max_rfer_told, max_excl_told, state_in}
 
 -- ---- limits of the store
 
@@ -59,9 +68,9 @@ are_roots roots =
     && (serves_subvolumes || list_all (λ entry. (entry.0 == TOP_LEVEL) || not (is_subvolume_number entry.0)) roots)
 
 -- the first failure of a tree with this ROOT_ITEM; of no tree there is none
-abbrev pub root_failure : (ℕ → ℕ → ℕ → Option Failure) → Option RootItem → Option Failure
-root_failure walk None = None
-root_failure walk (Some root) = walk root.level root.generation root.bytenr
+abbrev pub root_failure : Tree → Super → List ℕ → Option RootItem → Option Failure
+root_failure tree super image None = None
+root_failure tree super image (Some root) = tree_failure tree super image (root_told root) root.bytenr
 
 -- ---- the quota tree
 
@@ -132,7 +141,7 @@ are_few parts = nat_le (length (filter_map info_told parts)) most_groups && nat_
 abbrev pub quota_failure : Super → List ℕ → List (ℕ × RootItem) → Option RootItem → Option Failure
 quota_failure super image roots None = None
 quota_failure super image roots (Some root) = first_failure
-    (tree_failure Quotas super image (Some root.level) (Some root.generation) root.bytenr
+    (tree_failure Quotas super image (root_told root) root.bytenr
     ∷ kept (is_quota (keys_of (subvolume_roots roots)) (quota_parts super image)) rule.Quota root.bytenr
     ∷ kept (are_few (quota_parts super image)) rule.Limits root.bytenr
     ∷ [])
@@ -142,8 +151,8 @@ quota_failure super image roots (Some root) = first_failure
 -- the walk of one subvolume, and then the rule on its files
 abbrev pub subvolume_failure : Super → List ℕ → RootItem → Option Failure
 subvolume_failure super image root = first_failure
-    (tree_failure Files super image (Some root.level) (Some root.generation) root.bytenr
-    ∷ kept (are_files (file_parts (tree_items super image root.bytenr))) rule.File root.bytenr
+    (tree_failure Files super image (root_told root) root.bytenr
+    ∷ kept (are_files (file_parts (items_of_root Files super image root))) rule.File root.bytenr
     ∷ [])
 
 -- ---- space
@@ -215,10 +224,10 @@ image_failure super image =
     first_failure
     (kept (nat_le (total_bytes (sizes_of super)) (length image)) rule.Length (length image)
     ∷ kept (are_mirrored (super_in image first_place) (super_in image second_place)) rule.Mirror second_place
-    ∷ tree_failure Roots super image None None super.root
+    ∷ tree_failure Roots super image (root_expected None None) super.root
     ∷ kept (are_roots roots) rule.Root super.root
     ∷ kept (nat_le (length (subvolume_roots roots)) most_subvolumes) rule.Limits super.root
-    ∷ root_failure (λ level generation address. tree_failure Extents super image (Some level) (Some generation) address) (value_at EXTENT_TREE roots)
+    ∷ root_failure Extents super image (value_at EXTENT_TREE roots)
     ∷ quota_failure super image roots (value_at QUOTA_TREE roots)
     ∷ first_failure (map (λ entry. subvolume_failure super image entry.1) (subvolume_roots roots))
     ∷ space_failure (sizes_of super) (extent_set (present_extents state))

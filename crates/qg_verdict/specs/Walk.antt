@@ -1,5 +1,5 @@
 -- The walk of one tree, depth first, children in order, each node judged before its children (this project's own).
-use Rattle.std.specs.Prelude.{ℕ, zero, suc, ◌+◌, ◌-◌, Bool, true, false, ◌&&◌, not, List, [], ◌∷◌, Option, Some, None, Result, Ok, Err, slice_range, is_none, ◌==◌, nat_le, nat_lt}
+use Rattle.std.specs.Prelude.{ℕ, zero, suc, ◌+◌, ◌-◌, Bool, true, false, ◌&&◌, not, List, [], ◌∷◌, Option, Some, None, Result, Ok, Err, slice_range, ◌==◌, nat_le, nat_lt}
 use Rattle.std.specs.List.{list_all}
 use Rattle.std.specs.Ordering.{is_lt}
 use Rattle.qg_num.specs.Key.{key_cmp}
@@ -11,23 +11,24 @@ use Rattle.qg_node.specs.declared.pointer.Pointer.{Pointer}
 use Rattle.qg_node.specs.declared.node.Node.{Node}
 use Rattle.qg_node.specs.Nodes.{header_of, own_items, own_keys, own_pointers}
 use Rattle.qg_node.specs.Reading.{node_read}
+use Rattle.qg_items.specs.declared.root.RootItem.{RootItem}
 use Rattle.qg_items.specs.declared.tree.TheConstants.{ROOT_TREE, EXTENT_TREE, QUOTA_TREE}
 use Rattle.qg_super.specs.declared.superblock.Super.{Super}
 use Rattle.qg_super.specs.Places.{is_slot}
 use Rattle.qg_super.specs.SuperText.{sizes_of}
-use Rattle.qg_image.specs.IsShaped.{is_shaped}
-use Rattle.qg_image.specs.ItemMeaning.{QuotaPart, Status, Info, Limits, Relation, some_passes, is_subvolume_number, root_part, root_part_stamps, extent_part, extent_part_stamps, quota_part, quota_part_stamps}
+use Rattle.qg_image.specs.IsShaped.{same_key, is_shaped}
+use Rattle.qg_image.specs.declared.part.QuotaPart.{QuotaPart}
+use Rattle.qg_image.specs.declared.part.QuotaPart.TheVariants.{Status, Info, Limits, Relation}
+use Rattle.qg_image.specs.ItemMeaning.{some_passes, is_subvolume_number, root_part, root_part_stamps, extent_part, extent_part_stamps, quota_part, quota_part_stamps}
 use Rattle.qg_image.specs.FilesOf.{is_file_item}
-use Rattle.qg_verdict.specs.Failure.{Failure, Broken, kept, first_failure, rule_of}
+use Rattle.qg_verdict.specs.declared.failure.Failure.{Failure}
+use Rattle.qg_verdict.specs.declared.failure.Failure.TheVariants.{Broken}
+use Rattle.qg_verdict.specs.declared.tree.Tree.{Tree}
+use Rattle.qg_verdict.specs.declared.tree.Tree.TheVariants.{Roots, Extents, Quotas, Files}
+use Rattle.qg_verdict.specs.declared.expected.Expected.{Expected}
+use Rattle.qg_verdict.specs.Failure.{kept, first_failure, rule_of}
 
 -- ---- what a tree may hold
-
--- which of the trees is walked
-pub data Tree : Type 0 where
-  Roots : Tree
-  Extents : Tree
-  Quotas : Tree
-  Files : Tree
 
 -- a node of the tree may have this owner
 abbrev pub is_owner : Tree → ℕ → Bool
@@ -56,20 +57,10 @@ is_item_of Files generation item = is_file_item generation item
 
 -- ---- what a walk expects of a node
 
--- its level and generation, where they are told; the key that the pointer to it tells; and the next key on the way, past its own
-pub record Expected : Type 0 where
-  pub level : Option ℕ
-  pub generation : Option ℕ
-  pub from : Option Key
-  pub to : Option Key
-
 -- a number is the one that was told, if one was
 abbrev pub is_told : Option ℕ → ℕ → Bool
 is_told None n = true
 is_told (Some told) n = told == n
-
-abbrev pub same_key : Key → Key → Bool
-same_key a b = (a.objectid == b.objectid) && (a.kind == b.kind) && (a.offset == b.offset)
 
 -- the first of the keys is the pointer's, and none is less
 abbrev pub begins_at : Option Key → List Key → Bool
@@ -86,14 +77,24 @@ ends_before (Some to) keys = list_all (λ key. is_lt (key_cmp key to)) keys
 abbrev pub is_generation : ℕ → Option ℕ → ℕ → Bool
 is_generation last told generation = is_told told generation && nat_lt 0 generation && nat_le generation last
 
--- the rules on a node that was read, in their order; a root is what no pointer leads to
-unfoldable pub node_failure : Tree → Super → Expected → ℕ → Node → Option Failure
-node_failure tree super expected address node = first_failure
+-- the rules on a node that was read which say that the way to it is right, in their order
+unfoldable pub way_failure : Tree → Super → Expected → ℕ → Node → Option Failure
+way_failure tree super expected address node = first_failure
     (kept (is_told expected.level (header_of node).level) rule.Depth address
     ∷ kept (is_owner tree (header_of node).owner) rule.Owner address
     ∷ kept (is_generation super.generation expected.generation (header_of node).generation) rule.Gen address
     ∷ kept (begins_at expected.from (own_keys node) && ends_before expected.to (own_keys node)) rule.Range address
-    ∷ kept (is_shaped super.nodesize (is_none expected.from) node) rule.Shape address
+    ∷ [])
+
+-- the rule on its shape
+abbrev pub shape_failure : ℕ → Expected → ℕ → Node → Option Failure
+shape_failure nodesize expected address node = kept (is_shaped nodesize expected.from node) rule.Shape address
+
+-- all rules on a node that was read, in their order
+unfoldable pub node_failure : Tree → Super → Expected → ℕ → Node → Option Failure
+node_failure tree super expected address node = first_failure
+    (way_failure tree super expected address node
+    ∷ shape_failure super.nodesize expected address node
     ∷ kept (list_all (is_item_of tree super.generation) (own_items node)) rule.Item address
     ∷ [])
 
@@ -127,24 +128,33 @@ pointers_failure walk level to (pointer ∷ pointers) = first_failure
     ∷ pointers_failure walk level to pointers
     ∷ [])
 
--- the first failure at a node and below it
-abbrev pub found_failure : Tree → Super → (Expected → ℕ → Option Failure) → Expected → ℕ → Result Node Failure → Option Failure
-found_failure tree super walk expected address (Err failure) = Some failure
-found_failure tree super walk expected address (Ok node) = first_failure
-    (node_failure tree super expected address node
+-- the first failure at a node and below it, where `judge` tells the rule that a node breaks
+abbrev pub found_failure : (Expected → ℕ → Node → Option Failure) → (Expected → ℕ → Option Failure) → Expected → ℕ → Result Node Failure → Option Failure
+found_failure judge walk expected address (Err failure) = Some failure
+found_failure judge walk expected address (Ok node) = first_failure
+    (judge expected address node
     ∷ pointers_failure walk ((header_of node).level - 1) expected.to (own_pointers node)
     ∷ [])
 
 -- the first failure of the walk from an address down, so many levels deep at most, where `found` tells what stands at an address
-unfoldable pub walk_failure : Tree → Super → (ℕ → Result Node Failure) → ℕ → Expected → ℕ → Option Failure
-walk_failure tree super found zero expected address = found_failure tree super (λ expected address. None) expected address (found address)
-walk_failure tree super found (suc depth) expected address = found_failure tree super (walk_failure tree super found depth) expected address (found address)
+unfoldable pub walk_failure : (Expected → ℕ → Node → Option Failure) → (ℕ → Result Node Failure) → ℕ → Expected → ℕ → Option Failure
+walk_failure judge found zero expected address = found_failure judge (λ expected address. None) expected address (found address)
+walk_failure judge found (suc depth) expected address = found_failure judge (walk_failure judge found depth) expected address (found address)
 
 -- the greatest level of a node
 abbrev pub deepest : ℕ
 deepest = 7
 
--- the first failure of a tree whose root lies at an address, with the level and generation that its ROOT_ITEM tells
-unfoldable pub tree_failure : Tree → Super → List ℕ → Option ℕ → Option ℕ → ℕ → Option Failure
-tree_failure tree super image level generation address =
-    walk_failure tree super (node_found super image) deepest (record { level = level; generation = generation; from = None; to = None }) address
+-- ---- a tree
+
+-- what is expected of a root: its level and generation, where they are told
+abbrev pub root_expected : Option ℕ → Option ℕ → Expected
+root_expected level generation = record { level = level; generation = generation; from = None; to = None }
+
+-- what its ROOT_ITEM tells of it
+abbrev pub root_told : RootItem → Expected
+root_told root = root_expected (Some root.level) (Some root.generation)
+
+-- the first failure of a tree whose root lies at an address
+unfoldable pub tree_failure : Tree → Super → List ℕ → Expected → ℕ → Option Failure
+tree_failure tree super image expected address = walk_failure (node_failure tree super) (node_found super image) deepest expected address

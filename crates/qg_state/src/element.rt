@@ -1,0 +1,10 @@
+use qg_num::Address;
+
+/// A data extent, or a node (btrfs-qgroup(8), "extent").
+#[derive(Clone, Copy, Debug, PartialEq, Eq)]
+pub struct Element {
+    /// Where it lies, in bytes.
+    pub address: Address,
+    /// Its length in bytes.
+    pub bytes: u64,
+}
