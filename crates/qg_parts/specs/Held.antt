@@ -1,0 +1,29 @@
+-- What a tree may hold says something.
+use Rattle.std.specs.Prelude.{◌≡◌, ℕ, Bool, true, Option, Some, None, IsTrue, is_some, refl}
+use Rattle.qg_node.specs.declared.item.Item.{Item}
+use Rattle.qg_image.specs.ItemMeaning.{some_passes, root_part, extent_part, quota_part, file_part}
+use Rattle.qg_image.specs.FilesOf.{is_file_item}
+use Rattle.qg_verdict.specs.declared.tree.Tree.TheVariants.{Roots, Extents, Quotas, Files}
+use Rattle.qg_verdict.specs.Walk.{is_item_of}
+
+-- what passes a test is there
+some_passed : {A : Type 0} (test : A → Bool) (o : Option A) → some_passes test o ≡ true → is_some o ≡ true
+some_passed test None h = h
+some_passed test (Some x) h = refl
+
+-- and so an item that a tree may hold says something, in each of the four trees
+pub root_said : (generation : ℕ) (item : Item) → IsTrue (is_item_of Roots generation item) → IsTrue (is_some (root_part item))
+unfolding is_item_of
+root_said generation item h = some_passed _ _ h
+
+pub extent_said : (generation : ℕ) (item : Item) → IsTrue (is_item_of Extents generation item) → IsTrue (is_some (extent_part item))
+unfolding is_item_of
+extent_said generation item h = some_passed _ _ h
+
+pub quota_said : (generation : ℕ) (item : Item) → IsTrue (is_item_of Quotas generation item) → IsTrue (is_some (quota_part item))
+unfolding is_item_of
+quota_said generation item h = some_passed _ _ h
+
+pub file_said : (generation : ℕ) (item : Item) → IsTrue (is_item_of Files generation item) → IsTrue (is_some (file_part item))
+unfolding is_item_of is_file_item
+file_said generation item h = some_passed _ _ h

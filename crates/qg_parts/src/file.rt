@@ -1,0 +1,93 @@
+// What the items of a subvolume's tree say.
+ghost use Rattle.std.specs.Prelude.{◌≡◌};
+ghost use Rattle.std.specs.Option.{option_map, option_and_then};
+ghost use Rattle.qg_image.specs.ItemMeaning.{when, has_key, piece_told, file_part, file_part_stamps};
+ghost use Rattle.qg_items.specs.ItemReading.{inode_read, extent_data_read};
+ghost use Rattle.qg_items.specs.declared.kind.TheConstants.{INODE_ITEM};
+ghost use Rattle.qg_image.specs.declared.part.FilePart.TheVariants.{Inode, PieceOf};
+ghost use Rattle.qg_verdict.specs.Walk.{are_by};
+
+use crate::part::TreePart;
+use crate::root::is_subvolume_number;
+use qg_image::FilePart;
+use qg_items::kind::{EXTENT_DATA, INODE_ITEM};
+use qg_items::{read_extent_data, read_inode};
+use qg_node::Item;
+use qg_num::{Generation, Ino, Piece, RootId};
+
+impl TreePart for FilePart {
+    ghost use Rattle.qg_image.specs.ItemMeaning.{file_part};
+    ghost use Rattle.qg_verdict.specs.declared.tree.Tree.TheVariants.{Files};
+    ghost use Rattle.qg_parts.specs.Held.{file_said};
+
+    ghost tree = { Files };
+
+    ghost meaning = { file_part };
+
+    fn is_owner(owner: RootId) -> bool {
+        is_subvolume_number(owner.value())
+    }
+
+    #[tactic(auto, unfolding(qg_verdict::specs::Walk::is_item_of, qg_image::specs::FilesOf::is_file_item))]
+    fn read(item: &Item, generation: Generation) -> Option<FilePart> {
+        file_part(item).filter(|part| stamps_are_by(part, generation))
+    }
+
+    ghost said = { file_said };
+}
+
+fn file_part(item: &Item) -> Option<FilePart>
+    ensures { result ≡ file_part item.now }
+{
+    match item.key.kind {
+        INODE_ITEM => inode_part(item),
+        EXTENT_DATA => piece_part(item),
+        _ => None,
+    }
+}
+
+fn inode_part(item: &Item) -> Option<FilePart>
+    ensures { result ≡ when (has_key item.now.key.objectid INODE_ITEM 0 item.now) (option_map (Inode item.now.key.objectid) (inode_read item.now.body)) }
+{
+    if item.key.kind != INODE_ITEM || item.key.offset != 0 {
+        return None;
+    }
+    Some(FilePart::Inode {
+        ino: Ino::new(item.key.objectid),
+        inode: read_inode(item.body.as_slice())?,
+    })
+}
+
+// The piece that a body tells; its extent's length stands in it twice.
+fn piece_part(item: &Item) -> Option<FilePart>
+    ensures { result ≡ option_map (PieceOf item.now.key.objectid) (option_and_then (piece_told item.now.key.offset) (extent_data_read item.now.body)) }
+{
+    let told = read_extent_data(item.body.as_slice())?;
+    if told.ram_bytes != told.disk_num_bytes {
+        return None;
+    }
+    Some(FilePart::PieceOf {
+        ino: Ino::new(item.key.objectid),
+        piece: Piece {
+            position: item.key.offset,
+            len: told.num_bytes,
+            extent: told.disk_bytenr,
+            offset: told.offset,
+            stamp: told.generation,
+            extent_bytes: told.disk_num_bytes,
+        },
+    })
+}
+
+// Whether no generation that it tells is past this one.
+fn stamps_are_by(part: &FilePart, generation: Generation) -> bool
+    ensures { result ≡ are_by generation (file_part_stamps part.now) }
+{
+    match part {
+        FilePart::Inode { inode, .. } => {
+            inode.generation.value() <= generation.value()
+                && inode.transid.value() <= generation.value()
+        }
+        FilePart::PieceOf { piece, .. } => piece.stamp.value() <= generation.value(),
+    }
+}

@@ -1,0 +1,13 @@
+//! What the items of each tree say, and which of them the tree may hold.
+#![tactic(auto)]
+
+mod extents;
+mod file;
+mod part;
+mod quota;
+mod root;
+
+pub use part::TreePart;
+
+#[cfg(test)]
+mod tests;

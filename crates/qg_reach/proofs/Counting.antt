@@ -1,0 +1,199 @@
+-- The counters of the group of the only subvolume. Addresses and sizes are in bytes.
+use Rattle.std.proofs.Common.{◌≡◌, ℕ, zero, suc, ◌+◌, ◌*◌, ◌<◌, Bool, true, false, not, List, [], ◌∷◌, ◌++◌, map, length, Some, None, refl, ap, subst, ◌∙◌, arith, inl, inr}
+use Rattle.std.specs.Prelude.{◌==◌, ◌&&◌, ◌||◌, IsTrue}
+use Rattle.std.specs.List.{Contains, All, filter, flat_map, list_any}
+use Rattle.std.specs.List.Sorted.{IsStrictlyIncreasing, IsStrictlySortedBy}
+use Rattle.std.specs.Ordering.{nat_cmp}
+use Rattle.std.specs.declared.cmp.Ordering.TheVariants.{Less}
+use Rattle.std.proofs.lemmas.Bool.{cond-true}
+use Rattle.std.proofs.lemmas.Bool.Decides.{nat_tests}
+use Rattle.std.proofs.lemmas.List.{append-nil}
+use Rattle.std.proofs.lemmas.List.Elements.{All-contains, All-from_recursion, Contains-append_left, Contains-append_right, Contains-append_cases}
+use Rattle.std.proofs.lemmas.List.Sums.{sum_by-cons, sum_by-append}
+use Rattle.std.proofs.lemmas.Map.Keys.{sorted_from_strictly_increasing, sorted_head, sorted_tail}
+use Rattle.qg_node.specs.declared.node.Node.{Node}
+use Rattle.qg_super.specs.declared.sizes.Sizes.{Sizes}
+use Rattle.qg_super.specs.Places.{is_served, is_slot}
+use Rattle.qg_image.specs.Below.{nodes_below}
+use Rattle.qg_image.specs.Table.{value_at, keys_of}
+use Rattle.qg_state.specs.declared.quota.Quota.{Quota}
+use Rattle.qg_state.specs.declared.element.Element.{Element}
+use Rattle.qg_state.specs.State.{State, Subvolume, node_at}
+use Rattle.qg_state.specs.Members.{members, is_member, is_below, leads, level_of_group}
+use Rattle.qg_state.specs.Reach.{reach, reach_of, reach_of_root, reaches, level_of, distinct}
+use Rattle.qg_state.specs.Counts.{referenced, exclusive, reach_of_group, is_reached_outside, bytes_of}
+use Rattle.qg_verdict.specs.Verdict.{space_failure}
+use Rattle.qg_reach.specs.Sets.{HaveSame}
+use Rattle.qg_reach.proofs.Members.{contains_here, contains_later, contains_cases, contains_map, one_mapped, contains_flat_map, one_flat_mapped}
+use Rattle.qg_reach.proofs.Distinct.{AreApart, apart_with, bytes_of_distinct}
+use Rattle.qg_reach.proofs.SpaceRule.{member_fits, AreApart-space}
+use Rattle.qg_reach.proofs.SlotRule.{slot_below}
+use Rattle.qg_reach.proofs.Reached.{address_of, extents_named, elements_of, LieWhereFound, reach_under_nodes}
+
+-- the top-level subvolume is the only one, and its group the only one
+pub record IsSingle (state : State) (quota : Quota) (subvolume : Subvolume) : Type 0 where
+  pub subvolumes : state.subvolumes ≡ (5, subvolume) ∷ []
+  pub groups : keys_of quota.groups ≡ 5 ∷ []
+
+-- ---- the members
+
+leads_there : (pairs : List (ℕ × ℕ)) (count : ℕ) → leads pairs count 5 5 ≡ true
+unfolding leads
+leads_there pairs zero = refl
+leads_there pairs (suc count) = refl
+
+pub members_single : (quota : Quota) → keys_of quota.groups ≡ 5 ∷ [] → members quota 5 ≡ 5 ∷ []
+unfolding members is_below
+members_single quota groups =
+    ap (filter (λ sub. (level_of_group sub == 0) && is_below quota sub 5)) groups
+    ∙ cond-true (leads quota.pairs (length quota.pairs) 5 5) (5 ∷ []) [] (leads_there quota.pairs (length quota.pairs))
+
+-- ---- exclusive
+
+pub not_outside : (state : State) (quota : Quota) (subvolume : Subvolume) (address : ℕ) → IsSingle state quota subvolume → is_reached_outside state quota 5 address ≡ false
+unfolding is_reached_outside
+not_outside state quota subvolume address single =
+    ap (λ subs. list_any (λ sub. not (is_member quota 5 sub) && reaches state sub address) (keys_of subs)) single.subvolumes
+    ∙ ap (λ in_group. (not (list_any (λ member. member == 5) in_group) && reaches state 5 address) || false) (members_single quota single.groups)
+
+filter_all : (test : Element → Bool) (xs : List Element) → ((x : Element) → test x ≡ true) → filter test xs ≡ xs
+filter_all test [] all = refl
+filter_all test (x ∷ xs) all = cond-true (test x) _ _ (all x) ∙ ap (λ rest. x ∷ rest) (filter_all test xs all)
+
+-- no subvolume is outside, so all that is referenced is exclusive
+pub exclusive_single : (state : State) (quota : Quota) (subvolume : Subvolume) → IsSingle state quota subvolume → exclusive state quota 5 ≡ referenced state quota 5
+unfolding exclusive referenced
+exclusive_single state quota subvolume single =
+    ap bytes_of (filter_all (λ element. not (is_reached_outside state quota 5 element.address)) (reach_of_group state quota 5)
+    (λ element. ap not (not_outside state quota subvolume element.address single)))
+
+-- ---- referenced
+
+reach_single : (state : State) (quota : Quota) (subvolume : Subvolume) → IsSingle state quota subvolume → reach state 5 ≡ reach_of_root state subvolume.root
+unfolding reach
+reach_single state quota subvolume single = ap (λ subs. reach_of state (value_at 5 subs)) single.subvolumes
+
+pub referenced_single : (state : State) (quota : Quota) (subvolume : Subvolume) → IsSingle state quota subvolume
+    → referenced state quota 5 ≡ bytes_of (distinct (reach_of_root state subvolume.root))
+unfolding referenced reach_of_group
+referenced_single state quota subvolume single =
+    ap (λ subs. bytes_of (distinct (flat_map (reach state) subs))) (members_single quota single.groups)
+    ∙ ap (λ met. bytes_of (distinct met)) (append-nil (reach state 5) ∙ reach_single state quota subvolume single)
+
+-- ---- by nodes and extents
+
+-- the nodes below a root, each found where it says that it lies
+pub record HasNodes (state : State) (root : ℕ) (nodes : List Node) : Type 0 where
+  pub lie : LieWhereFound (node_at state.layout)
+  pub below : nodes_below (node_at state.layout) (level_of (node_at state.layout root)) root ≡ Some nodes
+
+pub reach_of_root_nodes : (state : State) (root : ℕ) (nodes : List Node) → HasNodes state root nodes → reach_of_root state root ≡ flat_map (elements_of state.sizes.nodesize) nodes
+unfolding reach_of_root
+reach_of_root_nodes state root nodes has =
+    reach_under_nodes (node_at state.layout) state.sizes.nodesize (level_of (node_at state.layout root)) root nodes has.lie has.below
+
+-- the slots of nodes and the extents that they name, each once
+pub record AreTold (nodes : List Node) (slots : List ℕ) (extents : List Element) : Type 0 where
+  pub ascending : IsStrictlyIncreasing slots
+  pub lie : HaveSame slots (map address_of nodes)
+  pub named : HaveSame extents (flat_map extents_named nodes)
+  pub apart : AreApart extents
+  pub elsewhere : (slot : ℕ) (extent : Element) → Contains slots slot → Contains extents extent → slot ≡ extent.address → ⊥
+
+-- slots that ascend, and extents that keep the rule `space`
+pub record KeepSpace (sizes : Sizes) (slots : List ℕ) (extents : List Element) : Type 0 where
+  pub served : IsTrue (is_served sizes)
+  pub are_slots : All (λ slot. IsTrue (is_slot sizes slot)) slots
+  pub ascending : IsStrictlyIncreasing slots
+  pub space : space_failure sizes extents ≡ None
+
+-- they lie apart
+pub AreTold-space : (sizes : Sizes) (nodes : List Node) (slots : List ℕ) (extents : List Element) → KeepSpace sizes slots extents
+    → HaveSame slots (map address_of nodes) → HaveSame extents (flat_map extents_named nodes) → AreTold nodes slots extents
+AreTold-space sizes nodes slots extents keep lie named = record {
+  ascending = keep.ascending;
+  lie = lie;
+  named = named;
+  apart = AreApart-space sizes extents keep.space;
+  elsewhere = λ slot extent has has' same.
+      let run = member_fits sizes extents extent keep.space has' in
+      let below = slot_below sizes slot keep.served (All-contains (λ slot. IsTrue (is_slot sizes slot)) slots slot keep.are_slots has) in
+      omega (arith, run.begin, below, same);
+}
+
+-- ---- slots as elements
+
+abbrev element_at : ℕ → ℕ → Element
+element_at nodesize slot = record { address = slot; bytes = nodesize }
+
+bytes_of_slots : (nodesize : ℕ) (slots : List ℕ) → bytes_of (map (element_at nodesize) slots) ≡ nodesize * length slots
+bytes_of_slots nodesize [] = omega arith
+bytes_of_slots nodesize (slot ∷ slots) =
+    sum_by-cons (λ (e : Element). e.bytes) (element_at nodesize slot) (map (element_at nodesize) slots)
+    ∙ omega (arith, bytes_of_slots nodesize slots)
+
+below_later : (slot : ℕ) (slots : List ℕ) (later : ℕ) → IsStrictlySortedBy nat_cmp (slot ∷ slots) → Contains slots later → slot < later
+below_later slot slots later sorted has =
+    let less = All-contains (λ y. nat_cmp slot y ≡ Less) slots later (All-from_recursion (λ y. nat_cmp slot y ≡ Less) slots (sorted_head nat_cmp slot slots sorted)) has in
+    is_less slot later less
+  where
+    is_less : (a b : ℕ) → nat_cmp a b ≡ Less → a < b
+    is_less a b less = grind (arith, nat_tests)
+
+all_apart : (nodesize : ℕ) (slots : List ℕ) (extents : List Element) → IsStrictlySortedBy nat_cmp slots → AreApart extents
+    → ((slot : ℕ) (extent : Element) → Contains slots slot → Contains extents extent → slot ≡ extent.address → ⊥)
+    → AreApart (map (element_at nodesize) slots ++ extents)
+all_apart nodesize [] extents sorted apart elsewhere = apart
+all_apart nodesize (slot ∷ slots) extents sorted apart elsewhere =
+    apart_with (element_at nodesize slot) (map (element_at nodesize) slots ++ extents) other
+    (all_apart nodesize slots extents (sorted_tail nat_cmp slot slots sorted) apart (λ slot' extent has. elsewhere slot' extent (contains_later slot slots slot' has)))
+  where
+    other : (y : Element) → Contains (map (element_at nodesize) slots ++ extents) y → slot ≡ y.address → ⊥
+    other y has same = elim (Contains-append_cases (map (element_at nodesize) slots) extents y has) [
+      | inl later ↦
+          let found = one_mapped (element_at nodesize) slots y later in
+          omega (arith, below_later slot slots found.0 sorted found.1, ap (λ (e : Element). e.address) found.2, same)
+      | inr extent ↦ elsewhere slot y (contains_here slot slots) extent same
+    ]
+
+all_same : (nodesize : ℕ) (nodes : List Node) (slots : List ℕ) (extents : List Element) → AreTold nodes slots extents
+    → HaveSame (flat_map (elements_of nodesize) nodes) (map (element_at nodesize) slots ++ extents)
+all_same nodesize nodes slots extents told = record { into = into; back = back } where
+  into : (z : Element) → Contains (flat_map (elements_of nodesize) nodes) z → Contains (map (element_at nodesize) slots ++ extents) z
+  into z has =
+      let found = one_flat_mapped (elements_of nodesize) nodes z has in
+      elim (contains_cases (element_at nodesize (address_of found.0)) (extents_named found.0) z found.2) [
+        | inl is ↦
+            let slot = told.lie.back (address_of found.0) (contains_map address_of nodes found.0 found.1) in
+            Contains-append_left (map (element_at nodesize) slots) extents z
+            (subst (λ w. Contains (map (element_at nodesize) slots) w) is (contains_map (element_at nodesize) slots (address_of found.0) slot))
+        | inr names ↦ Contains-append_right (map (element_at nodesize) slots) extents z (told.named.back z (contains_flat_map extents_named nodes found.0 z found.1 names))
+      ]
+
+  back : (z : Element) → Contains (map (element_at nodesize) slots ++ extents) z → Contains (flat_map (elements_of nodesize) nodes) z
+  back z has = elim (Contains-append_cases (map (element_at nodesize) slots) extents z has) [
+    | inl slot ↦
+        let at = one_mapped (element_at nodesize) slots z slot in
+        let node = one_mapped address_of nodes at.0 (told.lie.into at.0 at.1) in
+        contains_flat_map (elements_of nodesize) nodes node.0 z node.1
+        (subst (λ w. Contains (elements_of nodesize node.0) w) (ap (element_at nodesize) node.2 ∙ at.2) (contains_here (element_at nodesize (address_of node.0)) (extents_named node.0)))
+    | inr extent ↦
+        let found = one_flat_mapped extents_named nodes z (told.named.into z extent) in
+        contains_flat_map (elements_of nodesize) nodes found.0 z found.1 (contains_later (element_at nodesize (address_of found.0)) (extents_named found.0) z found.2)
+  ]
+
+-- ---- the count
+
+-- what the group counts as referenced is its slots, and the bytes of its extents
+pub referenced_told : (state : State) (quota : Quota) (subvolume : Subvolume) (nodes : List Node) (slots : List ℕ) (extents : List Element)
+    → IsSingle state quota subvolume → HasNodes state subvolume.root nodes → AreTold nodes slots extents
+    → referenced state quota 5 ≡ state.sizes.nodesize * length slots + bytes_of extents
+referenced_told state quota subvolume nodes slots extents single has told =
+    let nodesize = state.sizes.nodesize in
+    let each = map (element_at nodesize) slots in
+    let apart = all_apart nodesize slots extents (sorted_from_strictly_increasing slots told.ascending) told.apart told.elsewhere in
+    referenced_single state quota subvolume single
+    ∙ ap (λ met. bytes_of (distinct met)) (reach_of_root_nodes state subvolume.root nodes has)
+    ∙ bytes_of_distinct (flat_map (elements_of nodesize) nodes) (each ++ extents) apart (all_same nodesize nodes slots extents told)
+    ∙ sum_by-append (λ (e : Element). e.bytes) each extents
+    ∙ ap (λ n. n + bytes_of extents) (bytes_of_slots nodesize slots)

@@ -1,0 +1,9 @@
+pub mod Members
+pub mod Order
+pub mod ExtentSets
+pub mod SpaceRule
+pub mod SlotRule
+pub mod Distinct
+pub mod Reached
+pub mod Counting
+pub mod Layouts

@@ -1,0 +1,5 @@
+pub mod Lists
+pub mod Pieces
+pub mod Standing
+pub mod Reading
+pub mod Quotas

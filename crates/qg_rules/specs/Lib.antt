@@ -1,0 +1,3 @@
+pub mod Files
+pub mod Quota
+pub mod Roots

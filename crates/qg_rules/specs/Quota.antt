@@ -1,0 +1,59 @@
+-- What is asked of all items of the quota tree (this project's own).
+use Rattle.std.specs.Prelude.{ℕ, Bool, true, false, ◌&&◌, List, Option, Some, None, ◌==◌, if◌then◌else◌}
+use Rattle.qg_num.specs.declared.rule.Rule.{Rule}
+use Rattle.qg_num.specs.declared.rule.Rule.TheVariants as rule
+use Rattle.qg_items.specs.declared.quota.QgroupInfo.{QgroupInfo}
+use Rattle.qg_items.specs.declared.quota.QgroupLimit.{QgroupLimit}
+use Rattle.qg_image.specs.declared.part.QuotaPart.{QuotaPart}
+use Rattle.qg_image.specs.declared.part.QuotaPart.TheVariants.{Status, Info, Limits, Relation}
+use Rattle.qg_state.specs.declared.quota.Group.{Group}
+use Rattle.qg_verdict.specs.Verdict.{is_quota, are_few, is_plain, is_served_number}
+use Rattle.qg_rules.specs.declared.quota.QuotaFault.{QuotaFault}
+use Rattle.qg_rules.specs.declared.quota.QuotaFault.TheVariants as fault
+
+-- the first of the rules `quota` and `limits` that the quota items of an image with these subvolumes break
+abbrev pub quota_rule : List ℕ → List QuotaPart → Option Rule
+quota_rule subvolumes parts = if is_quota subvolumes parts then (if are_few parts then None else Some rule.Limits) else Some rule.Quota
+
+-- what holds of the rule, where one is broken
+abbrev pub IfRule : QuotaFault → (Rule → Type 0) → Type 0
+IfRule (fault.Rule rule) P = P rule
+IfRule fault.NoMemory P = Unit {0}
+
+-- ---- as long as no groups are served but the top-level subvolume's
+
+-- the item is its counters
+abbrev pub is_counters : QuotaPart → Bool
+is_counters (Status status) = false
+is_counters (Info group info) = is_served_number group
+is_counters (Limits group limit) = false
+is_counters (Relation group other) = false
+
+-- the item is its limits
+abbrev pub is_limits : QuotaPart → Bool
+is_limits (Status status) = false
+is_limits (Info group info) = false
+is_limits (Limits group limit) = is_served_number group
+is_limits (Relation group other) = false
+
+-- no limit is set, and each is 0
+abbrev pub is_unlimited : QgroupLimit → Bool
+is_unlimited limit = (limit.flags == 0) && (limit.max_rfer == 0) && (limit.max_excl == 0)
+
+-- an item is served and fits the others, where those counters and limits are there or not
+abbrev pub fits_served : Bool → Bool → QuotaPart → Bool
+fits_served counted limited (Status status) = true
+fits_served counted limited (Info group info) = limited && is_served_number group && is_plain info
+fits_served counted limited (Limits group limit) = counted && is_served_number group && is_unlimited limit
+fits_served counted limited (Relation group other) = false
+
+-- the group of these counters, without limits
+abbrev pub unlimited_group : QgroupInfo → Group
+unlimited_group info = record { counters = record { rfer = info.rfer; excl = info.excl }; max_rfer = None; max_excl = None; stamp = info.generation }
+
+-- the group that an item tells by its counters
+abbrev pub group_in : QuotaPart → Option (ℕ × Group)
+group_in (Status status) = None
+group_in (Info group info) = Some (group, unlimited_group info)
+group_in (Limits group limit) = None
+group_in (Relation group other) = None

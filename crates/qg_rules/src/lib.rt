@@ -1,0 +1,13 @@
+//! The rules on what all items of a tree say: the root tree's, the quota tree's and a subvolume's.
+#![tactic(auto)]
+
+mod files;
+mod quota;
+mod roots;
+
+pub use files::read_files;
+pub use quota::{QuotaFault, read_quota};
+pub use roots::{are_roots, root_of, subvolume_roots};
+
+#[cfg(test)]
+mod tests;

@@ -1,0 +1,365 @@
+ghost use Rattle.std.specs.Prelude.{◌≡◌, map};
+ghost use Rattle.qg_node.specs.Nodes.{ascends_from, is_ascending};
+ghost use Rattle.qg_parts.specs.Keys.{file_key};
+
+use super::*;
+use qg_image::{FileList, FilePart, QuotaPart, RootPart};
+use qg_items::kind::{EXTENT_DATA, INODE_ITEM};
+use qg_items::{InodeItem, QgroupInfo, QgroupLimit, QgroupStatus, RootItem};
+use qg_num::{Address, Generation, GroupId, Ino, Key, Piece, RootId, Rule};
+use std::alloc::Global;
+use std::process::Abort;
+use std::test::Fail;
+
+fn root(tree: u64) -> RootPart {
+    (
+        RootId::new(tree),
+        RootItem {
+            generation: Generation::new(1),
+            bytenr: Address::new(1048576),
+            last_snapshot: Generation::new(0),
+            refs: 1,
+            level: 0,
+        },
+    )
+}
+
+#[test]
+fn trees(rt: HostRuntime) -> Result<(), Fail> {
+    let fresh = [root(2), root(5), root(8)];
+    for (parts, wanted) in [
+        (fresh.as_slice(), true),
+        ([root(5), root(8)].as_slice(), false),
+        ([root(2), root(8)].as_slice(), false),
+        ([root(2), root(5)].as_slice(), false),
+        ([root(2), root(5), root(8), root(256)].as_slice(), false),
+    ] {
+        assert_eq!(rt; are_roots(parts), wanted);
+    }
+    let subvolumes = subvolume_roots(rt.alloc(), &fresh)?;
+    assert_eq!(rt; subvolumes.as_slice(), [root(5)].as_slice());
+    assert_eq!(rt; root_of(RootId::new(8), &fresh), Some(root(8).1));
+    assert_eq!(rt; root_of(RootId::new(256), &fresh), None);
+    Ok(())
+}
+
+fn status() -> QuotaPart {
+    QuotaPart::Status {
+        status: QgroupStatus {
+            generation: Generation::new(1),
+            flags: 1,
+            cursor: 0,
+        },
+    }
+}
+
+fn counters(group: u64, rfer_cmpr: u64, excl_cmpr: u64) -> QuotaPart {
+    QuotaPart::Info {
+        group: GroupId::from_number(group),
+        info: QgroupInfo {
+            generation: Generation::new(7),
+            rfer: 8192,
+            rfer_cmpr,
+            excl: 4096,
+            excl_cmpr,
+        },
+    }
+}
+
+fn limits(group: u64, flags: u64, max_rfer: u64, max_excl: u64) -> QuotaPart {
+    QuotaPart::Limits {
+        group: GroupId::from_number(group),
+        limit: QgroupLimit {
+            flags,
+            max_rfer,
+            max_excl,
+        },
+    }
+}
+
+fn relation(group: u64, other: u64) -> QuotaPart {
+    QuotaPart::Relation {
+        group: GroupId::from_number(group),
+        other: GroupId::from_number(other),
+    }
+}
+
+fn quota_fault(alloc: Global, subvolumes: &[RootPart], parts: &[QuotaPart]) -> Option<QuotaFault> {
+    match read_quota(alloc, subvolumes, parts) {
+        Ok(_) => None,
+        Err(fault) => Some(fault),
+    }
+}
+
+fn plain() -> QuotaPart {
+    counters(5, 8192, 4096)
+}
+
+fn free() -> QuotaPart {
+    limits(5, 0, 0, 0)
+}
+
+#[test]
+fn quota(rt: HostRuntime) {
+    let alloc = rt.alloc();
+    let top = [root(5)];
+    let two = [root(5), root(256)];
+    let parts = [status(), plain(), free()];
+    assert!(rt; quota_fault(alloc, &two, &parts) == Some(QuotaFault::Rule(Rule::Quota)));
+    for (what, parts, wanted) in [
+        ("fresh", parts.as_slice(), true),
+        ("no status", [plain(), free()].as_slice(), false),
+        ("no counters", [status(), free()].as_slice(), false),
+        ("no limits", [status(), plain()].as_slice(), false),
+        ("the status alone", [status()].as_slice(), false),
+        (
+            "rfer_cmpr",
+            [status(), counters(5, 4096, 4096), free()].as_slice(),
+            false,
+        ),
+        (
+            "excl_cmpr",
+            [status(), counters(5, 8192, 8192), free()].as_slice(),
+            false,
+        ),
+        (
+            "a limit is set",
+            [status(), plain(), limits(5, 1, 4096, 0)].as_slice(),
+            false,
+        ),
+        (
+            "one that isn't",
+            [status(), plain(), limits(5, 0, 0, 1)].as_slice(),
+            false,
+        ),
+        (
+            "a group more",
+            [
+                status(),
+                plain(),
+                counters(256, 8192, 4096),
+                free(),
+                limits(256, 0, 0, 0),
+            ]
+            .as_slice(),
+            false,
+        ),
+        (
+            "a relation",
+            [status(), plain(), free(), relation(5, 281474976710657)].as_slice(),
+            false,
+        ),
+    ] {
+        let fault = quota_fault(alloc, &top, parts);
+        assert_eq!(rt; fault.is_none(), wanted, "{what}");
+    }
+}
+
+#[test]
+fn groups(rt: HostRuntime) {
+    let parts = [status(), plain(), free()];
+    let Ok(quota) = read_quota(rt.alloc(), &[root(5)], &parts) else {
+        panic!(rt; "refused")
+    };
+    assert!(rt; quota.pairs.is_empty());
+    let [(number, group)] = quota.groups.as_slice() else {
+        panic!(rt; "not one group")
+    };
+    assert_eq!(rt; number.number(), 5);
+    assert_eq!(rt; (group.counters.rfer, group.counters.excl), (8192, 4096));
+    assert_eq!(rt; (group.max_rfer, group.max_excl), (None, None));
+    assert_eq!(rt; group.stamp, Generation::new(7));
+}
+
+fn inode(ino: u64, size: u64, nbytes: u64) -> FilePart {
+    FilePart::Inode {
+        ino: Ino::new(ino),
+        inode: InodeItem {
+            generation: Generation::new(2),
+            transid: Generation::new(3),
+            size,
+            nbytes,
+        },
+    }
+}
+
+// So many bytes, from a place on, of an extent of so many.
+fn piece_of(ino: u64, position: u64, len: u64, offset: u64, extent_bytes: u64) -> FilePart {
+    FilePart::PieceOf {
+        ino: Ino::new(ino),
+        piece: Piece {
+            position,
+            len,
+            extent: Address::new(67174400),
+            offset,
+            stamp: Generation::new(2),
+            extent_bytes,
+        },
+    }
+}
+
+fn piece(ino: u64, position: u64, len: u64) -> FilePart {
+    piece_of(ino, position, len, 0, len)
+}
+
+fn key_of(part: &FilePart) -> Key
+    ensures { result ≡ file_key part.now }
+{
+    let (objectid, kind, offset) = match part {
+        FilePart::Inode { ino, .. } => (ino.value(), INODE_ITEM, 0),
+        FilePart::PieceOf { ino, piece } => (ino.value(), EXTENT_DATA, piece.position),
+    };
+    Key {
+        objectid,
+        kind,
+        offset,
+    }
+}
+
+#[tactic(auto, unfolding(qg_node::specs::Nodes::is_ascending))]
+fn do_ascend(parts: &[FilePart]) -> bool
+    ensures { result ≡ is_ascending (map file_key parts.now) }
+{
+    match parts.split_first() {
+        None => true,
+        Some((first, others)) => ascend_from(key_of(first), others),
+    }
+}
+
+#[tactic(auto, unfolding(qg_node::specs::Nodes::ascends_from))]
+fn ascend_from(first: Key, others: &[FilePart]) -> bool
+    ensures { result ≡ ascends_from first (map file_key others.now) }
+{
+    let mut before = first;
+    for other in others {
+        let key = key_of(other);
+        if !before.is_before(key) {
+            return false;
+        }
+        before = key;
+    }
+    true
+}
+
+fn files_of(rt: &impl Abort, alloc: Global, parts: &[FilePart]) -> Result<Option<FileList>, Fail> {
+    assert!(rt; do_ascend(parts));
+    Ok(read_files(alloc, parts)?)
+}
+
+#[test]
+fn two_files(rt: HostRuntime) -> Result<(), Fail> {
+    let parts = [
+        inode(257, 16384, 12288),
+        piece(257, 0, 8192),
+        piece(257, 12288, 4096),
+        inode(300, 4096, 0),
+    ];
+    let Some(files) = files_of(&rt, rt.alloc(), &parts)? else {
+        panic!(rt; "they do not fit")
+    };
+    let [(first, file), (second, empty)] = files.as_slice() else {
+        panic!(rt; "not two files")
+    };
+    assert_eq!(rt; (first.value(), second.value()), (257, 300));
+    assert_eq!(rt; (file.size, empty.size), (16384, 4096));
+    assert_eq!(rt; (file.generation.value(), file.transid.value()), (2, 3));
+    assert_eq!(rt; (file.pieces.len(), empty.pieces.len()), (2, 0));
+    Ok(())
+}
+
+#[test]
+fn one_file(rt: HostRuntime) -> Result<(), Fail> {
+    let alloc = rt.alloc();
+    for (what, parts, wanted) in [
+        ("a piece alone", [piece(257, 0, 4096)].as_slice(), false),
+        (
+            "another file's",
+            [inode(257, 4096, 0), piece(258, 0, 4096)].as_slice(),
+            false,
+        ),
+        (
+            "an overlap",
+            [
+                inode(257, 16384, 12288),
+                piece(257, 0, 8192),
+                piece(257, 4096, 4096),
+            ]
+            .as_slice(),
+            false,
+        ),
+        (
+            "they touch",
+            [
+                inode(257, 16384, 12288),
+                piece(257, 0, 8192),
+                piece(257, 8192, 4096),
+            ]
+            .as_slice(),
+            true,
+        ),
+        ("no whole sector", [inode(257, 100, 0)].as_slice(), false),
+        (
+            "nbytes",
+            [inode(257, 4096, 8192), piece(257, 0, 4096)].as_slice(),
+            false,
+        ),
+        ("inode 256", [inode(256, 0, 0)].as_slice(), false),
+        (
+            "inode 2^48",
+            [inode(281474976710656, 0, 0)].as_slice(),
+            false,
+        ),
+        (
+            "past the size",
+            [inode(257, 4096, 8192), piece(257, 0, 8192)].as_slice(),
+            false,
+        ),
+        (
+            "past 2^64",
+            [
+                inode(257, 4096, 8192),
+                piece(257, 18446744073709547520, 8192),
+            ]
+            .as_slice(),
+            false,
+        ),
+        (
+            "the largest size",
+            [inode(257, 1099511627776, 0)].as_slice(),
+            true,
+        ),
+        (
+            "a larger one",
+            [inode(257, 1099511631872, 0)].as_slice(),
+            false,
+        ),
+        (
+            "past the extent",
+            [inode(257, 8192, 8192), piece_of(257, 0, 8192, 4096, 8192)].as_slice(),
+            false,
+        ),
+        (
+            "past all extents",
+            [
+                inode(257, 8192, 8192),
+                piece_of(257, 0, 8192, 18446744073709547520, 8192),
+            ]
+            .as_slice(),
+            false,
+        ),
+        (
+            "the extent's end",
+            [inode(257, 8192, 8192), piece_of(257, 0, 8192, 4096, 12288)].as_slice(),
+            true,
+        ),
+        (
+            "no bytes",
+            [inode(257, 8192, 0), piece(257, 0, 0)].as_slice(),
+            false,
+        ),
+    ] {
+        let files = files_of(&rt, alloc, parts)?;
+        assert_eq!(rt; files.is_some(), wanted, "{what}");
+    }
+    Ok(())
+}

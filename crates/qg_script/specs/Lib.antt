@@ -1,0 +1,4 @@
+pub mod Feeding
+pub mod Lines
+pub mod ServedLines
+pub mod Added

@@ -1,0 +1,4 @@
+pub mod Fault
+pub mod IsWalk
+pub mod Standing
+pub mod Added

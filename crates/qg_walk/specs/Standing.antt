@@ -1,0 +1,38 @@
+-- What stands at an address, and how it is judged (this project's own).
+use Rattle.std.specs.Prelude.{◌≡◌, ℕ, min, [], ◌∷◌, Option, Some, None, Result, Ok, Err, IsTrue}
+use Rattle.qg_node.specs.declared.node.Node.{Node}
+use Rattle.qg_node.specs.Nodes.{header_of}
+use Rattle.qg_node.specs.NodeText.{IsNode}
+use Rattle.qg_super.specs.declared.superblock.Super.{Super}
+use Rattle.qg_super.specs.Places.{is_slot}
+use Rattle.qg_super.specs.SuperText.{sizes_of}
+use Rattle.qg_verdict.specs.declared.failure.Failure.{Failure}
+use Rattle.qg_verdict.specs.declared.tree.Tree.{Tree}
+use Rattle.qg_verdict.specs.declared.expected.Expected.{Expected}
+use Rattle.qg_verdict.specs.Failure.{first_failure}
+use Rattle.qg_verdict.specs.Walk.{way_failure, shape_failure, deepest}
+
+-- the node was read in the slot at an address
+pub record StandsAt (super : Super) (address : ℕ) (node : Node) : Type 0 where
+  pub slot : IsTrue (is_slot (sizes_of super) address)
+  pub placed : (header_of node).address ≡ address
+  pub sound : IsNode super.nodesize node
+
+-- the rules from `depth` to `shape`, in their order
+abbrev pub form_failure : Tree → Super → Expected → ℕ → Node → Option Failure
+form_failure tree super expected address node = first_failure (way_failure tree super expected address node ∷ shape_failure super.nodesize expected address node ∷ [])
+
+-- the rules from `slot` to `shape`, in their order, where this was found at an address
+abbrev pub standing_failure : Tree → Super → Expected → ℕ → Result Node Failure → Option Failure
+standing_failure tree super expected address (Err failure) = Some failure
+standing_failure tree super expected address (Ok node) = form_failure tree super expected address node
+
+-- a node was read at an address, and is none that the way to it rules out
+pub record IsJudged (tree : Tree) (super : Super) (expected : Expected) (address : ℕ) (node : Node) : Type 0 where
+  pub stands : StandsAt super address node
+  pub formed : form_failure tree super expected address node ≡ None
+
+-- how many levels there are at most below a node of which this level is expected
+abbrev pub levels_below : Option ℕ → ℕ
+levels_below None = deepest
+levels_below (Some level) = min level deepest

@@ -1,0 +1,108 @@
+// The rules on a node that was read, from `depth` to `shape`.
+ghost use Rattle.std.specs.Prelude.{◌≡◌, ◌<◌, ◌≤◌, ◌&&◌, ◌^◌, ℕ, None};
+ghost use Rattle.qg_node.specs.Nodes.{own_keys, used_bytes};
+ghost use Rattle.qg_image.specs.IsShaped.{is_first, is_shaped};
+ghost use Rattle.qg_verdict.specs.Walk.{begins_at, ends_before, is_told, is_generation};
+ghost use Rattle.qg_walk.specs.Standing.{form_failure};
+
+use crate::keys;
+use qg_node::Node;
+use qg_num::{Address, Generation, Key, Rule};
+use qg_parts::TreePart;
+use qg_super::Super;
+use qg_verdict::{Expected, Failure};
+
+// How many bytes a node's header takes.
+const HEADER_BYTES: usize = 101;
+
+/// The first of the rules from `depth` to `shape` that a node breaks, which was read at an address.
+#[tactic(auto, unfolding(qg_verdict::specs::Walk::way_failure))]
+pub(crate) fn form_failure<P: TreePart>(
+    superblock: &Super,
+    expected: &Expected,
+    address: Address,
+    node: &Node,
+) -> Option<Failure>
+    requires { used_bytes node.now < 2 ^ 32 }
+    ensures { result ≡ form_failure P.tree superblock.now expected.now address node.now }
+{
+    let header = node.header();
+    let rule = if !is_told_level(expected.level, header.level) {
+        Rule::Depth
+    } else if !P::is_owner(header.owner) {
+        Rule::Owner
+    } else if !is_generation(
+        superblock.generation,
+        expected.generation,
+        header.generation,
+    ) {
+        Rule::Gen
+    } else if !is_in_range(expected.from, expected.to, node) {
+        Rule::Range
+    } else if !is_shaped(superblock.nodesize, expected.from, node) {
+        Rule::Shape
+    } else {
+        return None;
+    };
+    Some(Failure::Broken { rule, address })
+}
+
+fn is_told_level(told: Option<u8>, level: u8) -> bool
+    ensures { result ≡ is_told told level }
+{
+    match told {
+        None => true,
+        Some(told) => told == level,
+    }
+}
+
+/// Whether a node may have a generation: the one that is told, if one is, and one from 1 to the last commit's.
+fn is_generation(last: Generation, told: Option<Generation>, generation: Generation) -> bool
+    ensures { result ≡ is_generation last told generation }
+{
+    let is_told = match told {
+        None => true,
+        Some(told) => told == generation,
+    };
+    is_told && generation.value() > 0 && generation <= last
+}
+
+fn is_in_range(from: Option<Key>, to: Option<Key>, node: &Node) -> bool
+    ensures { result ≡ (begins_at from (own_keys node.now) && ends_before to (own_keys node.now)) }
+{
+    match node {
+        Node::Leaf { items, .. } => keys::are_in_range(from, to, items.as_slice()),
+        Node::Inner { pointers, .. } => keys::are_in_range(from, to, pointers.as_slice()),
+    }
+}
+
+/// Whether a node has the shape of a root, or of one that a pointer of this key leads to.
+#[tactic(auto, unfolding(qg_image::specs::IsShaped::is_shaped))]
+fn is_shaped(nodesize: u32, from: Option<Key>, node: &Node) -> bool
+    requires { used_bytes node.now < 2 ^ 32 }
+    ensures { result ≡ is_shaped nodesize from node.now }
+{
+    let Some(key) = from else {
+        return is_root_shaped(node);
+    };
+    4 * node.used_bytes() + HEADER_BYTES >= nodesize as usize && is_first(key, node)
+}
+
+#[tactic(auto, unfolding(qg_image::specs::IsShaped::is_shaped))]
+fn is_root_shaped(node: &Node) -> bool
+    ensures { (nodesize : ℕ) → result ≡ is_shaped nodesize None node.now }
+{
+    match node {
+        Node::Leaf { .. } => true,
+        Node::Inner { pointers, .. } => pointers.len() >= 2,
+    }
+}
+
+fn is_first(key: Key, node: &Node) -> bool
+    ensures { result ≡ is_first key (own_keys node.now) }
+{
+    match node {
+        Node::Leaf { items, .. } => keys::is_first(key, items.as_slice()),
+        Node::Inner { pointers, .. } => keys::is_first(key, pointers.as_slice()),
+    }
+}

@@ -1,0 +1,34 @@
+// The items of a leaf.
+ghost use Rattle.std.specs.Prelude.{◌≡◌, ◌++◌, OnOk, IsErrOf};
+ghost use Rattle.std.specs.List.{list_all};
+ghost use Rattle.qg_num.specs.declared.rule.Rule.TheVariants as rule;
+ghost use Rattle.qg_verdict.specs.Failure.{kept};
+ghost use Rattle.qg_verdict.specs.Walk.{is_item_of};
+ghost use Rattle.qg_walk.specs.Fault.{FailsAs};
+ghost use Rattle.qg_walk.specs.Added.{AddsSaid};
+
+use crate::WalkFault;
+use crate::slot::broken;
+use qg_node::Item;
+use qg_num::{Address, Generation, Rule, Sequence};
+use qg_parts::TreePart;
+
+/// Puts what the items of the leaf at an address say behind what others said, where the tree may hold each.
+pub(crate) fn add_said<P: TreePart>(
+    generation: Generation,
+    address: Address,
+    items: &[Item],
+    parts: &mut Sequence<P>,
+) -> Result<(), WalkFault>
+    ensures failure { FailsAs result (kept (list_all (is_item_of P.tree generation) items.now) rule.Item address) }
+    ensures said { OnOk result (AddsSaid P.meaning items.now parts.old parts.new) }
+    ensures disk { IsErrOf result WalkFault.Disk → ⊥ }
+{
+    for item in items {
+        match P::read(item, generation) {
+            None => return Err(broken(Rule::Item, address)),
+            Some(part) => parts.push(part)?,
+        }
+    }
+    Ok(())
+}

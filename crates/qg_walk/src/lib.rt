@@ -1,0 +1,18 @@
+//! The walk of one tree of an image: what its items say, or exactly why the tree is not sound.
+#![tactic(auto)]
+
+mod fault;
+mod form;
+mod items;
+mod keys;
+mod slot;
+mod visit;
+mod walk;
+mod walked;
+
+pub use fault::WalkFault;
+pub use walk::walk_tree;
+pub use walked::Walked;
+
+#[cfg(test)]
+mod tests;

@@ -1,0 +1,88 @@
+// Reading what stands in a slot.
+ghost use Rattle.std.specs.Prelude.{◌≡◌, ◌≤◌, List, length, Some, IfOk, IsTrue};
+ghost use Rattle.qg_device.specs.Cause.{HasCause};
+ghost use Rattle.qg_device.specs.History.{Event, content};
+ghost use Rattle.qg_super.specs.Places.{is_served, is_slot, total_bytes};
+ghost use Rattle.qg_super.specs.SuperText.{sizes_of};
+ghost use Rattle.qg_verdict.specs.Walk.{node_found};
+ghost use Rattle.qg_verdict.specs.Failure.{rule_of};
+ghost use Rattle.qg_verdict.specs.declared.failure.Failure.TheVariants.{Broken};
+ghost use Rattle.qg_walk.specs.declared.fault.WalkFault.TheVariants.{Unsound};
+ghost use Rattle.qg_walk.specs.Fault.{FindsAs};
+ghost use Rattle.qg_walk.specs.Standing.{StandsAt};
+
+use crate::WalkFault;
+use qg_disk::Disk;
+use qg_node::{Node, NodeFault, ReadFault, read_node};
+use qg_num::{Address, Rule};
+use qg_super::{Sizes, Super};
+use qg_verdict::Failure;
+use std::alloc::Global;
+
+// Where the node slots begin, in bytes.
+const SLOTS_BEGIN: u64 = 1048576;
+
+/// The node in the slot at an address, read over a buffer of a node's size, or the first rule that is broken there.
+pub(crate) fn node_at<D: Disk>(
+    alloc: Global,
+    disk: &mut D,
+    superblock: &Super,
+    buffer: &mut [u8],
+    address: Address,
+) -> Result<Node, WalkFault>
+    requires served { IsTrue (is_served (sizes_of superblock.now)) }
+    requires inside { total_bytes (sizes_of superblock.now) ≤ D.size disk.old }
+    requires buffer { length buffer.old ≡ superblock.now.nodesize }
+    ensures told { (events : List Event) → D.history disk.old ≡ Some events
+        → FindsAs result (node_found superblock.now (content events) address) }
+    ensures stands { IfOk result (λ node. StandsAt superblock.now address node) }
+    ensures history { D.history disk.new ≡ D.history disk.old }
+    ensures size { D.size disk.new ≡ D.size disk.old }
+    ensures cause { HasCause WalkFault.Disk (D.faults disk.old) (D.faults disk.new) result }
+{
+    if !is_slot(superblock.sizes(), address) {
+        return Err(broken(Rule::Slot, address));
+    }
+    disk.read(address.value(), buffer)?;
+    match read_node(alloc, buffer, address) {
+        Ok(node) => Ok(node),
+        Err(ReadFault::Bad(fault)) => Err(broken(rule_of(fault), address)),
+        Err(ReadFault::NoMemory) => Err(WalkFault::NoMemory),
+    }
+}
+
+/// Whether an address is that of a node slot.
+#[tactic(auto, unfolding(qg_super::specs::Places::is_slot))]
+fn is_slot(sizes: Sizes, address: Address) -> bool
+    requires { IsTrue (is_served sizes) }
+    ensures { result ≡ is_slot sizes address }
+{
+    let place = address.value();
+    if place < SLOTS_BEGIN {
+        return false;
+    }
+    let offset = place - SLOTS_BEGIN;
+    offset % sizes.nodesize == 0 && offset / sizes.nodesize < sizes.slots
+}
+
+/// The rule that bytes break as a node.
+fn rule_of(fault: NodeFault) -> Rule
+    ensures { result ≡ rule_of fault }
+{
+    match fault {
+        NodeFault::Csum => Rule::Csum,
+        NodeFault::Place => Rule::Place,
+        NodeFault::Level => Rule::Level,
+        NodeFault::Empty => Rule::Empty,
+        NodeFault::Bounds => Rule::Bounds,
+        NodeFault::Order => Rule::Order,
+        NodeFault::Slack => Rule::Slack,
+    }
+}
+
+// The fault that a rule is broken at an address.
+pub(crate) fn broken(rule: Rule, address: Address) -> WalkFault
+    ensures { result ≡ Unsound (Broken rule address) }
+{
+    WalkFault::Unsound(Failure::Broken { rule, address })
+}

@@ -1,0 +1,159 @@
+// The walk from a root down.
+ghost use Rattle.std.specs.Prelude.{◌≡◌, ◌≤◌, ℕ, List, length, Some, None, Err, IfOk, OnOk, IsTrue};
+ghost use Rattle.std.specs.List.{list_all};
+ghost use Rattle.qg_device.specs.Cause.{HasCause};
+ghost use Rattle.qg_device.specs.History.{Event, content};
+ghost use Rattle.qg_super.specs.Places.{is_served, is_slot, total_bytes};
+ghost use Rattle.qg_super.specs.SuperText.{sizes_of};
+ghost use Rattle.qg_verdict.specs.declared.failure.Failure.{Failure};
+ghost use Rattle.qg_verdict.specs.Walk.{next_key, node_failure, node_found, pointers_failure, tree_failure, walk_failure};
+ghost use Rattle.qg_parts.specs.Said.{AreSaid};
+ghost use Rattle.qg_walk.specs.declared.fault.WalkFault.TheVariants.{Unsound};
+ghost use Rattle.qg_walk.specs.Fault.{FailsAs};
+ghost use Rattle.qg_walk.specs.IsWalk.{IsWalk};
+ghost use Rattle.qg_walk.specs.Standing.{levels_below};
+ghost use Rattle.qg_walk.specs.Added.{AreSpaced, HasAdded, below_node, below_pointers};
+
+use crate::items::add_said;
+use crate::visit::visit;
+use crate::{WalkFault, Walked};
+use qg_disk::Disk;
+use qg_node::{Node, Pointer};
+use qg_num::{Address, Key, Sequence};
+use qg_parts::TreePart;
+use qg_super::Super;
+use qg_verdict::Expected;
+use std::alloc::Global;
+
+/// Reads the tree under a root: each node once, judged by all rules in their order before those below it (this project's own).
+///
+/// `root` is an address in bytes. What it finds is kept in the order of the walk. Where it answers a fault, nothing is known of the tree
+/// but a failure that it tells, which is the first one.
+pub fn walk_tree<P: TreePart, D: Disk>(
+    alloc: Global,
+    disk: &mut D,
+    superblock: &Super,
+    expected: &Expected,
+    root: Address,
+) -> Result<Walked<P>, WalkFault>
+    requires served { IsTrue (is_served (sizes_of superblock.now)) }
+    requires inside { total_bytes (sizes_of superblock.now) ≤ D.size disk.old }
+    requires root { (expected.now.from ≡ None) × (expected.now.to ≡ None) }
+
+    // Over a disk that tells what it holds.
+    ensures found { (events : List Event) → D.history disk.old ≡ Some events
+        → IfOk result (λ walked. IsWalk P.tree P.meaning superblock.now (content events) expected.now root walked.parts walked.nodes) }
+    ensures unsound { (events : List Event) (failure : Failure) → D.history disk.old ≡ Some events
+        → result ≡ Err (Unsound failure) → tree_failure P.tree superblock.now (content events) expected.now root ≡ Some failure }
+
+    // Over any disk.
+    ensures ascending { IfOk result (λ walked. AreSaid P.meaning walked.parts) }
+    ensures slots { IfOk result (λ walked. IsTrue (list_all (is_slot (sizes_of superblock.now)) walked.nodes)) }
+    ensures history { D.history disk.new ≡ D.history disk.old }
+    ensures size { D.size disk.new ≡ D.size disk.old }
+    ensures cause { HasCause WalkFault.Disk (D.faults disk.old) (D.faults disk.new) result }
+{
+    let mut buffer = vec![in alloc; 0; superblock.nodesize as usize]?;
+    let mut walked = Walked {
+        parts: Sequence::new(alloc),
+        nodes: Sequence::new(alloc),
+    };
+    walk(disk, superblock, &mut buffer, &mut walked, expected, root)?;
+    Ok(walked)
+}
+
+// Walks from the node at an address down, and puts what it finds behind what was found before.
+#[cycle(walk)]
+fn walk<P: TreePart, D: Disk>(
+    disk: &mut D,
+    superblock: &Super,
+    buffer: &mut [u8],
+    walked: &mut Walked<P>,
+    expected: &Expected,
+    address: Address,
+) -> Result<(), WalkFault>
+    requires served { IsTrue (is_served (sizes_of superblock.now)) }
+    requires inside { total_bytes (sizes_of superblock.now) ≤ D.size disk.old }
+    requires buffer { length buffer.old ≡ superblock.now.nodesize }
+    ensures failure { (events : List Event) (depth : ℕ) → D.history disk.old ≡ Some events → levels_below expected.now.level ≤ depth
+        → FailsAs result (walk_failure (node_failure P.tree superblock.now) (node_found superblock.now (content events)) depth expected.now address) }
+    ensures added { OnOk result (HasAdded P.tree P.meaning superblock.now (D.history disk.old) expected.now.from expected.now.to
+        (below_node superblock.now address) walked.old walked.new) }
+    ensures history { D.history disk.new ≡ D.history disk.old }
+    ensures size { D.size disk.new ≡ D.size disk.old }
+    ensures cause { HasCause WalkFault.Disk (D.faults disk.old) (D.faults disk.new) result }
+{
+    let node = visit::<P, D>(
+        disk,
+        superblock,
+        buffer,
+        &mut walked.nodes,
+        expected,
+        address,
+    )?;
+    match node {
+        Node::Leaf { items, .. } => add_said(
+            superblock.generation,
+            address,
+            items.as_slice(),
+            &mut walked.parts,
+        ),
+        Node::Inner { header, pointers } => walk_pointers(
+            disk,
+            superblock,
+            buffer,
+            walked,
+            expected,
+            header.level - 1,
+            pointers.as_slice(),
+        ),
+    }
+}
+
+// Walks from the nodes of a level down that pointers lead to, one after the other. Their keys lie in the range that is expected of all.
+#[cycle(walk)]
+fn walk_pointers<P: TreePart, D: Disk>(
+    disk: &mut D,
+    superblock: &Super,
+    buffer: &mut [u8],
+    walked: &mut Walked<P>,
+    expected: &Expected,
+    level: u8,
+    pointers: &[Pointer],
+) -> Result<(), WalkFault>
+    requires served { IsTrue (is_served (sizes_of superblock.now)) }
+    requires inside { total_bytes (sizes_of superblock.now) ≤ D.size disk.old }
+    requires buffer { length buffer.old ≡ superblock.now.nodesize }
+    requires spaced { AreSpaced expected.now.from expected.now.to pointers.now }
+    ensures failure { (events : List Event) (depth : ℕ) → D.history disk.old ≡ Some events → level ≤ depth
+        → FailsAs result (pointers_failure (walk_failure (node_failure P.tree superblock.now) (node_found superblock.now (content events)) depth)
+        level expected.now.to pointers.now) }
+    ensures added { OnOk result (HasAdded P.tree P.meaning superblock.now (D.history disk.old) expected.now.from expected.now.to
+        (below_pointers superblock.now level pointers.now) walked.old walked.new) }
+    ensures history { D.history disk.new ≡ D.history disk.old }
+    ensures size { D.size disk.new ≡ D.size disk.old }
+    ensures cause { HasCause WalkFault.Disk (D.faults disk.old) (D.faults disk.new) result }
+{
+    let mut rest = pointers;
+    'pointers: while let Some((pointer, others)) = rest.split_first() {
+        let below = Expected {
+            level: Some(level),
+            generation: Some(pointer.generation),
+            from: Some(pointer.key),
+            to: next_key(expected.to, others),
+        };
+        walk(disk, superblock, buffer, walked, &below, pointer.child)?;
+        rest = others;
+    }
+    Ok(())
+}
+
+// The key of the first pointer, or else the one on the way.
+fn next_key(to: Option<Key>, pointers: &[Pointer]) -> Option<Key>
+    ensures { result ≡ next_key to pointers.now }
+{
+    match pointers.first() {
+        None => to,
+        Some(pointer) => Some(pointer.key),
+    }
+}
