@@ -5,3 +5,4 @@ pub mod ImageMade
 pub mod FreshNodes
 pub mod Made
 pub mod MakingCalls
+pub mod Refused

@@ -2,3 +2,4 @@ pub mod Fresh
 pub mod Calls
 pub mod Mkfs
 pub mod Fault
+pub mod Opening

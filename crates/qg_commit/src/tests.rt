@@ -1,8 +1,11 @@
-// What no clause says: that an image is made where memory is ample, with which calls, and its bytes by hand.
+// What no clause says: that an image is made and opened where memory is ample, with which calls, and its bytes by hand.
 use super::*;
 use qg_bytes::put_bytes;
+use qg_check::Image;
 use qg_disk::{Call, Disk, DiskFault, MemDisk, Request};
+use qg_num::{Address, Rule};
 use qg_super::Sizes;
+use std::alloc::Global;
 use std::process::Abort;
 use std::test::Fail;
 
@@ -219,5 +222,112 @@ fn bytes_of_a_fresh_image(rt: HostRuntime) -> Result<(), Fail> {
     has_pieces(&rt, &mut disk, 1081344, 16384, &files, &node)?;
     has_pieces(&rt, &mut disk, 1097728, 16384, &QUOTA_NODE, &node)?;
     assert_eq!(rt; disk.len(), 71368704);
+    Ok(())
+}
+
+// The last calls on a disk, but for those that read.
+fn has_last_steps(rt: &impl Abort, disk: &MemDisk, from: usize, wanted: &[Step]) {
+    let mut count = 0;
+    for call in disk.calls().iter().skip(from) {
+        let step = step_of(call);
+        if step != Step::Read {
+            assert!(rt; count < wanted.len() && step == wanted[count]);
+            count += 1;
+        }
+    }
+    assert_eq!(rt; count, wanted.len());
+}
+
+// The least image.
+fn least_image(alloc: Global) -> Result<MemDisk, Fail> {
+    let mut disk = MemDisk::new(alloc);
+    mkfs(alloc, &mut disk, LEAST)?;
+    Ok(disk)
+}
+
+// A byte is changed, at a place where it was another.
+fn tear(disk: &mut MemDisk, at: u32) -> Result<(), Fail> {
+    disk.write_at(at.into(), &[7])?;
+    Ok(())
+}
+
+// The disk is made shorter.
+fn shorten(rt: &impl Abort, disk: &mut MemDisk, len: u64) -> Result<(), Fail> {
+    assert!(rt; len <= disk.len());
+    disk.cut(len)?;
+    Ok(())
+}
+
+// What is told of a fresh image of the least sizes.
+fn is_least(rt: &impl Abort, image: &Image) {
+    assert_eq!(rt; image.superblock.sizes(), LEAST);
+    assert_eq!(rt; image.superblock.generation.value(), 1);
+    assert_eq!(rt; image.stale, None);
+    assert!(rt; image.files.is_empty() && image.extents.is_empty());
+    assert!(rt; image.nodes.len() == 1 && image.nodes.as_slice()[0].value() == 1056768);
+    let groups = image.quota.groups.as_slice();
+    assert!(rt; groups.len() == 1 && groups[0].1.counters.excl == 4096);
+}
+
+#[test]
+fn a_fresh_image_is_opened(rt: HostRuntime) -> Result<(), Fail> {
+    let mut disk = least_image(rt.alloc())?;
+    let made = disk.calls().len();
+    let image = open(rt.alloc(), &mut disk).expect(&rt, "it is sound");
+    is_least(&rt, &image);
+    has_last_steps(&rt, &disk, made, &[Step::Sync]);
+    Ok(())
+}
+
+#[test]
+fn a_place_that_is_torn_is_written_again(rt: HostRuntime) -> Result<(), Fail> {
+    let table = [(65536 + 72, 65536), (67108864 + 4000, 67108864)];
+    for (torn, place) in table {
+        let mut disk = least_image(rt.alloc())?;
+        tear(&mut disk, torn)?;
+        let made = disk.calls().len();
+        assert!(rt; open(rt.alloc(), &mut disk).is_ok(), "{place}");
+        let steps = [Step::Sync, Step::Write(place, 4096), Step::Sync];
+        has_last_steps(&rt, &disk, made, &steps);
+        let again = open(rt.alloc(), &mut disk).expect(&rt, "it is sound");
+        is_least(&rt, &again);
+    }
+    Ok(())
+}
+
+#[test]
+fn an_image_that_is_not_sound_is_not_written(rt: HostRuntime) -> Result<(), Fail> {
+    let table = [
+        (65536, Rule::Super, 65536),
+        (67239935, Rule::Length, 67239935),
+    ];
+    for (len, rule, address) in table {
+        let mut disk = least_image(rt.alloc())?;
+        shorten(&rt, &mut disk, len)?;
+        let made = disk.calls().len();
+        let opened = open(rt.alloc(), &mut disk);
+        let address = Address::new(address);
+        assert_eq!(rt; opened.err(), Some(OpenFault::Broken { rule, address }));
+        has_last_steps(&rt, &disk, made, &[Step::Sync]);
+    }
+    let mut disk = least_image(rt.alloc())?;
+    tear(&mut disk, 1048576 + 200)?;
+    let opened = open(rt.alloc(), &mut disk);
+    let rule = Rule::Csum;
+    let address = Address::new(1048576);
+    assert_eq!(rt; opened.err(), Some(OpenFault::Broken { rule, address }));
+    Ok(())
+}
+
+#[test]
+fn each_call_of_opening_that_fails_is_told(rt: HostRuntime) -> Result<(), Fail> {
+    for number in 12..=18 {
+        let mut disk = MemDisk::new(rt.alloc());
+        mkfs(rt.alloc(), &mut disk, LEAST)?;
+        disk.fail_at(vec![in rt.alloc(); number]?);
+        let opened = open(rt.alloc(), &mut disk);
+        assert_eq!(rt; opened.err(), Some(OpenFault::Disk), "at {number}");
+        assert_eq!(rt; disk.calls().len() as u64, number);
+    }
     Ok(())
 }

@@ -1,0 +1,13 @@
+pub mod SuperIn
+pub mod Ascending
+pub mod Named
+pub mod Said
+pub mod Groups
+pub mod Held
+pub mod Counters
+pub mod Staging
+pub mod Found
+pub mod Pieces
+pub mod StateRead
+pub mod SlotsOf
+pub mod Verdicts

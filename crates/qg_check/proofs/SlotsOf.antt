@@ -1,0 +1,23 @@
+-- Slots that are the same as others that all are slots.
+use Rattle.std.proofs.Common.{◌≡◌, ℕ, ◌<◌, Bool, true, List, [], ◌∷◌, length, get_or, inl, inr, sym, subst, ap, ◌∙◌}
+use Rattle.std.specs.Prelude.{IsTrue}
+use Rattle.std.specs.List.{All, Contains, list_all}
+use Rattle.std.proofs.lemmas.Bool.{and_parts}
+use Rattle.std.proofs.lemmas.List.Elements.{Contains-get_or}
+use Rattle.qg_super.specs.declared.sizes.Sizes.{Sizes}
+use Rattle.qg_super.specs.Places.{is_slot}
+use Rattle.qg_reach.specs.Sets.{HaveSame}
+use Rattle.qg_reach.proofs.Members.{none_contained, contains_cases}
+
+-- what all pass, each passes
+passes : {A : Type 0} (p : A → Bool) (xs : List A) (x : A) → list_all p xs ≡ true → Contains xs x → p x ≡ true
+passes p [] x all has = absurd (none_contained x has)
+passes p (y ∷ ys) x all has =
+    let parts = and_parts (p y) (list_all p ys) all in
+    elim (contains_cases y ys x has) [
+      | inl same ↦ subst (λ z. p z ≡ true) same parts.0
+      | inr later ↦ passes p ys x parts.1 later
+    ]
+
+pub same_slots : (sizes : Sizes) (slots given : List ℕ) → HaveSame slots given → list_all (is_slot sizes) given ≡ true → All (λ slot. IsTrue (is_slot sizes slot)) slots
+same_slots sizes slots given same all = λ k d below. passes (is_slot sizes) given (get_or slots k d) all (same.into (get_or slots k d) (Contains-get_or slots k d below))

@@ -1,0 +1,33 @@
+-- The failures of several parts, in their order.
+use Rattle.std.proofs.Common.{◌≡◌, List, [], ◌∷◌, refl, sym, ap, ◌∙◌, subst}
+use Rattle.std.specs.Prelude.{Option, Some, None, Result, Ok, Err}
+use Rattle.std.specs.Result.{IsErrAnd}
+use Rattle.qg_verdict.specs.declared.failure.Failure.{Failure}
+use Rattle.qg_verdict.specs.Failure.{first_failure}
+use Rattle.qg_walk.specs.declared.fault.WalkFault.{WalkFault}
+use Rattle.qg_walk.specs.declared.fault.WalkFault.TheVariants.{Unsound, Disk, NoMemory}
+use Rattle.qg_walk.specs.Fault.{TellsFailure, FailsAs}
+
+-- the failure of the first part is told
+pub tells_first : (fault : WalkFault) (first : Option Failure) (rest : List (Option Failure)) → TellsFailure fault first → TellsFailure fault (first_failure (first ∷ rest))
+tells_first (Unsound told) first rest h = rw h refl
+tells_first Disk first rest h = tt
+tells_first NoMemory first rest h = tt
+
+-- a part that has none is passed over
+pub pass_first : (first : Option Failure) (rest : List (Option Failure)) → first ≡ None → first_failure (first ∷ rest) ≡ first_failure rest
+pass_first first rest none = rw none refl
+
+pub tells_same : (fault : WalkFault) {a b : Option Failure} → a ≡ b → TellsFailure fault b → TellsFailure fault a
+tells_same (Unsound told) same h = same ∙ h
+tells_same Disk same h = tt
+tells_same NoMemory same h = tt
+
+-- a call that hands on a fault fails as it tells
+pub fails_handed : {T : Type 0} (result : Result T WalkFault) (fault : WalkFault) (failure : Option Failure) → IsErrAnd result (λ given. given ≡ fault) → TellsFailure fault failure → FailsAs result failure
+fails_handed (Ok value) fault failure is told = absurd is
+fails_handed (Err given) fault failure is told = subst (λ (f : WalkFault). TellsFailure f failure) (sym is) told
+
+pub fails_same : {T : Type 0} (result : Result T WalkFault) {a b : Option Failure} → a ≡ b → FailsAs result b → FailsAs result a
+fails_same (Ok value) same h = same ∙ h
+fails_same (Err fault) same h = tells_same fault same h

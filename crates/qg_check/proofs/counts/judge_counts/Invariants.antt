@@ -1,0 +1,8 @@
+use Rattle.std.proofs.Common.{◌≡◌, Some, None, drop}
+use Rattle.qg_state.specs.State.{State}
+use Rattle.qg_check.specs.Counted.{CountAll}
+use Rattle.qg_check.proofs.Counters.{HaveJudged}
+use Rattle.qg_check.proofs.counts.judge_counts.Given as goal
+
+abbrev pub invariant-loop-entry : goal.invariant-loop-entry
+invariant-loop-entry l = HaveJudged l.bytes l.entry-index l.quota.groups

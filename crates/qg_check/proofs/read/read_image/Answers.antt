@@ -1,0 +1,101 @@
+use Rattle.std.proofs.Common.{◌≡◌, ℕ, List, [], ◌∷◌, length, None, Some, refl, sym, ap, ◌∙◌, subst}
+use Rattle.std.specs.Prelude.{Option, Result, Ok, Err, IfOk}
+use Rattle.qg_device.specs.History.{Event, content}
+use Rattle.qg_super.specs.declared.superblock.Super.{Super}
+use Rattle.qg_super.specs.SuperText.{choose}
+use Rattle.qg_verdict.specs.Failure.{first_failure}
+use Rattle.qg_verdict.specs.Verdict.{verdict}
+use Rattle.qg_verdict.specs.StateOf.{super_in, super_of}
+use Rattle.qg_walk.specs.declared.fault.WalkFault.{WalkFault}
+use Rattle.qg_walk.specs.Fault.{FailsAs}
+use Rattle.qg_check.specs.declared.image.Image.{Image}
+use Rattle.qg_check.specs.IsImage.{IsImage, IsKept}
+use Rattle.qg_check.specs.Stages.{places_failure, roots_failure}
+use Rattle.qg_check.proofs.Staging.{tells_first, pass_first, tells_same, fails_handed, fails_same}
+use Rattle.qg_check.proofs.Verdicts.{alone, verdict_none, verdict_some, image_failure_parts, rest_failure, rest_failure_trees}
+use Rattle.qg_check.proofs.read.read_image.Given.{Over}
+use Rattle.qg_check.proofs.read.read_image.Goals as goal
+
+-- the superblock that counts, of those that were read
+super_read : (bytes : List ℕ) (first second : Option Super) → first ≡ super_in bytes 65536 → second ≡ super_in bytes 67108864 → super_of bytes ≡ choose first second
+unfolding super_of
+super_read bytes first second is is' = rw (is, is') refl
+
+pub returns-in_default-clause-failure : goal.returns-in_default-clause-failure
+returns-in_default-clause-failure g c = λ events told.
+    let bytes = content events in
+    let places = c.in_ok-places.places in
+    let none : super_of bytes ≡ None =
+    super_read bytes places.first places.second (c.in_ok-places.ensures.first events told) (c.in_ok-places.ensures.second events told) ∙ sym c.chosen.ensures.value ∙ c.in_default.is in
+    rw (c.broken.ensures, c.new.ensures) (verdict_none bytes none)
+
+-- the parts of the verdict, by the superblock that counts
+parts : (bytes : List ℕ) (first second : Option Super) (super : Super) → first ≡ super_in bytes 65536 → second ≡ super_in bytes 67108864 → choose first second ≡ Some super
+    → verdict bytes ≡ first_failure (places_failure super first second (length bytes) ∷ roots_failure super bytes ∷ rest_failure super bytes ∷ [])
+parts bytes first second super is is' chosen =
+    verdict_some bytes super (super_read bytes first second is is' ∙ chosen) ∙ image_failure_parts super bytes ∙ (rw (sym is, sym is') refl)
+
+-- and by how long the disk is
+sized_parts : (bytes : List ℕ) (first second : Option Super) (super : Super) (len : ℕ) → first ≡ super_in bytes 65536 → second ≡ super_in bytes 67108864 → choose first second ≡ Some super → len ≡ length bytes
+    → verdict bytes ≡ first_failure (places_failure super first second len ∷ roots_failure super bytes ∷ rest_failure super bytes ∷ [])
+sized_parts bytes first second super len is is' chosen long =
+    parts bytes first second super is is' chosen ∙ ap (λ (n : ℕ). first_failure (places_failure super first second n ∷ roots_failure super bytes ∷ rest_failure super bytes ∷ [])) (sym long)
+
+pub returns-in_err-judge_places-clause-failure : goal.returns-in_err-judge_places-clause-failure
+returns-in_err-judge_places-clause-failure g c = λ events told.
+    let fault = c.in_err-judge_places.field-0.0 in
+    let whole = sized_parts (content events) c.in_ok-places.places.first c.in_ok-places.places.second c.in-Some.superblock c.len.result (c.in_ok-places.ensures.first events told) (c.in_ok-places.ensures.second events told)
+    (sym c.chosen.ensures.value ∙ c.in-Some.is) (c.len.ensures ∙ g.met.D.Disk.sized c.read_places.new.disk events (c.in_ok-places.ensures.history ∙ told)) in
+    fails_handed c.from_residual-in_err-judge_places.result fault _ c.from_residual-in_err-judge_places.ensures.1
+    (tells_same fault whole (tells_first fault _ _ c.in_err-judge_places.ensures.failure))
+
+pub returns-in_err-trees-clause-failure : goal.returns-in_err-trees-clause-failure
+returns-in_err-trees-clause-failure g c = λ events told.
+    let fault = c.in_err-trees.field-0.0 in
+    let whole = sized_parts (content events) c.in_ok-places.places.first c.in_ok-places.places.second c.in-Some.superblock c.len.result (c.in_ok-places.ensures.first events told) (c.in_ok-places.ensures.second events told)
+    (sym c.chosen.ensures.value ∙ c.in-Some.is) (c.len.ensures ∙ g.met.D.Disk.sized c.read_places.new.disk events (c.in_ok-places.ensures.history ∙ told)) in
+    let roots = c.in_err-trees.ensures.failure events (c.in_ok-places.ensures.history ∙ told) in
+    fails_handed c.from_residual-in_err-trees.result fault _ c.from_residual-in_err-trees.ensures.1
+    (tells_same fault (whole ∙ pass_first _ _ c.in_ok-judge_places.ensures.failure) (tells_first fault _ _ roots))
+
+pub returns-in_err-image-clause-failure : goal.returns-in_err-image-clause-failure
+returns-in_err-image-clause-failure g c = λ events told.
+    let fault = c.in_err-image.field-0.0 in
+    let whole = sized_parts (content events) c.in_ok-places.places.first c.in_ok-places.places.second c.in-Some.superblock c.len.result (c.in_ok-places.ensures.first events told) (c.in_ok-places.ensures.second events told)
+    (sym c.chosen.ensures.value ∙ c.in-Some.is) (c.len.ensures ∙ g.met.D.Disk.sized c.read_places.new.disk events (c.in_ok-places.ensures.history ∙ told)) in
+    let told' = c.in_ok-places.ensures.history ∙ told in
+    let last = c.in_ok-trees.ensures.history ∙ told' in
+    let roots = c.in_ok-trees.ensures.failure events told' in
+    let are = c.in_ok-trees.ensures.trees events told' in
+    fails_handed c.from_residual-in_err-image.result fault _ c.from_residual-in_err-image.ensures.1
+    (tells_same fault
+    (whole ∙ pass_first _ _ c.in_ok-judge_places.ensures.failure ∙ pass_first _ _ roots ∙ alone (rest_failure c.in-Some.superblock (content events)) ∙ rest_failure_trees c.in-Some.superblock (content events) c.in_ok-trees.trees are)
+    (c.in_err-image.ensures.failure events last are))
+
+pub returns-clause-failure : goal.returns-clause-failure
+returns-clause-failure g c = λ events told.
+    let whole = sized_parts (content events) c.in_ok-places.places.first c.in_ok-places.places.second c.in-Some.superblock c.len.result (c.in_ok-places.ensures.first events told) (c.in_ok-places.ensures.second events told)
+    (sym c.chosen.ensures.value ∙ c.in-Some.is) (c.len.ensures ∙ g.met.D.Disk.sized c.read_places.new.disk events (c.in_ok-places.ensures.history ∙ told)) in
+    let told' = c.in_ok-places.ensures.history ∙ told in
+    let last = c.in_ok-trees.ensures.history ∙ told' in
+    let roots = c.in_ok-trees.ensures.failure events told' in
+    let are = c.in_ok-trees.ensures.trees events told' in
+    whole ∙ pass_first _ _ c.in_ok-judge_places.ensures.failure ∙ pass_first _ _ roots ∙ alone (rest_failure c.in-Some.superblock (content events))
+    ∙ rest_failure_trees c.in-Some.superblock (content events) c.in_ok-trees.trees are ∙ c.in_ok-image.ensures.failure events last are
+
+pub returns-clause-image : goal.returns-clause-image
+returns-clause-image g c = λ events told.
+    let told' = c.in_ok-places.ensures.history ∙ told in
+    let last = c.in_ok-trees.ensures.history ∙ told' in
+    let are = c.in_ok-trees.ensures.trees events told' in
+    let first = c.in_ok-places.ensures.first events told in
+    let second = c.in_ok-places.ensures.second events told in
+    let kept = c.in_ok-image.ensures.image events last are in
+    let chosen = super_read (content events) c.in_ok-places.places.first c.in_ok-places.places.second first second ∙ sym c.chosen.ensures.value ∙ c.in-Some.is in
+    record {
+      sound = returns-clause-failure g c events told;
+      chosen = chosen ∙ ap (λ (s : Super). Some s) (sym kept.same);
+      stale = c.stale-image.ensures.value ∙ (rw (first, second) refl);
+      kept = subst (λ (s : Super). IsKept s (content events) (record c.in_ok-image.image { stale = c.stale-image.result })) (sym kept.same)
+          (record { same = kept.same; state = kept.state; nodes = kept.nodes; ascending = kept.ascending; extents = kept.extents });
+    }

@@ -1,0 +1,67 @@
+use Rattle.std.proofs.Common.{◌≡◌, ℕ, List, [], ◌∷◌, None, Some, refl, sym, ap, ◌∙◌, subst}
+use Rattle.qg_device.specs.History.{content}
+use Rattle.qg_items.specs.declared.root.RootItem.{RootItem}
+use Rattle.qg_image.specs.declared.part.QuotaPart.{QuotaPart}
+use Rattle.qg_image.specs.ItemMeaning.{quota_part}
+use Rattle.qg_image.specs.Table.{keys_of}
+use Rattle.qg_verdict.specs.declared.tree.Tree.TheVariants.{Quotas}
+use Rattle.qg_verdict.specs.StateOf.{quota_parts, quota_told}
+use Rattle.qg_verdict.specs.declared.expected.Expected.{Expected}
+use Rattle.qg_walk.specs.IsWalk.{IsWalk}
+use Rattle.qg_parts.specs.Said.{AreSaid}
+use Rattle.qg_parts.proofs.Keys.{quotas_ascending}
+use Rattle.qg_state.specs.declared.quota.Quota.{Quota}
+use Rattle.qg_rules.specs.declared.quota.QuotaFault.{QuotaFault}
+use Rattle.qg_rules.specs.Quota.{quota_rule, IfRule}
+use Rattle.qg_check.proofs.Said.{tree_read, quota_parts_of}
+use Rattle.qg_check.proofs.Groups.{KeepsRules, quota_rule_kept, quota_rule_told, IsOnlyGroup, is_quota_only, groups_told, pairs_told}
+use Rattle.qg_check.proofs.trees.read_quotas.Given.{Over}
+use Rattle.qg_check.proofs.trees.read_quotas.Goals as goal
+
+-- the rules are kept by what was read, beside the only subvolume
+kept : (g : Over) (c : goal.After-drop-walked g) → KeepsRules (5 ∷ []) c.as_slice.result.now
+kept g c = quota_rule_kept (5 ∷ []) c.as_slice.result.now (subst (λ (n : ℕ). quota_rule (n ∷ []) c.as_slice.result.now ≡ None) c.new.ensures c.in-Ok.ensures.sound)
+
+only : (g : Over) (c : goal.After-drop-walked g) → IsOnlyGroup c.as_slice.result.now
+only g c = is_quota_only c.as_slice.result.now
+    (quotas_ascending c.as_slice.result.now (subst (λ (parts : List QuotaPart). AreSaid quota_part parts) (sym c.as_slice.ensures) c.in_ok-walked.ensures.ascending)) (kept g c).quota
+
+pub returns-in-Ok-clause-failure : goal.returns-in-Ok-clause-failure
+returns-in-Ok-clause-failure g c = λ events extents told named.
+    let super = c.args.superblock.now in
+    let root = c.args.root.now in
+    let walk = subst (λ (expected : Expected). IsWalk Quotas quota_part c.args.superblock.now (content events) expected c.args.root.now.bytenr c.in_ok-walked.walked.parts c.in_ok-walked.walked.nodes) c.root_told.ensures (c.in_ok-walked.ensures.found events told) in
+    let parts : quota_parts super (content events) ≡ c.as_slice.result.now =
+    quota_parts_of super (content events) root named.quota_tree ∙ tree_read Quotas quota_part super (content events) root _ _ walk ∙ sym c.as_slice.ensures in
+    let rules = kept g c in
+    rw (walk.sound, named.only, parts, rules.quota, rules.few) refl
+
+pub returns-in-Ok-clause-tree : goal.returns-in-Ok-clause-tree
+returns-in-Ok-clause-tree g c = λ events told.
+    let walk = subst (λ (expected : Expected). IsWalk Quotas quota_part c.args.superblock.now (content events) expected c.args.root.now.bytenr c.in_ok-walked.walked.parts c.in_ok-walked.walked.nodes) c.root_told.ensures (c.in_ok-walked.ensures.found events told) in
+    let root = c.args.root.now in
+    let parts = tree_read Quotas quota_part c.args.superblock.now (content events) root _ _ walk in
+    record {
+      said = c.in-Ok.ensures.told ∙ ap quota_told (c.as_slice.ensures ∙ sym parts);
+      placed = walk.placed;
+    }
+
+pub returns-in-Ok-clause-groups : goal.returns-in-Ok-clause-groups
+returns-in-Ok-clause-groups g c =
+    ap (λ (quota : Quota). keys_of quota.groups) c.in-Ok.ensures.told ∙ groups_told c.as_slice.result.now ∙ (only g c).groups
+
+pub returns-in-Ok-clause-pairs : goal.returns-in-Ok-clause-pairs
+returns-in-Ok-clause-pairs g c = ap (λ (quota : Quota). quota.pairs) c.in-Ok.ensures.told ∙ pairs_told c.as_slice.result.now ∙ (only g c).pairs
+
+pub returns-in-Err-Rule-clause-failure : goal.returns-in-Err-Rule-clause-failure
+returns-in-Err-Rule-clause-failure g c = λ events extents told named.
+    let super = c.args.superblock.now in
+    let root = c.args.root.now in
+    let walk = subst (λ (expected : Expected). IsWalk Quotas quota_part c.args.superblock.now (content events) expected c.args.root.now.bytenr c.in_ok-walked.walked.parts c.in_ok-walked.walked.nodes) c.root_told.ensures (c.in_ok-walked.ensures.found events told) in
+    let parts : quota_parts super (content events) ≡ c.as_slice.result.now =
+    quota_parts_of super (content events) root named.quota_tree ∙ tree_read Quotas quota_part super (content events) root _ _ walk ∙ sym c.as_slice.ensures in
+    let refused : quota_rule (c.new.result ∷ []) c.as_slice.result.now ≡ Some c.in-Err-Rule.rule =
+    subst (λ (fault : QuotaFault). IfRule fault (λ rule. quota_rule (c.new.result ∷ []) c.as_slice.result.now ≡ Some rule)) c.in-Err-Rule.field-0-is c.in-Err-Rule.ensures.refused in
+    let broken_rule : quota_rule (5 ∷ []) c.as_slice.result.now ≡ Some c.in-Err-Rule.rule =
+    subst (λ (n : ℕ). quota_rule (n ∷ []) c.as_slice.result.now ≡ Some c.in-Err-Rule.rule) c.new.ensures refused in
+    rw (c.broken.ensures, walk.sound, named.only, parts) (quota_rule_told (5 ∷ []) c.as_slice.result.now c.in-Err-Rule.rule root.bytenr broken_rule)

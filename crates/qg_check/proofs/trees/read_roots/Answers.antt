@@ -1,0 +1,40 @@
+use Rattle.std.proofs.Common.{◌≡◌, Bool, true, false, refl, sym, ◌∙◌, subst}
+use Rattle.qg_device.specs.History.{content}
+use Rattle.qg_num.specs.declared.rule.Rule.TheVariants.{Root}
+use Rattle.qg_image.specs.ItemMeaning.{root_part}
+use Rattle.qg_verdict.specs.declared.failure.Failure.TheVariants.{Broken}
+use Rattle.qg_verdict.specs.StateOf.{roots_in}
+use Rattle.qg_verdict.specs.Verdict.{are_roots}
+use Rattle.qg_parts.specs.Said.{AreSaid}
+use Rattle.qg_parts.proofs.Keys.{roots_ascending}
+use Rattle.qg_walk.specs.declared.fault.WalkFault.TheVariants.{Unsound}
+use Rattle.qg_check.specs.Trees.{AreNamed}
+use Rattle.qg_check.proofs.Said.{roots_read}
+use Rattle.qg_check.proofs.trees.read_roots.Goals as goal
+
+pub name_trees-requires : goal.name_trees-requires
+name_trees-requires g c = record { ascending = roots_ascending c.as_slice.result.now (subst (λ parts. AreSaid root_part parts) (sym c.as_slice.ensures) c.in_ok-walked.ensures.ascending) }
+
+pub returns-in_default-clause-failure : goal.returns-in_default-clause-failure
+returns-in_default-clause-failure g c = λ events told.
+    let walk = c.in_ok-walked.ensures.found events told in
+    let super = c.args.superblock.now in
+    let roots : roots_in super (content events) ≡ c.as_slice.result.now = roots_read super (content events) _ _ walk ∙ sym c.as_slice.ensures in
+    let none : are_roots c.as_slice.result.now ≡ false = c.in_default.ensures.none in
+    let broken : c.broken.result ≡ Unsound (Broken Root super.root) = c.broken.ensures in
+    rw (broken, walk.sound, roots, none) refl
+
+pub returns-clause-failure : goal.returns-clause-failure
+returns-clause-failure g c = λ events told.
+    let walk = c.in_ok-walked.ensures.found events told in
+    let super = c.args.superblock.now in
+    let roots : roots_in super (content events) ≡ c.as_slice.result.now = roots_read super (content events) _ _ walk ∙ sym c.as_slice.ensures in
+    let named : AreNamed c.as_slice.result.now c.in-Some.named.extents c.in-Some.named.quotas c.in-Some.named.files = c.in-Some.ensures.some in
+    rw (walk.sound, roots, named.are, named.only) refl
+
+pub returns-clause-trees : goal.returns-clause-trees
+returns-clause-trees g c = λ events told.
+    let walk = c.in_ok-walked.ensures.found events told in
+    let super = c.args.superblock.now in
+    let roots : roots_in super (content events) ≡ c.as_slice.result.now = roots_read super (content events) _ _ walk ∙ sym c.as_slice.ensures in
+    record { named = rw roots c.in-Some.ensures.some; placed = walk.placed }

@@ -1,0 +1,5 @@
+pub mod Stages
+pub mod Stale
+pub mod Trees
+pub mod IsImage
+pub mod Counted

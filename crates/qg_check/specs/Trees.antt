@@ -1,0 +1,62 @@
+-- What is read of each tree of an image (this project's own).
+use Rattle.std.specs.Prelude.{◌≡◌, ℕ, true, List, [], ◌∷◌, map, Some}
+use Rattle.std.specs.List.{filter_map, flat_map}
+use Rattle.qg_node.specs.Nodes.{header_of, own_items}
+use Rattle.qg_items.specs.declared.root.RootItem.{RootItem}
+use Rattle.qg_items.specs.declared.tree.TheConstants.{EXTENT_TREE, QUOTA_TREE, TOP_LEVEL}
+use Rattle.qg_super.specs.declared.superblock.Super.{Super}
+use Rattle.qg_image.specs.Table.{value_at}
+use Rattle.qg_image.specs.ItemMeaning.{file_part, quota_part}
+use Rattle.qg_image.specs.FilesOf.{are_files, files_in, files_of}
+use Rattle.qg_image.specs.declared.part.FilePart.{FilePart}
+use Rattle.qg_verdict.specs.declared.tree.Tree.TheVariants.{Extents, Quotas, Files}
+use Rattle.qg_verdict.specs.StateOf.{root_nodes, roots_in, subvolume_roots, items_of_root, nodes_of_root, quota_told}
+use Rattle.qg_node.specs.declared.node.Node.{Node}
+use Rattle.qg_verdict.specs.Walk.{node_found, root_told}
+use Rattle.qg_verdict.specs.StateOf.{level_in}
+use Rattle.qg_verdict.specs.ItemsUnder.{nodes_under}
+use Rattle.qg_verdict.specs.Verdict.{are_roots}
+use Rattle.qg_check.specs.declared.judge.Read.{Read}
+use Rattle.qg_check.specs.declared.trees.Trees.{Trees}
+use Rattle.qg_check.specs.declared.trees.QuotaTree.{QuotaTree}
+use Rattle.qg_check.specs.declared.trees.FileTree.{FileTree}
+
+-- where nodes lie
+abbrev pub addresses_of : List Node → List ℕ
+addresses_of nodes = map (λ node. (header_of node).address) nodes
+
+-- some roots are those of these trees, and of no other subvolume
+pub record AreNamed (roots : List (ℕ × RootItem)) (extents quotas files : RootItem) : Type 0 where
+  pub are : are_roots roots ≡ true
+  pub extent_tree : value_at EXTENT_TREE roots ≡ Some extents
+  pub quota_tree : value_at QUOTA_TREE roots ≡ Some quotas
+  pub only : subvolume_roots roots ≡ (TOP_LEVEL, files) ∷ []
+
+-- the root tree of an image names these trees, and no other subvolume
+pub record AreTrees (super : Super) (image : List ℕ) (trees : Trees) : Type 0 where
+  pub named : AreNamed (roots_in super image) trees.extents trees.quotas trees.files
+  pub placed : trees.nodes ≡ addresses_of (root_nodes super image)
+
+-- the quota tree says this
+pub record IsQuotaTree (super : Super) (image : List ℕ) (root : RootItem) (tree : QuotaTree) : Type 0 where
+  pub said : tree.quota ≡ quota_told (filter_map quota_part (items_of_root Quotas super image root))
+  pub placed : tree.nodes ≡ addresses_of (nodes_of_root Quotas super image root)
+
+-- the top-level subvolume's tree holds these files: its items stand in its nodes, say these parts, and fit each other
+pub record IsFileTree (super : Super) (image : List ℕ) (root : RootItem) (tree : FileTree) : Type 0 where
+  pub files : files_of super.generation (items_of_root Files super image root) ≡ Some tree.files
+  pub placed : tree.nodes ≡ addresses_of (nodes_of_root Files super image root)
+  pub under : nodes_under Files super (node_found super image) (level_in super image root.bytenr) (root_told root) root.bytenr
+      ≡ Some (nodes_of_root Files super image root)
+  pub stand : items_of_root Files super image root ≡ flat_map own_items (nodes_of_root Files super image root)
+  pub parts : List FilePart
+  pub said : map file_part (items_of_root Files super image root) ≡ map (λ part. Some part) parts
+  pub fit : are_files parts ≡ true
+  pub told : tree.files ≡ files_in parts
+
+-- this was read of the trees of an image
+pub record AreRead (super : Super) (image : List ℕ) (read : Read) : Type 0 where
+  pub trees : AreTrees super image read.trees
+  pub extent_nodes : read.extent_nodes ≡ addresses_of (nodes_of_root Extents super image read.trees.extents)
+  pub quotas : IsQuotaTree super image read.trees.quotas read.quotas
+  pub subvolume : IsFileTree super image read.trees.files read.subvolume

@@ -1,0 +1,26 @@
+use qg_image::FileList;
+use qg_items::RootItem;
+use qg_num::{Address, Sequence};
+use qg_state::{Element, Quota};
+use qg_super::Super;
+
+/// What a sound image stands for, but for how its nodes are cut (this project's own). Addresses are in bytes.
+#[derive(Debug, Drop)]
+pub struct Image {
+    /// The superblock that counts.
+    pub superblock: Super,
+    /// The place that does not hold the same, in bytes, if there is one.
+    pub stale: Option<u64>,
+    /// The ROOT_ITEM of the top-level subvolume.
+    pub root: RootItem,
+    /// Its files, ascending by number.
+    pub files: FileList,
+    /// The quota groups.
+    pub quota: Quota,
+    /// Where the nodes of the root, extent and quota trees lie, in the order of the walk.
+    pub others: Sequence<Address>,
+    /// Where those of the top-level subvolume lie, ascending.
+    pub nodes: Sequence<Address>,
+    /// The data extents that files name, ascending.
+    pub extents: Sequence<Element>,
+}

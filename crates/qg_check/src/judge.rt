@@ -1,0 +1,81 @@
+// What the trees of an image say together.
+ghost use Rattle.std.specs.Prelude.{◌≡◌, ◌∷◌, [], ◌++◌, List, ℕ, IfOk, IsErrOf, IsTrue};
+ghost use Rattle.std.specs.List.{list_all};
+ghost use Rattle.qg_items.specs.declared.tree.TheConstants.{TOP_LEVEL};
+ghost use Rattle.qg_super.specs.Places.{is_served, is_slot};
+ghost use Rattle.qg_super.specs.SuperText.{sizes_of};
+ghost use Rattle.qg_image.specs.Table.{keys_of};
+ghost use Rattle.qg_walk.specs.Fault.{FailsAs};
+ghost use Rattle.qg_check.specs.Stages.{together_failure};
+ghost use Rattle.qg_check.specs.Trees.{AreRead};
+ghost use Rattle.qg_check.specs.IsImage.{IsKept};
+
+use crate::Image;
+use crate::counts::{judge_counts, judge_extents};
+use crate::trees::{FileTree, QuotaTree, Trees, given};
+use qg_num::{Address, NoMemory, Sequence};
+use qg_reach::{each_once, extents_of, reached_bytes};
+use qg_super::Super;
+use qg_walk::WalkFault;
+use std::alloc::Global;
+
+/// What was read of the trees of an image.
+#[derive(Drop)]
+pub struct Read {
+    pub trees: Trees,
+    /// Where the extent tree's nodes lie, in bytes.
+    pub extent_nodes: Sequence<Address>,
+    pub quotas: QuotaTree,
+    pub subvolume: FileTree,
+}
+
+/// Judges where extents lie and what the group counts, and keeps what the image stands for.
+pub(crate) fn judge_trees(alloc: Global, superblock: Super, read: Read) -> Result<Image, WalkFault>
+    requires served { IsTrue (is_served (sizes_of superblock)) }
+    requires slots { IsTrue (list_all (is_slot (sizes_of superblock)) read.subvolume.nodes) }
+    requires groups { keys_of read.quotas.quota.groups ≡ TOP_LEVEL ∷ [] }
+    ensures failure { (bytes : List ℕ) → AreRead superblock bytes read → FailsAs result (together_failure superblock bytes) }
+    ensures image { (bytes : List ℕ) → AreRead superblock bytes read → IfOk result (λ image. IsKept superblock bytes image) }
+    ensures superblock { IfOk result (λ image. image.superblock ≡ superblock) }
+    ensures no_disk { IsErrOf result WalkFault.Disk → ⊥ }
+{
+    let Read {
+        trees,
+        extent_nodes,
+        quotas,
+        subvolume,
+    } = read;
+    let sizes = superblock.sizes();
+    let extents = given(extents_of(alloc, subvolume.files.as_slice()))?;
+    judge_extents(&sizes, extents.as_slice())?;
+    let nodes = given(each_once(alloc, subvolume.nodes.as_slice()))?;
+    let bytes = reached_bytes(&sizes, nodes.as_slice(), extents.as_slice());
+    judge_counts(&quotas.quota, bytes)?;
+    Ok(Image {
+        superblock,
+        stale: None,
+        root: trees.files,
+        files: subvolume.files,
+        quota: quotas.quota,
+        others: given(joined(trees.nodes, extent_nodes, quotas.nodes))?,
+        nodes,
+        extents,
+    })
+}
+
+// Three lists, one after the other.
+fn joined(
+    mut first: Sequence<Address>,
+    second: Sequence<Address>,
+    third: Sequence<Address>,
+) -> Result<Sequence<Address>, NoMemory>
+    ensures { IfOk result (λ all. all ≡ first ++ second ++ third) }
+{
+    for address in second.as_slice() {
+        first.push(*address)?;
+    }
+    for address in third.as_slice() {
+        first.push(*address)?;
+    }
+    Ok(first)
+}

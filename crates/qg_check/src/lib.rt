@@ -1,0 +1,15 @@
+//! Whether an image is sound: the first rule that it breaks, or what it stands for.
+#![tactic(auto)]
+
+mod counts;
+mod image;
+mod judge;
+mod places;
+mod read;
+mod trees;
+
+pub use image::Image;
+pub use read::read_image;
+
+#[cfg(test)]
+mod tests;

@@ -1,0 +1,94 @@
+// An image is read from its superblocks down.
+ghost use Rattle.std.specs.Prelude.{◌≡◌, ◌⊎◌, ◌≤◌, List, Some, IfOk, IfSome, OnOk, IsErrOf, IsTrue};
+ghost use Rattle.qg_device.specs.Cause.{HasCause};
+ghost use Rattle.qg_device.specs.History.{Event, content};
+ghost use Rattle.qg_super.specs.Places.{is_served, total_bytes};
+ghost use Rattle.qg_super.specs.SuperText.{is_super, sizes_of};
+ghost use Rattle.qg_verdict.specs.Verdict.{verdict};
+ghost use Rattle.qg_walk.specs.Fault.{FailsAs};
+ghost use Rattle.qg_check.specs.Stages.{places_failure, trees_failure};
+ghost use Rattle.qg_check.specs.Trees.{AreTrees};
+ghost use Rattle.qg_check.specs.IsImage.{IsImage, IsKept};
+
+use crate::Image;
+use crate::judge::{Read, judge_trees};
+use crate::places::{Places, read_places};
+use crate::trees::{Trees, broken, read_extents, read_quotas, read_roots, read_subvolume};
+use qg_disk::Disk;
+use qg_num::{Address, Rule};
+use qg_super::{FIRST_PLACE, SECOND_PLACE, Super};
+use qg_walk::WalkFault;
+use std::alloc::Global;
+
+/// Reads an image: what it stands for where it is sound, else the first rule that it breaks, or the first stored counter that is not the
+/// direct count (this project's own). It reads each node once and writes nothing.
+pub fn read_image<D: Disk>(alloc: Global, disk: &mut D) -> Result<Image, WalkFault>
+    ensures failure { (events : List Event) → D.history disk.old ≡ Some events → FailsAs result (verdict (content events)) }
+    ensures image { (events : List Event) → D.history disk.old ≡ Some events
+        → IfOk result (λ image. IsImage (content events) image) }
+    ensures served { IfOk result (λ image. IsTrue (is_super image.superblock)) }
+    ensures place { IfOk result (λ image. IfSome image.stale (λ place. (place ≡ FIRST_PLACE) ⊎ (place ≡ SECOND_PLACE))) }
+    ensures inside { IfOk result (λ image. total_bytes (sizes_of image.superblock) ≤ D.size disk.new) }
+    ensures history { D.history disk.new ≡ D.history disk.old }
+    ensures size { D.size disk.new ≡ D.size disk.old }
+    ensures cause { HasCause WalkFault.Disk (D.faults disk.old) (D.faults disk.new) result }
+{
+    let places = read_places(disk)?;
+    let Some(superblock) = places.chosen() else {
+        return Err(broken(Rule::Super, Address::new(FIRST_PLACE)));
+    };
+    judge_places(disk.len(), &places, &superblock)?;
+    let trees = read_roots(alloc, disk, &superblock)?;
+    let mut image = read_trees(alloc, disk, superblock, trees)?;
+    image.stale = places.stale();
+    Ok(image)
+}
+
+// Judges an image's length and its two superblocks.
+fn judge_places(len: u64, places: &Places, superblock: &Super) -> Result<(), WalkFault>
+    requires served { IsTrue (is_served (sizes_of superblock.now)) }
+    ensures failure { FailsAs result (places_failure superblock.now places.now.first places.now.second len) }
+    ensures inside { OnOk result (total_bytes (sizes_of superblock.now) ≤ len) }
+    ensures no_disk { IsErrOf result WalkFault.Disk → ⊥ }
+{
+    if len < superblock.sizes().total_bytes() {
+        return Err(broken(Rule::Length, Address::new(len)));
+    }
+    if !places.are_mirrored() {
+        return Err(broken(Rule::Mirror, Address::new(SECOND_PLACE)));
+    }
+    Ok(())
+}
+
+// Reads the trees that the root tree names, and judges what they say together.
+fn read_trees<D: Disk>(
+    alloc: Global,
+    disk: &mut D,
+    superblock: Super,
+    trees: Trees,
+) -> Result<Image, WalkFault>
+    requires served { IsTrue (is_served (sizes_of superblock)) }
+    requires inside { total_bytes (sizes_of superblock) ≤ D.size disk.old }
+    ensures failure { (events : List Event) → D.history disk.old ≡ Some events → AreTrees superblock (content events) trees
+        → FailsAs result (trees_failure superblock (content events) trees) }
+    ensures image { (events : List Event) → D.history disk.old ≡ Some events → AreTrees superblock (content events) trees
+        → IfOk result (λ image. IsKept superblock (content events) image) }
+    ensures superblock { IfOk result (λ image. image.superblock ≡ superblock) }
+    ensures history { D.history disk.new ≡ D.history disk.old }
+    ensures size { D.size disk.new ≡ D.size disk.old }
+    ensures cause { HasCause WalkFault.Disk (D.faults disk.old) (D.faults disk.new) result }
+{
+    let extent_nodes = read_extents(alloc, disk, &superblock, &trees.extents)?;
+    let quotas = read_quotas(alloc, disk, &superblock, &trees.quotas, &trees.files)?;
+    let subvolume = read_subvolume(alloc, disk, &superblock, &trees.files)?;
+    judge_trees(
+        alloc,
+        superblock,
+        Read {
+            trees,
+            extent_nodes,
+            quotas,
+            subvolume,
+        },
+    )
+}

@@ -1,0 +1,231 @@
+// The trees of an image, one by one.
+ghost use Rattle.std.specs.Prelude.{◌≡◌, ◌∷◌, [], ◌≤◌, ℕ, List, map, None, Some, false, IfOk, IfSome, IfNone, IsTrue};
+ghost use Rattle.std.specs.List.{list_all};
+ghost use Rattle.qg_device.specs.Cause.{HasCause};
+ghost use Rattle.qg_device.specs.History.{Event, content};
+ghost use Rattle.qg_super.specs.Places.{is_served, is_slot, total_bytes};
+ghost use Rattle.qg_super.specs.SuperText.{sizes_of};
+ghost use Rattle.qg_node.specs.Nodes.{is_ascending};
+ghost use Rattle.qg_image.specs.Table.{keys_of};
+ghost use Rattle.qg_parts.specs.Keys.{root_key};
+ghost use Rattle.qg_verdict.specs.declared.tree.Tree.TheVariants.{Extents};
+ghost use Rattle.qg_verdict.specs.Walk.{root_told};
+ghost use Rattle.qg_verdict.specs.StateOf.{nodes_of_root, roots_in};
+ghost use Rattle.qg_verdict.specs.Verdict.{are_roots, quota_failure, subvolume_failure};
+ghost use Rattle.qg_walk.specs.Fault.{FailsAs};
+ghost use Rattle.qg_check.specs.Stages.{roots_failure, extents_failure};
+ghost use Rattle.qg_check.specs.Stages.{given_of};
+ghost use Rattle.qg_check.specs.Trees.{AreNamed, AreTrees, IsQuotaTree, IsFileTree, addresses_of};
+
+use qg_disk::Disk;
+use qg_image::{ExtentPart, FileList, FilePart, QuotaPart, RootPart};
+use qg_items::RootItem;
+use qg_items::tree::{EXTENT_TREE, QUOTA_TREE, TOP_LEVEL};
+use qg_num::{Address, NoMemory, RootId, Rule, Sequence};
+use qg_rules::{QuotaFault, are_roots, read_files, read_quota, root_of};
+use qg_state::Quota;
+use qg_super::Super;
+use qg_verdict::{Expected, Failure};
+use qg_walk::{WalkFault, walk_tree};
+use std::alloc::Global;
+
+/// The trees that a root tree names.
+#[derive(Debug, Drop)]
+pub struct Trees {
+    pub extents: RootItem,
+    pub quotas: RootItem,
+    pub files: RootItem,
+    /// Where the root tree's own nodes lie, in bytes.
+    pub nodes: Sequence<Address>,
+}
+
+/// What the quota tree says.
+#[derive(Debug, Drop)]
+pub struct QuotaTree {
+    pub quota: Quota,
+    /// Where its nodes lie, in bytes.
+    pub nodes: Sequence<Address>,
+}
+
+/// What a subvolume's tree holds.
+#[derive(Debug, Drop)]
+pub struct FileTree {
+    pub files: FileList,
+    /// Where its nodes lie, in bytes.
+    pub nodes: Sequence<Address>,
+}
+
+/// A rule is broken at an address.
+pub(crate) fn broken(rule: Rule, address: Address) -> WalkFault
+    ensures { result ≡ WalkFault.Unsound (Failure.Broken rule address) }
+{
+    WalkFault::Unsound(Failure::Broken { rule, address })
+}
+
+/// The answer of a call that can only want memory.
+pub(crate) fn given<T: Drop>(answer: Result<T, NoMemory>) -> Result<T, WalkFault>
+    ensures { result ≡ given_of answer }
+{
+    match answer {
+        Ok(value) => Ok(value),
+        Err(NoMemory) => Err(WalkFault::NoMemory),
+    }
+}
+
+// What is expected of a root by its ROOT_ITEM.
+fn root_told(root: &RootItem) -> Expected
+    ensures { result ≡ root_told root.now }
+{
+    Expected {
+        level: Some(root.level),
+        generation: Some(root.generation),
+        from: None,
+        to: None,
+    }
+}
+
+/// Reads the root tree and judges what it names.
+pub(crate) fn read_roots<D: Disk>(
+    alloc: Global,
+    disk: &mut D,
+    superblock: &Super,
+) -> Result<Trees, WalkFault>
+    requires served { IsTrue (is_served (sizes_of superblock.now)) }
+    requires inside { total_bytes (sizes_of superblock.now) ≤ D.size disk.old }
+    ensures failure { (events : List Event) → D.history disk.old ≡ Some events
+        → FailsAs result (roots_failure superblock.now (content events)) }
+    ensures trees { (events : List Event) → D.history disk.old ≡ Some events
+        → IfOk result (λ trees. AreTrees superblock.now (content events) trees) }
+    ensures history { D.history disk.new ≡ D.history disk.old }
+    ensures size { D.size disk.new ≡ D.size disk.old }
+    ensures cause { HasCause WalkFault.Disk (D.faults disk.old) (D.faults disk.new) result }
+{
+    let expected = Expected {
+        level: None,
+        generation: None,
+        from: None,
+        to: None,
+    };
+    let walked = walk_tree::<RootPart, D>(alloc, disk, superblock, &expected, superblock.root)?;
+    let Some(named) = name_trees(walked.parts.as_slice()) else {
+        return Err(broken(Rule::Root, superblock.root));
+    };
+    Ok(Trees {
+        extents: named.extents,
+        quotas: named.quotas,
+        files: named.files,
+        nodes: walked.nodes,
+    })
+}
+
+// The ROOT_ITEMs of the trees that an image has.
+#[derive(Clone, Copy)]
+struct Named {
+    extents: RootItem,
+    quotas: RootItem,
+    files: RootItem,
+}
+
+// The trees that a root tree names; `None` exactly where one is missing or is one too many.
+fn name_trees(roots: &[RootPart]) -> Option<Named>
+    requires ascending { IsTrue (is_ascending (map root_key roots.now)) }
+    ensures some { IfSome result (λ named. AreNamed roots.now named.extents named.quotas named.files) }
+    ensures none { IfNone result (are_roots roots.now ≡ false) }
+{
+    if !are_roots(roots) {
+        return None;
+    }
+    Some(Named {
+        extents: root_of(RootId::new(EXTENT_TREE), roots)?,
+        quotas: root_of(RootId::new(QUOTA_TREE), roots)?,
+        files: root_of(RootId::new(TOP_LEVEL), roots)?,
+    })
+}
+
+/// Reads the extent tree, of which nothing is kept but where its nodes lie.
+pub(crate) fn read_extents<D: Disk>(
+    alloc: Global,
+    disk: &mut D,
+    superblock: &Super,
+    root: &RootItem,
+) -> Result<Sequence<Address>, WalkFault>
+    requires served { IsTrue (is_served (sizes_of superblock.now)) }
+    requires inside { total_bytes (sizes_of superblock.now) ≤ D.size disk.old }
+    ensures failure { (events : List Event) → D.history disk.old ≡ Some events
+        → FailsAs result (extents_failure superblock.now (content events) root.now) }
+    ensures nodes { (events : List Event) → D.history disk.old ≡ Some events
+        → IfOk result (λ nodes. nodes ≡ addresses_of (nodes_of_root Extents superblock.now (content events) root.now)) }
+    ensures history { D.history disk.new ≡ D.history disk.old }
+    ensures size { D.size disk.new ≡ D.size disk.old }
+    ensures cause { HasCause WalkFault.Disk (D.faults disk.old) (D.faults disk.new) result }
+{
+    let walked = walk_tree::<ExtentPart, D>(
+        alloc,
+        disk,
+        superblock,
+        &root_told(root),
+        root.bytenr,
+    )?;
+    Ok(walked.nodes)
+}
+
+/// Reads the quota tree and judges what it says. `files` is the ROOT_ITEM of the only subvolume.
+pub(crate) fn read_quotas<D: Disk>(
+    alloc: Global,
+    disk: &mut D,
+    superblock: &Super,
+    root: &RootItem,
+    files: &RootItem,
+) -> Result<QuotaTree, WalkFault>
+    requires served { IsTrue (is_served (sizes_of superblock.now)) }
+    requires inside { total_bytes (sizes_of superblock.now) ≤ D.size disk.old }
+    ensures failure { (events : List Event) (extents : RootItem) → D.history disk.old ≡ Some events
+        → AreNamed (roots_in superblock.now (content events)) extents root.now files.now
+        → FailsAs result (quota_failure superblock.now (content events) (roots_in superblock.now (content events)) (Some root.now)) }
+    ensures tree { (events : List Event) → D.history disk.old ≡ Some events
+        → IfOk result (λ tree. IsQuotaTree superblock.now (content events) root.now tree) }
+    ensures groups { IfOk result (λ tree. keys_of tree.quota.groups ≡ TOP_LEVEL ∷ []) }
+    ensures pairs { IfOk result (λ tree. tree.quota.pairs ≡ []) }
+    ensures history { D.history disk.new ≡ D.history disk.old }
+    ensures size { D.size disk.new ≡ D.size disk.old }
+    ensures cause { HasCause WalkFault.Disk (D.faults disk.old) (D.faults disk.new) result }
+{
+    let walked = walk_tree::<QuotaPart, D>(alloc, disk, superblock, &root_told(root), root.bytenr)?;
+    let subvolumes = [(RootId::new(TOP_LEVEL), *files)];
+    match read_quota(alloc, &subvolumes, walked.parts.as_slice()) {
+        Ok(quota) => Ok(QuotaTree {
+            quota,
+            nodes: walked.nodes,
+        }),
+        Err(QuotaFault::Rule(rule)) => Err(broken(rule, root.bytenr)),
+        Err(QuotaFault::NoMemory) => Err(WalkFault::NoMemory),
+    }
+}
+
+/// Reads a subvolume's tree and judges its files.
+pub(crate) fn read_subvolume<D: Disk>(
+    alloc: Global,
+    disk: &mut D,
+    superblock: &Super,
+    root: &RootItem,
+) -> Result<FileTree, WalkFault>
+    requires served { IsTrue (is_served (sizes_of superblock.now)) }
+    requires inside { total_bytes (sizes_of superblock.now) ≤ D.size disk.old }
+    ensures failure { (events : List Event) → D.history disk.old ≡ Some events
+        → FailsAs result (subvolume_failure superblock.now (content events) root.now) }
+    ensures tree { (events : List Event) → D.history disk.old ≡ Some events
+        → IfOk result (λ tree. IsFileTree superblock.now (content events) root.now tree) }
+    ensures slots { IfOk result (λ tree. IsTrue (list_all (is_slot (sizes_of superblock.now)) tree.nodes)) }
+    ensures history { D.history disk.new ≡ D.history disk.old }
+    ensures size { D.size disk.new ≡ D.size disk.old }
+    ensures cause { HasCause WalkFault.Disk (D.faults disk.old) (D.faults disk.new) result }
+{
+    let walked = walk_tree::<FilePart, D>(alloc, disk, superblock, &root_told(root), root.bytenr)?;
+    let Some(files) = given(read_files(alloc, walked.parts.as_slice()))? else {
+        return Err(broken(Rule::File, root.bytenr));
+    };
+    Ok(FileTree {
+        files,
+        nodes: walked.nodes,
+    })
+}
