@@ -22,7 +22,7 @@ use qg_image::{ExtentPart, FileList, FilePart, QuotaPart, RootPart};
 use qg_items::RootItem;
 use qg_items::tree::{EXTENT_TREE, QUOTA_TREE, TOP_LEVEL};
 use qg_num::{Address, NoMemory, RootId, Rule, Sequence};
-use qg_rules::{QuotaFault, are_roots, read_files, read_quota, root_of};
+use qg_rules::{FileParts, QuotaFault, are_roots, read_files, read_quota, root_of};
 use qg_state::Quota;
 use qg_super::Super;
 use qg_verdict::{Expected, Failure};
@@ -106,7 +106,13 @@ pub(crate) fn read_roots<D: Disk>(
         from: None,
         to: None,
     };
-    let walked = walk_tree::<RootPart, D>(alloc, disk, superblock, &expected, superblock.root)?;
+    let walked = walk_tree::<RootPart, Sequence<RootPart>, D>(
+        alloc,
+        disk,
+        superblock,
+        &expected,
+        superblock.root,
+    )?;
     let Some(named) = name_trees(walked.parts.as_slice()) else {
         return Err(broken(Rule::Root, superblock.root));
     };
@@ -159,7 +165,7 @@ pub(crate) fn read_extents<D: Disk>(
     ensures size { D.size disk.new ≡ D.size disk.old }
     ensures cause { HasCause WalkFault.Disk (D.faults disk.old) (D.faults disk.new) result }
 {
-    let walked = walk_tree::<ExtentPart, D>(
+    let walked = walk_tree::<ExtentPart, Sequence<ExtentPart>, D>(
         alloc,
         disk,
         superblock,
@@ -190,7 +196,13 @@ pub(crate) fn read_quotas<D: Disk>(
     ensures size { D.size disk.new ≡ D.size disk.old }
     ensures cause { HasCause WalkFault.Disk (D.faults disk.old) (D.faults disk.new) result }
 {
-    let walked = walk_tree::<QuotaPart, D>(alloc, disk, superblock, &root_told(root), root.bytenr)?;
+    let walked = walk_tree::<QuotaPart, Sequence<QuotaPart>, D>(
+        alloc,
+        disk,
+        superblock,
+        &root_told(root),
+        root.bytenr,
+    )?;
     let subvolumes = [(RootId::new(TOP_LEVEL), *files)];
     match read_quota(alloc, &subvolumes, walked.parts.as_slice()) {
         Ok(quota) => Ok(QuotaTree {
@@ -220,8 +232,14 @@ pub(crate) fn read_subvolume<D: Disk>(
     ensures size { D.size disk.new ≡ D.size disk.old }
     ensures cause { HasCause WalkFault.Disk (D.faults disk.old) (D.faults disk.new) result }
 {
-    let walked = walk_tree::<FilePart, D>(alloc, disk, superblock, &root_told(root), root.bytenr)?;
-    let Some(files) = given(read_files(alloc, walked.parts.as_slice()))? else {
+    let walked = walk_tree::<FilePart, FileParts, D>(
+        alloc,
+        disk,
+        superblock,
+        &root_told(root),
+        root.bytenr,
+    )?;
+    let Some(files) = given(read_files(alloc, walked.parts))? else {
         return Err(broken(Rule::File, root.bytenr));
     };
     Ok(FileTree {

@@ -1,5 +1,7 @@
 // A list that clauses see as one.
-ghost use Rattle.std.specs.Prelude.{◌≡◌, ◌==◌, ◌∷◌, ◌++◌, [], OnOk, OnErr, length};
+ghost use Rattle.std.specs.Prelude.{◌≡◌, ◌<◌, ◌≤◌, ◌==◌, ◌∷◌, ◌++◌, [], OnOk, OnErr, length, take, drop, slice_set, slice_index_or};
+ghost use Rattle.std.specs.Borrow.{sem};
+ghost use Rattle.qg_num.specs.Lending.{LendsItem};
 
 use crate::{GroupId, Piece, RootId, Row};
 use std::alloc::{AllocError, Global};
@@ -48,6 +50,42 @@ impl<T: Drop> Sequence<T> {
     {
         self.items.push(item)?;
         Ok(())
+    }
+
+    /// Puts an item in front of the one at an index, or at the end. Where memory is refused, the list stays as it was and the item is dropped.
+    pub fn insert(&mut self, index: usize, item: T) -> Result<(), AllocError>
+        requires { index ≤ length self.old }
+        ensures ok { OnOk result (self.new ≡ take index self.old ++ item ∷ drop index self.old) }
+        ensures err { OnErr result (self.new ≡ self.old) }
+    {
+        self.items.insert(index, item)?;
+        Ok(())
+    }
+
+    /// The item at an index, to be written to.
+    pub fn item_mut(&mut self, index: usize) -> &mut T
+        requires { index < length self.old }
+        ensures* writes_back { sem 𝓛 (LendsItem T.row self.entry index result) }
+        ensures value { result.now ≡ slice_index_or self.old index result.now }
+    {
+        &mut self.items[index]
+    }
+
+    /// Puts an item in the place of the one at an index.
+    pub fn set(&mut self, index: usize, item: T)
+        requires { index < length self.old }
+        ensures { self.new ≡ slice_set self.old index item }
+    {
+        self.items[index] = item;
+    }
+
+    /// Takes out the items of a range of indices.
+    pub fn remove_range(&mut self, from: usize, to: usize)
+        requires order { from ≤ to }
+        requires bound { to ≤ length self.old }
+        ensures { self.new ≡ take from self.old ++ drop to self.old }
+    {
+        self.items.drain(from..to);
     }
 
     /// The items in order.

@@ -115,3 +115,16 @@ fn groups_counts_and_lists(rt: HostRuntime) -> Result<(), Fail> {
     assert_eq!(rt; others.as_slice().first().copied(), Some(RootId::new(256)));
     Ok(())
 }
+
+#[test]
+fn a_list_is_edited_in_place(rt: HostRuntime) -> Result<(), Fail> {
+    let mut owners = OwnerList::new(rt.alloc());
+    owners.push(RootId::new(5))?;
+    owners.insert(0, RootId::new(257))?;
+    owners.set(1, RootId::new(300));
+    *owners.item_mut(0) = RootId::new(258);
+    assert_eq!(rt; owners.as_slice().last().copied(), Some(RootId::new(300)));
+    owners.remove_range(1, 2);
+    assert_eq!(rt; owners.as_slice().last().copied(), Some(RootId::new(258)));
+    Ok(())
+}

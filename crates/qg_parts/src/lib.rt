@@ -3,10 +3,12 @@
 
 mod extents;
 mod file;
+mod list;
 mod part;
 mod quota;
 mod root;
 
+pub use list::PartList;
 pub use part::TreePart;
 
 #[cfg(test)]

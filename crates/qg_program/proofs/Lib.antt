@@ -1,1 +1,6 @@
 pub mod Settled
+pub mod EndedLines
+pub mod Steps
+pub mod Answered
+pub mod Turned
+pub mod Judged

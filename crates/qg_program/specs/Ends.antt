@@ -1,7 +1,9 @@
 -- How a call of the program may end (this project's own).
 use Rattle.std.specs.Prelude.{ℕ, Bool, true, false}
+use Rattle.qg_script.specs.declared.fault.LineFault.{LineFault}
+use Rattle.qg_script.specs.declared.fault.LineFault.TheVariants as fault
 use Rattle.qg_program.specs.declared.status.Status.{Status}
-use Rattle.qg_program.specs.declared.status.Status.TheVariants.{Done, NoMemory, Words, Sink, Disk, Sizes}
+use Rattle.qg_program.specs.declared.status.Status.TheVariants.{Done, NoMemory, Words, Image, Source, Sink, Disk, Sizes, TooLong}
 
 -- the image was made: all that can still fail is to say so
 abbrev pub is_made : Status → Bool
@@ -21,11 +23,63 @@ is_settled Done = true
 is_settled NoMemory = true
 is_settled _ = false
 
+-- the end of a run that meets no fault over an image that is refused
+abbrev pub is_told : Status → Bool
+is_told Image = true
+is_told NoMemory = true
+is_told _ = false
+
+-- the image was opened: some line was asked for
+abbrev pub is_opened : Status → Bool
+is_opened Done = true
+is_opened Source = true
+is_opened Sink = true
+is_opened TooLong = true
+is_opened _ = false
+
+-- the image was looked at whole and refused: some line was to be put
+abbrev pub is_judged : Status → Bool
+is_judged Image = true
+is_judged Sink = true
+is_judged _ = false
+
 -- the number that the process ends with
 abbrev pub exit_number : Status → ℕ
 exit_number Done = 0
 exit_number NoMemory = 1
 exit_number Words = 2
+exit_number Image = 3
+exit_number Source = 4
 exit_number Sink = 5
 exit_number Disk = 6
 exit_number Sizes = 8
+exit_number TooLong = 9
+
+-- where no line was read, by why
+abbrev pub line_fault : LineFault → Status
+line_fault fault.Source = Source
+line_fault fault.TooLong = TooLong
+line_fault fault.NoMemory = NoMemory
+
+-- the ends of a call that was asked for an image
+abbrev pub is_makers : Status → Bool
+is_makers Done = true
+is_makers NoMemory = true
+is_makers Sink = true
+is_makers Disk = true
+is_makers Sizes = true
+is_makers _ = false
+
+-- the ends of a run that refuses its image
+abbrev pub is_refusers : Status → Bool
+is_refusers Image = true
+is_refusers NoMemory = true
+is_refusers Sink = true
+is_refusers Disk = true
+is_refusers _ = false
+
+-- the ends of a run
+abbrev pub is_runners : Status → Bool
+is_runners Words = false
+is_runners Sizes = false
+is_runners _ = true

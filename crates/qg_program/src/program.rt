@@ -1,29 +1,36 @@
 // The top call.
-ghost use Rattle.std.specs.Prelude.{◌≡◌, ◌≢◌, ◌↔◌, ◌⊎◌, List, ℕ, Some, codes, false, IsTrue};
+ghost use Rattle.std.specs.Prelude.{◌≡◌, ◌↔◌, ◌≤◌, ◌∷◌, [], List, ℕ, Some, IsTrue, length};
 ghost use Rattle.std.specs.Option.{option_map};
-ghost use Rattle.std.specs.Io.KnownBytes.{append_known};
 ghost use Rattle.qg_device.specs.Cause.{Rose};
-ghost use Rattle.qg_device.specs.History.{Event};
-ghost use Rattle.qg_edge.specs.Appended.{AppendsFront};
+ghost use Rattle.qg_device.specs.History.{Event, Synced, content};
 ghost use Rattle.qg_super.specs.declared.sizes.Sizes.{Sizes};
-ghost use Rattle.qg_super.specs.Places.{is_served, slot_at};
+ghost use Rattle.qg_super.specs.Places.{slot_at};
+ghost use Rattle.qg_grammar.specs.ScriptText.{longest_script};
+ghost use Rattle.qg_state.specs.State.{State};
+ghost use Rattle.qg_verdict.specs.StateOf.{StateOf};
+ghost use Rattle.qg_verdict.specs.Verdict.{IsSound, verdict};
+ghost use Rattle.qg_verdict.specs.declared.failure.Failure.{Failure};
 ghost use Rattle.qg_commit.specs.Calls.{with_image};
 ghost use Rattle.qg_commit.specs.Fresh.{fresh_nodes, fresh_super};
 ghost use Rattle.qg_commit.specs.Mkfs.{HoldsFreshImage};
 ghost use Rattle.qg_words.specs.Words.{texts, HaveForm};
-ghost use Rattle.qg_program.specs.Words.{AskUnserved, AskServed};
-ghost use Rattle.qg_program.specs.Ends.{is_made, is_refused, is_settled};
+ghost use Rattle.qg_program.specs.Words.{AskServed, AskToMake, AskToRun, AskUnserved};
+ghost use Rattle.qg_program.specs.Ends.{is_judged, is_made, is_opened, is_refused, is_settled, is_told};
+ghost use Rattle.qg_program.specs.Opened.{IsOpened};
+ghost use Rattle.qg_program.specs.Putting.{PutsFailure, Refuses, SaysMade, failure_text};
+ghost use Rattle.qg_program.specs.Running.{Answers, IsTaken};
 
 use crate::Status;
-use qg_commit::{MkfsFault, mkfs};
+use crate::make::make;
+use crate::run::run;
 use qg_disk::Disk;
-use qg_edge::{EdgeFault, Sink, Source};
-use qg_super::Sizes;
-use qg_words::read_words;
+use qg_edge::{Sink, Source};
+use qg_words::{Form, read_words};
 use std::alloc::Global;
 
-/// Does what the words say: `mkfs NODESIZE SLOTS SECTORS` makes a fresh image on the disk and puts the line `ok mkfs` (this project's
-/// own). Any other words are refused.
+/// Does what the words say (this project's own): `mkfs NODESIZE SLOTS SECTORS` makes a fresh image on the disk and puts the line
+/// `ok mkfs`; `run` opens the image and answers each line of the source by one put, or puts the line that says why the image is not sound.
+/// Any other words are refused.
 pub fn run_program<D: Disk, S: Source, K: Sink>(
     alloc: Global,
     words: &Vec<String>,
@@ -35,71 +42,53 @@ pub fn run_program<D: Disk, S: Source, K: Sink>(
     ensures words { (result ≡ Status.Words) ↔ (HaveForm (texts words.now.items) → ⊥) }
     ensures sizes { (result ≡ Status.Sizes) ↔ AskUnserved words.now.items }
     ensures disk_untouched { IsTrue (is_refused result) → disk.new ≡ disk.old }
+    ensures source_untouched { IsTrue (is_refused result) → source.new ≡ source.old }
     ensures sink_untouched { IsTrue (is_refused result) → sink.new ≡ sink.old }
-    ensures source { source.new ≡ source.old }
 
-    // The calls that were made, and what the disk holds then where it tells it.
+    // An image is made: the calls, what the disk holds then where it tells it, and what was put.
     ensures calls { (sizes : Sizes) → AskServed words.now.items sizes → IsTrue (is_made result) → D.history disk.new
         ≡ option_map (with_image (fresh_super sizes (slot_at sizes 0)) (fresh_nodes sizes)) (D.history disk.old) }
     ensures fresh { (sizes : Sizes) (before : List Event) → AskServed words.now.items sizes → IsTrue (is_made result)
         → D.history disk.old ≡ Some before → HoldsFreshImage sizes (D.history disk.new) }
+    ensures made { (sizes : Sizes) → AskToMake words.now.items sizes
+        → SaysMade result (K.bytes_held sink.old) (K.bytes_held sink.new) }
+    ensures unread { (sizes : Sizes) → AskToMake words.now.items sizes → source.new ≡ source.old }
 
-    // What was put.
-    ensures put { result ≡ Status.Done
-        → K.bytes_held sink.new ≡ append_known (K.bytes_held sink.old) (codes "ok mkfs\n") }
-    ensures part { result ≡ Status.Sink
-        → AppendsFront (K.bytes_held sink.old) (K.bytes_held sink.new) (codes "ok mkfs\n") }
-    ensures silent { is_made result ≡ false → K.bytes_held sink.new ≡ K.bytes_held sink.old }
+    // A run over a sound image answers as the machine does from the state that the image stands for.
+    ensures answers { (events : List Event) (input : List ℕ) (state : State) → AskToRun words.now.items
+        → D.history disk.old ≡ Some events → S.bytes_left source.old ≡ Some input → IsSound (content events)
+        → StateOf (content events) state → Answers result state input [] (K.bytes_held sink.old) (K.bytes_held sink.new) }
+    ensures opened { (events : List Event) → AskToRun words.now.items → D.history disk.old ≡ Some events
+        → IsSound (content events) → IsTrue (is_opened result) → IsOpened events (D.history disk.new) }
+    ensures takes { AskToRun words.now.items → IsTaken result (S.bytes_left source.old) (S.bytes_left source.new) }
 
-    // A fault has its cause, and without one the image is made or memory was refused.
+    // A run over any other image says the first failure.
+    ensures refuses { (events : List Event) (failure : Failure) → AskToRun words.now.items → D.history disk.old ≡ Some events
+        → verdict (content events) ≡ Some failure
+        → Refuses result (failure_text failure) (K.bytes_held sink.old) (K.bytes_held sink.new) }
+    ensures told { result ≡ Status.Image → PutsFailure (K.bytes_held sink.old) (K.bytes_held sink.new) }
+    ensures unwritten { (events : List Event) (failure : Failure) → AskToRun words.now.items → D.history disk.old ≡ Some events
+        → verdict (content events) ≡ Some failure → IsTrue (is_judged result) → D.history disk.new ≡ Some (Synced ∷ events) }
+    ensures refused_unread { (events : List Event) (failure : Failure) → AskToRun words.now.items → D.history disk.old ≡ Some events
+        → verdict (content events) ≡ Some failure → source.new ≡ source.old }
+
+    // A fault has its cause, and without one all is done or memory was refused.
+    ensures source_fault { result ≡ Status.Source → Rose (S.faults source.old) (S.faults source.new) }
     ensures sink_fault { result ≡ Status.Sink → Rose (K.faults sink.old) (K.faults sink.new) }
     ensures disk_fault { result ≡ Status.Disk → Rose (D.faults disk.old) (D.faults disk.new) }
     ensures settled { (sizes : Sizes) → AskServed words.now.items sizes → (Rose (K.faults sink.old) (K.faults sink.new) → ⊥)
         → (Rose (D.faults disk.old) (D.faults disk.new) → ⊥) → IsTrue (is_settled result) }
+    ensures run_settled { (events : List Event) (input : List ℕ) → AskToRun words.now.items → D.history disk.old ≡ Some events
+        → S.bytes_left source.old ≡ Some input → length input ≤ longest_script → IsSound (content events)
+        → (Rose (S.faults source.old) (S.faults source.new) → ⊥) → (Rose (K.faults sink.old) (K.faults sink.new) → ⊥)
+        → (Rose (D.faults disk.old) (D.faults disk.new) → ⊥) → IsTrue (is_settled result) }
+    ensures refusal_settled { (events : List Event) (failure : Failure) → AskToRun words.now.items → D.history disk.old ≡ Some events
+        → verdict (content events) ≡ Some failure → (Rose (K.faults sink.old) (K.faults sink.new) → ⊥)
+        → (Rose (D.faults disk.old) (D.faults disk.new) → ⊥) → IsTrue (is_told result) }
 {
     match read_words(words) {
-        Some(sizes) => make(alloc, sizes, disk, sink),
+        Some(Form::Mkfs(sizes)) => make(alloc, sizes, disk, sink),
+        Some(Form::Run) => run(alloc, disk, source, sink),
         None => Status::Words,
-    }
-}
-
-// Makes a fresh image and says so.
-fn make<D: Disk, K: Sink>(alloc: Global, sizes: Sizes, disk: &mut D, sink: &mut K) -> Status
-    ensures words { result ≢ Status.Words }
-    ensures sizes { (result ≡ Status.Sizes) ↔ (is_served sizes ≡ false) }
-    ensures disk_untouched { result ≡ Status.Sizes → disk.new ≡ disk.old }
-    ensures sink_untouched { result ≡ Status.Sizes → sink.new ≡ sink.old }
-    ensures calls { IsTrue (is_made result) → D.history disk.new
-        ≡ option_map (with_image (fresh_super sizes (slot_at sizes 0)) (fresh_nodes sizes)) (D.history disk.old) }
-    ensures fresh { (before : List Event) → D.history disk.old ≡ Some before → IsTrue (is_made result)
-        → HoldsFreshImage sizes (D.history disk.new) }
-    ensures put { result ≡ Status.Done
-        → K.bytes_held sink.new ≡ append_known (K.bytes_held sink.old) (codes "ok mkfs\n") }
-    ensures part { result ≡ Status.Sink
-        → AppendsFront (K.bytes_held sink.old) (K.bytes_held sink.new) (codes "ok mkfs\n") }
-    ensures silent { is_made result ≡ false → K.bytes_held sink.new ≡ K.bytes_held sink.old }
-    ensures sink_fault { result ≡ Status.Sink → Rose (K.faults sink.old) (K.faults sink.new) }
-    ensures disk_fault { result ≡ Status.Disk → Rose (D.faults disk.old) (D.faults disk.new) }
-{
-    match mkfs(alloc, disk, sizes) {
-        Ok(()) => put_line(sink, b"ok mkfs\n"),
-        Err(MkfsFault::Size) => Status::Sizes,
-        Err(MkfsFault::Disk) => Status::Disk,
-        Err(MkfsFault::NoMemory) => Status::NoMemory,
-    }
-}
-
-// Puts a line, the last thing that a call does.
-fn put_line<K: Sink>(sink: &mut K, line: &[u8]) -> Status
-    ensures ends { (IsTrue (is_made result)) ⊎ (result ≡ Status.NoMemory) }
-    ensures put { result ≡ Status.Done → K.bytes_held sink.new ≡ append_known (K.bytes_held sink.old) line.now }
-    ensures part { result ≡ Status.Sink → AppendsFront (K.bytes_held sink.old) (K.bytes_held sink.new) line.now }
-    ensures silent { is_made result ≡ false → K.bytes_held sink.new ≡ K.bytes_held sink.old }
-    ensures fault { result ≡ Status.Sink → Rose (K.faults sink.old) (K.faults sink.new) }
-{
-    match sink.put(line) {
-        Ok(()) => Status::Done,
-        Err(EdgeFault::Failed) => Status::Sink,
-        Err(EdgeFault::NoMemory) => Status::NoMemory,
     }
 }

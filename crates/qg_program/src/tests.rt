@@ -51,8 +51,9 @@ fn images_of_each_size_are_made(rt: HostRuntime) -> Result<(), Fail> {
 fn other_words_and_sizes_are_refused(rt: HostRuntime) -> Result<(), Fail> {
     let alloc = rt.alloc();
     let rows = [
-        ("run", Status::Words),
         ("run x", Status::Words),
+        ("run --", Status::Words),
+        ("gen 1 1", Status::Words),
         ("check", Status::Words),
         ("mkfs", Status::Words),
         ("mkfs 16384 1024", Status::Words),

@@ -134,7 +134,7 @@ with_ascends x (o ∷ os) up = elim (order_cases x o) [
 
 -- ---- the set
 
-abbrev all_in : List Element → List Element → List Element
+abbrev pub all_in : List Element → List Element → List Element
 all_in set xs = fold (λ set extent. with_extent extent set) set xs
 
 all_ascend : (set xs : List Element) → Ascends set → Ascends (all_in set xs)

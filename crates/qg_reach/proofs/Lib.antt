@@ -1,6 +1,8 @@
 pub mod Members
 pub mod Order
 pub mod ExtentSets
+pub mod InOrder
+pub mod Ascent
 pub mod SpaceRule
 pub mod SlotRule
 pub mod Distinct

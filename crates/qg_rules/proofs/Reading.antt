@@ -1,10 +1,10 @@
 -- Reading files one after the other.
-use Rattle.std.proofs.Common.{◌≡◌, ℕ, ◌<◌, Bool, true, false, List, [], ◌∷◌, ◌++◌, drop, take, map, refl, ap, sym, ◌∙◌, arith, append_assoc, length, suc}
+use Rattle.std.proofs.Common.{◌≡◌, ℕ, ◌<◌, Bool, true, false, List, [], ◌∷◌, ◌++◌, map, refl, ap, sym, ◌∙◌, arith, append_assoc, length, subst}
 use Rattle.std.specs.Prelude.{◌&&◌, Some, None, is_some, ◌==◌}
 use Rattle.std.specs.Bool.{then_some}
 use Rattle.std.specs.List.{AllByRecursion, list_all}
-use Rattle.std.proofs.lemmas.Bool.{eq-eqb, eqb-true, ne_eqb}
-use Rattle.std.proofs.lemmas.List.{append-nil, take-append-drop}
+use Rattle.std.proofs.lemmas.Bool.{eq-eqb, eqb-false, eqb-true, ne_eqb, not-true}
+use Rattle.std.proofs.lemmas.List.{append-nil}
 use Rattle.std.proofs.lemmas.List.Elements.{filter_map-append}
 use Rattle.std.proofs.lemmas.List.Folds.{list_all-append}
 use Rattle.qg_num.specs.declared.piece.Piece.{Piece}
@@ -16,8 +16,10 @@ use Rattle.qg_image.specs.declared.part.FilePart.{FilePart}
 use Rattle.qg_image.specs.declared.part.FilePart.TheVariants.{Inode, PieceOf}
 use Rattle.qg_image.specs.FilesOf.{are_files, file_in, files_in, inodes_in, is_inode, is_owned, piece_in, pieces_in}
 use Rattle.qg_parts.specs.Keys.{file_key}
-use Rattle.qg_rules.specs.Files.{file_told, is_file_of, pieces_count}
-use Rattle.qg_rules.proofs.Standing.{IsBehind, IsPieceOf, ino_of, all_behind, ascending-drop, own_pieces, greater_others}
+use Rattle.qg_rules.specs.Files.{file_told, is_file_of}
+use Rattle.qg_rules.specs.Parts.{kept_parts, starts_apart}
+use Rattle.qg_rules.specs.declared.parts.FileItems.{FileItems}
+use Rattle.qg_rules.proofs.Standing.{IsBehind, IsPieceOf, StartsOther, ino_of, all_behind, all_later, ascending-behind, own_pieces, greater_others}
 
 abbrev pub AreGreater : ℕ → List FilePart → Type 0
 AreGreater ino parts = AllByRecursion (λ part. ino < ino_of part) parts
@@ -161,14 +163,6 @@ IsReading-orphan parts left ino piece first behind files is begins here =
     let none = no_inode ino behind (all_behind (file_key (PieceOf ino piece)) behind (omega arith) ascends) in
     unsound parts (is.sound ∙ rw stands (rw none refl))
 
-front : (ino : ℕ) (inode : InodeItem) (behind : List FilePart) → is_ascending (map file_key (Inode ino inode ∷ behind)) ≡ true
-    → IsFront ino (take (pieces_count ino behind) behind) (drop (pieces_count ino behind) behind)
-unfolding is_ascending
-front ino inode behind ascends = record {
-  pieces = own_pieces ino behind;
-  greater = greater_others ino behind (all_behind (file_key (Inode ino inode)) behind (omega arith) ascends) (ascending-drop 1 (Inode ino inode ∷ behind) ascends);
-}
-
 told_sound : (ino : ℕ) (inode : InodeItem) (own : List FilePart) (file : File) → file_told ino inode own ≡ Some file → (is_file_of ino inode (file_of ino inode own) ≡ true) × (file_of ino inode own ≡ file)
 told_sound ino inode own file h = cases (is_file_of ino inode (file_of ino inode own)) refl h where
   cases : (b : Bool) → is_file_of ino inode (file_of ino inode own) ≡ b → then_some b (file_of ino inode own) ≡ Some file → (is_file_of ino inode (file_of ino inode own) ≡ true) × (file_of ino inode own ≡ file)
@@ -181,45 +175,106 @@ told_unsound ino inode own h = cases (is_file_of ino inode (file_of ino inode ow
   cases true e k = absurd cc
   cases false e k = e
 
--- an INODE_ITEM and the items behind it, of which the first so many are the pieces of its file
-pub record IsNext (left : List FilePart) (ino : ℕ) (inode : InodeItem) (own others : List FilePart) : Type 0 where
-  pub behind : List FilePart
-  pub stands : left ≡ Inode ino inode ∷ behind
-  pub pieces : own ≡ take (pieces_count ino behind) behind
-  pub rest : others ≡ drop (pieces_count ino behind) behind
+-- ---- file by file
 
-pub IsNext-cut : (left : List FilePart) (first : FilePart) (behind : List FilePart) (n ino : ℕ) (inode : InodeItem) (own others : List FilePart) → left ≡ first ∷ behind → first ≡ Inode ino inode
-    → n ≡ pieces_count ino behind → own ≡ take n behind → others ≡ drop n behind → IsNext left ino inode own others
-IsNext-cut left first behind n ino inode own others stands is count front back = record {
-  behind = behind;
-  stands = stands ∙ ap (λ (part : FilePart). part ∷ behind) is;
-  pieces = front ∙ ap (λ (n : ℕ). take n behind) count;
-  rest = back ∙ ap (λ (n : ℕ). drop n behind) count;
+-- the items of a file, and those behind them, of which the first is no piece of it
+pub record IsNext (left : List FilePart) (one : FileItems) (others : List FilePart) : Type 0 where
+  pub stands : left ≡ Inode one.ino one.inode ∷ (map (PieceOf one.ino) one.pieces ++ others)
+  pub other : StartsOther one.ino others
+
+next_front : (left : List FilePart) (one : FileItems) (others : List FilePart) → is_ascending (map file_key left) ≡ true → IsNext left one others
+    → IsFront one.ino (map (PieceOf one.ino) one.pieces) others
+unfolding is_ascending
+next_front left one others ascending next =
+    let own : List FilePart = map (PieceOf one.ino) one.pieces in
+    let ascends : is_ascending (map file_key (Inode one.ino one.inode ∷ (own ++ others))) ≡ true = rw next.stands at ascending in
+    let behind = all_behind (file_key (Inode one.ino one.inode)) (own ++ others) (omega arith) ascends in
+    record {
+      pieces = own_pieces one.ino one.pieces;
+      greater = greater_others one.ino others (all_later (IsBehind one.ino) own others behind) (ascending-behind (Inode one.ino one.inode ∷ own) others ascends) next.other;
+    }
+
+abbrev own_of : FileItems → List FilePart
+own_of one = map (PieceOf one.ino) one.pieces
+
+pub IsReading-broken : (parts left : List FilePart) (files : List (ℕ × File)) (one : FileItems) (others : List FilePart) → IsReading parts left files → IsNext left one others
+    → None ≡ file_told one.ino one.inode (own_of one) → None ≡ then_some (are_files parts) (files_in parts)
+IsReading-broken parts left files one others is next none =
+    let sound = front_sound one.ino one.inode (own_of one) others (next_front left one others is.ascending next) in
+    unsound parts (is.sound ∙ rw (next.stands, sound, told_unsound one.ino one.inode (own_of one) (sym none)) refl)
+
+pub IsReading-more : (parts left : List FilePart) (files : List (ℕ × File)) (one : FileItems) (others : List FilePart) (file : File) → IsReading parts left files → IsNext left one others
+    → Some file ≡ file_told one.ino one.inode (own_of one) → IsReading parts others (files ++ (one.ino, file) ∷ [])
+IsReading-more parts left files one others file is next told =
+    let in_front = next_front left one others is.ascending next in
+    let both = told_sound one.ino one.inode (own_of one) file (sym told) in
+    let here : List (ℕ × File) = (one.ino, file) ∷ [] in
+    record {
+      ascending = ascending-behind (Inode one.ino one.inode ∷ own_of one) others (rw next.stands at is.ascending);
+      sound = is.sound ∙ rw (next.stands, front_sound one.ino one.inode (own_of one) others in_front, both.0) refl;
+      told = is.told ∙ rw (next.stands, front_files one.ino one.inode (own_of one) others in_front, both.1) (sym (append_assoc files here (files_in others)));
+    }
+
+-- ---- what is kept of files, and what stands behind them
+
+others_apart : (one : FileItems) (files : List FileItems) (rest : List FilePart) → starts_apart (one ∷ files) rest ≡ true → StartsOther one.ino (kept_parts files rest)
+others_apart one [] [] h = tt
+others_apart one [] (Inode other inode ∷ rest) h = absurd cc
+others_apart one [] (PieceOf other piece ∷ rest) h =
+    let apart : (other == one.ino) ≡ false = ne_eqb other one.ino (λ same. eqb-false one.ino other (not-true (one.ino == other) h) (sym same)) in
+    ap (λ (same : Bool). is_some (then_some same piece)) apart
+others_apart one (next ∷ files) rest h = refl
+
+later_apart : (one : FileItems) (files : List FileItems) (rest : List FilePart) → starts_apart (one ∷ files) rest ≡ true → starts_apart files rest ≡ true
+later_apart one [] [] h = refl
+later_apart one [] (Inode other inode ∷ rest) h = absurd cc
+later_apart one [] (PieceOf other piece ∷ rest) h = refl
+later_apart one (next ∷ files) rest h = h
+
+-- the files that are left, with what stands behind them
+pub record IsKept (parts : List FilePart) (left : List FileItems) (rest : List FilePart) (files : List (ℕ × File)) : Type 0 where
+  pub reading : IsReading parts (kept_parts left rest) files
+  pub apart : starts_apart left rest ≡ true
+
+pub IsKept-none : (parts : List FilePart) (left : List FileItems) (rest : List FilePart) → parts ≡ kept_parts left rest → is_ascending (map file_key parts) ≡ true → starts_apart left rest ≡ true
+    → IsKept parts left rest []
+IsKept-none parts left rest is ascending apart = record {
+  reading = subst (λ (those : List FilePart). IsReading parts those []) is (IsReading-none parts ascending);
+  apart = apart;
 }
 
-next_parts : (left : List FilePart) (ino : ℕ) (inode : InodeItem) (own others : List FilePart) → IsNext left ino inode own others → left ≡ Inode ino inode ∷ (own ++ others)
-next_parts left ino inode own others next =
-    let n = pieces_count ino next.behind in
-    next.stands ∙ ap (λ (parts : List FilePart). Inode ino inode ∷ parts) (rw (next.pieces, next.rest) (sym (take-append-drop n next.behind)))
+next_of : (one : FileItems) (left : List FileItems) (rest : List FilePart) → starts_apart (one ∷ left) rest ≡ true → IsNext (kept_parts (one ∷ left) rest) one (kept_parts left rest)
+next_of one left rest apart = record { stands = refl; other = others_apart one left rest apart }
 
-next_front : (left : List FilePart) (ino : ℕ) (inode : InodeItem) (own others : List FilePart) → is_ascending (map file_key left) ≡ true → IsNext left ino inode own others → IsFront ino own others
-next_front left ino inode own others ascending next = rw (next.pieces, next.rest) (front ino inode next.behind (rw next.stands at ascending))
+pub IsKept-more : (parts : List FilePart) (one : FileItems) (left : List FileItems) (rest : List FilePart) (files : List (ℕ × File)) (file : File) → IsKept parts (one ∷ left) rest files
+    → Some file ≡ file_told one.ino one.inode (map (PieceOf one.ino) one.pieces) → IsKept parts left rest (files ++ (one.ino, file) ∷ [])
+IsKept-more parts one left rest files file kept told = record {
+  reading = IsReading-more parts (kept_parts (one ∷ left) rest) files one (kept_parts left rest) file kept.reading (next_of one left rest kept.apart) told;
+  apart = later_apart one left rest kept.apart;
+}
 
-pub IsReading-broken : (parts left : List FilePart) (files : List (ℕ × File)) (ino : ℕ) (inode : InodeItem) (own others : List FilePart) → IsReading parts left files → IsNext left ino inode own others
-    → None ≡ file_told ino inode own → None ≡ then_some (are_files parts) (files_in parts)
-IsReading-broken parts left files ino inode own others is next none =
-    let sound = front_sound ino inode own others (next_front left ino inode own others is.ascending next) in
-    unsound parts (is.sound ∙ rw (next_parts left ino inode own others next, sound, told_unsound ino inode own (sym none)) refl)
+pub IsKept-broken : (parts : List FilePart) (one : FileItems) (left : List FileItems) (rest : List FilePart) (files : List (ℕ × File)) → IsKept parts (one ∷ left) rest files
+    → None ≡ file_told one.ino one.inode (map (PieceOf one.ino) one.pieces) → None ≡ then_some (are_files parts) (files_in parts)
+IsKept-broken parts one left rest files kept none =
+    IsReading-broken parts (kept_parts (one ∷ left) rest) files one (kept_parts left rest) kept.reading (next_of one left rest kept.apart) none
 
-pub IsReading-more : (parts left : List FilePart) (files : List (ℕ × File)) (ino : ℕ) (inode : InodeItem) (own others : List FilePart) (file : File) → IsReading parts left files → IsNext left ino inode own others
-    → Some file ≡ file_told ino inode own → IsReading parts others (files ++ (ino, file) ∷ [])
-IsReading-more parts left files ino inode own others file is next told =
-    let stands = next_parts left ino inode own others next in
-    let in_front = next_front left ino inode own others is.ascending next in
-    let both = told_sound ino inode own file (sym told) in
-    let here : List (ℕ × File) = (ino, file) ∷ [] in
-    record {
-      ascending = rw next.rest (ascending-drop (suc (pieces_count ino next.behind)) (Inode ino inode ∷ next.behind) (rw next.stands at is.ascending));
-      sound = is.sound ∙ rw (stands, front_sound ino inode own others in_front, both.0) refl;
-      told = is.told ∙ rw (stands, front_files ino inode own others in_front, both.1) (sym (append_assoc files here (files_in others)));
-    }
+pub IsKept-all : (parts rest : List FilePart) (files : List (ℕ × File)) → length rest ≡ 0 → IsKept parts [] rest files → Some files ≡ then_some (are_files parts) (files_in parts)
+IsKept-all parts rest files none kept = IsReading-all parts rest files none kept.reading
+
+pub IsKept-orphan : (parts rest : List FilePart) (files : List (ℕ × File)) → (length rest ≡ 0 → ⊥) → IsKept parts [] rest files → None ≡ then_some (are_files parts) (files_in parts)
+IsKept-orphan parts [] files some kept = absurd (some refl)
+IsKept-orphan parts (Inode ino inode ∷ behind) files some kept = let apart = kept.apart in absurd cc
+IsKept-orphan parts (PieceOf ino piece ∷ behind) files some kept = IsReading-orphan parts (PieceOf ino piece ∷ behind) ino piece (PieceOf ino piece) behind files kept.reading refl refl
+
+-- ---- one file alone
+
+pub pieces_in-own : (ino : ℕ) (pieces : List Piece) → pieces_in ino (map (PieceOf ino) pieces) ≡ pieces
+pieces_in-own ino [] = refl
+pieces_in-own ino (piece ∷ pieces) = rw (eq-eqb ino ino refl) (ap (λ (others : List Piece). piece ∷ others) (pieces_in-own ino pieces))
+
+-- the file of what its items say, where it is not judged yet
+abbrev pub whole_file : FileItems → File
+whole_file one = record { size = one.inode.size; generation = one.inode.generation; transid = one.inode.transid; pieces = one.pieces }
+
+pub file_told-judged : (one : FileItems) (sound : Bool) → is_file_of one.ino one.inode (whole_file one) ≡ sound → then_some sound (whole_file one) ≡ file_told one.ino one.inode (map (PieceOf one.ino) one.pieces)
+file_told-judged one sound is = rw (pieces_in-own one.ino one.pieces, is) refl

@@ -1,20 +1,20 @@
 -- How the items of a subvolume stand where their keys ascend: a file's INODE_ITEM, its pieces, and then the items of greater files.
-use Rattle.std.proofs.Common.{◌≡◌, ℕ, zero, suc, ◌<◌, ◌≤◌, Bool, true, false, cond, List, [], ◌∷◌, drop, take, map, refl, arith, subst, inl, inr}
+use Rattle.std.proofs.Common.{◌≡◌, ℕ, ◌<◌, ◌≤◌, Bool, true, false, cond, List, [], ◌∷◌, ◌++◌, map, refl, ap, arith, subst, inl, inr}
 use Rattle.std.specs.Prelude.{◌⊎◌, is_some, ◌==◌, nat_lt}
 use Rattle.std.specs.Bool.{then_some}
 use Rattle.std.specs.List.{AllByRecursion}
 use Rattle.std.specs.Ordering.{is_lt, nat_cmp, ordering_then}
 use Rattle.std.specs.declared.cmp.Ordering.{Ordering}
 use Rattle.std.specs.declared.cmp.Ordering.TheVariants.{Less, Equal, Greater}
-use Rattle.std.proofs.lemmas.Bool.{and_parts, eqb-true, eqb-false, ltb-true}
+use Rattle.std.proofs.lemmas.Bool.{and_parts, eq-eqb, eqb-true, eqb-false, ltb-true}
 use Rattle.qg_num.specs.Key.{key_cmp}
 use Rattle.qg_num.specs.declared.key.Key.{Key}
+use Rattle.qg_num.specs.declared.piece.Piece.{Piece}
 use Rattle.qg_node.specs.Nodes.{ascends_from, is_ascending}
 use Rattle.qg_image.specs.declared.part.FilePart.{FilePart}
 use Rattle.qg_image.specs.declared.part.FilePart.TheVariants.{Inode, PieceOf}
 use Rattle.qg_image.specs.FilesOf.{piece_in}
 use Rattle.qg_parts.specs.Keys.{file_key}
-use Rattle.qg_rules.specs.Files.{pieces_count}
 
 -- the file that an item belongs to
 abbrev pub ino_of : FilePart → ℕ
@@ -88,21 +88,20 @@ unfolding ascends_from is_ascending
 rest_ascends low [] h = refl
 rest_ascends low (part ∷ parts) h = (and_parts (is_lt (key_cmp low (file_key part))) (ascends_from (file_key part) (map file_key parts)) h).1
 
-pub ascending-drop : (n : ℕ) (parts : List FilePart) → is_ascending (map file_key parts) ≡ true → is_ascending (map file_key (drop n parts)) ≡ true
+pub ascending-behind : (front parts : List FilePart) → is_ascending (map file_key (front ++ parts)) ≡ true → is_ascending (map file_key parts) ≡ true
 unfolding is_ascending
-ascending-drop zero parts h = h
-ascending-drop (suc n) [] h = h
-ascending-drop (suc n) (part ∷ parts) h = ascending-drop n parts (rest_ascends (file_key part) parts h)
+ascending-behind [] parts h = h
+ascending-behind (part ∷ front) parts h = ascending-behind front parts (rest_ascends (file_key part) (front ++ parts) h)
+
+pub all_later : (P : FilePart → Type 0) (front parts : List FilePart) → AllByRecursion P (front ++ parts) → AllByRecursion P parts
+all_later P [] parts all = all
+all_later P (part ∷ front) parts all = all_later P front parts all.1
 
 -- ---- a file's own pieces, and the others
 
-pub own_pieces : (ino : ℕ) (parts : List FilePart) → AllByRecursion (IsPieceOf ino) (take (pieces_count ino parts) parts)
+pub own_pieces : (ino : ℕ) (pieces : List Piece) → AllByRecursion (IsPieceOf ino) (map (PieceOf ino) pieces)
 own_pieces ino [] = tt
-own_pieces ino (part ∷ parts) = cases (own_pieces ino parts) (is_some (piece_in ino part)) refl where
-  cases : AllByRecursion (IsPieceOf ino) (take (pieces_count ino parts) parts)
-      → (own : Bool) → is_some (piece_in ino part) ≡ own → AllByRecursion (IsPieceOf ino) (take (cond own (suc (pieces_count ino parts)) 0) (part ∷ parts))
-  cases more true is = (is, more)
-  cases more false is = tt
+own_pieces ino (piece ∷ pieces) = (ap (λ (same : Bool). is_some (then_some same piece)) (eq-eqb ino ino refl), own_pieces ino pieces)
 
 not_own : (ino : ℕ) (part : FilePart) → IsBehind ino part → is_some (piece_in ino part) ≡ false → ino < ino_of part
 not_own ino (Inode other inode) behind other_file = behind
@@ -117,15 +116,16 @@ at_least : (ino : ℕ) (part : FilePart) → IsBehind ino part → ino ≤ ino_o
 at_least ino (Inode other inode) behind = omega (arith, behind)
 at_least ino (PieceOf other piece) behind = behind
 
-pub greater_others : (ino : ℕ) (parts : List FilePart) → AllByRecursion (IsBehind ino) parts → is_ascending (map file_key parts) ≡ true
-    → AllByRecursion (λ part. ino < ino_of part) (drop (pieces_count ino parts) parts)
+-- the first of some items is no piece of a file
+abbrev pub StartsOther : ℕ → List FilePart → Type 0
+StartsOther ino [] = Unit {0}
+StartsOther ino (part ∷ parts) = is_some (piece_in ino part) ≡ false
+
+pub greater_others : (ino : ℕ) (parts : List FilePart) → AllByRecursion (IsBehind ino) parts → is_ascending (map file_key parts) ≡ true → StartsOther ino parts
+    → AllByRecursion (λ part. ino < ino_of part) parts
 unfolding is_ascending
-greater_others ino [] behind h = tt
-greater_others ino (part ∷ parts) behind h = cases (greater_others ino parts behind.1 (rest_ascends (file_key part) parts h)) (is_some (piece_in ino part)) refl where
-  cases : AllByRecursion (λ part. ino < ino_of part) (drop (pieces_count ino parts) parts)
-      → (own : Bool) → is_some (piece_in ino part) ≡ own → AllByRecursion (λ part. ino < ino_of part) (drop (cond own (suc (pieces_count ino parts)) 0) (part ∷ parts))
-  cases more true is = more
-  cases more false is =
-      let greater = not_own ino part behind.0 is in
-      let later = all_behind (file_key part) parts (kind_of part) h in
-      (greater, all_weaker (IsBehind (file_key part).objectid) (λ other. ino < ino_of other) (λ other after. omega (arith, greater, at_least (file_key part).objectid other after, object_of part)) parts later)
+greater_others ino [] behind h other = tt
+greater_others ino (part ∷ parts) behind h other =
+    let greater = not_own ino part behind.0 other in
+    let later = all_behind (file_key part) parts (kind_of part) h in
+    (greater, all_weaker (IsBehind (file_key part).objectid) (λ other. ino < ino_of other) (λ other after. omega (arith, greater, at_least (file_key part).objectid other after, object_of part)) parts later)

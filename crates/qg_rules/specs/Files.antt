@@ -1,17 +1,12 @@
 -- How the items of a subvolume stand, file by file (this project's own).
-use Rattle.std.specs.Prelude.{ℕ, suc, Bool, ◌&&◌, List, [], ◌∷◌, Option, is_some, ◌==◌, nat_le, nat_lt, if◌then◌else◌}
+use Rattle.std.specs.Prelude.{ℕ, Bool, ◌&&◌, List, ◌∷◌, Option, ◌==◌, nat_le, nat_lt}
 use Rattle.std.specs.Bool.{then_some}
 use Rattle.qg_num.specs.declared.piece.Piece.{Piece}
 use Rattle.qg_items.specs.declared.file.InodeItem.{InodeItem}
 use Rattle.qg_image.specs.declared.file.File.{File}
 use Rattle.qg_image.specs.declared.part.FilePart.{FilePart}
 use Rattle.qg_image.specs.declared.part.FilePart.TheVariants.{Inode}
-use Rattle.qg_image.specs.FilesOf.{least_inode, inodes_end, is_file, is_piece, piece_end, pieces_bytes, piece_in, file_in}
-
--- how many items at the front are pieces of this file
-abbrev pub pieces_count : ℕ → List FilePart → ℕ
-pieces_count ino [] = 0
-pieces_count ino (part ∷ parts) = if is_some (piece_in ino part) then suc (pieces_count ino parts) else 0
+use Rattle.qg_image.specs.FilesOf.{least_inode, inodes_end, is_file, is_piece, piece_end, pieces_bytes, file_in}
 
 -- the piece is sound, begins no earlier than at a position and ends by the size
 abbrev pub is_between : ℕ → ℕ → Piece → Bool

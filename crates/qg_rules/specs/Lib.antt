@@ -1,3 +1,4 @@
 pub mod Files
+pub mod Parts
 pub mod Quota
 pub mod Roots

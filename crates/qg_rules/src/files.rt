@@ -1,14 +1,16 @@
 // The rule on a subvolume's files.
-ghost use Rattle.std.specs.Prelude.{◌≡◌, ◌<◌, ◌≤◌, ◌^◌, ℕ, map, length, IfOk, IsTrue};
+ghost use Rattle.std.specs.Prelude.{◌≡◌, ◌<◌, ◌^◌, map, IfOk, IsTrue};
 ghost use Rattle.std.specs.Bool.{then_some};
 ghost use Rattle.qg_node.specs.Nodes.{is_ascending};
-ghost use Rattle.qg_image.specs.FilesOf.{are_files, are_pieces, files_in, is_aligned, is_file, is_piece, piece_in, pieces_bytes, pieces_in};
+ghost use Rattle.qg_image.specs.declared.part.FilePart.TheVariants.{PieceOf};
+ghost use Rattle.qg_image.specs.FilesOf.{are_files, are_pieces, files_in, is_aligned, is_file, is_piece, pieces_bytes};
 ghost use Rattle.qg_parts.specs.Keys.{file_key};
-ghost use Rattle.qg_rules.specs.Files.{file_told, is_between, is_file_of, pieces_count};
+ghost use Rattle.qg_rules.specs.Files.{file_told, is_between, is_file_of};
 
-use qg_image::{File, FileList, FilePart};
+use crate::parts::{FileItems, FileParts};
+use qg_image::{File, FileList};
 use qg_items::InodeItem;
-use qg_num::{Ino, NoMemory, Piece, Pieces};
+use qg_num::{Ino, NoMemory, Piece};
 use qg_super::SECTOR;
 use std::alloc::Global;
 
@@ -22,82 +24,42 @@ const LEAST_INODE: u64 = 257;
 const INODES_END: u64 = 1 << 48;
 
 /// The files of a subvolume, as its items tell them; `None` exactly where the items do not fit each other (rule `file`).
-pub fn read_files(alloc: Global, parts: &[FilePart]) -> Result<Option<FileList>, NoMemory>
-    requires ascending { IsTrue (is_ascending (map file_key parts.now)) }
-    ensures { IfOk result (λ files. files ≡ then_some (are_files parts.now) (files_in parts.now)) }
+pub fn read_files(alloc: Global, parts: FileParts) -> Result<Option<FileList>, NoMemory>
+    requires ascending { IsTrue (is_ascending (map file_key parts)) }
+    ensures { IfOk result (λ files. files ≡ then_some (are_files parts) (files_in parts)) }
 {
+    let (told, rest) = parts.into_files();
     let mut files = FileList::new(alloc);
-    let mut left = parts;
-    while let Some((first, behind)) = left.split_first() {
-        let FilePart::Inode { ino, inode } = first else {
+    for one in told {
+        let ino = one.ino;
+        let Some(file) = read_file(one) else {
             return Ok(None);
         };
-        let (own, others) = behind.split_at(pieces_count(*ino, behind));
-        let Some(file) = read_file(alloc, *ino, inode, own)? else {
-            return Ok(None);
-        };
-        files.push((*ino, file))?;
-        left = others;
+        files.push((ino, file))?;
     }
-    Ok(Some(files))
-}
-
-// How many items at the front are pieces of a file.
-fn pieces_count(ino: Ino, parts: &[FilePart]) -> usize
-    ensures value { result ≡ pieces_count ino parts.now }
-    ensures bound { result ≤ length parts.now }
-{
-    for (i, part) in parts.iter().enumerate() {
-        if piece_in(ino, part).is_none() {
-            return i;
-        }
-    }
-    parts.len()
-}
-
-// The piece that an item tells of a file.
-fn piece_in(ino: Ino, part: &FilePart) -> Option<Piece>
-    ensures { result ≡ piece_in ino part.now }
-{
-    match part {
-        FilePart::Inode { .. } => None,
-        FilePart::PieceOf { ino: other, piece } => (*other == ino).then_some(*piece),
-    }
-}
-
-// The file of an INODE_ITEM and of the pieces behind it, where they fit each other.
-fn read_file(
-    alloc: Global,
-    ino: Ino,
-    inode: &InodeItem,
-    behind: &[FilePart],
-) -> Result<Option<File>, NoMemory>
-    ensures { IfOk result (λ file. file ≡ file_told ino inode.now behind.now) }
-{
-    let file = File {
-        size: inode.size,
-        generation: inode.generation,
-        transid: inode.transid,
-        pieces: pieces_in(alloc, ino, behind)?,
-    };
-    if is_file_of(ino, inode, &file) {
-        Ok(Some(file))
+    if rest.is_empty() {
+        Ok(Some(files))
     } else {
         Ok(None)
     }
 }
 
-// The pieces of a file, in the order of the items.
-fn pieces_in(alloc: Global, ino: Ino, parts: &[FilePart]) -> Result<Pieces, NoMemory>
-    ensures { IfOk result (λ pieces. pieces ≡ pieces_in ino parts.now) }
+// The file of an INODE_ITEM and of its pieces, where they fit each other.
+fn read_file(told: FileItems) -> Option<File>
+    ensures { result ≡ file_told told.ino told.inode (map (PieceOf told.ino) told.pieces) }
 {
-    let mut pieces = Pieces::new(alloc);
-    for part in parts {
-        if let Some(piece) = piece_in(ino, part) {
-            pieces.push(piece)?;
-        }
+    let FileItems { ino, inode, pieces } = told;
+    let file = File {
+        size: inode.size,
+        generation: inode.generation,
+        transid: inode.transid,
+        pieces,
+    };
+    if is_file_of(ino, &inode, &file) {
+        Some(file)
+    } else {
+        None
     }
-    Ok(pieces)
 }
 
 // Whether the number is one of a file, the file is sound, and nbytes is the sum of its pieces.

@@ -1,4 +1,4 @@
-ghost use Rattle.std.specs.Prelude.{◌≡◌, map};
+ghost use Rattle.std.specs.Prelude.{◌≡◌, map, IfOk};
 ghost use Rattle.qg_node.specs.Nodes.{ascends_from, is_ascending};
 ghost use Rattle.qg_parts.specs.Keys.{file_key};
 
@@ -7,7 +7,8 @@ use qg_image::{FileList, FilePart, QuotaPart, RootPart};
 use qg_items::kind::{EXTENT_DATA, INODE_ITEM};
 use qg_items::{InodeItem, QgroupInfo, QgroupLimit, QgroupStatus, RootItem};
 use qg_num::{Address, Generation, GroupId, Ino, Key, Piece, RootId, Rule};
-use std::alloc::Global;
+use qg_parts::PartList;
+use std::alloc::{AllocError, Global};
 use std::process::Abort;
 use std::test::Fail;
 
@@ -241,9 +242,20 @@ fn ascend_from(first: Key, others: &[FilePart]) -> bool
     true
 }
 
+// The same, one by one.
+fn put_all(alloc: Global, parts: &[FilePart]) -> Result<FileParts, AllocError>
+    ensures { IfOk result (λ put. put ≡ parts.now) }
+{
+    let mut put = FileParts::new(alloc);
+    for part in parts {
+        put.push(*part)?;
+    }
+    Ok(put)
+}
+
 fn files_of(rt: &impl Abort, alloc: Global, parts: &[FilePart]) -> Result<Option<FileList>, Fail> {
     assert!(rt; do_ascend(parts));
-    Ok(read_files(alloc, parts)?)
+    Ok(read_files(alloc, put_all(alloc, parts)?)?)
 }
 
 #[test]

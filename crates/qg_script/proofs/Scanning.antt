@@ -28,7 +28,11 @@ newline_taken bytes (Some left) end taken within is none =
     let tail = drop (end + 1) bytes in
     let parts : bytes ++ left ≡ line ++ 10 ∷ (tail ++ left) =
     ap (λ (xs : List ℕ). xs ++ left) (at_newline bytes end within is) ∙ append_assoc line (10 ∷ tail) left in
-    ap script_lines parts ∙ script_lines-newline line (tail ++ left) none
+    record {
+      first = ap script_lines parts ∙ script_lines-newline line (tail ++ left) none;
+      plain = none;
+      parted = inl parts;
+    }
 
 -- at the end of the source all that is held is the last line
 last_taken : (bytes : List ℕ) (before after : Option (List ℕ)) (taken later : ℕ) → IsAtEnd before
@@ -42,7 +46,11 @@ last_taken bytes (Some old) (Some new) taken later end same some none =
     let all : bytes ++ old ≡ bytes = ap (λ (xs : List ℕ). bytes ++ xs) end ∙ append-nil bytes in
     let unmoved : new ≡ old = append_cancel_left bytes new old (cc) in
     let nothing : new ≡ [] = unmoved ∙ end in
-    ap script_lines all ∙ script_lines-last bytes some none ∙ ap (λ (xs : List ℕ). bytes ∷ script_lines xs) (sym nothing)
+    record {
+      first = ap script_lines all ∙ script_lines-last bytes some none ∙ ap (λ (xs : List ℕ). bytes ∷ script_lines xs) (sym nothing);
+      plain = none;
+      parted = inr (all, nothing);
+    }
 
 -- no newline up to one place, and none from there up to another that lies among the first `count` bytes
 front_passed : (bytes : List ℕ) (count from to : ℕ) → AllWithin (λ byte. byte ≢ 10) bytes 0 from → AllWithin (λ byte. byte ≢ 10) (take count bytes) from to

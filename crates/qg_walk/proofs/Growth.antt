@@ -24,11 +24,10 @@ use Rattle.qg_verdict.specs.Failure.{kept}
 use Rattle.qg_verdict.specs.Walk.{is_item_of, next_key, node_found}
 use Rattle.qg_verdict.specs.ItemsUnder.{nodes_of}
 use Rattle.qg_verdict.specs.StateOf.{level_in}
-use Rattle.qg_walk.specs.declared.walked.Walked.{Walked}
 use Rattle.qg_walk.specs.declared.fault.WalkFault.{WalkFault}
 use Rattle.qg_walk.specs.Fault.{FailsAs}
 use Rattle.qg_walk.specs.Standing.{IsJudged}
-use Rattle.qg_walk.specs.Added.{AddsSaid, HasAdded, below_node, below_pointers, is_from, is_to}
+use Rattle.qg_walk.specs.Added.{AddsSaid, below_node, below_pointers, Found, HasAdded, is_from, is_to}
 use Rattle.qg_walk.proofs.Failures.{IsFormed-form, IsPassed, kept-none}
 use Rattle.qg_walk.proofs.KeyRanges.{AreWithin-append, AreWithin-none, AreWithin-own, list_all-both}
 
@@ -54,7 +53,7 @@ inner_stands super image address level header pointers items nodes is above own 
 -- ---- one node
 
 pub HasAdded-leaf : {P : Type 0} (tree : Tree) (meaning : Item → Option P) (super : Super) (history : Option (List Event)) (expected : Expected) (address : ℕ)
-    (header : Header) (items : List Item) (old new : Walked P) → IsJudged tree super expected address (Leaf header items)
+    (header : Header) (items : List Item) (old new : Found P) → IsJudged tree super expected address (Leaf header items)
     → ((events : List Event) → history ≡ Some events → node_found super (content events) address ≡ Ok (Leaf header items))
     → list_all (is_item_of tree super.generation) items ≡ true → AddsSaid meaning items old.parts new.parts → new.nodes ≡ old.nodes ++ address ∷ []
     → HasAdded tree meaning super history expected.from expected.to (below_node super address) old new
@@ -76,7 +75,7 @@ HasAdded-leaf tree meaning super history expected address header items old new j
     }
 
 pub HasAdded-inner : {P : Type 0} (tree : Tree) (meaning : Item → Option P) (super : Super) (history : Option (List Event)) (expected : Expected) (address : ℕ)
-    (header : Header) (pointers : List Pointer) (old middle new : Walked P) → IsJudged tree super expected address (Inner header pointers)
+    (header : Header) (pointers : List Pointer) (old middle new : Found P) → IsJudged tree super expected address (Inner header pointers)
     → ((events : List Event) → history ≡ Some events → node_found super (content events) address ≡ Ok (Inner header pointers))
     → middle.parts ≡ old.parts → middle.nodes ≡ old.nodes ++ address ∷ []
     → HasAdded tree meaning super history expected.from expected.to (below_pointers super (header.level - 1) pointers) middle new
@@ -105,7 +104,7 @@ HasAdded-inner tree meaning super history expected address header pointers old m
 -- ---- the nodes that pointers lead to
 
 -- those in front of the rest were walked
-pub record HasPassed {P : Type 0} (tree : Tree) (meaning : Item → Option P) (super : Super) (history : Option (List Event)) (from to : Option Key) (level : ℕ) (pointers rest : List Pointer) (old new : Walked P) : Type 0 where
+pub record HasPassed {P : Type 0} (tree : Tree) (meaning : Item → Option P) (super : Super) (history : Option (List Event)) (from to : Option Key) (level : ℕ) (pointers rest : List Pointer) (old new : Found P) : Type 0 where
   pub front : List Pointer
   pub whole : pointers ≡ front ++ rest
   pub added : HasAdded tree meaning super history from (next_key to rest) (below_pointers super level front) old new
@@ -128,7 +127,7 @@ joined-more {A} under [] pointer first more h k =
 joined-more under (next ∷ front) pointer first more h k =
     both_lists-more (under next) (joined under front) (joined under (front ++ pointer ∷ [])) first more (λ own is. joined-more under front pointer own more is k) h
 
-pub HasPassed-none : {P : Type 0} (tree : Tree) (meaning : Item → Option P) (super : Super) (history : Option (List Event)) (from to : Option Key) (level : ℕ) (pointers : List Pointer) (old : Walked P)
+pub HasPassed-none : {P : Type 0} (tree : Tree) (meaning : Item → Option P) (super : Super) (history : Option (List Event)) (from to : Option Key) (level : ℕ) (pointers : List Pointer) (old : Found P)
     → HasPassed tree meaning super history from to level pointers pointers old old
 HasPassed-none tree meaning super history from to level pointers old = record {
   front = [];
@@ -149,7 +148,7 @@ HasPassed-none tree meaning super history from to level pointers old = record {
 }
 
 pub HasPassed-more : {P : Type 0} (tree : Tree) (meaning : Item → Option P) (super : Super) (history : Option (List Event)) (from to : Option Key) (level : ℕ) (pointers : List Pointer)
-    (pointer : Pointer) (others : List Pointer) (old middle new : Walked P) → HasPassed tree meaning super history from to level pointers (pointer ∷ others) old middle
+    (pointer : Pointer) (others : List Pointer) (old middle new : Found P) → HasPassed tree meaning super history from to level pointers (pointer ∷ others) old middle
     → HasAdded tree meaning super history (Some pointer.key) (next_key to others) (below_node super pointer.child) middle new
     → ((events : List Event) → history ≡ Some events → level_in super (content events) pointer.child ≡ level)
     → is_from from pointer.key ≡ true → is_to (next_key to others) pointer.key ≡ true
@@ -182,7 +181,7 @@ HasPassed-more tree meaning super history from to level pointers pointer others 
       };
     }
 
-pub HasPassed-all : {P : Type 0} (tree : Tree) (meaning : Item → Option P) (super : Super) (history : Option (List Event)) (from to : Option Key) (level : ℕ) (pointers rest : List Pointer) (old new : Walked P)
+pub HasPassed-all : {P : Type 0} (tree : Tree) (meaning : Item → Option P) (super : Super) (history : Option (List Event)) (from to : Option Key) (level : ℕ) (pointers rest : List Pointer) (old new : Found P)
     → rest ≡ [] → HasPassed tree meaning super history from to level pointers rest old new → HasAdded tree meaning super history from to (below_pointers super level pointers) old new
 HasPassed-all tree meaning super history from to level pointers rest old new none passed =
     let whole : pointers ≡ passed.front = passed.whole ∙ ap (λ back. passed.front ++ back) none ∙ append-nil passed.front in
@@ -191,7 +190,7 @@ HasPassed-all tree meaning super history from to level pointers rest old new non
 
 -- where a leaf's items were said and none broke its rule
 pub HasAdded-said : {P : Type 0} (tree : Tree) (meaning : Item → Option P) (super : Super) (history : Option (List Event)) (expected : Expected) (address : ℕ)
-    (header : Header) (items : List Item) (old new : Walked P) (result : Result Unit WalkFault) → IsJudged tree super expected address (Leaf header items)
+    (header : Header) (items : List Item) (old new : Found P) (result : Result Unit WalkFault) → IsJudged tree super expected address (Leaf header items)
     → ((events : List Event) → history ≡ Some events → node_found super (content events) address ≡ Ok (Leaf header items))
     → FailsAs result (kept (list_all (is_item_of tree super.generation) items) rule.Item address) → OnOk result (AddsSaid meaning items old.parts new.parts)
     → new.nodes ≡ old.nodes ++ address ∷ []

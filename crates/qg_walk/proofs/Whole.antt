@@ -20,9 +20,8 @@ use Rattle.qg_verdict.specs.Failure.{kept}
 use Rattle.qg_verdict.specs.Walk.{deepest, found_failure, is_item_of, node_failure, node_found, pointers_failure, shape_failure, tree_failure, walk_failure, way_failure}
 use Rattle.qg_verdict.specs.ItemsUnder.{is_way, items_under, nodes_under}
 use Rattle.qg_verdict.specs.StateOf.{level_in, tree_items, tree_nodes}
-use Rattle.qg_walk.specs.declared.walked.Walked.{Walked}
 use Rattle.qg_walk.specs.IsWalk.{IsWalk}
-use Rattle.qg_walk.specs.Added.{HasAdded, below_node}
+use Rattle.qg_walk.specs.Added.{below_node, Found, HasAdded}
 use Rattle.qg_walk.proofs.Failures.{expected_below, first_none, neither, none_of_two}
 
 -- ---- a walk that keeps all rules keeps those on the way
@@ -85,7 +84,7 @@ unfolding tree_nodes
 tree_nodes-is tree super image expected root nodes is = rw is refl
 
 pub IsWalk-added : {P : Type 0} (tree : Tree) (meaning : Item → Option P) (super : Super) (history : Option (List Event)) (events : List Event) (from to : Option Key) (expected : Expected) (root : ℕ)
-    (old new : Walked P) → history ≡ Some events → old.parts ≡ [] → old.nodes ≡ [] → tree_failure tree super (content events) expected root ≡ None
+    (old new : Found P) → history ≡ Some events → old.parts ≡ [] → old.nodes ≡ [] → tree_failure tree super (content events) expected root ≡ None
     → HasAdded tree meaning super history from to (below_node super root) old new
     → IsWalk tree meaning super (content events) expected root new.parts new.nodes
 IsWalk-added tree meaning super history events from to expected root old new told no_parts no_nodes sound added =
@@ -105,7 +104,7 @@ IsWalk-added tree meaning super history events from to expected root old new tol
           ∙ ap (λ nodes. map (λ (node : Node). (header_of node).address) nodes) (sym all_nodes);
     }
 
-pub slots-added : {P : Type 0} (tree : Tree) (meaning : Item → Option P) (super : Super) (history : Option (List Event)) (from to : Option Key) (root : ℕ) (old new : Walked P)
+pub slots-added : {P : Type 0} (tree : Tree) (meaning : Item → Option P) (super : Super) (history : Option (List Event)) (from to : Option Key) (root : ℕ) (old new : Found P)
     → old.nodes ≡ [] → HasAdded tree meaning super history from to (below_node super root) old new → list_all (is_slot (sizes_of super)) new.nodes ≡ true
 slots-added tree meaning super history from to root old new no_nodes added =
     let nodes : new.nodes ≡ map (λ (node : Node). (header_of node).address) added.nodes =

@@ -62,9 +62,18 @@ below_pointers super level pointers image = record {
   nodes = joined (λ pointer. nodes_below (nodes_of (node_found super image)) level pointer.child) pointers;
 }
 
+-- what was found of a tree: what its items say, and where its nodes lie
+pub record Found (P : Type 0) : Type 0 where
+  pub parts : List P
+  pub nodes : List ℕ
+
+-- that of a walk, where this is what its parts keep
+abbrev pub found_by : {L P : Type 0} → (L → List P) → Walked L → Found P
+found_by list walked = record { parts = list walked.parts; nodes = walked.nodes }
+
 -- What was found grew by what some items say, which the tree may hold and whose keys ascend within a range, and by where some nodes lie,
 -- all in slots. Where the disk tells what it holds, those are the items and nodes that stand there
-pub record HasAdded {P : Type 0} (tree : Tree) (meaning : Item → Option P) (super : Super) (history : Option (List Event)) (from to : Option Key) (below : List ℕ → Below) (old new : Walked P) : Type 0 where
+pub record HasAdded {P : Type 0} (tree : Tree) (meaning : Item → Option P) (super : Super) (history : Option (List Event)) (from to : Option Key) (below : List ℕ → Below) (old new : Found P) : Type 0 where
   pub items : List Item
   pub nodes : List Node
   pub parts : List P

@@ -10,18 +10,18 @@ ghost use Rattle.qg_walk.specs.Added.{AddsSaid};
 use crate::WalkFault;
 use crate::slot::broken;
 use qg_node::Item;
-use qg_num::{Address, Generation, Rule, Sequence};
-use qg_parts::TreePart;
+use qg_num::{Address, Generation, Rule};
+use qg_parts::{PartList, TreePart};
 
 /// Puts what the items of the leaf at an address say behind what others said, where the tree may hold each.
-pub(crate) fn add_said<P: TreePart>(
+pub(crate) fn add_said<P: TreePart, L: PartList<P>>(
     generation: Generation,
     address: Address,
     items: &[Item],
-    parts: &mut Sequence<P>,
+    parts: &mut L,
 ) -> Result<(), WalkFault>
     ensures failure { FailsAs result (kept (list_all (is_item_of P.tree generation) items.now) rule.Item address) }
-    ensures said { OnOk result (AddsSaid P.meaning items.now parts.old parts.new) }
+    ensures said { OnOk result (AddsSaid P.meaning items.now (L.list parts.old) (L.list parts.new)) }
     ensures disk { IsErrOf result WalkFault.Disk → ⊥ }
 {
     for item in items {

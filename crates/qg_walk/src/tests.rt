@@ -10,7 +10,7 @@ use qg_items::kind::ROOT_ITEM;
 use qg_items::tree::{EXTENT_TREE, FIRST_FREE, QUOTA_TREE, ROOT_TREE, TOP_LEVEL};
 use qg_items::{ROOT_ITEM_BYTES, RootItem, read_root, write_root};
 use qg_node::{Body, Header, Item, Items, Node, Pointer, Pointers, write_node};
-use qg_num::{Address, Generation, Key, RootId, Rule};
+use qg_num::{Address, Generation, Key, RootId, Rule, Sequence};
 use qg_parts::TreePart;
 use qg_super::Super;
 use qg_verdict::{Expected, Failure};
@@ -235,7 +235,7 @@ fn walk_held(
     alloc: Global,
     level: Option<u8>,
     root: u64,
-) -> Result<Walked<Held>, WalkFault> {
+) -> Result<Walked<Sequence<Held>>, WalkFault> {
     let expected = Expected {
         level,
         generation: None,
@@ -245,11 +245,17 @@ fn walk_held(
     let superblock = superblock();
     let sizes = superblock.sizes();
     assert!(rt; sizes.is_served() && sizes.total_bytes() <= disk.len());
-    walk_tree(alloc, disk, &superblock, &expected, Address::new(root))
+    walk_tree::<Held, Sequence<Held>, MemDisk>(
+        alloc,
+        disk,
+        &superblock,
+        &expected,
+        Address::new(root),
+    )
 }
 
 // Whether a walk found the trees with these numbers, in nodes at these addresses.
-fn has_found(walked: &Walked<Held>, numbers: &[u64], addresses: &[u64]) -> bool {
+fn has_found(walked: &Walked<Sequence<Held>>, numbers: &[u64], addresses: &[u64]) -> bool {
     let parts = walked.parts.as_slice();
     let nodes = walked.nodes.as_slice();
     parts.len() == numbers.len()

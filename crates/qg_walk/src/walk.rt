@@ -12,7 +12,7 @@ ghost use Rattle.qg_walk.specs.declared.fault.WalkFault.TheVariants.{Unsound};
 ghost use Rattle.qg_walk.specs.Fault.{FailsAs};
 ghost use Rattle.qg_walk.specs.IsWalk.{IsWalk};
 ghost use Rattle.qg_walk.specs.Standing.{levels_below};
-ghost use Rattle.qg_walk.specs.Added.{AreSpaced, HasAdded, below_node, below_pointers};
+ghost use Rattle.qg_walk.specs.Added.{AreSpaced, HasAdded, below_node, below_pointers, found_by};
 
 use crate::items::add_said;
 use crate::visit::visit;
@@ -20,7 +20,7 @@ use crate::{WalkFault, Walked};
 use qg_disk::Disk;
 use qg_node::{Node, Pointer};
 use qg_num::{Address, Key, Sequence};
-use qg_parts::TreePart;
+use qg_parts::{PartList, TreePart};
 use qg_super::Super;
 use qg_verdict::Expected;
 use std::alloc::Global;
@@ -29,25 +29,25 @@ use std::alloc::Global;
 ///
 /// `root` is an address in bytes. What it finds is kept in the order of the walk. Where it answers a fault, nothing is known of the tree
 /// but a failure that it tells, which is the first one.
-pub fn walk_tree<P: TreePart, D: Disk>(
+pub fn walk_tree<P: TreePart, L: PartList<P>, D: Disk>(
     alloc: Global,
     disk: &mut D,
     superblock: &Super,
     expected: &Expected,
     root: Address,
-) -> Result<Walked<P>, WalkFault>
+) -> Result<Walked<L>, WalkFault>
     requires served { IsTrue (is_served (sizes_of superblock.now)) }
     requires inside { total_bytes (sizes_of superblock.now) ≤ D.size disk.old }
     requires root { (expected.now.from ≡ None) × (expected.now.to ≡ None) }
 
     // Over a disk that tells what it holds.
     ensures found { (events : List Event) → D.history disk.old ≡ Some events
-        → IfOk result (λ walked. IsWalk P.tree P.meaning superblock.now (content events) expected.now root walked.parts walked.nodes) }
+        → IfOk result (λ walked. IsWalk P.tree P.meaning superblock.now (content events) expected.now root (L.list walked.parts) walked.nodes) }
     ensures unsound { (events : List Event) (failure : Failure) → D.history disk.old ≡ Some events
         → result ≡ Err (Unsound failure) → tree_failure P.tree superblock.now (content events) expected.now root ≡ Some failure }
 
     // Over any disk.
-    ensures ascending { IfOk result (λ walked. AreSaid P.meaning walked.parts) }
+    ensures ascending { IfOk result (λ walked. AreSaid P.meaning (L.list walked.parts)) }
     ensures slots { IfOk result (λ walked. IsTrue (list_all (is_slot (sizes_of superblock.now)) walked.nodes)) }
     ensures history { D.history disk.new ≡ D.history disk.old }
     ensures size { D.size disk.new ≡ D.size disk.old }
@@ -55,20 +55,20 @@ pub fn walk_tree<P: TreePart, D: Disk>(
 {
     let mut buffer = vec![in alloc; 0; superblock.nodesize as usize]?;
     let mut walked = Walked {
-        parts: Sequence::new(alloc),
+        parts: L::new(alloc),
         nodes: Sequence::new(alloc),
     };
-    walk(disk, superblock, &mut buffer, &mut walked, expected, root)?;
+    walk::<P, L, D>(disk, superblock, &mut buffer, &mut walked, expected, root)?;
     Ok(walked)
 }
 
 // Walks from the node at an address down, and puts what it finds behind what was found before.
 #[cycle(walk)]
-fn walk<P: TreePart, D: Disk>(
+fn walk<P: TreePart, L: PartList<P>, D: Disk>(
     disk: &mut D,
     superblock: &Super,
     buffer: &mut [u8],
-    walked: &mut Walked<P>,
+    walked: &mut Walked<L>,
     expected: &Expected,
     address: Address,
 ) -> Result<(), WalkFault>
@@ -78,7 +78,7 @@ fn walk<P: TreePart, D: Disk>(
     ensures failure { (events : List Event) (depth : ℕ) → D.history disk.old ≡ Some events → levels_below expected.now.level ≤ depth
         → FailsAs result (walk_failure (node_failure P.tree superblock.now) (node_found superblock.now (content events)) depth expected.now address) }
     ensures added { OnOk result (HasAdded P.tree P.meaning superblock.now (D.history disk.old) expected.now.from expected.now.to
-        (below_node superblock.now address) walked.old walked.new) }
+        (below_node superblock.now address) (found_by L.list walked.old) (found_by L.list walked.new)) }
     ensures history { D.history disk.new ≡ D.history disk.old }
     ensures size { D.size disk.new ≡ D.size disk.old }
     ensures cause { HasCause WalkFault.Disk (D.faults disk.old) (D.faults disk.new) result }
@@ -92,13 +92,13 @@ fn walk<P: TreePart, D: Disk>(
         address,
     )?;
     match node {
-        Node::Leaf { items, .. } => add_said(
+        Node::Leaf { items, .. } => add_said::<P, L>(
             superblock.generation,
             address,
             items.as_slice(),
             &mut walked.parts,
         ),
-        Node::Inner { header, pointers } => walk_pointers(
+        Node::Inner { header, pointers } => walk_pointers::<P, L, D>(
             disk,
             superblock,
             buffer,
@@ -112,11 +112,11 @@ fn walk<P: TreePart, D: Disk>(
 
 // Walks from the nodes of a level down that pointers lead to, one after the other. Their keys lie in the range that is expected of all.
 #[cycle(walk)]
-fn walk_pointers<P: TreePart, D: Disk>(
+fn walk_pointers<P: TreePart, L: PartList<P>, D: Disk>(
     disk: &mut D,
     superblock: &Super,
     buffer: &mut [u8],
-    walked: &mut Walked<P>,
+    walked: &mut Walked<L>,
     expected: &Expected,
     level: u8,
     pointers: &[Pointer],
@@ -129,7 +129,7 @@ fn walk_pointers<P: TreePart, D: Disk>(
         → FailsAs result (pointers_failure (walk_failure (node_failure P.tree superblock.now) (node_found superblock.now (content events)) depth)
         level expected.now.to pointers.now) }
     ensures added { OnOk result (HasAdded P.tree P.meaning superblock.now (D.history disk.old) expected.now.from expected.now.to
-        (below_pointers superblock.now level pointers.now) walked.old walked.new) }
+        (below_pointers superblock.now level pointers.now) (found_by L.list walked.old) (found_by L.list walked.new)) }
     ensures history { D.history disk.new ≡ D.history disk.old }
     ensures size { D.size disk.new ≡ D.size disk.old }
     ensures cause { HasCause WalkFault.Disk (D.faults disk.old) (D.faults disk.new) result }
@@ -142,7 +142,7 @@ fn walk_pointers<P: TreePart, D: Disk>(
             from: Some(pointer.key),
             to: next_key(expected.to, others),
         };
-        walk(disk, superblock, buffer, walked, &below, pointer.child)?;
+        walk::<P, L, D>(disk, superblock, buffer, walked, &below, pointer.child)?;
         rest = others;
     }
     Ok(())

@@ -1,14 +1,22 @@
--- Four words, one by one.
+-- Words one by one.
 use Rattle.std.proofs.Common.{Option, Some, None, ◌≡◌, ℕ, ◌≤◌, ◌<◌, List, [], ◌∷◌, length, get_or, sym, ◌∙◌, refl, arith, String, Global}
 use Rattle.std.specs.Prelude.{string_bytes, codes, IfSome, IfNone}
 use Rattle.std.specs.Fmt.{decimal}
 use Rattle.qg_super.specs.declared.sizes.Sizes.{Sizes}
-use Rattle.qg_words.specs.Words.{SizesFit, AskForImage, HaveForm, texts}
+use Rattle.qg_words.specs.Words.{SizesFit, AskForImage, texts}
 
 -- a word at a place, and its text
 pub record IsWord (words : List (String Global)) (place : ℕ) (word : String Global) (text : List ℕ) : Type 0 where
   pub stands : word ≡ get_or words place word
   pub text_is : text ≡ string_bytes word
+
+-- the text of one word
+pub one_text :
+    {words : List (String Global)} {a : String Global} {ta : List ℕ}
+    → 1 ≤ length words → length words < 2 → IsWord words 0 a ta → texts words ≡ ta ∷ []
+one_text {words = []} some few a = absurd (omega arith)
+one_text {words = w ∷ []} some few a = rw a.text_is (rw a.stands refl)
+one_text {words = w ∷ x ∷ words} some few a = absurd (omega arith)
 
 -- the texts of four words
 pub four_texts :
@@ -34,16 +42,16 @@ abbrev pub SpellNone : List ℕ → List ℕ → List ℕ → Type 0
 SpellNone nodesize slots sectors =
     (sizes : Sizes) → SizesFit sizes → nodesize ≡ decimal sizes.nodesize → slots ≡ decimal sizes.slots → sectors ≡ decimal sizes.sectors → ⊥
 
--- where they are no sizes, the four have no form
-no_form :
+-- where they are no sizes, the four ask for no image
+no_image :
     {words : List (List ℕ)} {name nodesize slots sectors : List ℕ}
-    → words ≡ name ∷ nodesize ∷ slots ∷ sectors ∷ [] → SpellNone nodesize slots sectors → HaveForm words → ⊥
-no_form {words} {name} {nodesize} {slots} {sectors} are none form =
-    let same = sym are ∙ form.ask.are in
-    let first : nodesize ≡ decimal form.sizes.nodesize = cc in
-    let second : slots ≡ decimal form.sizes.slots = cc in
-    let third : sectors ≡ decimal form.sizes.sectors = cc in
-    none form.sizes form.ask.fits first second third
+    → words ≡ name ∷ nodesize ∷ slots ∷ sectors ∷ [] → SpellNone nodesize slots sectors → (sizes : Sizes) → AskForImage words sizes → ⊥
+no_image {words} {name} {nodesize} {slots} {sectors} are none sizes ask =
+    let same = sym are ∙ ask.are in
+    let first : nodesize ≡ decimal sizes.nodesize = cc in
+    let second : slots ≡ decimal sizes.slots = cc in
+    let third : sectors ≡ decimal sizes.sectors = cc in
+    none sizes ask.fits first second third
 
 -- what is read of the last three is what the four ask for
 pub ask-found :
@@ -54,9 +62,10 @@ ask-found None are named fits found = tt
 ask-found (Some sizes) are named fits found =
     record { fits = fits; are = are ∙ rw named (rw found.0 (rw found.1 (rw found.2 refl))) }
 
--- and where nothing is read they have no form
+-- and where nothing is read they ask for none
 pub none-found :
     (result : Option Sizes) {words : List (List ℕ)} {name nodesize slots sectors : List ℕ}
-    → words ≡ name ∷ nodesize ∷ slots ∷ sectors ∷ [] → IfNone result (SpellNone nodesize slots sectors) → IfNone result (HaveForm words → ⊥)
-none-found None are none = no_form are none
+    → words ≡ name ∷ nodesize ∷ slots ∷ sectors ∷ [] → IfNone result (SpellNone nodesize slots sectors)
+    → IfNone result ((sizes : Sizes) → AskForImage words sizes → ⊥)
+none-found None are none = no_image are none
 none-found (Some sizes) are none = tt

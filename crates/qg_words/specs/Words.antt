@@ -3,6 +3,8 @@ use Rattle.std.specs.Prelude.{◌≡◌, ℕ, ◌^◌, ◌<◌, List, [], ◌∷
 use Rattle.std.specs.Fmt.{decimal}
 use Rattle.std.specs.declared.alloc.Global.{Global}
 use Rattle.qg_super.specs.declared.sizes.Sizes.{Sizes}
+use Rattle.qg_words.specs.declared.form.Form.{Form}
+use Rattle.qg_words.specs.declared.form.Form.TheVariants.{Mkfs, Run}
 
 -- the text of each word
 abbrev pub texts : List (String Global) → List (List ℕ)
@@ -23,7 +25,16 @@ pub record AskForImage (words : List (List ℕ)) (sizes : Sizes) : Type 0 where
   pub fits : SizesFit sizes
   pub are : words ≡ mkfs_words sizes
 
--- the words are those of a form: so far there is this one
+-- the words that ask for a run
+abbrev pub run_words : List (List ℕ)
+run_words = codes "run" ∷ []
+
+-- the words ask for this
+abbrev pub AskFor : List (List ℕ) → Form → Type 0
+AskFor words (Mkfs sizes) = AskForImage words sizes
+AskFor words Run = words ≡ run_words
+
+-- the words are those of a form: so far there are these two
 pub record HaveForm (words : List (List ℕ)) : Type 0 where
-  pub sizes : Sizes
-  pub ask : AskForImage words sizes
+  pub form : Form
+  pub ask : AskFor words form

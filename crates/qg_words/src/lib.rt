@@ -6,5 +6,5 @@ mod number;
 #[cfg(test)]
 mod tests;
 
-pub use form::read_words;
+pub use form::{Form, read_words};
 pub use number::decimal_of;

@@ -1,5 +1,5 @@
 // Decimals and words by hand.
-use crate::{decimal_of, read_words};
+use crate::{Form, decimal_of, read_words};
 use qg_super::Sizes;
 use std::test::Fail;
 
@@ -41,17 +41,32 @@ fn words_have_one_form(rt: HostRuntime) -> Result<(), Fail> {
         ("1024", None),
         (
             "65536",
-            Some(Sizes {
+            Some(Form::Mkfs(Sizes {
                 nodesize: 16384,
                 slots: 1024,
                 sectors: 65536,
-            }),
+            })),
         ),
         ("0", None),
     ];
-    for (word, sizes) in steps {
+    for (word, form) in steps {
         words.push(word.to_string(alloc)?)?;
-        assert_eq!(rt; read_words(&words), sizes, "{word}");
+        assert_eq!(rt; read_words(&words), form, "{word}");
+    }
+    Ok(())
+}
+
+#[test]
+fn one_word_asks_for_a_run(rt: HostRuntime) -> Result<(), Fail> {
+    let alloc = rt.alloc();
+    for (word, form) in [
+        ("run", Some(Form::Run)),
+        ("Run", None),
+        ("runs", None),
+        ("", None),
+    ] {
+        let words = vec![in alloc; word.to_string(alloc)?]?;
+        assert_eq!(rt; read_words(&words), form, "{word}");
     }
     Ok(())
 }

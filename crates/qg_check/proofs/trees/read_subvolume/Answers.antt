@@ -1,7 +1,7 @@
-use Rattle.std.proofs.Common.{◌≡◌, ℕ, List, Option, true, false, None, Some, map, refl, sym, ap, ◌∙◌, subst}
+use Rattle.std.proofs.Common.{◌≡◌, ℕ, List, Option, refl, sym, ◌∙◌, subst}
 use Rattle.std.specs.Prelude.{Result, Ok, IfOk}
 use Rattle.std.specs.Bool.{then_some}
-use Rattle.qg_device.specs.History.{Event, content}
+use Rattle.qg_device.specs.History.{content}
 use Rattle.qg_image.specs.declared.file.File.{File}
 use Rattle.qg_image.specs.declared.part.FilePart.{FilePart}
 use Rattle.qg_image.specs.ItemMeaning.{file_part}
@@ -16,17 +16,15 @@ use Rattle.qg_super.specs.declared.superblock.Super.{Super}
 use Rattle.qg_walk.specs.declared.fault.WalkFault.{WalkFault}
 use Rattle.qg_check.specs.Stages.{given_of}
 use Rattle.qg_walk.specs.IsWalk.{IsWalk}
-use Rattle.qg_parts.specs.Said.{AreSaid}
 use Rattle.qg_parts.proofs.Keys.{files_ascending}
 use Rattle.qg_check.proofs.Said.{tree_read, given_ok, is_none}
 use Rattle.qg_check.proofs.Found.{items_under-nodes}
-use Rattle.qg_check.proofs.Held.{FilesRead, files_read, files_none, files_of_held}
-use Rattle.qg_check.proofs.trees.read_subvolume.Given.{Over}
+use Rattle.qg_check.proofs.Held.{files_read, files_none, files_of_held}
 use Rattle.qg_check.proofs.trees.read_subvolume.Goals as goal
 
 pub read_files-requires : goal.read_files-requires
 read_files-requires g c = record {
-  ascending = files_ascending c.as_slice.result.now (subst (λ (parts : List FilePart). AreSaid file_part parts) (sym c.as_slice.ensures) c.in_ok-walked.ensures.ascending);
+  ascending = files_ascending c.in_ok-walked.walked.parts c.in_ok-walked.ensures.ascending;
 }
 
 -- ---- what was read
@@ -37,9 +35,9 @@ walk_of : (super : Super) (image : List ℕ) (root : RootItem) (expected : Expec
 walk_of super image root expected parts nodes is walk = subst (λ (e : Expected). IsWalk Files file_part super image e root.bytenr parts nodes) is walk
 
 -- its parts are what the items say
-parts_of : (super : Super) (image : List ℕ) (root : RootItem) (parts slice : List FilePart) (nodes : List ℕ) → slice ≡ parts → IsWalk Files file_part super image (root_told root) root.bytenr parts nodes
-    → file_parts (items_of_root Files super image root) ≡ slice
-parts_of super image root parts slice nodes is walk = tree_read Files file_part super image root parts nodes walk ∙ sym is
+parts_of : (super : Super) (image : List ℕ) (root : RootItem) (parts : List FilePart) (nodes : List ℕ) → IsWalk Files file_part super image (root_told root) root.bytenr parts nodes
+    → file_parts (items_of_root Files super image root) ≡ parts
+parts_of super image root parts nodes walk = tree_read Files file_part super image root parts nodes walk
 
 -- the files that were asked for
 found_of : (answer : Result (Option (List (ℕ × File))) NoMemory) (handed : Result (Option (List (ℕ × File))) WalkFault) (found : Option (List (ℕ × File))) (slice : List FilePart) → handed ≡ given_of answer → handed ≡ Ok found
@@ -49,20 +47,17 @@ found_of answer handed found slice is ok holds = given_ok (λ (files : Option (L
 pub returns-in_default-clause-failure : goal.returns-in_default-clause-failure
 returns-in_default-clause-failure g c = λ events told.
     let walk = walk_of c.args.superblock.now (content events) c.args.root.now c.root_told.result c.in_ok-walked.walked.parts c.in_ok-walked.walked.nodes c.root_told.ensures (c.in_ok-walked.ensures.found events told) in
-    let parts = parts_of c.args.superblock.now (content events) c.args.root.now c.in_ok-walked.walked.parts c.as_slice.result.now c.in_ok-walked.walked.nodes c.as_slice.ensures walk in
-    let read = found_of c.read_files.result c.given.result c.in_ok-files.field-0 c.as_slice.result.now c.given.ensures c.in_ok-files.was c.read_files.ensures in
-    rw (c.broken.ensures, walk.sound, parts, files_none c.as_slice.result.now (sym (is_none c.in_ok-files.field-0 c.in_default.not-Some) ∙ read)) refl
-
--- the files at the end of the function
-files_at : (g : Over) (c : goal.After-drop-walked-2 g) → FilesRead c.as_slice.result.now c.in-Some.files
-files_at g c = files_read c.as_slice.result.now c.in-Some.files
-    (sym c.in-Some.is ∙ found_of c.read_files.result c.given.result c.in_ok-files.field-0 c.as_slice.result.now c.given.ensures c.in_ok-files.was c.read_files.ensures)
+    let parts = parts_of c.args.superblock.now (content events) c.args.root.now c.in_ok-walked.walked.parts c.in_ok-walked.walked.nodes walk in
+    let read = found_of c.read_files.result c.given.result c.in_ok-files.field-0 c.in_ok-walked.walked.parts c.given.ensures c.in_ok-files.was c.read_files.ensures in
+    rw (c.broken.ensures, walk.sound, parts, files_none c.in_ok-walked.walked.parts (sym (is_none c.in_ok-files.field-0 c.in_default.not-Some) ∙ read)) refl
 
 pub returns-clause-failure : goal.returns-clause-failure
 returns-clause-failure g c = λ events told.
     let walk = walk_of c.args.superblock.now (content events) c.args.root.now c.root_told.result c.in_ok-walked.walked.parts c.in_ok-walked.walked.nodes c.root_told.ensures (c.in_ok-walked.ensures.found events told) in
-    let parts = parts_of c.args.superblock.now (content events) c.args.root.now c.in_ok-walked.walked.parts c.as_slice.result.now c.in_ok-walked.walked.nodes c.as_slice.ensures walk in
-    rw (walk.sound, parts, (files_at g c).are) refl
+    let parts = parts_of c.args.superblock.now (content events) c.args.root.now c.in_ok-walked.walked.parts c.in_ok-walked.walked.nodes walk in
+    let files = files_read c.in_ok-walked.walked.parts c.in-Some.files
+    (sym c.in-Some.is ∙ found_of c.read_files.result c.given.result c.in_ok-files.field-0 c.in_ok-walked.walked.parts c.given.ensures c.in_ok-files.was c.read_files.ensures) in
+    rw (walk.sound, parts, files.are) refl
 
 pub returns-clause-tree : goal.returns-clause-tree
 returns-clause-tree g c = λ events told.
@@ -71,14 +66,15 @@ returns-clause-tree g c = λ events told.
     let root = c.args.root.now in
     let items = items_of_root Files super image root in
     let walk = walk_of super image root c.root_told.result c.in_ok-walked.walked.parts c.in_ok-walked.walked.nodes c.root_told.ensures (c.in_ok-walked.ensures.found events told) in
-    let files = files_at g c in
+    let files = files_read c.in_ok-walked.walked.parts c.in-Some.files
+    (sym c.in-Some.is ∙ found_of c.read_files.result c.given.result c.in_ok-files.field-0 c.in_ok-walked.walked.parts c.given.ensures c.in_ok-files.was c.read_files.ensures) in
     record {
-      files = files_of_held super.generation items c.as_slice.result.now c.in-Some.files walk.held (parts_of super image root c.in_ok-walked.walked.parts c.as_slice.result.now c.in_ok-walked.walked.nodes c.as_slice.ensures walk) files;
+      files = files_of_held super.generation items c.in_ok-walked.walked.parts c.in-Some.files walk.held (parts_of super image root c.in_ok-walked.walked.parts c.in_ok-walked.walked.nodes walk) files;
       placed = walk.placed;
       under = walk.nodes;
       stand = items_under-nodes Files super (node_found super image) (level_in super image root.bytenr) (root_told root) root.bytenr items (nodes_of_root Files super image root) walk.items walk.nodes;
-      parts = c.as_slice.result.now;
-      said = walk.said ∙ ap (map (λ (part : FilePart). Some part)) (sym c.as_slice.ensures);
+      parts = c.in_ok-walked.walked.parts;
+      said = walk.said;
       fit = files.are;
       told = files.is;
     }

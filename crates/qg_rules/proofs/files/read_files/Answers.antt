@@ -1,33 +1,58 @@
-use Rattle.std.proofs.Common.{sym, ◌∙◌}
-use Rattle.qg_rules.proofs.Reading.{IsNext-cut, IsReading-all, IsReading-broken, IsReading-more, IsReading-orphan}
+use Rattle.std.proofs.Common.{◌≡◌, List, ◌∷◌, length, arith, sym, ap, ◌∙◌, subst}
+use Rattle.std.specs.Vec.Iter.{into_iter_items}
+use Rattle.std.proofs.lemmas.Bool.{eqb-false, eqb-true}
+use Rattle.qg_rules.specs.declared.parts.FileItems.{FileItems}
+use Rattle.qg_rules.proofs.Kept.{no_files}
+use Rattle.qg_rules.proofs.Reading.{IsKept, IsKept-all, IsKept-broken, IsKept-more, IsKept-none, IsKept-orphan}
 use Rattle.qg_rules.proofs.files.read_files.Goals as goal
 
-pub returns-in_default-first : goal.returns-in_default-first
-returns-in_default-first c =
-    let one = c.in_default-first in
-    let loop = c.loop-first in
-    IsReading-orphan c.args.parts.now loop.left.now one.field-0 one.field-1 c.in-Some.first.now c.in-Some.behind.now loop.files loop.invariant c.in-Some.ensures.cases.0 one.is
+pub loop-one-init : goal.loop-one-init
+loop-one-init c =
+    let told = c.into_files-told.result.0.items in
+    let given = c.into_iter-one-iterator.ensures.into_iter_gives in
+    let rest : c.rest.inside.items.items ≡ c.into_files-told.result.1 = c.rest.view_is in
+    record {
+      kept =
+          rw (given.0, rest, c.new-files.ensures)
+          (IsKept-none c.args.parts told c.into_files-told.result.1 c.into_files-told.ensures.parts c.requires.ascending c.into_files-told.ensures.apart);
+      len = omega (arith, given.1, ap length given.0, c.into_files-told.result.0.ok.0);
+    }
 
-pub returns-in_default-2 : goal.returns-in_default-2
-returns-in_default-2 c =
-    let one = c.in-Inode in
-    let loop = c.loop-first in
-    let own = c.split_at.result.0.now in
-    let others = c.split_at.result.1.now in
-    let cut = c.split_at.ensures in
-    let next = IsNext-cut loop.left.now c.in-Some.first.now c.in-Some.behind.now c.pieces_count.result one.ino one.inode own others c.in-Some.ensures.cases.0 one.is c.pieces_count.ensures.value cut.front cut.back in
-    IsReading-broken c.args.parts.now loop.left.now loop.files one.ino one.inode own others loop.invariant next (sym c.in_default-2.is ∙ c.in_ok-file.ensures)
+pub returns-in_default : goal.returns-in_default
+returns-in_default c =
+    let one = c.in-Some.one in
+    let left : List FileItems = into_iter_items c.next.new.self in
+    let rest = c.rest.inside.items.items in
+    let kept : IsKept c.args.parts (one ∷ left) rest c.loop-one.files =
+    subst (λ (files : List FileItems). IsKept c.args.parts files rest c.loop-one.files) c.in-Some.ensures.steps.0 c.loop-one.invariant.kept in
+    IsKept-broken c.args.parts one left rest c.loop-one.files kept (sym c.in_default.is ∙ c.read_file.ensures)
 
-pub loop-first-preserved : goal.loop-first-preserved
-loop-first-preserved c =
-    let one = c.in-Inode in
-    let loop = c.loop-first in
-    let own = c.split_at.result.0.now in
-    let others = c.split_at.result.1.now in
-    let cut = c.split_at.ensures in
-    let next = IsNext-cut loop.left.now c.in-Some.first.now c.in-Some.behind.now c.pieces_count.result one.ino one.inode own others c.in-Some.ensures.cases.0 one.is c.pieces_count.ensures.value cut.front cut.back in
-    rw c.in_ok-push.ensures.ok
-    (IsReading-more c.args.parts.now loop.left.now loop.files one.ino one.inode own others c.in-Some-2.file loop.invariant next (sym c.in-Some-2.is ∙ c.in_ok-file.ensures))
+pub loop-one-preserved : goal.loop-one-preserved
+loop-one-preserved c =
+    let one = c.in-Some.one in
+    let left : List FileItems = into_iter_items c.next.new.self in
+    let rest = c.rest.inside.items.items in
+    let kept : IsKept c.args.parts (one ∷ left) rest c.loop-one.files =
+    subst (λ (files : List FileItems). IsKept c.args.parts files rest c.loop-one.files) c.in-Some.ensures.steps.0 c.loop-one.invariant.kept in
+    record {
+      kept = rw c.in_ok-push.ensures.ok (IsKept-more c.args.parts one left rest c.loop-one.files c.in-Some-read_file.file kept (sym c.in-Some-read_file.is ∙ c.read_file.ensures));
+      len = omega (arith, c.loop-one.invariant.len, c.in-Some.ensures.steps.1, ap length c.in-Some.ensures.steps.0);
+    }
+
+pub returns-then-is_empty : goal.returns-then-is_empty
+returns-then-is_empty c =
+    let rest = c.rest.inside.items.items in
+    let told = c.into_files-told.result.1 in
+    let same : rest ≡ told = c.rest.view_is in
+    let none = no_files (into_iter_items c.loop-one.one-iterator) (omega (arith, c.loop-one.invariant.len, c.in-None.ensures.steps.0)) in
+    IsKept-all c.args.parts rest c.loop-one.files (ap length same ∙ eqb-true (length told) 0 (sym c.is_empty.ensures ∙ c.if-is_empty.true))
+    (subst (λ (files : List FileItems). IsKept c.args.parts files rest c.loop-one.files) none c.loop-one.invariant.kept)
 
 pub returns : goal.returns
-returns c = IsReading-all c.args.parts.now c.loop-first.left.now c.loop-first.files c.in_default.ensures.cases c.loop-first.invariant
+returns c =
+    let rest = c.rest.inside.items.items in
+    let told = c.into_files-told.result.1 in
+    let same : rest ≡ told = c.rest.view_is in
+    let none = no_files (into_iter_items c.loop-one.one-iterator) (omega (arith, c.loop-one.invariant.len, c.in-None.ensures.steps.0)) in
+    IsKept-orphan c.args.parts rest c.loop-one.files (λ empty. eqb-false (length told) 0 (sym c.is_empty.ensures ∙ c.if-is_empty.false) (sym (ap length same) ∙ empty))
+    (subst (λ (files : List FileItems). IsKept c.args.parts files rest c.loop-one.files) none c.loop-one.invariant.kept)

@@ -3,7 +3,7 @@ use Rattle.std.proofs.lemmas.Result.{err_from_is_err_and, on_ok_weaker}
 use Rattle.qg_device.specs.History.{Event, content}
 use Rattle.qg_verdict.specs.Walk.{next_key, node_failure, node_found, walk_failure}
 use Rattle.qg_node.specs.declared.node.Node.TheVariants.{Inner}
-use Rattle.qg_walk.specs.Added.{AreSpaced, HasAdded, below_node}
+use Rattle.qg_walk.specs.Added.{AreSpaced, HasAdded, below_node, found_by}
 use Rattle.qg_walk.proofs.Failures.{FailsAs-inner, FailsAs-leaf, IsFormed-form, expected_below, level_no_higher, level_within, levels_low, pointers-passed, walk-passed, walk-told}
 use Rattle.qg_walk.proofs.Growth.{HasAdded-inner, HasAdded-said, HasPassed-more, HasPassed-none, level_passed}
 use Rattle.qg_walk.proofs.KeyRanges.{AreSpaced-within, AreWithin-own}
@@ -30,10 +30,13 @@ walk-walk_pointers-requires g t c κs within =
       (
         within.0,
         (
-          within.1,
+          within.1.0,
           (
-            c.requires.served,
-            (rw c.in_ok-node.ensures.size c.requires.inside, (c.visit.auto.buffer ∙ c.requires.buffer, rw c.as_slice-in-Inner.ensures spaced)),
+            within.1.1,
+            (
+              c.requires.served,
+              (rw c.in_ok-node.ensures.size c.requires.inside, (c.visit.auto.buffer ∙ c.requires.buffer, rw c.as_slice-in-Inner.ensures spaced)),
+            ),
           ),
         ),
       ),
@@ -49,7 +52,7 @@ pub walk-returns-in-Leaf-clause-added : goal.walk-returns-in-Leaf-clause-added
 walk-returns-in-Leaf-clause-added g t c =
     let judged = rw c.in-Leaf.is at c.in_ok-node.ensures.judged in
     HasAdded-said g.P.TreePart.tree g.P.TreePart.meaning c.args.superblock.now (g.D.Disk.history c.args.disk.now) c.args.expected.now c.args.address c.in-Leaf.header c.in-Leaf.items
-    c.args.walked.now (record { parts = c.add_said.new.parts; nodes = c.visit.new.nodes }) c.add_said.result judged
+    (found_by g.L.PartList.list c.args.walked.now) (record { parts = g.L.PartList.list c.add_said.new.parts; nodes = c.visit.new.nodes }) c.add_said.result judged
     (λ events told. rw c.in-Leaf.is at (c.in_ok-node.ensures.found events told))
     (rw c.as_slice.ensures at c.add_said.ensures.failure) (rw c.as_slice.ensures at c.add_said.ensures.said) c.in_ok-node.ensures.added
 
@@ -69,7 +72,7 @@ walk-returns-in-Inner-clause-added g t c =
     let added = rw (c.in_ok-node.ensures.history, c.as_slice-in-Inner.ensures) at c.walk_pointers.ensures.added in
     on_ok_weaker c.walk_pointers.result
     (HasAdded-inner g.P.TreePart.tree g.P.TreePart.meaning c.args.superblock.now (g.D.Disk.history c.args.disk.now) c.args.expected.now c.args.address c.in-Inner.header c.in-Inner.pointers
-    c.args.walked.now (record { parts = c.args.walked.now.parts; nodes = c.visit.new.nodes }) c.walk_pointers.new.walked judged
+    (found_by g.L.PartList.list c.args.walked.now) (record { parts = g.L.PartList.list c.args.walked.now.parts; nodes = c.visit.new.nodes }) (found_by g.L.PartList.list c.walk_pointers.new.walked) judged
     (λ events told. rw c.in-Inner.is at (c.in_ok-node.ensures.found events told)) refl c.in_ok-node.ensures.added)
     added
 
@@ -80,7 +83,7 @@ walk_pointers-pointers-init g t c = record {
   count = omega arith;
   spaced = c.requires.spaced;
   failure = λ events depth told low. refl;
-  passed = HasPassed-none g.P.TreePart.tree g.P.TreePart.meaning c.args.superblock.now (g.D.Disk.history c.args.disk.now) c.args.expected.now.from c.args.expected.now.to c.args.level c.args.pointers.now c.args.walked.now;
+  passed = HasPassed-none g.P.TreePart.tree g.P.TreePart.meaning c.args.superblock.now (g.D.Disk.history c.args.disk.now) c.args.expected.now.from c.args.expected.now.to c.args.level c.args.pointers.now (found_by g.L.PartList.list c.args.walked.now);
 }
 
 pub walk_pointers-pointers-preserved : goal.walk_pointers-pointers-preserved
@@ -99,7 +102,7 @@ walk_pointers-pointers-preserved g t c =
     λ events depth told low. rw c.next_key.ensures at (c.in_ok-walk.ensures.failure events depth (c.pointers.invariant.history ∙ told) (levels_low level depth low)) in
     let below = expected_below level to pointer others in
     let old = g.D.Disk.history c.args.disk.now in
-    let added : HasAdded tree g.P.TreePart.meaning super old (Some pointer.key) (next_key to others) (below_node super pointer.child) c.pointers.walked c.walk.new.walked =
+    let added : HasAdded tree g.P.TreePart.meaning super old (Some pointer.key) (next_key to others) (below_node super pointer.child) (found_by g.L.PartList.list c.pointers.walked) (found_by g.L.PartList.list c.walk.new.walked) =
     rw (c.next_key.ensures, c.pointers.invariant.history) at c.in_ok-walk.ensures.added in
     record {
       history = c.in_ok-walk.ensures.history ∙ c.pointers.invariant.history;
@@ -110,7 +113,7 @@ walk_pointers-pointers-preserved g t c =
           sym (pointers-passed (walk_failure (node_failure tree super) (node_found super (content events)) depth) level to pointer others (passes events depth told low))
           ∙ (rw rest at (c.pointers.invariant.failure events depth told low));
       passed =
-          HasPassed-more tree g.P.TreePart.meaning super old from to level c.args.pointers.now pointer others c.args.walked.now c.pointers.walked c.walk.new.walked
+          HasPassed-more tree g.P.TreePart.meaning super old from to level c.args.pointers.now pointer others (found_by g.L.PartList.list c.args.walked.now) (found_by g.L.PartList.list c.pointers.walked) (found_by g.L.PartList.list c.walk.new.walked)
           (rw rest at c.pointers.invariant.passed) added
           (λ events told.
           level_passed super (content events) below pointer.child level refl

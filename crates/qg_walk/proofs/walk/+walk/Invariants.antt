@@ -1,7 +1,7 @@
 use Rattle.std.proofs.Common.{◌≡◌, ℕ, ◌+◌, ◌*◌, ◌≤◌, List, length, Some}
 use Rattle.qg_device.specs.History.{Event, content}
 use Rattle.qg_verdict.specs.Walk.{node_failure, node_found, pointers_failure, walk_failure}
-use Rattle.qg_walk.specs.Added.{AreSpaced}
+use Rattle.qg_walk.specs.Added.{AreSpaced, found_by}
 use Rattle.qg_walk.proofs.Failures.{height}
 use Rattle.qg_walk.proofs.Growth.{HasPassed}
 use Rattle.qg_walk.proofs.walk.+walk.Given as goal
@@ -24,7 +24,7 @@ invariant-walk_pointers-pointers g l = record {
       ≡ pointers_failure (walk_failure (node_failure g.P.TreePart.tree l.superblock) (node_found l.superblock (content events)) depth) l.level l.expected.to l.pointers;
   passed :
       HasPassed g.P.TreePart.tree g.P.TreePart.meaning l.superblock (g.D.Disk.history l.initial.disk) l.expected.from l.expected.to l.level l.pointers l.rest
-      l.initial.walked l.walked;
+      (found_by g.L.PartList.list l.initial.walked) (found_by g.L.PartList.list l.walked);
 }
 
 abbrev pub decreases-walk_pointers-pointers : goal.decreases-walk_pointers-pointers

@@ -2,6 +2,7 @@ use Rattle.std.proofs.Common.{◌≡◌}
 use Rattle.std.proofs.lemmas.Result.{err_from_is_err_and}
 use Rattle.qg_verdict.specs.Walk.{deepest, tree_failure}
 use Rattle.qg_walk.specs.declared.fault.WalkFault.TheVariants.{Unsound}
+use Rattle.qg_walk.specs.Added.{found_by}
 use Rattle.qg_walk.proofs.Failures.{levels_few}
 use Rattle.qg_walk.proofs.Whole.{IsWalk-added, slots-added}
 use Rattle.qg_walk.proofs.walk.walk_tree.Goals as goal
@@ -18,10 +19,10 @@ unfolding tree_failure
 returns-clause-found g c events told =
     let walked = c.in_ok-walk.ensures in
     IsWalk-added g.P.TreePart.tree g.P.TreePart.meaning c.args.superblock.now (g.D.Disk.history c.args.disk.now) events c.args.expected.now.from c.args.expected.now.to
-    c.args.expected.now c.args.root (record { parts = c.new.result; nodes = c.new-2.result }) c.walk.new.walked told c.new.ensures c.new-2.ensures
+    c.args.expected.now c.args.root (record { parts = g.L.PartList.list c.new.result; nodes = c.new-2.result }) (found_by g.L.PartList.list c.walk.new.walked) told c.new.ensures c.new-2.ensures
     (walked.failure events deepest told (levels_few c.args.expected.now.level)) walked.added
 
 pub returns-clause-slots : goal.returns-clause-slots
 returns-clause-slots g c =
     slots-added g.P.TreePart.tree g.P.TreePart.meaning c.args.superblock.now (g.D.Disk.history c.args.disk.now) c.args.expected.now.from c.args.expected.now.to c.args.root
-    (record { parts = c.new.result; nodes = c.new-2.result }) c.walk.new.walked c.new-2.ensures c.in_ok-walk.ensures.added
+    (record { parts = g.L.PartList.list c.new.result; nodes = c.new-2.result }) (found_by g.L.PartList.list c.walk.new.walked) c.new-2.ensures c.in_ok-walk.ensures.added

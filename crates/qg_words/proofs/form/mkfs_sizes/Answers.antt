@@ -3,7 +3,7 @@ use Rattle.std.specs.Prelude.{codes}
 use Rattle.std.proofs.lemmas.Slice.Eq.{bytes_eq-Decides}
 use Rattle.qg_words.specs.Words.{texts}
 use Rattle.qg_words.proofs.FourWords.{four_texts, ask-found, none-found}
-use Rattle.qg_words.proofs.form.read_words.Goals as goal
+use Rattle.qg_words.proofs.form.mkfs_sizes.Goals as goal
 
 -- the four words that were looked at
 are :

@@ -1,0 +1,99 @@
+//! How long `PROGRAM IMAGE run` takes to open an image, beside the checksums of the image's nodes alone:
+//! `open ROUNDS PROGRAM FRESH FULL ..`. Build it by `rustc -O`.
+//!
+//! FRESH is a fresh image of the same sizes as each FULL. Its nodes fill the first slots, and the first slot without a node ends
+//! them. Of an image it prints, each as the fastest of ROUNDS in microseconds: the checksums of its nodes, which lie in memory;
+//! these with the reading of the nodes from the file; and the program's whole run over the image on an empty input, less that
+//! over FRESH. The last number is the ratio of the third to the first.
+use checksum::crc32c;
+use std::fs::File;
+use std::io;
+use std::os::unix::fs::FileExt;
+use std::process::{Command, Stdio};
+use std::time::Instant;
+
+#[allow(dead_code)]
+#[path = "crc32c.rs"]
+mod checksum;
+
+/// Bytes of a node, of which its checksum leaves out the first 32.
+const NODE: usize = 16384;
+
+/// Where the slots begin.
+const SLOTS_BEGIN: u64 = 1048576;
+
+/// The nodes of an image.
+fn nodes_of(path: &str) -> io::Result<Vec<u8>> {
+    let file = File::open(path)?;
+    let mut nodes = Vec::new();
+    let mut node = vec![0; NODE];
+    loop {
+        file.read_exact_at(&mut node, SLOTS_BEGIN + nodes.len() as u64)?;
+        if node.iter().all(|byte| *byte == 0) {
+            return Ok(nodes);
+        }
+        nodes.extend_from_slice(&node);
+    }
+}
+
+/// Whether a node has its checksum.
+fn is_sound(node: &[u8]) -> bool {
+    crc32c(&node[32..]).to_le_bytes() == node[..4]
+}
+
+/// Takes the checksum of each node in memory.
+fn check_all(nodes: &[u8]) {
+    assert!(nodes.chunks_exact(NODE).all(is_sound));
+}
+
+/// Reads each node, and takes its checksum.
+fn read_all(path: &str, count: usize) -> io::Result<()> {
+    let file = File::open(path)?;
+    let mut node = vec![0; NODE];
+    for i in 0..count {
+        file.read_exact_at(&mut node, SLOTS_BEGIN + (NODE * i) as u64)?;
+        assert!(is_sound(&node));
+    }
+    Ok(())
+}
+
+/// Runs the program over an image on an empty input.
+fn run(program: &str, image: &str) -> io::Result<()> {
+    let status = Command::new(program)
+        .args([image, "run"])
+        .stdin(Stdio::null())
+        .stdout(Stdio::null())
+        .status()?;
+    assert!(status.success(), "{program} {image} run: {status}");
+    Ok(())
+}
+
+/// Notes the time of a call, if none was faster.
+fn time(fastest: &mut u128, call: impl FnOnce() -> io::Result<()>) -> io::Result<()> {
+    let start = Instant::now();
+    call()?;
+    *fastest = start.elapsed().as_micros().min(*fastest);
+    Ok(())
+}
+
+fn main() -> io::Result<()> {
+    let words: Vec<String> = std::env::args().skip(1).collect();
+    let [rounds, program, fresh, full @ ..] = words.as_slice() else {
+        panic!("open ROUNDS PROGRAM FRESH FULL ..");
+    };
+    let rounds: u32 = rounds.parse().expect("ROUNDS is a number");
+    for image in full {
+        let nodes = nodes_of(image)?;
+        let [mut sums, mut read, mut empty, mut opened] = [u128::MAX; 4];
+        for _ in 0..rounds {
+            time(&mut sums, || Ok(check_all(&nodes)))?;
+            time(&mut read, || read_all(image, nodes.len() / NODE))?;
+            time(&mut empty, || run(program, fresh))?;
+            time(&mut opened, || run(program, image))?;
+        }
+        let opening = opened - empty;
+        let ratio = opening as f64 / sums as f64;
+        println!("{image}: checksums {sums} us, read too {read} us, opened {opening} us, ratio {ratio:.2}");
+    }
+    Ok(())
+}

@@ -1,0 +1,270 @@
+-- What was answered so far, turn by turn, and what follows at the end.
+use Rattle.std.proofs.Common.{◌≡◌, ◌⊎◌, inl, inr, ℕ, ◌+◌, ◌-◌, ◌≤◌, List, [], ◌∷◌, ◌++◌, length, take, true, false, Option, Some, None, refl, sym, ap, ◌∙◌, subst, arith, append_assoc}
+use Rattle.std.specs.List.{concat}
+use Rattle.std.specs.Io.KnownBytes.{append_known, IsAtEnd}
+use Rattle.std.proofs.Math.Seq.{take-append_seam, take-append-add}
+use Rattle.std.proofs.lemmas.List.{append-nil, length-append, take-append-le}
+use Rattle.qg_edge.specs.Appended.{AppendsFront}
+use Rattle.qg_grammar.specs.ScriptText.{script_lines, longest_script}
+use Rattle.qg_script.specs.Feeding.{Feeding, IsTooLong, IsWithinLimit}
+use Rattle.qg_script.specs.Lines.{LosesLine, pending, CountsTaken}
+use Rattle.qg_state.specs.State.{State}
+use Rattle.qg_machine.specs.Run.{Run}
+use Rattle.qg_program.specs.declared.status.Status.{Status}
+use Rattle.qg_program.specs.declared.status.Status.TheVariants as status
+use Rattle.qg_program.specs.Running.{Answers, IsTaken, PutsSome, PutsPart, ended_lines}
+use Rattle.qg_program.specs.Turning.{Turns, TurnsPart, IsTurn, FailsToTurn}
+use Rattle.qg_program.proofs.EndedLines.{ended_lines-line, ended_lines-none}
+use Rattle.qg_program.proofs.Steps.{append_known-nil, put-snoc, run-snoc}
+
+some-injective : {a b : List ℕ} → Some a ≡ Some b → a ≡ b
+some-injective {a} {b} same = cc
+
+-- these lines ended in front of what is left
+pub record IsFront (input : List ℕ) (lines : List (List ℕ)) (left : List ℕ) : Type 0 where
+  pub front : List ℕ
+  pub parted : input ≡ front ++ left
+  pub ended : (tail : List ℕ) → ended_lines (front ++ tail) ≡ lines ++ ended_lines tail
+
+-- some lines of the input were answered and their replies put; so much of it is left
+pub record HasAnswered (state : State) (input : List ℕ) (pend old new : Option (List ℕ)) : Type 0 where
+  pub left : List ℕ
+  pub told : pend ≡ Some left
+  pub lines : List (List ℕ)
+  pub replies : List (List ℕ)
+  pub run : Run state lines replies [] state
+  pub put : new ≡ append_known old (concat replies)
+  pub ahead : script_lines input ≡ lines ++ script_lines left
+  pub limit : IsFront input lines left ⊎ (left ≡ [])
+
+-- at the beginning
+pub answered-none : (state : State) (input : List ℕ) (pend old : Option (List ℕ)) → pend ≡ Some input → HasAnswered state input pend old old
+answered-none state input pend old told = record {
+  left = input;
+  told = told;
+  lines = [];
+  replies = [];
+  run = (refl, refl);
+  put = append_known-nil old;
+  ahead = refl;
+  limit = inl (record { front = []; parted = refl; ended = λ tail. refl });
+}
+
+-- a line that ended is one more in front
+front-line : {input line after : List ℕ} {lines : List (List ℕ)} {before : List ℕ} → IsFront input lines before → LosesLine before after line
+    → before ≡ line ++ 10 ∷ after → IsFront input (lines ++ line ∷ []) after
+front-line {input} {line} {after} {lines} {before} is loses parted =
+    let turned : (tail : List ℕ) → (is.front ++ (line ++ 10 ∷ [])) ++ tail ≡ is.front ++ (line ++ 10 ∷ tail) =
+    λ tail. append_assoc is.front (line ++ 10 ∷ []) tail ∙ ap (λ (bytes : List ℕ). is.front ++ bytes) (append_assoc line (10 ∷ []) tail) in
+    record {
+      front = is.front ++ (line ++ 10 ∷ []);
+      parted = is.parted ∙ ap (λ (bytes : List ℕ). is.front ++ bytes) parted ∙ sym (turned after);
+      ended = λ tail.
+          ap ended_lines (turned tail) ∙ is.ended (line ++ 10 ∷ tail)
+          ∙ ap (λ (more : List (List ℕ)). lines ++ more) (ended_lines-line line tail loses.plain)
+          ∙ sym (append_assoc lines (line ∷ []) (ended_lines tail));
+    }
+
+-- nothing is left, so nothing more is lost
+nothing-lost : {after line : List ℕ} → LosesLine [] after line → ⊥
+nothing-lost {after} {line} loses = absurd cc
+
+limit-line : {input line before after : List ℕ} {lines : List (List ℕ)} → IsFront input lines before ⊎ (before ≡ []) → LosesLine before after line
+    → IsFront input (lines ++ line ∷ []) after ⊎ (after ≡ [])
+limit-line {input} {line} {before} {after} (inl is) loses = elim loses.parted [
+  | inl parted ↦ inl (front-line is loses parted)
+  | inr all ↦ inr all.1
+]
+limit-line {input} {line} {before} {after} (inr nothing) loses = absurd (nothing-lost (subst (λ (bytes : List ℕ). LosesLine bytes after line) nothing loses))
+
+-- one line more
+ahead-line : (input : List ℕ) (lines : List (List ℕ)) {line before after : List ℕ} → script_lines input ≡ lines ++ script_lines before → LosesLine before after line
+    → script_lines input ≡ (lines ++ line ∷ []) ++ script_lines after
+ahead-line input lines {line} {before} {after} ahead loses =
+    ahead ∙ ap (λ (more : List (List ℕ)). lines ++ more) loses.first ∙ sym (append_assoc lines (line ∷ []) (script_lines after))
+
+answered-line : {state : State} {input after : List ℕ} {pend old mid new : Option (List ℕ)} → (so_far : HasAnswered state input pend old mid)
+    → Turns state so_far.left after mid new → HasAnswered state input (Some after) old new
+answered-line {state} {input} {after} {pend} {old} {mid} {new} so_far turns =
+    let line = turns.replies.line in
+    let loses = turns.replies.loses in
+    record {
+      left = after;
+      told = refl;
+      lines = so_far.lines ++ line ∷ [];
+      replies = so_far.replies ++ turns.reply ∷ [];
+      run = run-snoc state state state so_far.lines so_far.replies line turns.reply [] [] so_far.run turns.replies.turn;
+      put = turns.put ∙ ap (λ (told : Option (List ℕ)). append_known told turns.reply) so_far.put ∙ put-snoc old so_far.replies turns.reply;
+      ahead = ahead-line input so_far.lines so_far.ahead loses;
+      limit = limit-line so_far.limit loses;
+    }
+
+-- a turn that goes on
+pub answered-more : {state : State} {input : List ℕ} {pend old mid new : Option (List ℕ)} → (after : Option (List ℕ)) → (so_far : HasAnswered state input pend old mid)
+    → IsTurn true state so_far.left after mid new → HasAnswered state input after old new
+answered-more None so_far turns = absurd turns
+answered-more (Some after) so_far turns = answered-line so_far turns
+
+-- the turn that finds nothing left
+pub answered-all : {state : State} {input : List ℕ} {pend old mid new : Option (List ℕ)} → (after : Option (List ℕ)) → (so_far : HasAnswered state input pend old mid)
+    → IsTurn false state so_far.left after mid new → Answers status.Done state input [] old new
+answered-all {state} {input} {pend} {old} {mid} {new} after so_far over =
+    let all : script_lines input ≡ so_far.lines =
+    so_far.ahead ∙ ap (λ (bytes : List ℕ). so_far.lines ++ script_lines bytes) over.0 ∙ append-nil so_far.lines in
+    record {
+      replies = so_far.replies;
+      after = state;
+      run = subst (λ (lines : List (List ℕ)). Run state lines so_far.replies [] state) (sym all) so_far.run;
+      put = over.2 ∙ so_far.put;
+    }
+
+-- whole replies up to a fault
+answered-some : {state : State} {input : List ℕ} {pend old mid new : Option (List ℕ)} → (so_far : HasAnswered state input pend old mid) → new ≡ mid
+    → PutsSome state (script_lines input) [] old new
+answered-some {state} {input} so_far same =
+    let front : take (length so_far.lines) (script_lines input) ≡ so_far.lines =
+    ap (take (length so_far.lines)) so_far.ahead ∙ take-append_seam so_far.lines (script_lines so_far.left) in
+    record {
+      count = length so_far.lines;
+      puts = record {
+        replies = so_far.replies;
+        after = state;
+        run = subst (λ (lines : List (List ℕ)). Run state lines so_far.replies [] state) (sym front) so_far.run;
+        put = same ∙ so_far.put;
+      };
+    }
+
+-- a front of the last reply
+answered-part : {state : State} {input : List ℕ} {pend old mid new : Option (List ℕ)} → (so_far : HasAnswered state input pend old mid)
+    → TurnsPart state so_far.left mid new → PutsPart state (script_lines input) [] old new
+answered-part {state} {input} {pend} {old} {mid} {new} so_far turns =
+    let line = turns.replies.line in
+    let lines = so_far.lines ++ line ∷ [] in
+    let front : take (length lines) (script_lines input) ≡ lines =
+    ap (take (length lines)) (ahead-line input so_far.lines so_far.ahead turns.replies.loses) ∙ take-append_seam lines (script_lines turns.after) in
+    let run = run-snoc state state state so_far.lines so_far.replies line turns.reply [] [] so_far.run turns.replies.turn in
+    record {
+      count = length lines;
+      replies = so_far.replies;
+      last = turns.reply;
+      after = state;
+      run = subst (λ (answered : List (List ℕ)). Run state answered (so_far.replies ++ turns.reply ∷ []) [] state) (sym front) run;
+      put = subst (λ (told : Option (List ℕ)). AppendsFront told new turns.reply) so_far.put turns.put;
+    }
+
+-- ---- a script that is too long
+
+-- how far a feed has come with an input
+pub record HasFed (input : List ℕ) (feeding : Feeding) (left : Option (List ℕ)) : Type 0 where
+  pub counted : CountsTaken (Some input) left 0 feeding.taken
+  pub within : IsWithinLimit feeding
+
+pub ended-at_limit : {input rest : List ℕ} (left : List ℕ) {lines : List (List ℕ)} {taken : ℕ} → IsFront input lines (rest ++ left)
+    → length input + 0 ≡ length left + taken → IsTooLong (record { taken = taken; rest = rest }) → taken ≤ longest_script + length rest
+    → ended_lines (take longest_script input) ≡ lines
+ended-at_limit {input} {rest} left {lines} {taken} is counted too_long held =
+    let parts : length input ≡ length is.front + (length rest + length left) =
+    ap length is.parted ∙ length-append is.front (rest ++ left) ∙ ap (λ (n : ℕ). length is.front + n) (length-append rest left) in
+    let handed : taken ≡ length is.front + length rest = omega (arith, parts, counted) in
+    let limit : longest_script ≡ length is.front + (longest_script - (taken - length rest)) = omega (arith, handed, held) in
+    let room : longest_script - (taken - length rest) ≤ length rest = omega (arith, handed, held, too_long.taken) in
+    let window = take (longest_script - (taken - length rest)) rest in
+    let cut : take longest_script input ≡ is.front ++ window =
+    ap (take longest_script) is.parted
+    ∙ ap (λ (n : ℕ). take n (is.front ++ (rest ++ left))) limit
+    ∙ take-append-add is.front (rest ++ left) (longest_script - (taken - length rest))
+    ∙ ap (λ (bytes : List ℕ). is.front ++ bytes) (take-append-le (longest_script - (taken - length rest)) rest left room) in
+    ap ended_lines cut ∙ is.ended window
+    ∙ ap (λ (more : List (List ℕ)). lines ++ more) (ended_lines-none window too_long.no_newline)
+    ∙ append-nil lines
+
+-- the lines within the limit, where the input is too long
+answered-limit : {state : State} {input : List ℕ} {old mid : Option (List ℕ)} (feeding : Feeding) (left : Option (List ℕ))
+    → (so_far : HasAnswered state input (pending feeding left) old mid) → HasFed input feeding left → IsTooLong feeding
+    → ended_lines (take longest_script input) ≡ so_far.lines
+answered-limit feeding None so_far fed too_long = absurd fed.counted
+answered-limit {state} {input} {old} {mid} feeding (Some left) so_far fed too_long =
+    let is : feeding.rest ++ left ≡ so_far.left = some-injective so_far.told in
+    elim so_far.limit [
+      | inl front ↦ ended-at_limit left (subst (λ (bytes : List ℕ). IsFront input so_far.lines bytes) (sym is) front) fed.counted too_long fed.within.handed_out
+      | inr nothing ↦
+          let none : length feeding.rest + length left ≡ 0 = sym (length-append feeding.rest left) ∙ ap length (is ∙ nothing) in
+          absurd (omega (arith, none, fed.within.handed_out, too_long.taken))
+    ]
+
+-- a turn that fails
+pub answered-failed : {state : State} {input : List ℕ} {pend old mid : Option (List ℕ)} → (end : Status) (feeding : Feeding) (left new : Option (List ℕ))
+    → (so_far : HasAnswered state input pend old mid) → HasFed input feeding left → (end ≡ status.TooLong → IsTooLong feeding)
+    → FailsToTurn end state so_far.left (pending feeding left) mid new → Answers end state input [] old new
+answered-failed status.Sink feeding left new so_far fed too_long fails = answered-part so_far fails
+answered-failed status.NoMemory feeding left new so_far fed too_long fails = answered-some so_far fails
+answered-failed status.Source feeding left new so_far fed too_long fails = answered-some so_far fails
+answered-failed {state} {input} {pend} {old} {mid} status.TooLong feeding left new so_far fed too_long fails =
+    let there : HasAnswered state input (pending feeding left) old mid = record {
+      left = so_far.left;
+      told = fails.0;
+      lines = so_far.lines;
+      replies = so_far.replies;
+      run = so_far.run;
+      put = so_far.put;
+      ahead = so_far.ahead;
+      limit = so_far.limit;
+    } in
+    let lines = answered-limit feeding left there fed (too_long refl) in
+    record {
+      replies = so_far.replies;
+      after = state;
+      run = subst (λ (lines : List (List ℕ)). Run state lines so_far.replies [] state) (sym lines) so_far.run;
+      put = fails.1 ∙ so_far.put;
+    }
+answered-failed status.Done feeding left new so_far fed too_long fails = absurd fails
+answered-failed status.Words feeding left new so_far fed too_long fails = absurd fails
+answered-failed status.Image feeding left new so_far fed too_long fails = absurd fails
+answered-failed status.Disk feeding left new so_far fed too_long fails = absurd fails
+answered-failed status.Sizes feeding left new so_far fed too_long fails = absurd fails
+
+-- ---- how many bytes were taken
+
+-- the count of what was taken, from the beginning on
+pub counted-on : (input mid left : Option (List ℕ)) (taken now : ℕ) → CountsTaken input mid 0 taken → CountsTaken mid left taken now → CountsTaken input left 0 now
+counted-on None None None taken now first then = tt
+counted-on None None (Some left) taken now first then = absurd then
+counted-on None (Some mid) left taken now first then = absurd first
+counted-on (Some input) None left taken now first then = absurd first
+counted-on (Some input) (Some mid) None taken now first then = absurd then
+counted-on (Some input) (Some mid) (Some left) taken now first then = omega (arith, first, then)
+
+pub counted-none : (input : Option (List ℕ)) → CountsTaken input input 0 0
+counted-none None = tt
+counted-none (Some input) = refl
+
+-- a run that ends otherwise than at its input's end
+pub taken-by : (end : Status) (feeding : Feeding) (input left : Option (List ℕ)) → CountsTaken input left 0 feeding.taken → IsWithinLimit feeding
+    → (end ≡ status.TooLong → IsTooLong feeding) → (end ≡ status.Done → ⊥) → IsTaken end input left
+taken-by end feeding None None counted within too_long not_done = tt
+taken-by end feeding None (Some left) counted within too_long not_done = absurd counted
+taken-by end feeding (Some input) None counted within too_long not_done = absurd counted
+taken-by end feeding (Some input) (Some left) counted within too_long not_done = record {
+  count = feeding.taken;
+  taken = omega (arith, counted);
+  at_most = within.taken;
+  too_long = λ is. (too_long is).taken;
+  read_to_its_end = λ is. absurd (not_done is);
+}
+
+-- a run that reads its input to the end
+pub taken-whole : (feeding : Feeding) (input left : Option (List ℕ)) → CountsTaken input left 0 feeding.taken → IsWithinLimit feeding
+    → feeding.rest ≡ [] → IsAtEnd left → IsTaken status.Done input left
+taken-whole feeding None None counted within nothing end = tt
+taken-whole feeding None (Some left) counted within nothing end = absurd counted
+taken-whole feeding (Some input) None counted within nothing end = absurd counted
+taken-whole feeding (Some input) (Some left) counted within nothing end = record {
+  count = feeding.taken;
+  taken = omega (arith, counted);
+  at_most = within.taken;
+  too_long = λ is. absurd cc;
+  read_to_its_end = λ is. (end, omega (arith, within.handed_out, ap length nothing));
+}
+
+pub within-none : IsWithinLimit (record { taken = 0; rest = [] })
+within-none = record { taken = omega arith; held = omega arith; handed_out = omega arith }

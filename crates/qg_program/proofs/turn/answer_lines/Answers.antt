@@ -1,0 +1,46 @@
+use Rattle.std.proofs.Common.{Ok, Err, refl, ap, ◌∙◌, arith}
+use Rattle.qg_program.proofs.Answered.{answered-none, answered-more, answered-all, answered-failed, counted-none, counted-on, taken-by, taken-whole, within-none}
+use Rattle.qg_program.proofs.turn.answer_lines.Goals as goal
+
+pub loop-text-init : goal.loop-text-init
+loop-text-init g c = record {
+  answered = λ state input on told. answered-none state input _ _ (rw (c.new-feed.ensures, told) refl);
+  counted = rw c.new-feed.ensures (counted-none _);
+  within = rw c.new-feed.ensures within-none;
+  source_later = omega arith;
+  sink_later = omega arith;
+}
+
+pub loop-text-preserved : goal.loop-text-preserved
+loop-text-preserved g c = record {
+  answered = λ state input on told.
+      let so_far = c.loop-text.invariant.answered state input on told in
+      answered-more _ so_far (rw c.in-Ok-true.field-0-test at c.in-Ok-true.ensures.ok state so_far.left on so_far.told);
+  counted = counted-on _ _ _ _ _ c.loop-text.invariant.counted c.turn.ensures.counted;
+  within = c.turn.ensures.within;
+  source_later = omega (arith, c.loop-text.invariant.source_later, c.turn.ensures.source_cause.later);
+  sink_later = omega (arith, c.loop-text.invariant.sink_later, c.turn.ensures.sink_cause.later);
+}
+
+pub returns-in-Ok-false-clause-answers : goal.returns-in-Ok-false-clause-answers
+returns-in-Ok-false-clause-answers g c = λ state input on told.
+    let so_far = c.loop-text.invariant.answered state input on told in
+    answered-all _ so_far (rw c.in-Ok-false.field-0-test at c.in-Ok-false.ensures.ok state so_far.left on so_far.told)
+
+pub returns-in-Ok-false-clause-takes : goal.returns-in-Ok-false-clause-takes
+returns-in-Ok-false-clause-takes g c =
+    let over = c.turn.ensures.over (c.in-Ok-false.is ∙ ap Ok c.in-Ok-false.field-0-test) in
+    let counted = counted-on _ _ _ _ _ c.loop-text.invariant.counted c.turn.ensures.counted in
+    taken-whole c.turn.new.feed _ _ counted c.turn.ensures.within over.0 over.1
+
+pub returns-in-Err-clause-answers : goal.returns-in-Err-clause-answers
+returns-in-Err-clause-answers g c = λ state input on told.
+    let so_far = c.loop-text.invariant.answered state input on told in
+    let counted = counted-on _ _ _ _ _ c.loop-text.invariant.counted c.turn.ensures.counted in
+    answered-failed _ c.turn.new.feed _ _ so_far (record { counted = rw told at counted; within = c.turn.ensures.within })
+    (λ is. c.turn.ensures.too_long (c.in-Err.is ∙ ap Err is)) (c.in-Err.ensures.err state so_far.left on so_far.told)
+
+pub returns-in-Err-clause-takes : goal.returns-in-Err-clause-takes
+returns-in-Err-clause-takes g c =
+    let counted = counted-on _ _ _ _ _ c.loop-text.invariant.counted c.turn.ensures.counted in
+    taken-by _ c.turn.new.feed _ _ counted c.turn.ensures.within (λ is. c.turn.ensures.too_long (c.in-Err.is ∙ ap Err is)) c.in-Err.ensures.not_done

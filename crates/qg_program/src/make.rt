@@ -1,0 +1,49 @@
+// An image is made.
+ghost use Rattle.std.specs.Prelude.{◌≡◌, ◌≢◌, ◌↔◌, ◌⊎◌, List, Some, false, IsTrue};
+ghost use Rattle.std.specs.Option.{option_map};
+ghost use Rattle.qg_device.specs.Cause.{Rose};
+ghost use Rattle.qg_device.specs.History.{Event};
+ghost use Rattle.qg_super.specs.Places.{is_served, slot_at};
+ghost use Rattle.qg_commit.specs.Calls.{with_image};
+ghost use Rattle.qg_commit.specs.Fresh.{fresh_nodes, fresh_super};
+ghost use Rattle.qg_commit.specs.Mkfs.{HoldsFreshImage};
+ghost use Rattle.qg_program.specs.Ends.{is_made, is_makers};
+ghost use Rattle.qg_program.specs.Putting.{SaysMade};
+
+use crate::Status;
+use crate::put::put;
+use qg_commit::{MkfsFault, mkfs};
+use qg_disk::Disk;
+use qg_edge::Sink;
+use qg_super::Sizes;
+use std::alloc::Global;
+
+/// Makes a fresh image of these sizes and says so.
+pub(crate) fn make<D: Disk, K: Sink>(
+    alloc: Global,
+    sizes: Sizes,
+    disk: &mut D,
+    sink: &mut K,
+) -> Status
+    ensures ends { IsTrue (is_makers result) }
+    ensures sizes { (result ≡ Status.Sizes) ↔ (is_served sizes ≡ false) }
+    ensures disk_untouched { result ≡ Status.Sizes → disk.new ≡ disk.old }
+    ensures sink_untouched { result ≡ Status.Sizes → sink.new ≡ sink.old }
+    ensures calls { IsTrue (is_made result) → D.history disk.new
+        ≡ option_map (with_image (fresh_super sizes (slot_at sizes 0)) (fresh_nodes sizes)) (D.history disk.old) }
+    ensures fresh { (before : List Event) → D.history disk.old ≡ Some before → IsTrue (is_made result)
+        → HoldsFreshImage sizes (D.history disk.new) }
+    ensures put { SaysMade result (K.bytes_held sink.old) (K.bytes_held sink.new) }
+    ensures sink_fault { result ≡ Status.Sink → Rose (K.faults sink.old) (K.faults sink.new) }
+    ensures disk_fault { result ≡ Status.Disk → Rose (D.faults disk.old) (D.faults disk.new) }
+{
+    match mkfs(alloc, disk, sizes) {
+        Ok(()) => match put(sink, b"ok mkfs\n") {
+            Ok(()) => Status::Done,
+            Err(status) => status,
+        },
+        Err(MkfsFault::Size) => Status::Sizes,
+        Err(MkfsFault::Disk) => Status::Disk,
+        Err(MkfsFault::NoMemory) => Status::NoMemory,
+    }
+}

@@ -1,0 +1,88 @@
+// A script is run over an image.
+ghost use Rattle.std.specs.Prelude.{◌≡◌, ◌⊎◌, ℕ, List, ◌∷◌, [], Some, None, IsTrue};
+ghost use Rattle.qg_device.specs.Cause.{Rose};
+ghost use Rattle.qg_device.specs.History.{Event, Synced, content};
+ghost use Rattle.qg_state.specs.State.{State};
+ghost use Rattle.qg_verdict.specs.StateOf.{StateOf};
+ghost use Rattle.qg_verdict.specs.Verdict.{IsSound, verdict};
+ghost use Rattle.qg_verdict.specs.declared.failure.Failure.{Failure};
+ghost use Rattle.qg_commit.specs.declared.fault.OpenFault.TheVariants as opening;
+ghost use Rattle.qg_commit.specs.Opening.{IsRefusal};
+ghost use Rattle.qg_program.specs.Ends.{is_judged, is_opened, is_refusers, is_runners};
+ghost use Rattle.qg_program.specs.Opened.{IsOpened};
+ghost use Rattle.qg_program.specs.Putting.{PutsFailure, Refuses, failure_text};
+ghost use Rattle.qg_program.specs.Running.{Answers, IsTaken};
+
+use crate::Status;
+use crate::put::put;
+use crate::turn::answer_lines;
+use qg_commit::{OpenFault, open};
+use qg_disk::Disk;
+use qg_edge::{Sink, Source};
+use qg_script::{Text, write_broken, write_differs};
+use std::alloc::Global;
+
+/// Opens the image, and answers the lines of the source; of an image that is not sound it says why.
+pub(crate) fn run<D: Disk, S: Source, K: Sink>(
+    alloc: Global,
+    disk: &mut D,
+    source: &mut S,
+    sink: &mut K,
+) -> Status
+    ensures answers { (events : List Event) (input : List ℕ) (state : State) → D.history disk.old ≡ Some events
+        → S.bytes_left source.old ≡ Some input → IsSound (content events) → StateOf (content events) state
+        → Answers result state input [] (K.bytes_held sink.old) (K.bytes_held sink.new) }
+    ensures refuses { (events : List Event) (failure : Failure) → D.history disk.old ≡ Some events
+        → verdict (content events) ≡ Some failure
+        → Refuses result (failure_text failure) (K.bytes_held sink.old) (K.bytes_held sink.new) }
+    ensures told { result ≡ Status.Image → PutsFailure (K.bytes_held sink.old) (K.bytes_held sink.new) }
+    ensures opened { (events : List Event) → D.history disk.old ≡ Some events → IsSound (content events)
+        → IsTrue (is_opened result) → IsOpened events (D.history disk.new) }
+    ensures unwritten { (events : List Event) (failure : Failure) → D.history disk.old ≡ Some events
+        → verdict (content events) ≡ Some failure → IsTrue (is_judged result) → D.history disk.new ≡ Some (Synced ∷ events) }
+    ensures unread { (events : List Event) (failure : Failure) → D.history disk.old ≡ Some events
+        → verdict (content events) ≡ Some failure → source.new ≡ source.old }
+    ensures takes { IsTaken result (S.bytes_left source.old) (S.bytes_left source.new) }
+    ensures ends { IsTrue (is_runners result) }
+    ensures source_fault { result ≡ Status.Source → Rose (S.faults source.old) (S.faults source.new) }
+    ensures sink_fault { result ≡ Status.Sink → Rose (K.faults sink.old) (K.faults sink.new) }
+    ensures disk_fault { result ≡ Status.Disk → Rose (D.faults disk.old) (D.faults disk.new) }
+{
+    match open(alloc, disk) {
+        Ok(image) => answer_lines(alloc, &image.quota, source, sink),
+        Err(fault) => refuse(alloc, fault, sink),
+    }
+}
+
+// Says why the image was not opened, where it is not sound.
+fn refuse<K: Sink>(alloc: Global, fault: OpenFault, sink: &mut K) -> Status
+    ensures refuses { (failure : Failure) → IsRefusal fault (Some failure)
+        → Refuses result (failure_text failure) (K.bytes_held sink.old) (K.bytes_held sink.new) }
+    ensures silent { IsRefusal fault None
+        → ((result ≡ Status.Disk) ⊎ (result ≡ Status.NoMemory)) × (K.bytes_held sink.new ≡ K.bytes_held sink.old) }
+    ensures told { result ≡ Status.Image → PutsFailure (K.bytes_held sink.old) (K.bytes_held sink.new) }
+    ensures ends { IsTrue (is_refusers result) }
+    ensures disk { result ≡ Status.Disk → fault ≡ opening.Disk }
+    ensures judged { IsTrue (is_judged result) → (fault ≡ opening.Disk → ⊥) × (fault ≡ opening.NoMemory → ⊥) }
+    ensures sink_fault { result ≡ Status.Sink → Rose (K.faults sink.old) (K.faults sink.new) }
+{
+    let mut text = Text::new(alloc);
+    let written = match fault {
+        OpenFault::Broken { rule, address } => write_broken(rule, address, &mut text),
+        OpenFault::Differs {
+            group,
+            which,
+            stored,
+            counted,
+        } => write_differs(group, which, stored, counted, &mut text),
+        OpenFault::Disk => return Status::Disk,
+        OpenFault::NoMemory => return Status::NoMemory,
+    };
+    if written.is_err() {
+        return Status::NoMemory;
+    }
+    match put(sink, text.as_slice()) {
+        Ok(()) => Status::Image,
+        Err(status) => status,
+    }
+}

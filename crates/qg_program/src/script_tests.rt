@@ -1,0 +1,203 @@
+// Scripts over a fresh image in memory.
+use crate::{Status, run_program};
+use qg_disk::{Disk, MemDisk, Request};
+use qg_edge::{MemSink, MemSource};
+use std::alloc::Global;
+use std::process::Abort;
+use std::test::Fail;
+
+// The table of a fresh image.
+const TABLE: &[u8] = b"0/5 16384 16384 none none\nok\n";
+
+// The words of a command line.
+fn run_word(alloc: Global) -> Result<Vec<String>, Fail> {
+    let mut words = Vec::new(alloc);
+    words.push("run".to_string(alloc)?)?;
+    Ok(words)
+}
+
+// A disk with a fresh image of 1024 slots of 16384 bytes and 1024 sectors.
+fn fresh_disk(alloc: Global) -> Result<MemDisk, Fail> {
+    let mut words = Vec::new(alloc);
+    for word in ["mkfs", "16384", "1024", "1024"] {
+        words.push(word.to_string(alloc)?)?;
+    }
+    let mut disk = MemDisk::new(alloc);
+    let mut source = MemSource::new(Vec::new(alloc));
+    let mut sink = MemSink::new(alloc);
+    run_program(alloc, &words, &mut disk, &mut source, &mut sink);
+    Ok(disk)
+}
+
+// Runs a script over a disk; the sink fails at these calls.
+fn run_over(
+    alloc: Global,
+    disk: &mut MemDisk,
+    script: &[u8],
+    fail_at: Vec<u64>,
+) -> Result<(Status, MemSink), Fail> {
+    let words = run_word(alloc)?;
+    let mut source = MemSource::new(script.to_vec(alloc)?);
+    let mut sink = MemSink::new(alloc);
+    sink.fail_at(fail_at);
+    let status = run_program(alloc, &words, disk, &mut source, &mut sink);
+    Ok((status, sink))
+}
+
+// A script over a disk ends so, and puts this.
+fn ends_so(
+    rt: &impl Abort,
+    alloc: Global,
+    disk: &mut MemDisk,
+    script: &[u8],
+    wanted: Status,
+    text: &[u8],
+) -> Result<(), Fail> {
+    let (status, sink) = run_over(alloc, disk, script, Vec::new(alloc))?;
+    assert_eq!(rt; status, wanted);
+    assert_eq!(rt; sink.bytes(), text);
+    Ok(())
+}
+
+// The bytes at a place are changed.
+fn change(disk: &mut MemDisk, at: u32, bytes: &[u8]) -> Result<(), Fail> {
+    disk.write_at(at.into(), bytes)?;
+    Ok(())
+}
+
+// The disk is made this long.
+fn resize(rt: &impl Abort, disk: &mut MemDisk, len: u32) -> Result<(), Fail> {
+    let len = u64::from(len);
+    if len <= disk.len() {
+        disk.cut(len)?;
+    } else {
+        disk.write_at(len - 1, &[0])?;
+    }
+    assert_eq!(rt; disk.len(), len);
+    Ok(())
+}
+
+// How many calls wrote to a disk.
+fn writes(disk: &MemDisk) -> usize {
+    let mut count = 0usize;
+    for call in disk.calls() {
+        if matches!(call.request, Request::Write { .. } | Request::Cut { .. }) {
+            count = count.saturating_add(1);
+        }
+    }
+    count
+}
+
+#[test]
+fn lines_of_a_script_are_answered(rt: HostRuntime) -> Result<(), Fail> {
+    let alloc = rt.alloc();
+    let mut disk = fresh_disk(alloc)?;
+    let made = writes(&disk);
+    ends_so(&rt, alloc, &mut disk, b"", Status::Done, b"")?;
+    ends_so(&rt, alloc, &mut disk, b"show\n", Status::Done, TABLE)?;
+    ends_so(&rt, alloc, &mut disk, b"show", Status::Done, TABLE)?;
+    ends_so(&rt, alloc, &mut disk, b"\n", Status::Done, b"no line\n")?;
+    ends_so(
+        &rt,
+        alloc,
+        &mut disk,
+        &[b'a'; 257],
+        Status::Done,
+        b"no line\n",
+    )?;
+    assert_eq!(rt; writes(&disk), made);
+    Ok(())
+}
+
+#[test]
+fn each_line_has_its_reply(rt: HostRuntime) -> Result<(), Fail> {
+    let alloc = rt.alloc();
+    let mut disk = fresh_disk(alloc)?;
+    let text = b"no line\n0/5 16384 16384 none none\nok\nno line\n";
+    ends_so(
+        &rt,
+        alloc,
+        &mut disk,
+        b"shown\nshow\ncommit",
+        Status::Done,
+        text,
+    )
+}
+
+#[test]
+fn a_sink_that_fails_at_its_second_put_has_the_first_reply(rt: HostRuntime) -> Result<(), Fail> {
+    let alloc = rt.alloc();
+    let mut disk = fresh_disk(alloc)?;
+    let (status, sink) = run_over(alloc, &mut disk, b"show\nshow\n", vec![in alloc; 2]?)?;
+    assert_eq!(rt; status, Status::Sink);
+    assert!(rt; sink.bytes().starts_with(TABLE));
+    assert!(rt; sink.bytes().len() < 2 * TABLE.len());
+    Ok(())
+}
+
+#[test]
+fn a_source_that_fails_ends_the_run(rt: HostRuntime) -> Result<(), Fail> {
+    let alloc = rt.alloc();
+    let mut disk = fresh_disk(alloc)?;
+    let words = run_word(alloc)?;
+    let mut source = MemSource::new(b"show\n".to_vec(alloc)?);
+    source.fail_at(vec![in alloc; 1]?);
+    let mut sink = MemSink::new(alloc);
+    let status = run_program(alloc, &words, &mut disk, &mut source, &mut sink);
+    assert_eq!(rt; status, Status::Source);
+    assert!(rt; sink.bytes().is_empty());
+    Ok(())
+}
+
+#[test]
+fn an_image_that_is_cut_is_refused(rt: HostRuntime) -> Result<(), Fail> {
+    let alloc = rt.alloc();
+    let mut disk = fresh_disk(alloc)?;
+    resize(&rt, &mut disk, 65536)?;
+    let text = b"broken super 65536\n";
+    ends_so(&rt, alloc, &mut disk, b"show\n", Status::Image, text)
+}
+
+#[test]
+fn a_longer_image_is_sound(rt: HostRuntime) -> Result<(), Fail> {
+    let alloc = rt.alloc();
+    let mut disk = fresh_disk(alloc)?;
+    resize(&rt, &mut disk, 71368705)?;
+    ends_so(&rt, alloc, &mut disk, b"show\n", Status::Done, TABLE)
+}
+
+#[test]
+fn counters_that_are_not_the_direct_counts_are_told(rt: HostRuntime) -> Result<(), Fail> {
+    let alloc = rt.alloc();
+    let mut disk = fresh_disk(alloc)?;
+    // The referenced bytes, twice, and the checksum of the leaf then.
+    change(&mut disk, 1114048, &[0; 16])?;
+    change(&mut disk, 1097728, &[0x18, 0xf1, 0x38, 0xc5])?;
+    let text = b"differs 0/5 rfer 0 16384\n";
+    ends_so(&rt, alloc, &mut disk, b"show\n", Status::Image, text)
+}
+
+#[test]
+fn a_first_place_that_is_torn_is_written_again(rt: HostRuntime) -> Result<(), Fail> {
+    let alloc = rt.alloc();
+    let mut disk = fresh_disk(alloc)?;
+    change(&mut disk, 65600, &[0])?;
+    let made = writes(&disk);
+    ends_so(&rt, alloc, &mut disk, b"show\n", Status::Done, TABLE)?;
+    assert_eq!(rt; writes(&disk), made.saturating_add(1));
+    ends_so(&rt, alloc, &mut disk, b"show\n", Status::Done, TABLE)?;
+    assert_eq!(rt; writes(&disk), made.saturating_add(1));
+    Ok(())
+}
+
+#[test]
+fn disk_calls_of_a_run_that_fail_are_told(rt: HostRuntime) -> Result<(), Fail> {
+    let alloc = rt.alloc();
+    // Making takes eleven calls; opening a sync, two superblocks and four nodes.
+    for number in 12..=18u64 {
+        let mut disk = fresh_disk(alloc)?;
+        disk.fail_at(vec![in alloc; number]?);
+        ends_so(&rt, alloc, &mut disk, b"show\n", Status::Disk, b"")?;
+    }
+    Ok(())
+}
