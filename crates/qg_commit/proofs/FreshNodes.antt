@@ -1,21 +1,18 @@
--- The nodes and the superblock of a fresh image can be written, and are read again.
-use Rattle.std.proofs.Common.{◌≡◌, ℕ, zero, suc, ◌+◌, ◌*◌, ◌^◌, ◌≤◌, ◌<◌, inl, inr, true, List, [], ◌∷◌, map, ◌++◌, Ok, refl, arith, lit<}
-use Rattle.std.specs.Prelude.{◌==◌, ◌&&◌, ◌||◌, nat_le, nat_lt}
+-- The nodes and the superblock of a fresh image can be written, and the bodies of its items are read again.
+use Rattle.std.proofs.Common.{◌≡◌, ℕ, zero, suc, ◌+◌, ◌^◌, ◌≤◌, ◌<◌, true, List, [], ◌∷◌, map, ◌++◌, refl, arith, lit<}
+use Rattle.std.specs.Prelude.{nat_lt}
 use Rattle.std.specs.List.{AllByRecursion}
 use Rattle.std.proofs.lemmas.Bool.Decides.{nat_tests}
-use Rattle.std.proofs.lemmas.Bool.{and_parts, eqb-true, leb-true, or_cases}
 use Rattle.std.proofs.lemmas.List.Elements.{All-from_recursion}
 use Rattle.qg_bytes.specs.Fields.{IsBytes, zeros, u32_bytes, u64_bytes}
 use Rattle.qg_bytes.proofs.Numbers.{IsBytes-append, IsBytes-zeros, IsBytes-u64_bytes, IsBytes-u32_bytes}
 use Rattle.qg_node.specs.Fits.{ItemFits, NodeFits}
-use Rattle.qg_node.specs.Reading.{node_read}
-use Rattle.qg_node.proofs.Again.{text_again}
 use Rattle.qg_items.specs.declared.quota.QgroupStatus.{QgroupStatus}
 use Rattle.qg_items.specs.declared.quota.QgroupInfo.{QgroupInfo}
 use Rattle.qg_items.specs.declared.quota.QgroupLimit.{QgroupLimit}
 use Rattle.qg_node.specs.declared.item.Item.{Item}
 use Rattle.qg_node.specs.Nodes.{items_bytes, is_ascending, ascends_from}
-use Rattle.qg_node.specs.NodeText.{IsNode, IsNodeSize, node_text}
+use Rattle.qg_node.specs.NodeText.{IsNode, IsNodeSize}
 use Rattle.qg_items.specs.Laws.{RootFits}
 use Rattle.qg_items.specs.ItemText.{root_text, status_text, info_text, limit_text}
 use Rattle.qg_items.proofs.RootBody.{length-root_text, root_read-root_text}
@@ -26,44 +23,7 @@ use Rattle.qg_super.specs.SuperText.{is_super}
 use Rattle.qg_commit.specs.Fresh.{fresh_leaf_of, fresh_root, root_item, root_items, quota_items, fresh_super, fresh_nodes}
 use Rattle.qg_commit.specs.Calls.{IsWritable}
 use Rattle.qg_commit.proofs.FreshImage.{ReadsBack}
-
--- ---- sizes that are served
-
-pub record SizesServed (sizes : Sizes) : Type 0 where
-  pub nodesize : IsNodeSize sizes.nodesize
-  pub slots : 64 ≤ sizes.slots
-  pub area : sizes.slots * sizes.nodesize ≤ 66060288
-  pub sectors : 16 ≤ sizes.sectors
-  pub few_sectors : sizes.sectors ≤ 16777216
-
-pub SizesServed-is_served : (sizes : Sizes) → is_served sizes ≡ true → SizesServed sizes
-unfolding is_served
-SizesServed-is_served sizes served =
-    let small = (sizes.nodesize == 4096) && nat_le sizes.slots 16128 in
-    let large = (sizes.nodesize == 16384) && nat_le sizes.slots 4032 in
-    let to_sectors = and_parts ((small || large) && nat_le 64 sizes.slots && nat_le 16 sizes.sectors) (nat_le sizes.sectors 16777216) served in
-    let to_few = and_parts ((small || large) && nat_le 64 sizes.slots) (nat_le 16 sizes.sectors) to_sectors.0 in
-    let to_slots = and_parts (small || large) (nat_le 64 sizes.slots) to_few.0 in
-    let few : sizes.sectors ≤ 16777216 = leb-true sizes.sectors 16777216 to_sectors.1 in
-    let some : 16 ≤ sizes.sectors = leb-true 16 sizes.sectors to_few.1 in
-    let slots : 64 ≤ sizes.slots = leb-true 64 sizes.slots to_slots.1 in
-    elim (or_cases small large to_slots.0) [
-      | inl is ↦
-          let parts = and_parts (sizes.nodesize == 4096) (nat_le sizes.slots 16128) is in
-          let nodesize : sizes.nodesize ≡ 4096 = eqb-true sizes.nodesize 4096 parts.0 in
-          let most : sizes.slots ≤ 16128 = leb-true sizes.slots 16128 parts.1 in
-          record { nodesize = inl nodesize; slots = slots; area = rw nodesize (omega arith); sectors = some; few_sectors = few }
-      | inr is ↦
-          let parts = and_parts (sizes.nodesize == 16384) (nat_le sizes.slots 4032) is in
-          let nodesize : sizes.nodesize ≡ 16384 = eqb-true sizes.nodesize 16384 parts.0 in
-          let most : sizes.slots ≤ 4032 = leb-true sizes.slots 4032 parts.1 in
-          record { nodesize = inr nodesize; slots = slots; area = rw nodesize (omega arith); sectors = some; few_sectors = few }
-    ]
-
--- the bounds of a node's size
-pub node_size_bounds : (n : ℕ) → IsNodeSize n → (4096 ≤ n) × (n ≤ 16384)
-node_size_bounds n (inl is) = (omega arith, omega arith)
-node_size_bounds n (inr is) = (omega arith, omega arith)
+use Rattle.qg_commit.proofs.Slots.{SizesServed-is_served, node_size_bounds}
 
 -- ---- the superblock
 
@@ -98,18 +58,18 @@ unfolding is_ascending
 no_items-ascending = refl
 
 -- each of the four is a node of the format
-pub root_leaf-IsNode : (n address extents files quotas : ℕ) → IsNodeSize n
+root_leaf-IsNode : (n address extents files quotas : ℕ) → IsNodeSize n
     → IsNode n (fresh_leaf_of 1 address (root_items extents files quotas))
 root_leaf-IsNode n address extents files quotas size =
     let bounds = node_size_bounds n size in
     fresh_leaf-IsNode n 1 address (root_items extents files quotas) (omega (arith, root_items-bytes extents files quotas)) (root_items-ascending extents files quotas)
 
-pub quota_leaf-IsNode : (n address : ℕ) → IsNodeSize n → IsNode n (fresh_leaf_of 8 address (quota_items n))
+quota_leaf-IsNode : (n address : ℕ) → IsNodeSize n → IsNode n (fresh_leaf_of 8 address (quota_items n))
 quota_leaf-IsNode n address size =
     let bounds = node_size_bounds n size in
     fresh_leaf-IsNode n 8 address (quota_items n) (omega (arith, quota_items-bytes n)) (quota_items-ascending n)
 
-pub empty_leaf-IsNode : (n owner address : ℕ) → IsNodeSize n → IsNode n (fresh_leaf_of owner address [])
+empty_leaf-IsNode : (n owner address : ℕ) → IsNodeSize n → IsNode n (fresh_leaf_of owner address [])
 empty_leaf-IsNode n owner address size =
     let bounds = node_size_bounds n size in
     let none : items_bytes [] ≡ 0 = refl in
@@ -207,32 +167,13 @@ quota_items-fit n =
     let limit_item = quota_item-ItemFits 244 5 (limit_text limit) (lit< tt) (lit< tt) (limit_text-AreBytes limit) in
     (status_item, (info_item, (limit_item, tt)))
 
--- a leaf's text is read as that leaf
-leaf-again : (n owner address : ℕ) (items : List Item) → IsNodeSize n → IsNode n (fresh_leaf_of owner address items)
-    → NodeFits (fresh_leaf_of owner address items)
-    → node_read address (node_text n (fresh_leaf_of owner address items)) ≡ Ok (fresh_leaf_of owner address items)
-leaf-again n owner address items size node fits =
-    let bounds = node_size_bounds n size in
-    text_again n (fresh_leaf_of owner address items) (omega arith) fits node
-
--- the four nodes are read again
-pub record ReadAgain (sizes : Sizes) : Type 0 where
-  pub root :
-      let leaf = fresh_leaf_of 1 (slot_at sizes 0) (root_items (slot_at sizes 1) (slot_at sizes 2) (slot_at sizes 3)) in
-      node_read (slot_at sizes 0) (node_text sizes.nodesize leaf) ≡ Ok leaf
-  pub extents : node_read (slot_at sizes 1) (node_text sizes.nodesize (fresh_leaf_of 2 (slot_at sizes 1) [])) ≡ Ok (fresh_leaf_of 2 (slot_at sizes 1) [])
-  pub files : node_read (slot_at sizes 2) (node_text sizes.nodesize (fresh_leaf_of 5 (slot_at sizes 2) [])) ≡ Ok (fresh_leaf_of 5 (slot_at sizes 2) [])
-  pub quotas :
-      node_read (slot_at sizes 3) (node_text sizes.nodesize (fresh_leaf_of 8 (slot_at sizes 3) (quota_items sizes.nodesize)))
-      ≡ Ok (fresh_leaf_of 8 (slot_at sizes 3) (quota_items sizes.nodesize))
-
-pub fresh-ReadAgain : (sizes : Sizes) → is_served sizes ≡ true → ReadAgain sizes
-fresh-ReadAgain sizes served =
+-- the four leaves' numbers fit
+pub fresh-fit : (sizes : Sizes) → is_served sizes ≡ true → AllByRecursion NodeFits (fresh_nodes sizes)
+fresh-fit sizes served =
     let fit = SizesServed-is_served sizes served in
     let bounds = node_size_bounds sizes.nodesize fit.nodesize in
     let n = sizes.nodesize in
     let roots = root_items (slot_at sizes 1) (slot_at sizes 2) (slot_at sizes 3) in
-    let root_node = root_leaf-IsNode n (slot_at sizes 0) (slot_at sizes 1) (slot_at sizes 2) (slot_at sizes 3) fit.nodesize in
     let extents_item = root_item-ItemFits 2 (slot_at sizes 1) (lit< tt) in
     let files_item = root_item-ItemFits 5 (slot_at sizes 2) (lit< tt) in
     let quotas_item = root_item-ItemFits 8 (slot_at sizes 3) (lit< tt) in
@@ -240,14 +181,9 @@ fresh-ReadAgain sizes served =
     let extents_fits = leaf-NodeFits 2 (slot_at sizes 1) [] (lit< tt) (omega arith) tt in
     let files_fits = leaf-NodeFits 5 (slot_at sizes 2) [] (lit< tt) (omega arith) tt in
     let quotas_fits = leaf-NodeFits 8 (slot_at sizes 3) (quota_items n) (lit< tt) (omega arith) (quota_items-fit n) in
-    record {
-      root = leaf-again n 1 (slot_at sizes 0) roots fit.nodesize root_node root_fits;
-      extents = leaf-again n 2 (slot_at sizes 1) [] fit.nodesize (empty_leaf-IsNode n 2 (slot_at sizes 1) fit.nodesize) extents_fits;
-      files = leaf-again n 5 (slot_at sizes 2) [] fit.nodesize (empty_leaf-IsNode n 5 (slot_at sizes 2) fit.nodesize) files_fits;
-      quotas = leaf-again n 8 (slot_at sizes 3) (quota_items n) fit.nodesize (quota_leaf-IsNode n (slot_at sizes 3) fit.nodesize) quotas_fits;
-    }
+    (root_fits, (extents_fits, (files_fits, (quotas_fits, tt))))
 
--- and so are the bodies
+-- bodies are read again
 pub fresh-ReadsBack : (sizes : Sizes) → is_served sizes ≡ true → ReadsBack sizes (slot_at sizes 1) (slot_at sizes 2) (slot_at sizes 3)
 fresh-ReadsBack sizes served =
     let fit = SizesServed-is_served sizes served in

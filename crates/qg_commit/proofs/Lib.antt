@@ -1,7 +1,11 @@
 pub mod Ways
 pub mod FreshImage
+pub mod Slots
 pub mod Ranges
-pub mod ImageMade
+pub mod Written
+pub mod Moments
+pub mod Placed
+pub mod Splitting
 pub mod FreshNodes
 pub mod Made
 pub mod MakingCalls

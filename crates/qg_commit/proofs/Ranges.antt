@@ -1,5 +1,6 @@
 -- A range of a disk over which bytes were written.
 use Rattle.std.proofs.Common.{◌≡◌, ℕ, ◌+◌, ◌-◌, ◌≤◌, ◌<◌, ◌⊎◌, inl, inr, List, length, drop, get_or, refl, sym, ◌∙◌, arith, length-drop}
+use Rattle.std.specs.Prelude.{slice_range}
 use Rattle.std.proofs.lemmas.List.{length-take, get_or-take, get_or-drop}
 use Rattle.std.proofs.lemmas.Grind.{same_number_lists}
 use Rattle.qg_device.specs.History.{overlay, range}
@@ -41,3 +42,32 @@ range-overlay_apart at place n bytes old within apart =
       | inr behind ↦ get_or-overlay_after at (place + k) bytes old (omega arith)
     ]
     ∙ sym (get_or-range place n k old inside))
+
+-- ---- what stands at a place
+
+-- an image has these bytes at a place
+pub record HasRange (image : List ℕ) (place : ℕ) (bytes : List ℕ) : Type 0 where
+  pub inside : place + length bytes ≤ length image
+  pub is : range place (length bytes) image ≡ bytes
+
+-- what was written stands there
+pub written-HasRange : (at : ℕ) (bytes old : List ℕ) → HasRange (overlay at bytes old) at bytes
+written-HasRange at bytes old = record {
+  inside = omega (arith, length-overlay at bytes old);
+  is = range-overlay_same at bytes old;
+}
+
+-- what stood apart from it stands
+pub kept-HasRange : (at place : ℕ) (bytes kept old : List ℕ) → (place + length kept ≤ at) ⊎ (at + length bytes ≤ place)
+    → HasRange old place kept → HasRange (overlay at bytes old) place kept
+kept-HasRange at place bytes kept old apart has = record {
+  inside = let within : place + length kept ≤ length old = has.inside in omega (arith, length-overlay at bytes old);
+  is = range-overlay_apart at place (length kept) bytes old has.inside apart ∙ has.is;
+}
+
+-- the bytes from a place on where they are known
+pub range-slice_range : (image : List ℕ) (place n : ℕ) (bytes : List ℕ) → length bytes ≡ n → HasRange image place bytes
+    → slice_range image place (place + n) ≡ bytes
+range-slice_range image place n bytes long has =
+    let behind : place + n - place ≡ length bytes = omega arith in
+    rw behind has.is

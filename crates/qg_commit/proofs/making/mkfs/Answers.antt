@@ -5,7 +5,8 @@ use Rattle.qg_node.specs.NodeText.{IsNodeSize}
 use Rattle.qg_super.specs.Places.{is_served, slot_at}
 use Rattle.qg_commit.specs.Fresh.{fresh_nodes, fresh_super}
 use Rattle.qg_commit.specs.Calls.{with_image}
-use Rattle.qg_commit.proofs.FreshNodes.{SizesServed-is_served, fresh-is_super, fresh-writable}
+use Rattle.qg_commit.proofs.Slots.{SizesServed-is_served}
+use Rattle.qg_commit.proofs.FreshNodes.{fresh-is_super, fresh-writable}
 use Rattle.qg_commit.proofs.Made.{made-HoldsFreshImage}
 use Rattle.qg_commit.proofs.MakingCalls.{image_calls}
 use Rattle.qg_commit.proofs.making.mkfs.Goals as goal

@@ -1,0 +1,88 @@
+-- The texts of bodies are bytes.
+use Rattle.std.proofs.Common.{ℕ, zero, suc, ◌<◌, ◌^◌, List, [], ◌∷◌, ◌++◌, lit<}
+use Rattle.qg_bytes.specs.Fields.{IsBytes, zeros, u16_bytes, u32_bytes, u64_bytes}
+use Rattle.qg_bytes.proofs.Numbers.{IsBytes-append, IsBytes-zeros, IsBytes-u64_bytes, IsBytes-u32_bytes, IsBytes-u16_bytes}
+use Rattle.qg_num.specs.Key.{IsKey}
+use Rattle.qg_node.specs.Fits.{ItemFits}
+use Rattle.qg_items.specs.declared.file.InodeItem.{InodeItem}
+use Rattle.qg_items.specs.declared.file.ExtentData.{ExtentData}
+use Rattle.qg_items.specs.declared.root.RootItem.{RootItem}
+use Rattle.qg_items.specs.declared.quota.QgroupStatus.{QgroupStatus}
+use Rattle.qg_items.specs.declared.quota.QgroupInfo.{QgroupInfo}
+use Rattle.qg_items.specs.declared.quota.QgroupLimit.{QgroupLimit}
+use Rattle.qg_items.specs.ItemText.{inode_text, extent_data_text, root_text, status_text, info_text, limit_text}
+use Rattle.qg_contents.specs.Written.{item_under}
+
+-- a record, so that lists are found from the facts
+pub record AreBytes (bytes : List ℕ) : Type 0 where
+  pub are : IsBytes bytes
+
+append : {front back : List ℕ} → AreBytes front → AreBytes back → AreBytes (front ++ back)
+append {front} {back} first second = record { are = IsBytes-append front back first.are second.are }
+
+one_byte : (byte : ℕ) → byte < 256 → IsBytes (byte ∷ [])
+one_byte byte small zero = small
+one_byte byte small (suc i) = lit< tt
+
+of_byte : (byte : ℕ) → byte < 256 → AreBytes (byte ∷ [])
+of_byte byte small = record { are = one_byte byte small }
+
+of_zeros : (n : ℕ) → AreBytes (zeros n)
+of_zeros n = record { are = IsBytes-zeros n }
+
+of_u64 : (n : ℕ) → AreBytes (u64_bytes n)
+of_u64 n = record { are = IsBytes-u64_bytes n }
+
+of_u32 : (n : ℕ) → AreBytes (u32_bytes n)
+of_u32 n = record { are = IsBytes-u32_bytes n }
+
+of_u16 : (n : ℕ) → AreBytes (u16_bytes n)
+of_u16 n = record { are = IsBytes-u16_bytes n }
+
+-- ---- each body
+
+pub root_text-AreBytes : (root : RootItem) → root.level < 256 → AreBytes (root_text root)
+unfolding root_text
+root_text-AreBytes root small =
+    let generation = append (of_zeros 160) (of_u64 root.generation) in
+    let bytenr = append (append generation (of_zeros 8)) (of_u64 root.bytenr) in
+    let last_snapshot = append (append bytenr (of_zeros 16)) (of_u64 root.last_snapshot) in
+    let refs = append (append last_snapshot (of_zeros 8)) (of_u32 root.refs) in
+    let level = append (append refs (of_zeros 18)) (of_byte root.level small) in
+    append level (of_zeros 200)
+
+pub status_text-AreBytes : (status : QgroupStatus) → AreBytes (status_text status)
+unfolding status_text
+status_text-AreBytes status = append (append (append (of_u64 1) (of_u64 status.generation)) (of_u64 status.flags)) (of_u64 status.cursor)
+
+pub info_text-AreBytes : (info : QgroupInfo) → AreBytes (info_text info)
+unfolding info_text
+info_text-AreBytes info =
+    let rfer = append (append (of_u64 info.generation) (of_u64 info.rfer)) (of_u64 info.rfer_cmpr) in
+    append (append rfer (of_u64 info.excl)) (of_u64 info.excl_cmpr)
+
+pub limit_text-AreBytes : (limit : QgroupLimit) → AreBytes (limit_text limit)
+unfolding limit_text
+limit_text-AreBytes limit = append (append (append (of_u64 limit.flags) (of_u64 limit.max_rfer)) (of_u64 limit.max_excl)) (of_zeros 16)
+
+pub inode_text-AreBytes : (inode : InodeItem) → AreBytes (inode_text inode)
+unfolding inode_text
+inode_text-AreBytes inode =
+    let size = append (append (of_u64 inode.generation) (of_u64 inode.transid)) (of_u64 inode.size) in
+    append (append size (of_u64 inode.nbytes)) (of_zeros 128)
+
+pub extent_data_text-AreBytes : (piece : ExtentData) → AreBytes (extent_data_text piece)
+unfolding extent_data_text
+extent_data_text-AreBytes piece =
+    let ram_bytes = append (of_u64 piece.generation) (of_u64 piece.ram_bytes) in
+    let encoding = append (append ram_bytes (append (of_byte 0 (lit< tt)) (of_byte 0 (lit< tt)))) (of_u16 0) in
+    let bytenr = append (append encoding (of_byte 1 (lit< tt))) (of_u64 piece.disk_bytenr) in
+    append (append (append bytenr (of_u64 piece.disk_num_bytes)) (of_u64 piece.offset)) (of_u64 piece.num_bytes)
+
+-- ---- an item
+
+-- an item with such a body fits
+pub item-fits : (objectid kind offset : ℕ) (body : List ℕ) → objectid < 2 ^ 64 → kind < 256 → offset < 2 ^ 64 → AreBytes body
+    → ItemFits (item_under objectid kind offset body)
+item-fits objectid kind offset body object_fits kind_fits offset_fits are =
+    record { key = record { objectid = object_fits; kind = kind_fits; offset = offset_fits }; body = are.are }

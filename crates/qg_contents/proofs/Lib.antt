@@ -1,0 +1,7 @@
+mod Bodies
+mod RootTree
+mod QuotaTree
+mod FileBounds
+mod FileParts
+mod FileKeys
+mod FileTree

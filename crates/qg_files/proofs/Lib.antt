@@ -1,0 +1,10 @@
+pub mod Order
+pub mod Parts
+pub mod Points
+pub mod Ranges
+pub mod Edits
+pub mod KeptApart
+pub mod Outcome
+pub mod Sectors
+pub mod Kept
+pub mod Puts

@@ -1,0 +1,176 @@
+ghost use Rattle.std.specs.Prelude.{◌≡◌, ◌≤◌, ◌∷◌, [], IfOk};
+ghost use Rattle.qg_files.specs.Apart.{AreApart, AreApartFrom};
+
+use crate::{cut_range, put_piece, take_range, truncate};
+use qg_num::{Address, Generation, NoMemory, Piece, Pieces};
+use std::alloc::Global;
+use std::test::Fail;
+
+// A piece of an extent of 65536 bytes, by its position, its length and where it begins in the extent.
+fn piece(position: u64, len: u64, offset: u64) -> Piece
+    ensures { result ≡ record { position = position; len = len; extent = 67108864; offset = offset; stamp = 7; extent_bytes = 65536 } }
+{
+    Piece {
+        position,
+        len,
+        extent: Address::new(67108864),
+        offset,
+        stamp: Generation::new(7),
+        extent_bytes: 65536,
+    }
+}
+
+// Two pieces that touch, a hole of 4096 bytes, and a third piece.
+#[tactic(auto, unfolding(crate::specs::Apart::AreApartFrom))]
+fn three_pieces(alloc: Global) -> Result<Pieces, NoMemory>
+    ensures { IfOk result (λ pieces. AreApart pieces) }
+{
+    let mut pieces = Pieces::new(alloc);
+    pieces.push(piece(0, 8192, 4096))?;
+    pieces.push(piece(8192, 4096, 0))?;
+    pieces.push(piece(16384, 12288, 40960))?;
+    Ok(pieces)
+}
+
+// Whether that is what the three pieces have left after a cut.
+fn leaves(alloc: Global, from: u64, to: u64, left: &[Piece]) -> Result<bool, NoMemory>
+    requires { from ≤ to }
+{
+    let mut pieces = three_pieces(alloc)?;
+    cut_range(&mut pieces, from, to)?;
+    Ok(pieces.as_slice() == left)
+}
+
+// Whether that is what the three pieces have in a range.
+fn has(alloc: Global, from: u64, to: u64, taken: &[Piece]) -> Result<bool, NoMemory>
+    requires { from ≤ to }
+{
+    let pieces = three_pieces(alloc)?;
+    let part = take_range(alloc, &pieces, from, to)?;
+    Ok(part.as_slice() == taken)
+}
+
+// Whether that is what the three pieces have left before a size.
+fn is_cut_to(alloc: Global, size: u64, left: &[Piece]) -> Result<bool, NoMemory> {
+    let mut pieces = three_pieces(alloc)?;
+    truncate(&mut pieces, size)?;
+    Ok(pieces.as_slice() == left)
+}
+
+// One piece of 12288 bytes, whose middle is written over.
+fn overwritten(alloc: Global) -> Result<Pieces, NoMemory> {
+    let mut pieces = Pieces::new(alloc);
+    put_piece(&mut pieces, piece(0, 12288, 0))?;
+    cut_range(&mut pieces, 4096, 8192)?;
+    put_piece(&mut pieces, piece(4096, 4096, 20480))?;
+    Ok(pieces)
+}
+
+#[test]
+fn cuts_of_one_piece(rt: HostRuntime) -> Result<(), Fail> {
+    let alloc = rt.alloc();
+    let first = piece(0, 8192, 4096);
+    let second = piece(8192, 4096, 0);
+    let third = piece(16384, 12288, 40960);
+    // In its midst, at its front, at its end, whole, and in its midst with no byte.
+    assert!(rt;
+        leaves(
+            alloc,
+            20480,
+            24576,
+            &[
+                first,
+                second,
+                piece(16384, 4096, 40960),
+                piece(24576, 4096, 49152)
+            ]
+        )?
+    );
+    assert!(rt; leaves(alloc, 0, 4096, &[piece(4096, 4096, 8192), second, third])?);
+    assert!(rt;
+        leaves(
+            alloc,
+            24576,
+            40960,
+            &[first, second, piece(16384, 8192, 40960)]
+        )?
+    );
+    assert!(rt; leaves(alloc, 8192, 12288, &[first, third])?);
+    assert!(rt;
+        leaves(
+            alloc,
+            100,
+            100,
+            &[piece(0, 100, 4096), piece(100, 8092, 4196), second, third]
+        )?
+    );
+    Ok(())
+}
+
+#[test]
+fn cuts_of_several_pieces_or_none(rt: HostRuntime) -> Result<(), Fail> {
+    let alloc = rt.alloc();
+    let first = piece(0, 8192, 4096);
+    let second = piece(8192, 4096, 0);
+    let third = piece(16384, 12288, 40960);
+    assert!(rt;
+        leaves(
+            alloc,
+            4096,
+            20480,
+            &[piece(0, 4096, 4096), piece(20480, 8192, 45056)]
+        )?
+    );
+    assert!(rt; leaves(alloc, 0, 28672, &[])?);
+    assert!(rt; leaves(alloc, 12288, 16384, &[first, second, third])?);
+    assert!(rt; leaves(alloc, 28672, 40960, &[first, second, third])?);
+    Ok(())
+}
+
+#[test]
+fn parts_taken(rt: HostRuntime) -> Result<(), Fail> {
+    let alloc = rt.alloc();
+    let first = piece(0, 8192, 4096);
+    let second = piece(8192, 4096, 0);
+    let third = piece(16384, 12288, 40960);
+    assert!(rt;
+        has(
+            alloc,
+            4096,
+            20480,
+            &[piece(4096, 4096, 8192), second, piece(16384, 4096, 40960)]
+        )?
+    );
+    assert!(rt; has(alloc, 20480, 24576, &[piece(20480, 4096, 45056)])?);
+    assert!(rt; has(alloc, 0, 40960, &[first, second, third])?);
+    assert!(rt; has(alloc, 12288, 16384, &[])?);
+    assert!(rt; has(alloc, 4096, 4096, &[])?);
+    Ok(())
+}
+
+#[test]
+fn files_cut_to_a_size(rt: HostRuntime) -> Result<(), Fail> {
+    let alloc = rt.alloc();
+    let first = piece(0, 8192, 4096);
+    let second = piece(8192, 4096, 0);
+    assert!(rt; is_cut_to(alloc, 20480, &[first, second, piece(16384, 4096, 40960)])?);
+    assert!(rt; is_cut_to(alloc, 16384, &[first, second])?);
+    assert!(rt; is_cut_to(alloc, 28672, &[first, second, piece(16384, 12288, 40960)])?);
+    assert!(rt; is_cut_to(alloc, 0, &[])?);
+    Ok(())
+}
+
+#[test]
+fn a_file_is_written_over_in_its_middle(rt: HostRuntime) -> Result<(), Fail> {
+    let pieces = overwritten(rt.alloc())?;
+    assert_eq!(rt;
+        pieces.as_slice(),
+        [
+            piece(0, 4096, 0),
+            piece(4096, 4096, 20480),
+            piece(8192, 4096, 8192)
+        ]
+        .as_slice()
+    );
+    Ok(())
+}

@@ -1,0 +1,4 @@
+pub mod TreesIn
+pub mod Slots
+pub mod Told
+pub mod Sound

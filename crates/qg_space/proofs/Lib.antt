@@ -1,0 +1,13 @@
+pub mod Places
+pub mod Apart
+pub mod Edits
+pub mod Least
+pub mod Gaps
+pub mod Used
+pub mod Marks
+pub mod Free
+pub mod Members
+pub mod Agreements
+pub mod Fronts
+pub mod Firsts
+pub mod Counted

@@ -1,0 +1,7 @@
+use Rattle.std.proofs.lemmas.List.Edits.{map_over_more}
+use Rattle.qg_space.specs.Lying.{with_held}
+use Rattle.qg_space.proofs.runs.hold_all.Goals as goal
+
+pub loop-run-preserved : goal.loop-run-preserved
+loop-run-preserved c =
+    rw (← c.run-item.is) (map_over_more with_held c.args.runs.now c.loop-run.runs c.loop-run.run-index c.run-item.result c.loop-run-test.true c.loop-run.invariant c.run-item.is)

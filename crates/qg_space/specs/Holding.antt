@@ -1,0 +1,78 @@
+-- What the present state and the last commit hold of an image, and what is free of it (this project's own). Addresses and lengths are
+-- in bytes.
+use Rattle.std.specs.Prelude.{ℕ, Bool, ◌&&◌, not, List, [], ◌∷◌, ◌++◌, map, Option, ◌==◌, nat_le, if◌then◌else◌}
+use Rattle.std.specs.List.{list_any, filter, count_by, range_with_len}
+use Rattle.std.specs.Option.{option_map}
+use Rattle.qg_super.specs.declared.sizes.Sizes.{Sizes}
+use Rattle.qg_super.specs.Places.{is_run, is_slot, slot_at, sector_at}
+use Rattle.qg_state.specs.declared.element.Element.{Element}
+use Rattle.qg_state.specs.Space.{overlaps, least}
+
+-- the runs and the node slots that the present state holds, and those that the last commit holds. Each list ascends
+pub record Holding : Type 0 where
+  pub sizes : Sizes
+  pub runs : List Element
+  pub held_runs : List Element
+  pub slots : List ℕ
+  pub held_slots : List ℕ
+
+-- of an image of some sizes nothing is held yet
+abbrev pub nothing_held : Sizes → Holding
+nothing_held sizes = record { sizes = sizes; runs = []; held_runs = []; slots = []; held_slots = [] }
+
+-- ---- runs
+
+-- a run of whole sectors overlaps none of some extents
+unfoldable pub is_clear : Sizes → List Element → ℕ → ℕ → Bool
+is_clear sizes extents address bytes = is_run sizes address bytes && not (list_any (overlaps address bytes) extents)
+
+-- the run of so many bytes with the least address that overlaps none of some extents
+unfoldable pub first_clear : Sizes → List Element → ℕ → Option ℕ
+first_clear sizes extents bytes = option_map sector_at (least (λ k. is_clear sizes extents (sector_at k) bytes) 0 sizes.sectors)
+
+-- a run of whole sectors is free
+abbrev pub is_free_run : Holding → ℕ → ℕ → Bool
+is_free_run holding address bytes = is_clear holding.sizes (holding.runs ++ holding.held_runs) address bytes
+
+-- the free run of so many bytes with the least address
+abbrev pub first_run : Holding → ℕ → Option ℕ
+first_run holding bytes = first_clear holding.sizes (holding.runs ++ holding.held_runs) bytes
+
+-- an extent is this run, whole
+abbrev pub is_that_run : ℕ → ℕ → Element → Bool
+is_that_run address bytes extent = (extent.address == address) && (extent.bytes == bytes)
+
+-- the present state holds a run, whole
+abbrev pub has_run : Holding → ℕ → ℕ → Bool
+has_run holding address bytes = list_any (is_that_run address bytes) holding.runs
+
+-- ascending runs, with this one
+abbrev pub with_run : Element → List Element → List Element
+with_run run [] = run ∷ []
+with_run run (first ∷ later) = if nat_le run.address first.address then run ∷ first ∷ later else first ∷ with_run run later
+
+-- the same without a run
+abbrev pub without_run : ℕ → ℕ → List Element → List Element
+without_run address bytes runs = filter (λ run. not (is_that_run address bytes run)) runs
+
+-- ---- slots
+
+-- a node slot is free
+unfoldable pub is_free_slot : Holding → ℕ → Bool
+is_free_slot holding address = is_slot holding.sizes address && not (list_any (λ slot. slot == address) (holding.slots ++ holding.held_slots))
+
+-- the free slot with the least address
+unfoldable pub first_slot : Holding → Option ℕ
+first_slot holding = option_map (slot_at holding.sizes) (least (λ k. is_free_slot holding (slot_at holding.sizes k)) 0 holding.sizes.slots)
+
+-- how many slots are free
+unfoldable pub free_slots : Holding → ℕ
+free_slots holding = count_by (is_free_slot holding) (map (slot_at holding.sizes) (range_with_len 0 holding.sizes.slots))
+
+-- the present state holds a slot
+abbrev pub has_slot : Holding → ℕ → Bool
+has_slot holding address = list_any (λ slot. slot == address) holding.slots
+
+-- slots, without this one
+abbrev pub without_slot : ℕ → List ℕ → List ℕ
+without_slot address slots = filter (λ slot. not (slot == address)) slots

@@ -1,0 +1,11 @@
+//! Which runs of sectors and which node slots are free: those that neither the present state nor the last commit holds.
+#![tactic(auto)]
+
+mod runs;
+mod slots;
+mod space;
+
+pub use space::Space;
+
+#[cfg(test)]
+mod tests;

@@ -1,0 +1,183 @@
+// Runs of sectors that the present state or the last commit holds.
+ghost use Rattle.std.specs.Prelude.{◌≡◌, ℕ, ◌+◌, ◌*◌, ◌<◌, ◌≤◌, ◌%◌, ◌&&◌, ◌≢◌, map, length, take, slice_index_or, IsTrue, IfOk, OnOk, OnErr};
+ghost use Rattle.std.specs.List.{AllWithin, filter, list_any};
+ghost use Rattle.qg_super.specs.declared.sizes.Sizes.{Sizes};
+ghost use Rattle.qg_super.specs.Places.{is_served, data_begin, sector};
+ghost use Rattle.qg_space.specs.declared.runs.Run.{Run};
+ghost use Rattle.qg_space.specs.Holding.{is_clear, first_clear, is_that_run, with_run, without_run};
+ghost use Rattle.qg_space.specs.Lying.{LieApart, extents_of, present_of, held_of, with_held, end_of_last, IsFront, SameBefore};
+
+use qg_num::Address;
+use qg_state::Element;
+use qg_super::{DATA_BEGIN, Sizes};
+use std::alloc::AllocError;
+
+/// A run of whole sectors, and what holds it.
+#[derive(Clone, Copy, Debug)]
+pub(crate) struct Run {
+    /// Where it lies, and its length in bytes.
+    pub extent: Element,
+    /// Whether the present state holds it.
+    pub present: bool,
+    /// Whether the last commit holds it.
+    pub held: bool,
+}
+
+/// How many runs begin before an address.
+pub(crate) fn runs_before(sizes: &Sizes, runs: &[Run], at: Address) -> usize
+    requires { LieApart sizes.now data_begin runs.now }
+    ensures bound { result ≤ length runs.now }
+    ensures before { AllWithin (λ run. run.extent.address < at) runs.now 0 result }
+    ensures others { AllWithin (λ run. at ≤ run.extent.address) runs.now result (length runs.now) }
+{
+    runs.partition_point(|run| run.extent.address < at)
+}
+
+/// The run of so many bytes with the least address that overlaps none of some runs, of which the first ones are packed.
+pub(crate) fn first_gap(sizes: &Sizes, runs: &[Run], packed: usize, bytes: u64) -> Option<Address>
+    requires served { IsTrue (is_served sizes.now) }
+    requires apart { LieApart sizes.now data_begin runs.now }
+    requires front { IsFront runs.now packed }
+    requires some { 0 < bytes }
+    requires whole { bytes % sector ≡ 0 }
+    requires few { bytes ≤ sizes.now.sectors * sector }
+    ensures { result ≡ first_clear sizes.now (extents_of runs.now) bytes }
+{
+    let mut from = end_of_first(sizes, runs, packed);
+    let later = &runs[packed..];
+    for run in later {
+        if from + bytes <= run.extent.address.value() {
+            return Some(Address::new(from));
+        }
+        from = run.extent.address.value() + run.extent.bytes;
+    }
+    if from + bytes <= sizes.total_bytes() {
+        Some(Address::new(from))
+    } else {
+        None
+    }
+}
+
+/// Where the first runs end, so many. With none of them this is where the data area begins.
+fn end_of_first(sizes: &Sizes, runs: &[Run], count: usize) -> u64
+    requires served { IsTrue (is_served sizes.now) }
+    requires apart { LieApart sizes.now data_begin runs.now }
+    requires bound { count ≤ length runs.now }
+    ensures { result ≡ end_of_last data_begin (take count (extents_of runs.now)) }
+{
+    if count == 0 {
+        return DATA_BEGIN;
+    }
+    let last = &runs[count - 1];
+    last.extent.address.value() + last.extent.bytes
+}
+
+/// How many of the first runs are packed; so many are known to be.
+pub(crate) fn packed_runs(sizes: &Sizes, runs: &[Run], known: usize) -> usize
+    requires served { IsTrue (is_served sizes.now) }
+    requires apart { LieApart sizes.now data_begin runs.now }
+    requires known { IsFront runs.now known }
+    ensures front { IsFront runs.now result }
+    ensures most { (run : Run) → result < length runs.now
+        → (slice_index_or runs.now result run).extent.address ≢ end_of_last data_begin (take result (extents_of runs.now)) }
+{
+    let mut end = end_of_first(sizes, runs, known);
+    for number in known..runs.len() {
+        let run = &runs[number];
+        if run.extent.address.value() != end {
+            return number;
+        }
+        end = run.extent.address.value() + run.extent.bytes;
+    }
+    runs.len()
+}
+
+/// Puts in a run that overlaps none of those there, held by the present state. The answer is how many runs lie before it.
+pub(crate) fn put_run(
+    sizes: &Sizes,
+    runs: &mut Vec<Run>,
+    extent: Element,
+) -> Result<usize, AllocError>
+    requires apart { LieApart sizes.now data_begin runs.old.items }
+    requires clear { IsTrue (is_clear sizes.now (extents_of runs.old.items) extent.address extent.bytes) }
+    ensures apart { LieApart sizes.now data_begin runs.new.items }
+    ensures present { OnOk result (present_of runs.new.items ≡ with_run extent (present_of runs.old.items)) }
+    ensures held { OnOk result (held_of runs.new.items ≡ held_of runs.old.items) }
+    ensures before { IfOk result (λ place. SameBefore place runs.old.items runs.new.items) }
+    ensures err { OnErr result (runs.new.items ≡ runs.old.items) }
+{
+    let place = runs_before(sizes, runs, extent.address);
+    runs.insert(
+        place,
+        Run {
+            extent,
+            present: true,
+            held: false,
+        },
+    )?;
+    Ok(place)
+}
+
+/// Takes a run of so many bytes from the present state. It stays while the last commit holds it. The answer is how many runs lie before
+/// it.
+pub(crate) fn take_out_run(sizes: &Sizes, runs: &mut Vec<Run>, at: Address, bytes: u64) -> usize
+    requires apart { LieApart sizes.now data_begin runs.old.items }
+    requires there { IsTrue (list_any (is_that_run at bytes) (present_of runs.old.items)) }
+    ensures apart { LieApart sizes.now data_begin runs.new.items }
+    ensures present { present_of runs.new.items ≡ without_run at bytes (present_of runs.old.items) }
+    ensures held { held_of runs.new.items ≡ held_of runs.old.items }
+    ensures before { SameBefore result runs.old.items runs.new.items }
+{
+    let place = runs_before(sizes, runs, at);
+    if runs[place].held {
+        runs[place].present = false;
+    } else {
+        runs.remove(place);
+    }
+    place
+}
+
+/// Whether the present state holds a run of so many bytes, whole.
+pub(crate) fn has_run(sizes: &Sizes, runs: &[Run], at: Address, bytes: u64) -> bool
+    requires { LieApart sizes.now data_begin runs.now }
+    ensures { result ≡ list_any (is_that_run at bytes) (present_of runs.now) }
+{
+    let place = runs_before(sizes, runs, at);
+    match runs.get(place) {
+        Some(run) => is_present(run, at, bytes),
+        None => false,
+    }
+}
+
+/// Whether a run is this one, whole, and the present state holds it.
+fn is_present(run: &Run, at: Address, bytes: u64) -> bool
+    ensures { result ≡ (is_that_run at bytes run.now.extent && run.now.present) }
+{
+    run.extent.address == at && run.extent.bytes == bytes && run.present
+}
+
+/// Drops the runs that the present state doesn't hold, and has the last commit hold the others.
+pub(crate) fn commit_runs(runs: &mut Vec<Run>)
+    ensures apart { (sizes : Sizes) (from : ℕ) → LieApart sizes from runs.old.items → LieApart sizes from runs.new.items }
+    ensures present { present_of runs.new.items ≡ present_of runs.old.items }
+    ensures held { held_of runs.new.items ≡ present_of runs.old.items }
+{
+    keep_present(runs);
+    hold_all(runs);
+}
+
+/// Drops the runs that the present state doesn't hold.
+fn keep_present(runs: &mut Vec<Run>)
+    ensures { runs.new.items ≡ filter (λ run. run.present) runs.old.items }
+{
+    runs.retain(|run| run.present);
+}
+
+/// Has the last commit hold each run.
+fn hold_all(runs: &mut [Run])
+    ensures { runs.new ≡ map with_held runs.old }
+{
+    for run in runs.iter_mut() {
+        run.held = true;
+    }
+}

@@ -1,0 +1,185 @@
+// What is free of an image.
+ghost use Rattle.std.specs.Prelude.{◌≡◌, ◌*◌, ◌<◌, IfOk, IfSome, IfNone, OnOk, OnErr, IsTrue};
+ghost use Rattle.qg_super.specs.Places.{is_served, sector, slot_at};
+ghost use Rattle.qg_image.specs.Table.{with_number};
+ghost use Rattle.qg_space.specs.Holding.{nothing_held, is_free_run, first_run, has_run, with_run, without_run, is_free_slot, first_slot, free_slots, has_slot, without_slot};
+
+use crate::runs::{Run, commit_runs, first_gap, has_run, packed_runs, put_run, take_out_run};
+use crate::slots::{
+    Slot, address_of, commit_slots, count_unused, first_unused, is_slot, number_of, unused_slots,
+};
+use qg_num::{Address, NoMemory};
+use qg_state::Element;
+use qg_super::{SECTOR, Sizes};
+use std::alloc::Global;
+use std::marker::Model;
+
+/// The runs of sectors and the node slots that the present state and the last commit hold (this project's own). What neither holds is
+/// free.
+#[derive(Drop)]
+pub struct Space {
+    sizes: Sizes,
+    runs: Vec<Run>,
+    packed: usize,
+    slots: Vec<Slot>,
+    unused: u64,
+    first: usize,
+}
+
+impl Model for Space {
+    ghost use Rattle.qg_space.specs.Holding.{Holding};
+
+    ghost Value = { Holding };
+
+    ghost use Rattle.qg_space.specs.Lying.{holding_of, IsSound};
+
+    ghost view = { λ s. holding_of s.sizes s.runs.items s.slots.items };
+
+    ghost invariant = { λ s. IsSound s.sizes s.runs.items s.packed s.slots.items s.unused s.first };
+}
+
+impl Space {
+    /// Of an image with so many node slots of so many bytes, and so many data sectors of 4096 bytes, nothing is held yet.
+    pub fn new(alloc: Global, slots: u64, nodesize: u32, sectors: u64) -> Result<Space, NoMemory>
+        requires { IsTrue (is_served (record { nodesize = nodesize; slots = slots; sectors = sectors })) }
+        ensures { IfOk result (λ space. space ≡ nothing_held (record { nodesize = nodesize; slots = slots; sectors = sectors })) }
+    {
+        Ok(Space {
+            sizes: Sizes {
+                nodesize: nodesize as u64,
+                slots,
+                sectors,
+            },
+            runs: Vec::new(alloc),
+            packed: 0,
+            slots: unused_slots(alloc, slots)?,
+            unused: slots,
+            first: 0,
+        })
+    }
+
+    /// The free run of so many sectors with the least address. There is none of no sectors.
+    pub fn first_run(&self, sectors: u64) -> Option<Address>
+        ensures { result ≡ first_run self.now (sectors * sector) }
+    {
+        if sectors == 0 || sectors > self.sizes.sectors {
+            return None;
+        }
+        first_gap(&self.sizes, &self.runs, self.packed, sectors * SECTOR)
+    }
+
+    /// The present state takes a free run of so many sectors.
+    pub fn take_run(&mut self, at: Address, sectors: u64) -> Result<(), NoMemory>
+        requires { IsTrue (is_free_run self.old at (sectors * sector)) }
+        ensures ok { OnOk result (self.new ≡ record self.old {
+          runs = with_run (record { address = at; bytes = sectors * sector }) self.old.runs;
+        }) }
+        ensures err { OnErr result (self.new ≡ self.old) }
+    {
+        let sizes = self.sizes;
+        let extent = Element {
+            address: at,
+            bytes: sectors * SECTOR,
+        };
+        let place = put_run(&sizes, &mut self.runs, extent)?;
+        self.packed = packed_runs(&sizes, &self.runs, self.packed.min(place));
+        Ok(())
+    }
+
+    /// The present state gives back a run of so many sectors, whole as it was taken. It is free once the last commit doesn't hold it
+    /// either.
+    pub fn give_run(&mut self, at: Address, sectors: u64)
+        requires { IsTrue (has_run self.old at (sectors * sector)) }
+        ensures { self.new ≡ record self.old { runs = without_run at (sectors * sector) self.old.runs } }
+    {
+        let sizes = self.sizes;
+        let place = take_out_run(&sizes, &mut self.runs, at, sectors * SECTOR);
+        self.packed = self.packed.min(place);
+    }
+
+    /// Whether the present state has a run of so many sectors, whole as it was taken.
+    pub fn has_run(&self, at: Address, sectors: u64) -> bool
+        ensures { result ≡ has_run self.now at (sectors * sector) }
+    {
+        sectors <= self.sizes.sectors && has_run(&self.sizes, &self.runs, at, sectors * SECTOR)
+    }
+
+    /// The present state takes the free slot with the least address. The answer is its address, and none exactly where no slot is free.
+    pub fn take_slot(&mut self) -> Result<Option<Address>, NoMemory>
+        ensures slot { IfOk result (λ slot. slot ≡ first_slot self.old) }
+        ensures taken { IfOk result (λ slot. IfSome slot (λ address.
+            self.new ≡ record self.old { slots = with_number address self.old.slots })) }
+        ensures none { IfOk result (λ slot. IfNone slot (self.new ≡ self.old)) }
+        ensures err { OnErr result (self.new ≡ self.old) }
+    {
+        match first_unused(&self.slots, self.first) {
+            None => Ok(None),
+            Some(number) => {
+                self.first = number;
+                let address = address_of(&self.sizes, number);
+                self.use_slot(number);
+                Ok(Some(address))
+            }
+        }
+    }
+
+    /// The present state takes a free slot.
+    pub fn take_slot_at(&mut self, at: Address) -> Result<(), NoMemory>
+        requires { IsTrue (is_free_slot self.old at) }
+        ensures ok { OnOk result (self.new ≡ record self.old { slots = with_number at self.old.slots }) }
+        ensures err { OnErr result (self.new ≡ self.old) }
+    {
+        let number = number_of(&self.sizes, at);
+        self.use_slot(number);
+        Ok(())
+    }
+
+    /// The present state takes the free slot of a number.
+    fn use_slot(&mut self, number: usize)
+        requires bound { number < self.old.sizes.slots }
+        requires free { IsTrue (is_free_slot self.old (slot_at self.old.sizes number)) }
+        ensures { self.new ≡ record self.old { slots = with_number (slot_at self.old.sizes number) self.old.slots } }
+    {
+        self.slots[number].present = true;
+        self.unused -= 1;
+    }
+
+    /// The present state gives back a slot. It is free once the last commit doesn't hold it either.
+    pub fn give_slot(&mut self, at: Address)
+        requires { IsTrue (has_slot self.old at) }
+        ensures { self.new ≡ record self.old { slots = without_slot at self.old.slots } }
+    {
+        let number = number_of(&self.sizes, at);
+        let slot = &mut self.slots[number];
+        slot.present = false;
+        if !slot.held {
+            self.unused += 1;
+            self.first = self.first.min(number);
+        }
+    }
+
+    /// Whether the present state has a slot.
+    pub fn has_slot(&self, at: Address) -> bool
+        ensures { result ≡ has_slot self.now at }
+    {
+        is_slot(&self.sizes, at) && self.slots[number_of(&self.sizes, at)].present
+    }
+
+    /// How many slots are free.
+    pub fn free_slots(&self) -> u64
+        ensures { result ≡ free_slots self.now }
+    {
+        self.unused
+    }
+
+    /// A commit was done: it holds what the present state has, and nothing else. What was given back is free.
+    pub fn committed(&mut self)
+        ensures { self.new ≡ record self.old { held_runs = self.old.runs; held_slots = self.old.slots } }
+    {
+        commit_runs(&mut self.runs);
+        self.packed = packed_runs(&self.sizes, &self.runs, 0);
+        commit_slots(&mut self.slots);
+        self.unused = count_unused(&self.slots) as u64;
+        self.first = 0;
+    }
+}

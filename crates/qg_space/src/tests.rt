@@ -1,0 +1,159 @@
+use crate::Space;
+use qg_num::{Address, NoMemory};
+use std::alloc::Global;
+use std::test::Fail;
+
+// An image of 64 node slots of 4096 bytes and of 16 data sectors, of which nothing is held yet.
+#[tactic(auto, unfolding(qg_super::specs::Places::is_served))]
+fn fresh(alloc: Global) -> Result<Space, NoMemory> {
+    Space::new(alloc, 64, 4096, 16)
+}
+
+// The address of a data sector.
+fn sector(number: u64) -> Address {
+    Address::new(number.wrapping_mul(4096).wrapping_add(67174400))
+}
+
+// Takes the first free run of so many sectors.
+fn take(space: &mut Space, sectors: u64) -> Result<Option<Address>, NoMemory> {
+    match space.first_run(sectors) {
+        None => Ok(None),
+        Some(at) => {
+            space.take_run(at, sectors)?;
+            Ok(Some(at))
+        }
+    }
+}
+
+// Gives back a run, if it is there.
+fn give(space: &mut Space, first: u64, sectors: u64) -> bool {
+    let at = sector(first);
+    let has = space.has_run(at, sectors);
+    if has {
+        space.give_run(at, sectors);
+    }
+    has
+}
+
+// Gives back a slot, if it is there.
+fn give_slot(space: &mut Space, at: u64) -> bool {
+    let at = Address::new(at);
+    let has = space.has_slot(at);
+    if has {
+        space.give_slot(at);
+    }
+    has
+}
+
+// Runs of 3, 2, 4 and 1 sectors, which the last commit holds too.
+fn four_runs(alloc: Global) -> Result<Space, NoMemory> {
+    let mut space = fresh(alloc)?;
+    for sectors in [3u64, 2, 4, 1] {
+        take(&mut space, sectors)?;
+    }
+    space.committed();
+    Ok(space)
+}
+
+#[test]
+fn runs_follow_one_another(rt: HostRuntime) -> Result<(), Fail> {
+    let mut space = fresh(rt.alloc())?;
+    // How many sectors are wanted, and the first sector of those taken.
+    let cases = [
+        (3u64, Some(0u64)),
+        (2, Some(3)),
+        (0, None),
+        (12, None),
+        (10, Some(5)),
+        (2, None),
+        (1, Some(15)),
+        (1, None),
+        (4503599627370496, None),
+    ];
+    for (sectors, first) in cases {
+        assert_eq!(rt; take(&mut space, sectors)?, first.map(sector));
+    }
+    Ok(())
+}
+
+#[test]
+fn what_is_given_back_is_free_at_the_commit(rt: HostRuntime) -> Result<(), Fail> {
+    let mut space = four_runs(rt.alloc())?;
+    assert!(rt; give(&mut space, 0, 3));
+    assert!(rt; give(&mut space, 5, 4));
+    assert!(rt; !give(&mut space, 5, 4));
+    assert_eq!(rt; space.first_run(2), Some(sector(10)));
+    space.committed();
+    // The gap of 3 sectors comes first, but is too short for 4.
+    let cases = [(2u64, Some(0u64)), (4, Some(5)), (5, Some(10)), (7, None)];
+    for (sectors, first) in cases {
+        assert_eq!(rt; space.first_run(sectors), first.map(sector));
+    }
+    Ok(())
+}
+
+#[test]
+fn a_place_taken_again_has_its_new_length(rt: HostRuntime) -> Result<(), Fail> {
+    let mut space = fresh(rt.alloc())?;
+    assert_eq!(rt; take(&mut space, 3)?, Some(sector(0)));
+    assert!(rt; give(&mut space, 0, 3));
+    assert_eq!(rt; take(&mut space, 2)?, Some(sector(0)));
+    assert!(rt; !space.has_run(sector(0), 3));
+    space.committed();
+    assert!(rt; space.has_run(sector(0), 2));
+    assert!(rt; give(&mut space, 0, 2));
+    // The last commit holds two sectors.
+    assert_eq!(rt; space.first_run(1), Some(sector(2)));
+    Ok(())
+}
+
+#[test]
+fn slots_are_free_when_nothing_holds_them(rt: HostRuntime) -> Result<(), Fail> {
+    let mut space = fresh(rt.alloc())?;
+    assert_eq!(rt; space.take_slot()?, Some(Address::new(1048576)));
+    assert_eq!(rt; space.take_slot()?, Some(Address::new(1052672)));
+    assert_eq!(rt; space.free_slots(), 62);
+    assert!(rt; give_slot(&mut space, 1048576));
+    assert_eq!(rt; space.free_slots(), 63);
+    assert_eq!(rt; space.take_slot()?, Some(Address::new(1048576)));
+    space.committed();
+    assert!(rt; give_slot(&mut space, 1048576));
+    assert!(rt; !give_slot(&mut space, 1048576));
+    assert_eq!(rt; space.free_slots(), 62);
+    assert_eq!(rt; space.take_slot()?, Some(Address::new(1056768)));
+    space.committed();
+    assert_eq!(rt; space.free_slots(), 62);
+    assert_eq!(rt; space.take_slot()?, Some(Address::new(1048576)));
+    Ok(())
+}
+
+#[test]
+fn slots_come_to_an_end(rt: HostRuntime) -> Result<(), Fail> {
+    let mut space = fresh(rt.alloc())?;
+    let mut last = None;
+    for _ in 0..64 {
+        last = space.take_slot()?;
+    }
+    assert_eq!(rt; last, Some(Address::new(1306624)));
+    assert_eq!(rt; space.take_slot()?, None);
+    assert_eq!(rt; space.free_slots(), 0);
+    // An address between two slots, and one past the last.
+    assert!(rt; !space.has_slot(Address::new(1048577)));
+    assert!(rt; !space.has_slot(Address::new(1310720)));
+    Ok(())
+}
+
+// The slot at 1052672 is taken first, and what is handed out then.
+#[tactic(auto, unfolding(qg_super::specs::Places::is_served))]
+fn taken_at(alloc: Global) -> Result<Option<Address>, NoMemory> {
+    let mut space = Space::new(alloc, 64, 4096, 16)?;
+    space.take_slot_at(Address::new(1052672))?;
+    space.take_slot()?;
+    space.take_slot()
+}
+
+#[test]
+fn a_slot_is_taken_at_its_address(rt: HostRuntime) -> Result<(), Fail> {
+    assert_eq!(rt; taken_at(rt.alloc())?, Some(Address::new(1056768)));
+    Ok(())
+}
