@@ -5,3 +5,4 @@ mod FileBounds
 mod FileParts
 mod FileKeys
 mod FileTree
+mod Samples

@@ -2,3 +2,6 @@ pub mod TreesIn
 pub mod Slots
 pub mod Told
 pub mod Sound
+pub mod Rebuilt
+pub mod Commits
+pub mod Anew

@@ -1,5 +1,5 @@
 -- The slots of nodes that lie apart, in order.
-use Rattle.std.proofs.Common.{◌≡◌, ℕ, ◌<◌, Bool, true, false, cond, List, [], ◌∷◌, map, length, take, drop, refl, sym, ap, subst, arith, inl, inr}
+use Rattle.std.proofs.Common.{◌≡◌, ℕ, ◌<◌, Bool, true, false, cond, List, [], ◌∷◌, map, length, take, drop, refl, sym, ap, subst, ◌∙◌, arith, inl, inr}
 use Rattle.std.specs.Prelude.{◌==◌, nat_lt, Some, Result, Ok, Err}
 use Rattle.std.specs.Cmp.{nat_cmp_is}
 use Rattle.std.specs.List.{AllByRecursion, IsDistinct, list_all}
@@ -9,9 +9,9 @@ use Rattle.std.specs.Result.{result_ok}
 use Rattle.std.specs.declared.cmp.Ordering.TheVariants.{Less}
 use Rattle.std.proofs.lemmas.Bool.{and_from, cases_Bool, cond-true, cond-false, ltb-true}
 use Rattle.std.proofs.lemmas.Bool.Decides.{nat_tests}
-use Rattle.std.proofs.lemmas.List.{take-append-drop}
-use Rattle.std.proofs.lemmas.List.Sorted.{IsPermutation-refl, IsPermutation-cons, IsPermutation-trans, IsPermutation-append_left, IsPermutation-append_comm, length_permutation}
-use Rattle.std.proofs.lemmas.Map.Keys.{IsStrictlyIncreasing-from_sorted}
+use Rattle.std.proofs.lemmas.List.{length-map, take-append-drop}
+use Rattle.std.proofs.lemmas.List.Sorted.{IsPermutation-map, IsPermutation-refl, IsPermutation-sym, IsPermutation-cons, IsPermutation-trans, IsPermutation-append_left, IsPermutation-append_comm, length_permutation}
+use Rattle.std.proofs.lemmas.Map.Keys.{IsDistinct-IsPermutation, IsStrictlyIncreasing-from_sorted}
 use Rattle.std.proofs.lemmas.Option.{same_Some}
 use Rattle.qg_node.specs.declared.fault.NodeFault.{NodeFault}
 use Rattle.qg_node.specs.declared.node.Node.{Node}
@@ -106,6 +106,19 @@ distinct_in_order given apart = record {
   same = same_back given (in_order given) (same_moved given (in_order given) (moved_in_order given));
   long = length_permutation given (in_order given) (moved_in_order given);
 }
+
+flips : (a b : ℕ) → (a == b) ≡ (b == a)
+flips a b = grind (arith, nat_tests)
+
+-- the addresses of nodes that lie apart, in whatever order the nodes are told
+pub ordered_addresses : (those nodes : List Node) → IsPermutation those nodes → IsDistinct (λ a b. a == b) (map address_of nodes) → AreInOrder (in_order (map address_of those)) (map address_of those)
+ordered_addresses those nodes same apart =
+    let moved = IsPermutation-map address_of nodes those (IsPermutation-sym those nodes same) in
+    distinct_in_order (map address_of those) (IsDistinct-IsPermutation (λ a b. a == b) flips (map address_of nodes) (map address_of those) moved apart)
+
+pub count_addresses : (those nodes : List Node) → IsPermutation those nodes → IsDistinct (λ a b. a == b) (map address_of nodes) → length (in_order (map address_of those)) ≡ length nodes
+count_addresses those nodes same apart =
+    (ordered_addresses those nodes same apart).long ∙ length-map those address_of ∙ length_permutation nodes those (IsPermutation-sym those nodes same)
 
 -- nodes that lie in the first of slots that differ lie apart
 pub placed_apart : (nodes : List Node) (slots : List ℕ) → map address_of nodes ≡ take (length nodes) slots → IsDistinct (λ a b. a == b) slots → IsDistinct (λ a b. a == b) (map address_of nodes)

@@ -1,12 +1,9 @@
 -- An image with two superblocks and the four trees of a commit is sound, and this is the state that it stands for.
-use Rattle.std.proofs.Common.{◌≡◌, ℕ, ◌+◌, ◌*◌, ◌≤◌, Bool, true, false, cond, List, [], ◌∷◌, ◌++◌, map, length, refl, sym, ap, subst, ◌∙◌, arith}
+use Rattle.std.proofs.Common.{◌≡◌, ℕ, ◌+◌, ◌*◌, ◌≤◌, Bool, true, false, cond, List, [], ◌∷◌, ◌++◌, map, length, refl, sym, ap, subst, ◌∙◌}
 use Rattle.std.specs.Prelude.{◌==◌, nat_le, nat_lt, Option, Some, None, slice_range}
 use Rattle.std.specs.List.{IsDistinct, filter_map, flat_map}
 use Rattle.std.proofs.lemmas.Bool.{eq-eqb, le-leb}
-use Rattle.std.proofs.lemmas.List.{append-nil, length-map}
-use Rattle.std.proofs.lemmas.Bool.Decides.{nat_tests}
-use Rattle.std.proofs.lemmas.List.Sorted.{length_permutation, IsPermutation-map, IsPermutation-sym}
-use Rattle.std.proofs.lemmas.Map.Keys.{IsDistinct-IsPermutation}
+use Rattle.std.proofs.lemmas.List.{append-nil}
 use Rattle.qg_num.specs.declared.rule.Rule.{Rule}
 use Rattle.qg_num.specs.declared.rule.Rule.TheVariants as rule
 use Rattle.qg_node.specs.declared.item.Item.{Item}
@@ -25,7 +22,6 @@ use Rattle.qg_state.specs.declared.element.Element.{Element}
 use Rattle.qg_state.specs.declared.quota.Quota.{Quota}
 use Rattle.qg_state.specs.State.{Placed, State, Subvolume}
 use Rattle.qg_state.specs.Counts.{bytes_of}
-use Rattle.qg_state.specs.Reach.{extent_of}
 use Rattle.qg_state.specs.Space.{present_extents}
 use Rattle.qg_verdict.specs.declared.failure.Failure.{Failure}
 use Rattle.qg_verdict.specs.declared.tree.Tree.TheVariants.{Extents, Files, Quotas, Roots}
@@ -49,12 +45,9 @@ use Rattle.qg_check.proofs.SlotsOf.{same_slots}
 use Rattle.qg_check.proofs.StateRead.{count_read, others_read, present_read, quota_of_state, quota_read, subvolume_kept, subvolumes_read}
 use Rattle.qg_check.proofs.Verdicts.{image_failure_parts, rest_failure, rest_failure_trees, verdict_some}
 use Rattle.qg_laid.specs.Holds.{IsTreeIn}
-use Rattle.qg_laid.proofs.Slots.{AreInOrder, distinct_in_order, found_slots, in_order}
-use Rattle.qg_laid.proofs.Told.{file_tree_laid, files_said, quota_laid, quota_laid_few, quota_laid_keeps, quota_parts_laid, quota_tree_laid, read_served, roots_laid, roots_named, SayFiles}
-
--- the extents that files name
-abbrev pub extents_named : List (ℕ × File) → List Element
-extents_named files = extent_set (flat_map (λ (file : ℕ × File). map extent_of file.1.pieces) files)
+use Rattle.qg_laid.proofs.Slots.{AreInOrder, count_addresses, found_slots, in_order, ordered_addresses}
+use Rattle.qg_laid.proofs.Told.{file_tree_laid, files_said, quota_laid, quota_laid_few, quota_laid_keeps, quota_tree_laid, read_served, roots_named, SayFiles}
+use Rattle.qg_laid.specs.Anew.{roots_laid, quota_parts_laid, extents_held}
 
 -- the image has this superblock at both places and is as long as it says
 pub record HasSuper (super : Super) (image : List ℕ) : Type 0 where
@@ -76,12 +69,12 @@ pub record HasTrees (super : Super) (image : List ℕ) (extents quotas subvolume
   pub file_tree : IsTreeIn Files super image (root_told subvolume) subvolume.bytenr file_items file_nodes
   pub held : files_of super.generation file_items ≡ Some files
   pub apart : IsDistinct (λ a b. a == b) (map address_of file_nodes)
-  pub space : space_failure (sizes_of super) (extents_named files) ≡ None
+  pub space : space_failure (sizes_of super) (extents_held files) ≡ None
   pub quota_items : List Item
   pub quota_nodes : List Node
   pub quota_tree : IsTreeIn Quotas super image (root_told quotas) quotas.bytenr quota_items quota_nodes
   pub bytes : ℕ
-  pub counted : bytes ≡ super.nodesize * length file_nodes + bytes_of (extents_named files)
+  pub counted : bytes ≡ super.nodesize * length file_nodes + bytes_of (extents_held files)
   pub told : filter_map quota_part quota_items ≡ quota_parts_laid super.generation stamp bytes
 
 -- the state of such an image: these are the addresses of the nodes of the root, extent and quota trees, the subvolume's root, and its
@@ -144,9 +137,6 @@ kept_so test broken address h = rw h refl
 when_given : {A : Type 0} (test : Bool) (given : Option A) (x : A) → when test given ≡ Some x → given ≡ Some x
 when_given true given x h = h
 when_given false given x h = absurd cc
-
-flips : (a b : ℕ) → (a == b) ≡ (b == a)
-flips a b = grind (arith, nat_tests)
 
 judged_well : (stamp bytes : ℕ) → first_failure (map (judged bytes) (quota_laid stamp bytes).groups) ≡ None
 judged_well stamp bytes = rw (eq-eqb bytes bytes refl) refl
@@ -221,11 +211,9 @@ module _ (super : Super) (image : List ℕ) (extents quotas subvolume : RootItem
   addresses = map address_of trees.file_tree.those
 
   ordered : AreInOrder (in_order addresses) addresses
-  ordered =
-      let moved = IsPermutation-map address_of trees.file_nodes trees.file_tree.those (IsPermutation-sym trees.file_tree.those trees.file_nodes trees.file_tree.same) in
-      distinct_in_order addresses (IsDistinct-IsPermutation (λ a b. a == b) flips (map address_of trees.file_nodes) addresses moved trees.apart)
+  ordered = ordered_addresses trees.file_tree.those trees.file_nodes trees.file_tree.same trees.apart
 
-  keep : KeepSpace (sizes_of super) (in_order addresses) (extents_named files)
+  keep : KeepSpace (sizes_of super) (in_order addresses) (extents_held files)
   keep = record {
     served = read_served first_place (slice_range image first_place (first_place + 4096)) super has.first;
     are_slots = same_slots (sizes_of super) (in_order addresses) addresses ordered.same (found_slots super image trees.file_tree.those finds);
@@ -233,16 +221,15 @@ module _ (super : Super) (image : List ℕ) (extents quotas subvolume : RootItem
     space = trees.space;
   }
 
-  bytes_are : super.nodesize * length (in_order addresses) + bytes_of (extents_named files) ≡ trees.bytes
+  bytes_are : super.nodesize * length (in_order addresses) + bytes_of (extents_held files) ≡ trees.bytes
   bytes_are =
-      let many : length (in_order addresses) ≡ length trees.file_nodes =
-      ordered.long ∙ length-map trees.file_tree.those address_of ∙ length_permutation trees.file_nodes trees.file_tree.those (IsPermutation-sym trees.file_tree.those trees.file_nodes trees.file_tree.same) in
-      ap (λ (n : ℕ). super.nodesize * n + bytes_of (extents_named files)) many ∙ sym trees.counted
+      let many = count_addresses trees.file_tree.those trees.file_nodes trees.file_tree.same trees.apart in
+      ap (λ (n : ℕ). super.nodesize * n + bytes_of (extents_held files)) many ∙ sym trees.counted
 
   count_all : CountAll (state_in super image) (quota_laid stamp trees.bytes) trees.bytes
   count_all =
       subst (CountAll (state_in super image) (quota_laid stamp trees.bytes)) bytes_are
-      (count_read super image read (in_order addresses) (extents_named files) are refl keep ordered.same refl)
+      (count_read super image read (in_order addresses) (extents_held files) are refl keep ordered.same refl)
 
   counts_pass : counts_failure (state_in super image) (state_in super image).quota ≡ None
   counts_pass =

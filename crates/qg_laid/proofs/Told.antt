@@ -14,8 +14,6 @@ use Rattle.qg_super.specs.Places.{is_served}
 use Rattle.qg_super.specs.SuperText.{fields_at, is_super, sizes_of, super_read, super_text}
 use Rattle.qg_image.specs.declared.file.File.{File}
 use Rattle.qg_image.specs.declared.part.FilePart.{FilePart}
-use Rattle.qg_image.specs.declared.part.QuotaPart.{QuotaPart}
-use Rattle.qg_image.specs.declared.part.QuotaPart.TheVariants.{Status, Info, Limits}
 use Rattle.qg_image.specs.FilesOf.{are_files, file_parts, files_in, files_of, is_file_item}
 use Rattle.qg_image.specs.ItemMeaning.{file_part, file_part_stamps, is_subvolume_number, quota_part, root_part, some_passes}
 use Rattle.qg_state.specs.declared.quota.Quota.{Quota}
@@ -26,6 +24,7 @@ use Rattle.qg_verdict.specs.Verdict.{are_few, are_roots, is_quota}
 use Rattle.qg_check.specs.Trees.{addresses_of, AreNamed, IsFileTree, IsQuotaTree}
 use Rattle.qg_check.proofs.Found.{items_under-nodes}
 use Rattle.qg_laid.specs.Holds.{IsTreeIn}
+use Rattle.qg_laid.specs.Anew.{roots_laid, quota_parts_laid}
 
 then_told : {A : Type 0} (test : Bool) (x y : A) → then_some test x ≡ Some y → (test ≡ true) × (x ≡ y)
 then_told true x y h = (refl, same_Some x y h)
@@ -46,10 +45,6 @@ read_served place bytes super h =
 
 -- ---- the root tree
 
--- it names the extent tree, the top-level subvolume and the quota tree
-abbrev pub roots_laid : RootItem → RootItem → RootItem → List (ℕ × RootItem)
-roots_laid extents files quotas = (2, extents) ∷ (5, files) ∷ (8, quotas) ∷ []
-
 AreNamed-laid : (extents files quotas : RootItem) → AreNamed (roots_laid extents files quotas) extents quotas files
 unfolding are_roots is_subvolume_number
 AreNamed-laid extents files quotas = record { are = refl; extent_tree = refl; quota_tree = refl; only = refl }
@@ -63,14 +58,6 @@ roots_named super image items nodes extents files quotas tree named =
     subst (λ (roots : List (ℕ × RootItem)). AreNamed roots extents quotas files) (sym are) (AreNamed-laid extents files quotas)
 
 -- ---- the quota tree
-
--- the top-level subvolume's group counts so many bytes since a generation, and has no limit
-abbrev pub quota_parts_laid : ℕ → ℕ → ℕ → List QuotaPart
-quota_parts_laid generation stamp bytes =
-    Status (record { generation = generation; flags = 1; cursor = 0 })
-    ∷ Info 5 (record { generation = stamp; rfer = bytes; rfer_cmpr = bytes; excl = bytes; excl_cmpr = bytes })
-    ∷ Limits 5 (record { flags = 0; max_rfer = 0; max_excl = 0 })
-    ∷ []
 
 abbrev pub quota_laid : ℕ → ℕ → Quota
 quota_laid stamp bytes =
@@ -120,7 +107,8 @@ one_more : (test : FilePart → Bool) (first : Option FilePart) (later : List (O
 one_more test None later parts passes same = absurd cc
 one_more test (Some part) later parts passes same = ap (λ (rest : List (Option FilePart)). Some part ∷ rest) same
 
-all_said : (generation : ℕ) (items : List Item) → list_all (is_file_item generation) items ≡ true → map file_part items ≡ map (λ part. Some part) (file_parts items)
+-- nothing is left out
+pub all_said : (generation : ℕ) (items : List Item) → list_all (is_file_item generation) items ≡ true → map file_part items ≡ map (λ part. Some part) (file_parts items)
 unfolding is_file_item
 all_said generation [] all = refl
 all_said generation (item ∷ items) all =

@@ -1,5 +1,5 @@
 -- A tree that was built, where each of its nodes is found at its address: in an image, or in the layout of a state.
-use Rattle.std.proofs.Common.{◌≡◌, ℕ, zero, suc, ◌-◌, ◌⊎◌, inl, inr, Bool, true, false, cond, List, [], ◌∷◌, refl, sym, ap, subst, ◌∙◌}
+use Rattle.std.proofs.Common.{◌≡◌, ℕ, zero, suc, ◌-◌, ◌⊎◌, inl, inr, Bool, true, false, cond, List, [], ◌∷◌, refl, sym, ap, subst}
 use Rattle.std.specs.Prelude.{◌&&◌, ◌==◌, nat_le, nat_lt, is_none, unwrap_or, Option, Some, None, Result, Ok, Err, IsTrue}
 use Rattle.std.specs.List.{All, AllByRecursion, list_all}
 use Rattle.std.specs.Result.{result_ok}
@@ -290,6 +290,11 @@ module _ (tree : Tree) (super : Super) (nodesize owner generation : ℕ) (items 
   IsTreeIn-told =
       in_image (root_expected (Some level) (Some generation)) (stands_told tree super nodesize owner generation items slots nodes root level is (node_found super image) found_each)
 
+  -- its nodes are in the order of the tree that was built
+  pub those_told : IsTreeIn-told.those ≡ is.built.reached.those
+  unfolding in_image IsTreeIn-told
+  those_told = refl
+
   pub IsTreeIn-open : IsTreeIn tree super image (root_expected None None) root items nodes
   IsTreeIn-open = in_image (root_expected None None) (stands_open tree super nodesize owner generation items slots nodes root level is (node_found super image) found_each)
 
@@ -309,14 +314,17 @@ nothing_or : {A : Type 0} (given : Option A) → (given ≡ None) ⊎ ((x : A) �
 nothing_or None = inl refl
 nothing_or (Some x) = inr (x, refl)
 
-level_laid : (layout : List (ℕ × Placed)) (level root : ℕ) → IsRootAt (found_in layout) level root → level_of (node_at layout root) ≡ level
-level_laid layout level root at = elim (nothing_or (node_at layout root)) [
-  | inl none ↦ let fails = rw none at at.is in absurd cc
+laid_at : (layout : List (ℕ × Placed)) (address : ℕ) (node : Node) → found_in layout address ≡ Ok node → node_at layout address ≡ Some node
+laid_at layout address node found = elim (nothing_or (node_at layout address)) [
+  | inl none ↦ let fails = rw none at found in absurd cc
   | inr some ↦
-      let found = rw some.1 at at.is in
-      let same : some.0 ≡ at.node = cc in
-      rw some.1 (ap (λ (n : Node). (header_of n).level) same ∙ at.stands)
+      let is = rw some.1 at found in
+      let same : some.0 ≡ node = cc in
+      rw some.1 (ap (λ (n : Node). Some n) same)
 ]
+
+level_laid : (layout : List (ℕ × Placed)) (level root : ℕ) → IsRootAt (found_in layout) level root → level_of (node_at layout root) ≡ level
+level_laid layout level root at = rw (laid_at layout root at.node at.is) at.stands
 
 -- it is a subvolume's tree
 pub IsTreeOf-built : (state : State) (subvolume : Subvolume) (nodesize owner generation : ℕ) (items : List Item) (slots : List ℕ) (nodes : List Node) (level : ℕ)
@@ -335,3 +343,14 @@ IsTreeOf-built state subvolume nodesize owner generation items slots nodes level
       under = subst (λ (n : ℕ). items_under Files super found n (root_expected None None) root ≡ Some items) (sym stood) stands.items_are;
       files = files;
     }
+
+-- and its nodes are those below its root
+pub nodes_laid : (tree : Tree) (super : Super) (layout : List (ℕ × Placed)) (nodesize owner generation : ℕ) (items : List Item) (slots : List ℕ) (nodes : List Node) (root level : ℕ)
+    → (is : IsBuiltFor tree super nodesize owner generation items slots nodes root level) → AreLaid layout nodes
+    → nodes_below (node_at layout) (level_of (node_at layout root)) root ≡ Some is.built.reached.those
+nodes_laid tree super layout nodesize owner generation items slots nodes root level is laid =
+    let there = laid_there layout nodes laid in
+    let reached = is.built.reached in
+    let keeps : Keeps (node_among nodes) (node_at layout) = record { each = λ address node h. laid_at layout address node (there_among (found_in layout) nodes address node there h) } in
+    let stood = level_laid layout level root (root_stands tree super nodesize owner generation items slots nodes root level is (found_in layout) there) in
+    subst (λ (n : ℕ). nodes_below (node_at layout) n root ≡ Some reached.those) (sym stood) (nodes_kept (node_among nodes) (node_at layout) keeps level root reached.those reached.under)

@@ -1,0 +1,240 @@
+-- Four trees that were built for a commit: an image that holds them is sound, and the machine's commit leaves its state.
+use Rattle.std.proofs.Common.{◌≡◌, ℕ, ◌+◌, ◌*◌, Bool, true, false, List, [], ◌∷◌, ◌++◌, map, length, take, drop, get_or, not, refl, sym, ap, subst}
+use Rattle.std.specs.Prelude.{◌&&◌, ◌||◌, is_some, Option, Some, None, Ok}
+use Rattle.std.specs.List.{All, Contains, filter_map, list_all}
+use Rattle.std.specs.List.Sorted.{IsPermutation}
+use Rattle.std.specs.Option.{option_map}
+use Rattle.std.proofs.lemmas.Bool.{and_from}
+use Rattle.std.proofs.lemmas.List.{take-append-drop}
+use Rattle.std.proofs.lemmas.List.Elements.{All-contains, Contains-append_left, Contains-append_right, Contains-get_or}
+use Rattle.std.proofs.lemmas.List.Sorted.{Contains-permutation}
+use Rattle.qg_node.specs.declared.item.Item.{Item}
+use Rattle.qg_node.specs.declared.node.Node.{Node}
+use Rattle.qg_node.specs.Nodes.{header_of}
+use Rattle.qg_items.specs.declared.root.RootItem.{RootItem}
+use Rattle.qg_super.specs.declared.sizes.Sizes.{Sizes}
+use Rattle.qg_super.specs.declared.superblock.Super.{Super}
+use Rattle.qg_super.specs.Places.{is_slot}
+use Rattle.qg_super.specs.SuperText.{sizes_of}
+use Rattle.qg_image.specs.FilesOf.{files_of}
+use Rattle.qg_image.specs.ItemMeaning.{quota_part}
+use Rattle.qg_image.specs.Table.{has_key, value_at}
+use Rattle.qg_state.specs.declared.quota.Group.{Group}
+use Rattle.qg_state.specs.State.{Placed, State, Subvolume, next_generation}
+use Rattle.qg_state.specs.Counts.{bytes_of}
+use Rattle.qg_state.specs.Space.{is_free_slot}
+use Rattle.qg_verdict.specs.declared.expected.Expected.{Expected}
+use Rattle.qg_verdict.specs.declared.tree.Tree.{Tree}
+use Rattle.qg_verdict.specs.declared.tree.Tree.TheVariants.{Extents, Files, Quotas, Roots}
+use Rattle.qg_verdict.specs.StateOf.{StateOf}
+use Rattle.qg_verdict.specs.Verdict.{space_failure}
+use Rattle.qg_verdict.specs.Walk.{is_generation, is_item_of, is_owner, node_found, root_expected, root_told}
+use Rattle.qg_machine.specs.Layout.{is_other_slot}
+use Rattle.qg_reach.proofs.Layouts.{node_at-layout_other}
+use Rattle.qg_reach.proofs.Members.{contains_map, one_mapped}
+use Rattle.qg_tree.specs.Build.{Allows}
+use Rattle.qg_tree.specs.Row.{address_of}
+use Rattle.qg_check.specs.Trees.{addresses_of}
+use Rattle.qg_laid.specs.Holds.{HasCommit, IsTreeIn}
+use Rattle.qg_laid.proofs.Commits.{each_passes, free_is_slot, generation_to_come, items_hold, laid_out_as, top_level_number, Commits-laid}
+use Rattle.qg_laid.proofs.Rebuilt.{all_contained, each_contained, passes_all}
+use Rattle.qg_laid.proofs.Slots.{placed_apart}
+use Rattle.qg_laid.proofs.Sound.{HasSuper, HasTrees, laid_sound, laid_StateOf, others, state_laid}
+use Rattle.qg_laid.proofs.Told.{files_said}
+use Rattle.qg_laid.proofs.TreesIn.{IsBuiltFor, IsTreeIn-open, IsTreeIn-told, those_told}
+use Rattle.qg_laid.specs.Anew.{quota_parts_laid, extents_held, stamp_now, BuildsFiles, bytes_laid, BuildsOther, BuildsAnew, IsCommit}
+
+-- ---- the trees
+
+-- ---- parts of a list
+
+all_front : {A : Type 0} (P : A → Type 0) (front back : List A) → All P (front ++ back) → All P front
+all_front P front back all = λ k d below. All-contains P (front ++ back) (get_or front k d) all (Contains-append_left front back (get_or front k d) (Contains-get_or front k d below))
+
+all_back : {A : Type 0} (P : A → Type 0) (front back : List A) → All P (front ++ back) → All P back
+all_back P front back all = λ k d below. All-contains P (front ++ back) (get_or back k d) all (Contains-append_right front back (get_or back k d) (Contains-get_or back k d below))
+
+all_pass_both : (test : ℕ → Bool) (front back : List ℕ) → list_all test front ≡ true → list_all test back ≡ true → list_all test (front ++ back) ≡ true
+all_pass_both test [] back h k = k
+all_pass_both test (x ∷ front) back h k =
+    let parts = each_passes test (x ∷ front) h in
+    and_from (test x) (list_all test (front ++ back)) parts.0 (all_pass_both test front back (passes_all test front parts.1) k)
+
+-- ---- the slots of the other trees
+
+placed_in : (nodes : List Node) (slots : List ℕ) (node : Node) → map address_of nodes ≡ take (length nodes) slots → Contains nodes node → Contains slots (address_of node)
+placed_in nodes slots node placed has =
+    let among = subst (λ (list : List ℕ). Contains list (address_of node)) placed (contains_map address_of nodes node has) in
+    subst (λ (list : List ℕ). Contains list (address_of node)) (take-append-drop (length nodes) slots)
+    (Contains-append_left (take (length nodes) slots) (drop (length nodes) slots) (address_of node) among)
+
+unkeyed : (given : Option Placed) → option_map (λ (placed : Placed). placed.node) given ≡ None → is_some given ≡ false
+unkeyed None h = refl
+unkeyed (Some placed) h = absurd cc
+
+other_passes : (slot has free : Bool) → slot ≡ true → has ≡ false → free ≡ true → (slot && not has && (free || false)) ≡ true
+other_passes slot has free a b c = rw (a, b, c) refl
+
+module _ (old : State) (before : Subvolume) (file_items : List Item) (file_slots : List ℕ) (file_nodes : List Node) (file_root file_level : ℕ)
+    (files : BuildsFiles old before file_items file_slots file_nodes file_root file_level)
+    (tree : Tree) (owner : ℕ) (items : List Item) (slots : List ℕ) (nodes : List Node) (root level : ℕ)
+    (builds : BuildsOther tree owner old items slots file_slots nodes root level) where
+  abbrev file_those : List Node
+  file_those = files.built.reached.those
+
+  abbrev laid : State
+  laid = laid_out_as old before file_root file_those
+
+  -- nodes of the tree lie in slots that the files' layout leaves
+  pub others_lie : (those : List Node) → IsPermutation those nodes → list_all (is_other_slot old laid) (addresses_of those) ≡ true
+  others_lie those same = passes_all (is_other_slot old laid) (map address_of those) (all_contained (λ (a : ℕ). is_other_slot old laid a ≡ true) (map address_of those) each) where
+    each : (a : ℕ) → Contains (map address_of those) a → is_other_slot old laid a ≡ true
+    each a has =
+        let node = one_mapped address_of those a has in
+        let there = subst (λ (slot : ℕ). Contains slots slot) node.2 (placed_in nodes slots node.0 builds.built.placed (Contains-permutation those nodes node.0 same node.1)) in
+        let free = each_contained (λ (slot : ℕ). is_free_slot old slot ≡ true) slots a (each_passes (is_free_slot old) slots builds.free) there in
+        let apart = node_at-layout_other [] file_those a
+        (λ file has' is. builds.elsewhere a there
+        (subst (λ (slot : ℕ). Contains file_slots slot) is (placed_in file_nodes file_slots file files.built.placed (Contains-permutation file_those file_nodes file files.built.reached.same has')))) in
+        other_passes (is_slot old.sizes a) (has_key a laid.layout) (is_free_slot old a) (free_is_slot old a free) (unkeyed (value_at a laid.layout) apart) free
+
+-- ---- the trees in the image
+
+-- a superblock of these sizes and of the generation to come allows the nodes of a tree
+allowed : (tree : Tree) (super : Super) (owner : ℕ) (old : State) → sizes_of super ≡ old.sizes → super.generation ≡ next_generation old → is_owner tree owner ≡ true
+    → Allows tree super old.sizes.nodesize owner (next_generation old)
+allowed tree super owner old sizes generation owned = record {
+  same = ap (λ (s : Sizes). s.nodesize) sizes;
+  owned = owned;
+  made = subst (λ (g : ℕ). is_generation g None (next_generation old) ≡ true) (sym generation) (generation_to_come old.generation);
+}
+
+abbrev other_for : (tree : Tree) (super : Super) (owner : ℕ) (old : State) (items : List Item) (slots file_slots : List ℕ) (nodes : List Node) (root level : ℕ) → sizes_of super ≡ old.sizes → super.generation ≡ next_generation old
+    → BuildsOther tree owner old items slots file_slots nodes root level → IsBuiltFor tree super old.sizes.nodesize owner (next_generation old) items slots nodes root level
+other_for tree super owner old items slots file_slots nodes root level sizes generation builds = record {
+  built = builds.built;
+  allows = allowed tree super owner old sizes generation builds.owned;
+  hold = subst (λ (g : ℕ). list_all (is_item_of tree g) items ≡ true) (sym generation) builds.hold;
+}
+
+abbrev files_for : (super : Super) (old : State) (before : Subvolume) (items : List Item) (slots : List ℕ) (nodes : List Node) (root level : ℕ) → sizes_of super ≡ old.sizes → super.generation ≡ next_generation old
+    → BuildsFiles old before items slots nodes root level → IsBuiltFor Files super old.sizes.nodesize 5 (next_generation old) items slots nodes root level
+files_for super old before items slots nodes root level sizes generation builds = record {
+  built = builds.built;
+  allows = allowed Files super 5 old sizes generation top_level_number;
+  hold = subst (λ (g : ℕ). list_all (is_item_of Files g) items ≡ true) (sym generation)
+      (items_hold (next_generation old) items (files_said (next_generation old) items before.files builds.held).each);
+}
+
+-- the tree, with its nodes in the order in which they were built
+record IsTold (tree : Tree) (super : Super) (image : List ℕ) (expected : Expected) (root : ℕ) (items : List Item) (nodes those : List Node) : Type 0 where
+  is : IsTreeIn tree super image expected root items nodes
+  order : is.those ≡ those
+
+told_by : (tree : Tree) (super : Super) (nodesize owner generation : ℕ) (items : List Item) (slots : List ℕ) (nodes : List Node) (root : RootItem)
+    → (is : IsBuiltFor tree super nodesize owner generation items slots nodes root.bytenr root.level) → root.generation ≡ generation → (image : List ℕ)
+    → All (λ node. node_found super image (header_of node).address ≡ Ok node) nodes → IsTold tree super image (root_told root) root.bytenr items nodes is.built.reached.those
+told_by tree super nodesize owner generation items slots nodes root is made image there =
+    let told : IsTold tree super image (root_expected (Some root.level) (Some generation)) root.bytenr items nodes is.built.reached.those = record {
+      is = IsTreeIn-told tree super nodesize owner generation items slots nodes root.bytenr root.level is image there;
+      order = those_told tree super nodesize owner generation items slots nodes root.bytenr root.level is image there;
+    } in
+    subst (λ (g : ℕ). IsTold tree super image (root_expected (Some root.level) (Some g)) root.bytenr items nodes is.built.reached.those) (sym made) told
+
+module _ (old : State) (before : Subvolume) (group : Group) (super : Super) (nodes : List Node) (image : List ℕ) (b : BuildsAnew old before group super nodes) (has : HasCommit super nodes image) where
+  abbrev IsThere : Node → Type 0
+  IsThere node = node_found super image (header_of node).address ≡ Ok node
+
+  found : All IsThere (b.root_nodes ++ b.extent_nodes ++ b.quota_nodes ++ b.file_nodes)
+  found = subst (All IsThere) b.all has.found
+
+  found_others : All IsThere (b.root_nodes ++ b.extent_nodes ++ b.quota_nodes)
+  found_others = all_front IsThere (b.root_nodes ++ b.extent_nodes ++ b.quota_nodes) b.file_nodes found
+
+  found_first : All IsThere (b.root_nodes ++ b.extent_nodes)
+  found_first = all_front IsThere (b.root_nodes ++ b.extent_nodes) b.quota_nodes found_others
+
+  root_tree : IsTreeIn Roots super image (root_expected None None) super.root b.root_items b.root_nodes
+  root_tree =
+      let for_roots = other_for Roots super 1 old b.root_items b.root_slots b.file_slots b.root_nodes super.root b.root_level b.tells.sizes b.tells.generation b.roots in
+      IsTreeIn-open Roots super old.sizes.nodesize 1 (next_generation old) b.root_items b.root_slots b.root_nodes super.root b.root_level for_roots image (all_front IsThere b.root_nodes b.extent_nodes found_first)
+
+  extent_tree : IsTold Extents super image (root_told b.extents) b.extents.bytenr [] b.extent_nodes b.empty.built.reached.those
+  extent_tree =
+      let for_extents = other_for Extents super 2 old [] b.extent_slots b.file_slots b.extent_nodes b.extents.bytenr b.extents.level b.tells.sizes b.tells.generation b.empty in
+      told_by Extents super old.sizes.nodesize 2 (next_generation old) [] b.extent_slots b.extent_nodes b.extents for_extents b.extents_made image (all_back IsThere b.root_nodes b.extent_nodes found_first)
+
+  quota_tree : IsTold Quotas super image (root_told b.quotas) b.quotas.bytenr b.quota_items b.quota_nodes b.counts.built.reached.those
+  quota_tree =
+      let for_quotas = other_for Quotas super 8 old b.quota_items b.quota_slots b.file_slots b.quota_nodes b.quotas.bytenr b.quotas.level b.tells.sizes b.tells.generation b.counts in
+      told_by Quotas super old.sizes.nodesize 8 (next_generation old) b.quota_items b.quota_slots b.quota_nodes b.quotas for_quotas b.quotas_made image (all_back IsThere (b.root_nodes ++ b.extent_nodes) b.quota_nodes found_others)
+
+  file_tree : IsTold Files super image (root_told b.subvolume) b.subvolume.bytenr b.file_items b.file_nodes b.files.built.reached.those
+  file_tree =
+      let for_files = files_for super old before b.file_items b.file_slots b.file_nodes b.subvolume.bytenr b.subvolume.level b.tells.sizes b.tells.generation b.files in
+      told_by Files super old.sizes.nodesize 5 (next_generation old) b.file_items b.file_slots b.file_nodes b.subvolume for_files b.subvolume_made image (all_back IsThere (b.root_nodes ++ b.extent_nodes ++ b.quota_nodes) b.file_nodes found)
+
+  -- ---- together
+
+  abbrev bytes : ℕ
+  bytes = bytes_laid old before b.file_nodes
+
+  abbrev stamp : ℕ
+  stamp = stamp_now group bytes (next_generation old)
+
+  supers : HasSuper super image
+  supers = record { first = has.first; second = has.second; long = has.long }
+
+  abbrev trees : HasTrees super image b.extents b.quotas b.subvolume stamp before.files
+  trees = record {
+    root_items = b.root_items;
+    root_nodes = b.root_nodes;
+    root_tree = root_tree;
+    named = b.named;
+    extent_nodes = b.extent_nodes;
+    extent_tree = extent_tree.is;
+    file_items = b.file_items;
+    file_nodes = b.file_nodes;
+    file_tree = file_tree.is;
+    held = subst (λ (g : ℕ). files_of g b.file_items ≡ Some before.files) (sym b.tells.generation) b.files.held;
+    apart = placed_apart b.file_nodes b.file_slots b.files.built.placed b.files.distinct;
+    space = subst (λ (s : Sizes). space_failure s (extents_held before.files) ≡ None) (sym b.tells.sizes) b.files.space;
+    quota_items = b.quota_items;
+    quota_nodes = b.quota_nodes;
+    quota_tree = quota_tree.is;
+    bytes = bytes;
+    counted = ap (λ (s : Sizes). s.nodesize * length b.file_nodes + bytes_of (extents_held before.files)) (sym b.tells.sizes);
+    told = subst (λ (g : ℕ). filter_map quota_part b.quota_items ≡ quota_parts_laid g stamp bytes) (sym b.tells.generation) b.counted;
+  }
+
+  abbrev all_others : List ℕ
+  all_others = others super image b.extents b.quotas b.subvolume stamp before.files supers trees
+
+  abbrev those : List Node
+  those = b.files.built.reached.those
+
+  abbrev laid_anew : State
+  laid_anew = laid_out_as old before b.subvolume.bytenr those
+
+  others_free : list_all (is_other_slot old laid_anew) all_others ≡ true
+  others_free =
+      let test = is_other_slot old laid_anew in
+      let roots = others_lie old before b.file_items b.file_slots b.file_nodes b.subvolume.bytenr b.subvolume.level b.files Roots 1 b.root_items b.root_slots b.root_nodes super.root b.root_level b.roots
+      root_tree.those root_tree.same in
+      let extents = others_lie old before b.file_items b.file_slots b.file_nodes b.subvolume.bytenr b.subvolume.level b.files Extents 2 [] b.extent_slots b.extent_nodes b.extents.bytenr b.extents.level b.empty
+      extent_tree.is.those extent_tree.is.same in
+      let quotas = others_lie old before b.file_items b.file_slots b.file_nodes b.subvolume.bytenr b.subvolume.level b.files Quotas 8 b.quota_items b.quota_slots b.quota_nodes b.quotas.bytenr b.quotas.level b.counts
+      quota_tree.is.those quota_tree.is.same in
+      all_pass_both test (addresses_of root_tree.those ++ addresses_of extent_tree.is.those) (addresses_of quota_tree.is.those)
+      (all_pass_both test (addresses_of root_tree.those) (addresses_of extent_tree.is.those) roots extents) quotas
+
+  abbrev state_now : List Node → State
+  state_now nodes = state_laid super all_others b.subvolume before.files nodes stamp bytes
+
+  pub IsCommit-anew : IsCommit old image
+  IsCommit-anew = record {
+    sound = laid_sound super image b.extents b.quotas b.subvolume stamp before.files supers trees;
+    state = state_now those;
+    stands = subst (λ (nodes : List Node). StateOf image (state_now nodes)) file_tree.order (laid_StateOf super image b.extents b.quotas b.subvolume stamp before.files supers trees);
+    commits = Commits-laid old before group b.file_items b.file_slots b.file_nodes b.subvolume.bytenr b.subvolume.level b.one b.files super b.subvolume all_others b.tells refl others_free;
+  }

@@ -1,0 +1,135 @@
+-- Trees that are built anew for a commit, as long as there is one subvolume and its group alone (this project's own). Sizes are in bytes.
+use Rattle.std.specs.Prelude.{◌≡◌, ℕ, ◌+◌, ◌*◌, ◌&&◌, ◌==◌, List, [], ◌∷◌, ◌++◌, map, length, Some, None, if◌then◌else◌, IsTrue}
+use Rattle.std.specs.List.{Contains, IsDistinct, filter_map, flat_map, list_all}
+use Rattle.qg_node.specs.declared.item.Item.{Item}
+use Rattle.qg_node.specs.declared.node.Node.{Node}
+use Rattle.qg_items.specs.declared.root.RootItem.{RootItem}
+use Rattle.qg_items.specs.declared.tree.TheConstants.{ROOT_TREE, EXTENT_TREE, TOP_LEVEL, QUOTA_TREE}
+use Rattle.qg_super.specs.declared.superblock.Super.{Super}
+use Rattle.qg_super.specs.Places.{is_served}
+use Rattle.qg_super.specs.SuperText.{sizes_of}
+use Rattle.qg_image.specs.declared.file.File.{File}
+use Rattle.qg_image.specs.declared.part.QuotaPart.{QuotaPart}
+use Rattle.qg_image.specs.declared.part.QuotaPart.TheVariants.{Status, Info, Limits}
+use Rattle.qg_image.specs.FilesOf.{files_of}
+use Rattle.qg_image.specs.ItemMeaning.{quota_part, root_part}
+use Rattle.qg_state.specs.declared.element.Element.{Element}
+use Rattle.qg_state.specs.declared.quota.Group.{Group}
+use Rattle.qg_state.specs.declared.quota.Quota.{Quota}
+use Rattle.qg_state.specs.State.{State, Subvolume, next_generation}
+use Rattle.qg_state.specs.Counts.{bytes_of}
+use Rattle.qg_state.specs.Reach.{extent_of}
+use Rattle.qg_state.specs.Space.{is_free_slot}
+use Rattle.qg_verdict.specs.declared.tree.Tree.{Tree}
+use Rattle.qg_verdict.specs.declared.tree.Tree.TheVariants.{Extents, Quotas, Roots}
+use Rattle.qg_verdict.specs.StateOf.{StateOf}
+use Rattle.qg_verdict.specs.Verdict.{IsSound, extent_set, space_failure}
+use Rattle.qg_verdict.specs.Walk.{is_item_of, is_owner}
+use Rattle.qg_machine.specs.Step.{Commits}
+use Rattle.qg_tree.specs.Build.{IsBuilt}
+
+-- ---- what is told
+
+-- what the root tree names: the extent tree, the top-level subvolume and the quota tree
+abbrev pub roots_laid : RootItem → RootItem → RootItem → List (ℕ × RootItem)
+roots_laid extents files quotas = (EXTENT_TREE, extents) ∷ (TOP_LEVEL, files) ∷ (QUOTA_TREE, quotas) ∷ []
+
+-- what the quota tree says: the top-level subvolume's group counts so many bytes since a generation, and has no limit
+abbrev pub quota_parts_laid : ℕ → ℕ → ℕ → List QuotaPart
+quota_parts_laid generation stamp bytes =
+    Status (record { generation = generation; flags = 1; cursor = 0 })
+    ∷ Info TOP_LEVEL (record { generation = stamp; rfer = bytes; rfer_cmpr = bytes; excl = bytes; excl_cmpr = bytes })
+    ∷ Limits TOP_LEVEL (record { flags = 0; max_rfer = 0; max_excl = 0 })
+    ∷ []
+
+-- the extents that files name
+abbrev pub extents_held : List (ℕ × File) → List Element
+extents_held files = extent_set (flat_map (λ (file : ℕ × File). map extent_of file.1.pieces) files)
+
+-- the generation of the commit that last changed the counters, where they are so many bytes now
+abbrev pub stamp_now : Group → ℕ → ℕ → ℕ
+stamp_now group bytes generation = if (group.counters.rfer == bytes) && (group.counters.excl == bytes) then group.stamp else generation
+
+-- quota with one group, and that of the top-level subvolume
+abbrev pub one_entry : ℕ × Group → Quota
+one_entry entry = record { groups = entry ∷ []; pairs = [] }
+
+abbrev pub one_group : Group → Quota
+one_group group = one_entry (TOP_LEVEL, group)
+
+-- ---- the files
+
+-- the top-level subvolume is the only one, and its group has no limit
+pub record IsOne (state : State) (subvolume : Subvolume) (group : Group) : Type 0 where
+  pub alone : state.subvolumes ≡ (TOP_LEVEL, subvolume) ∷ []
+  pub counted : state.quota ≡ Some (one_group group)
+  pub no_max_rfer : group.max_rfer ≡ None
+  pub no_max_excl : group.max_excl ≡ None
+
+-- a tree was built of the items of its files, in slots that are free
+pub record BuildsFiles (state : State) (subvolume : Subvolume) (items : List Item) (slots : List ℕ) (nodes : List Node) (root level : ℕ) : Type 0 where
+  pub built : IsBuilt state.sizes.nodesize TOP_LEVEL (next_generation state) items slots nodes root level
+  pub held : files_of (next_generation state) items ≡ Some subvolume.files
+  pub distinct : IsDistinct (λ a b. a == b) slots
+  pub free : IsTrue (list_all (is_free_slot state) slots)
+  pub served : IsTrue (is_served state.sizes)
+  pub space : space_failure state.sizes (extents_held subvolume.files) ≡ None
+
+-- what the subvolume takes then, in bytes
+abbrev pub bytes_laid : State → Subvolume → List Node → ℕ
+bytes_laid state subvolume nodes = state.sizes.nodesize * length nodes + bytes_of (extents_held subvolume.files)
+
+-- the new superblock has the same sizes and the generation to come, and the subvolume's ROOT_ITEM the last snapshot that it had
+pub record Continues (old : State) (before : Subvolume) (super : Super) (subvolume : RootItem) : Type 0 where
+  pub sizes : sizes_of super ≡ old.sizes
+  pub generation : super.generation ≡ next_generation old
+  pub last_snapshot : subvolume.last_snapshot ≡ before.last_snapshot
+
+-- ---- all trees
+
+-- a tree besides the files' was built of items that it may hold, in slots that are free and none of the files'
+pub record BuildsOther (tree : Tree) (owner : ℕ) (old : State) (items : List Item) (slots file_slots : List ℕ) (nodes : List Node) (root level : ℕ) : Type 0 where
+  pub built : IsBuilt old.sizes.nodesize owner (next_generation old) items slots nodes root level
+  pub owned : IsTrue (is_owner tree owner)
+  pub hold : IsTrue (list_all (is_item_of tree (next_generation old)) items)
+  pub free : IsTrue (list_all (is_free_slot old) slots)
+  pub elsewhere : (slot : ℕ) → Contains slots slot → Contains file_slots slot → ⊥
+
+-- the four trees of a commit were built, and the superblock and the ROOT_ITEMs say where their roots lie, how high they stand, and what the
+-- subvolume takes
+pub record BuildsAnew (old : State) (before : Subvolume) (group : Group) (super : Super) (nodes : List Node) : Type 0 where
+  pub one : IsOne old before group
+  pub extents : RootItem
+  pub subvolume : RootItem
+  pub quotas : RootItem
+  pub tells : Continues old before super subvolume
+  pub extents_made : extents.generation ≡ next_generation old
+  pub subvolume_made : subvolume.generation ≡ next_generation old
+  pub quotas_made : quotas.generation ≡ next_generation old
+  pub file_items : List Item
+  pub file_slots : List ℕ
+  pub file_nodes : List Node
+  pub files : BuildsFiles old before file_items file_slots file_nodes subvolume.bytenr subvolume.level
+  pub extent_slots : List ℕ
+  pub extent_nodes : List Node
+  pub empty : BuildsOther Extents EXTENT_TREE old [] extent_slots file_slots extent_nodes extents.bytenr extents.level
+  pub quota_items : List Item
+  pub quota_slots : List ℕ
+  pub quota_nodes : List Node
+  pub counts : BuildsOther Quotas QUOTA_TREE old quota_items quota_slots file_slots quota_nodes quotas.bytenr quotas.level
+  pub counted : filter_map quota_part quota_items
+      ≡ quota_parts_laid (next_generation old) (stamp_now group (bytes_laid old before file_nodes) (next_generation old)) (bytes_laid old before file_nodes)
+  pub root_items : List Item
+  pub root_slots : List ℕ
+  pub root_nodes : List Node
+  pub root_level : ℕ
+  pub roots : BuildsOther Roots ROOT_TREE old root_items root_slots file_slots root_nodes super.root root_level
+  pub named : filter_map root_part root_items ≡ roots_laid extents subvolume quotas
+  pub all : nodes ≡ root_nodes ++ extent_nodes ++ quota_nodes ++ file_nodes
+
+-- the image is sound, and the machine comes from the old state to the one that it stands for
+pub record IsCommit (old : State) (image : List ℕ) : Type 0 where
+  pub sound : IsSound image
+  pub state : State
+  pub stands : StateOf image state
+  pub commits : Commits old state

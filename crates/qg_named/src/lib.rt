@@ -1,0 +1,7 @@
+//! How many pieces name each data extent.
+#![tactic(auto)]
+
+mod named;
+mod search;
+
+pub use named::{Named, name_all, named_by};
