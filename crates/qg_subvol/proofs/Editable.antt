@@ -1,5 +1,5 @@
 -- Files that are edited stay files. Positions, lengths and sizes are in bytes.
-use Rattle.std.proofs.Common.{◌≡◌, ℕ, ◌+◌, ◌-◌, ◌%◌, ◌^◌, ◌<◌, ◌≤◌, Bool, true, false, min, max, List, [], ◌∷◌, ◌++◌, None, refl, arith}
+use Rattle.std.proofs.Common.{◌≡◌, ℕ, ◌+◌, ◌-◌, ◌%◌, ◌^◌, ◌<◌, ◌≤◌, Bool, true, false, min, max, List, [], ◌∷◌, ◌++◌, None, refl}
 use Rattle.std.specs.Prelude.{nat_lt}
 use Rattle.std.specs.Bool.{then_some}
 use Rattle.std.specs.List.{All, AllByRecursion, cons_option}
@@ -9,7 +9,7 @@ use Rattle.qg_num.specs.declared.piece.Piece.{Piece}
 use Rattle.qg_super.specs.Places.{sector}
 use Rattle.qg_image.specs.declared.file.File.{File}
 use Rattle.qg_image.specs.FilesOf.{piece_end, largest_size, is_aligned, are_pieces, is_file}
-use Rattle.qg_machine.specs.FileChange.{file_or_new, part_before, part_after, before, after, with_range, with_pieces, with_size}
+use Rattle.qg_machine.specs.FileChange.{file_or_new, part_before, part_after, before, after, with_pieces, with_size}
 use Rattle.qg_files.specs.Apart.{AreApart}
 use Rattle.qg_files.proofs.Kept.{AreApart-is_file, is_file-with_pieces, is_file-with_size}
 use Rattle.qg_files.proofs.Sectors.{sectors-add}

@@ -1,13 +1,12 @@
 -- A file at its index, or the index at which it is to stand.
-use Rattle.std.proofs.Common.{◌≡◌, ℕ, suc, ◌+◌, ◌<◌, ◌≤◌, List, [], ◌∷◌, ◌++◌, length, get_or, take, drop, set, map, Option, Some, None, refl, sym, ap, subst, ◌∙◌, arith, inl, inr}
+use Rattle.std.proofs.Common.{◌≡◌, ℕ, suc, ◌+◌, ◌<◌, ◌≤◌, List, [], ◌∷◌, ◌++◌, length, get_or, take, drop, set, Some, None, sym, ap, subst, ◌∙◌, arith}
 use Rattle.std.specs.Prelude.{◌==◌, not}
 use Rattle.std.specs.List.{All, AllByRecursion}
-use Rattle.std.proofs.lemmas.Bool.{cases_lt}
 use Rattle.std.proofs.lemmas.Option.{same_Some}
 use Rattle.std.proofs.lemmas.List.{take-append-drop, drop_more, drop_all, set_split, set-get_or, get_or-map, get_or_default, length-take-le, drop_at, take_at, get_or_at, length-append, drop-drop}
 use Rattle.std.proofs.lemmas.List.Elements.{recursion_from_All, All-from_recursion, All-get_or, All-filter, All-same, All-nil, All-head}
 use Rattle.qg_image.specs.declared.file.File.{File}
-use Rattle.qg_image.specs.Table.{value_at, with_value, without_key, keys_of}
+use Rattle.qg_image.specs.Table.{value_at, with_value, without_key}
 use Rattle.qg_machine.specs.FileChange.{file_or_new}
 use Rattle.qg_subvol.specs.AreFiles.{IsEditable, AreFiles, IsAt, IsGap}
 use Rattle.qg_subvol.proofs.Entries.{value_at-there, with_value-there, without_key-there, value_at-gap, with_value-gap, without_key-gap, value_at-with_value, with_value-twice}

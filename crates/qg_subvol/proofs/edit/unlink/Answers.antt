@@ -1,4 +1,4 @@
-use Rattle.std.proofs.Common.{sym, subst, ◌∙◌, arith}
+use Rattle.std.proofs.Common.{sym, subst, ◌∙◌}
 use Rattle.qg_subvol.specs.AreFiles.{AreFiles}
 use Rattle.qg_subvol.proofs.Places.{remove-at, remove-gap, AreFiles-without_key}
 use Rattle.qg_subvol.proofs.edit.unlink.Goals as goal
