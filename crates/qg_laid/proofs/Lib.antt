@@ -5,3 +5,4 @@ pub mod Sound
 pub mod Rebuilt
 pub mod Commits
 pub mod Anew
+pub mod Enough

@@ -1,2 +1,7 @@
-//! What trees that were built say where their nodes lie: in an image, and in the layout of a state. It has lemmas and no code.
+//! The trees of a commit, laid out in free slots, and what an image says that holds them.
 #![tactic(auto)]
+
+mod laying;
+mod trees;
+
+pub use laying::{Laid, lay_out};

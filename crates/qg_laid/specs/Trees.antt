@@ -1,0 +1,81 @@
+-- The four trees that a commit builds, one behind the other in free slots (this project's own).
+use Rattle.std.specs.Prelude.{◌≡◌, ℕ, ◌+◌, ◌*◌, ◌≤◌, List, Some, [], ◌∷◌, ◌++◌, length, drop, ◌==◌, if◌then◌else◌, IsTrue}
+use Rattle.std.specs.List.{IsDistinct, filter_map, list_all}
+use Rattle.qg_num.specs.declared.counters.Counters.{Counters}
+use Rattle.qg_node.specs.declared.item.Item.{Item}
+use Rattle.qg_node.specs.declared.node.Node.{Node}
+use Rattle.qg_items.specs.declared.root.RootItem.{RootItem}
+use Rattle.qg_items.specs.declared.tree.TheConstants.{ROOT_TREE, EXTENT_TREE, TOP_LEVEL, QUOTA_TREE}
+use Rattle.qg_super.specs.declared.superblock.Super.{Super}
+use Rattle.qg_image.specs.declared.file.File.{File}
+use Rattle.qg_image.specs.declared.part.QuotaPart.TheVariants.{Status, Info, Limits}
+use Rattle.qg_image.specs.ItemMeaning.{quota_part, root_part}
+use Rattle.qg_image.specs.FilesOf.{files_of}
+use Rattle.qg_state.specs.declared.element.Element.{Element}
+use Rattle.qg_state.specs.Counts.{bytes_of}
+use Rattle.qg_verdict.specs.declared.tree.Tree.{Tree}
+use Rattle.qg_verdict.specs.declared.tree.Tree.TheVariants.{Extents, Files, Quotas, Roots}
+use Rattle.qg_verdict.specs.Walk.{is_item_of}
+use Rattle.qg_machine.specs.GroupChange.{same_counters}
+use Rattle.qg_tree.specs.declared.building.Built.{Built}
+use Rattle.qg_tree.specs.Build.{IsBuilt}
+use Rattle.qg_contents.specs.Written.{info_of, no_limit, status_at}
+use Rattle.qg_laid.specs.declared.laying.Laid.{Laid}
+
+-- so many free slots at least, all different, and no more than an image can have
+pub record AreEnough (count : ℕ) (slots : List ℕ) : Type 0 where
+  pub apart : IsDistinct (λ a b. a == b) slots
+  pub few : length slots ≤ 16128
+  pub enough : count ≤ length slots
+
+-- in the first of the slots stands a tree of one generation, of items that it may hold and that tell this
+pub record IsTreeOfItems (tree : Tree) (owner nodesize generation : ℕ) (Tell : List Item → Type 0) (slots : List ℕ) (built : Built) : Type 0 where
+  pub items : List Item
+  pub stands : IsBuilt nodesize owner generation items slots built.nodes built.root built.level
+  pub allowed : IsTrue (list_all (is_item_of tree generation) items)
+  pub told : Tell items
+
+-- a tree's ROOT_ITEM
+abbrev pub root_of : Built → ℕ → ℕ → RootItem
+root_of built generation last_snapshot =
+    record { generation = generation; bytenr = built.root; last_snapshot = last_snapshot; refs = 1; level = built.level }
+
+-- what the items of the root tree tell
+abbrev pub RootsTell : RootItem → RootItem → RootItem → List Item → Type 0
+RootsTell extents files quotas items = filter_map root_part items ≡ (EXTENT_TREE, extents) ∷ (TOP_LEVEL, files) ∷ (QUOTA_TREE, quotas) ∷ []
+
+-- what the items of the quota tree tell: one group, with no limit
+abbrev pub QuotaTells : ℕ → Counters → ℕ → List Item → Type 0
+QuotaTells generation counters stamp items =
+    filter_map quota_part items ≡ Status (status_at generation) ∷ Info TOP_LEVEL (info_of stamp counters) ∷ Limits TOP_LEVEL no_limit ∷ []
+
+-- what the items of the subvolume's tree tell
+abbrev pub FilesTell : ℕ → List (ℕ × File) → List Item → Type 0
+FilesTell generation files items = files_of generation items ≡ Some files
+
+-- the extent tree has no items
+abbrev pub NoItems : List Item → Type 0
+NoItems items = items ≡ []
+
+-- the commit that changed the counters last
+abbrev pub stamp_after : Counters → Counters → ℕ → ℕ → ℕ
+stamp_after old new stamp generation = if same_counters old new then stamp else generation
+
+-- all nodes of a commit, in the order of the slots
+abbrev pub nodes_laid : Laid → List Node
+nodes_laid laid = laid.files.nodes ++ laid.extents.nodes ++ laid.quotas.nodes ++ laid.roots.nodes
+
+-- the trees of a commit to an image with this superblock, of these files and extents, where the group had these counters
+pub record AreTreesLaid (committed : Super) (root : RootItem) (files : List (ℕ × File)) (extents : List Element) (counters : Counters) (stamp : ℕ) (slots : List ℕ) (laid : Laid) : Type 0 where
+  pub file_tree : IsTreeOfItems Files TOP_LEVEL committed.nodesize (committed.generation + 1) (FilesTell (committed.generation + 1) files) slots laid.files
+  pub extent_tree : IsTreeOfItems Extents EXTENT_TREE committed.nodesize (committed.generation + 1) NoItems (drop (length laid.files.nodes) slots) laid.extents
+  pub quota_tree : IsTreeOfItems Quotas QUOTA_TREE committed.nodesize (committed.generation + 1) (QuotaTells (committed.generation + 1) laid.counters laid.stamp)
+      (drop (length laid.extents.nodes) (drop (length laid.files.nodes) slots)) laid.quotas
+  pub root_tree : IsTreeOfItems Roots ROOT_TREE committed.nodesize (committed.generation + 1)
+      (RootsTell (root_of laid.extents (committed.generation + 1) 0) laid.root (root_of laid.quotas (committed.generation + 1) 0))
+      (drop (length laid.quotas.nodes) (drop (length laid.extents.nodes) (drop (length laid.files.nodes) slots))) laid.roots
+  pub own_root : laid.root ≡ root_of laid.files (committed.generation + 1) root.last_snapshot
+  pub leads : laid.superblock ≡ record committed { generation = committed.generation + 1; root = laid.roots.root }
+  pub counted : laid.counters
+      ≡ record { rfer = committed.nodesize * length laid.files.nodes + bytes_of extents; excl = committed.nodesize * length laid.files.nodes + bytes_of extents }
+  pub stamped : laid.stamp ≡ stamp_after counters laid.counters stamp (committed.generation + 1)
