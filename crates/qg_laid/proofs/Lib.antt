@@ -6,3 +6,4 @@ pub mod Rebuilt
 pub mod Commits
 pub mod Anew
 pub mod Enough
+pub mod LaidAnew

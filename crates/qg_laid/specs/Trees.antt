@@ -1,5 +1,5 @@
 -- The four trees that a commit builds, one behind the other in free slots (this project's own).
-use Rattle.std.specs.Prelude.{◌≡◌, ℕ, ◌+◌, ◌*◌, ◌≤◌, List, Some, [], ◌∷◌, ◌++◌, length, drop, ◌==◌, if◌then◌else◌, IsTrue}
+use Rattle.std.specs.Prelude.{◌≡◌, ℕ, ◌+◌, ◌*◌, ◌≤◌, true, None, List, Some, [], ◌∷◌, ◌++◌, length, drop, ◌==◌, if◌then◌else◌, IsTrue}
 use Rattle.std.specs.List.{IsDistinct, filter_map, list_all}
 use Rattle.qg_num.specs.declared.counters.Counters.{Counters}
 use Rattle.qg_node.specs.declared.item.Item.{Item}
@@ -11,7 +11,13 @@ use Rattle.qg_image.specs.declared.file.File.{File}
 use Rattle.qg_image.specs.declared.part.QuotaPart.TheVariants.{Status, Info, Limits}
 use Rattle.qg_image.specs.ItemMeaning.{quota_part, root_part}
 use Rattle.qg_image.specs.FilesOf.{files_of}
+use Rattle.qg_super.specs.SuperText.{is_super, sizes_of}
 use Rattle.qg_state.specs.declared.element.Element.{Element}
+use Rattle.qg_state.specs.declared.quota.Group.{Group}
+use Rattle.qg_state.specs.State.{State, Subvolume}
+use Rattle.qg_state.specs.Space.{is_free_slot}
+use Rattle.qg_verdict.specs.Verdict.{space_failure}
+use Rattle.qg_laid.specs.Anew.{IsOne, extents_held}
 use Rattle.qg_state.specs.Counts.{bytes_of}
 use Rattle.qg_verdict.specs.declared.tree.Tree.{Tree}
 use Rattle.qg_verdict.specs.declared.tree.Tree.TheVariants.{Extents, Files, Quotas, Roots}
@@ -61,9 +67,9 @@ NoItems items = items ≡ []
 abbrev pub stamp_after : Counters → Counters → ℕ → ℕ → ℕ
 stamp_after old new stamp generation = if same_counters old new then stamp else generation
 
--- all nodes of a commit, in the order of the slots
+-- all nodes of a commit: those of the root, extent and quota trees, and those of the files' tree
 abbrev pub nodes_laid : Laid → List Node
-nodes_laid laid = laid.files.nodes ++ laid.extents.nodes ++ laid.quotas.nodes ++ laid.roots.nodes
+nodes_laid laid = laid.roots.nodes ++ laid.extents.nodes ++ laid.quotas.nodes ++ laid.files.nodes
 
 -- the trees of a commit to an image with this superblock, of these files and extents, where the group had these counters
 pub record AreTreesLaid (committed : Super) (root : RootItem) (files : List (ℕ × File)) (extents : List Element) (counters : Counters) (stamp : ℕ) (slots : List ℕ) (laid : Laid) : Type 0 where
@@ -79,3 +85,18 @@ pub record AreTreesLaid (committed : Super) (root : RootItem) (files : List (ℕ
   pub counted : laid.counters
       ≡ record { rfer = committed.nodesize * length laid.files.nodes + bytes_of extents; excl = committed.nodesize * length laid.files.nodes + bytes_of extents }
   pub stamped : laid.stamp ≡ stamp_after counters laid.counters stamp (committed.generation + 1)
+
+-- what is laid out is for the machine's state: the superblock and what it keeps are those of its last commit, and the slots are free
+pub record AreFor (old : State) (before : Subvolume) (group : Group) (committed : Super) (root : RootItem) (files : List (ℕ × File)) (extents : List Element) (counters : Counters) (stamp : ℕ) (slots : List ℕ) : Type 0 where
+  pub one : IsOne old before group
+  pub super : is_super committed ≡ true
+  pub sizes : sizes_of committed ≡ old.sizes
+  pub generation : committed.generation ≡ old.generation
+  pub held : before.files ≡ files
+  pub copied : before.last_snapshot ≡ root.last_snapshot
+  pub counters_kept : group.counters ≡ counters
+  pub stamp_kept : group.stamp ≡ stamp
+  pub named : extents ≡ extents_held files
+  pub space : space_failure (sizes_of committed) extents ≡ None
+  pub apart : IsDistinct (λ a b. a == b) slots
+  pub free : IsTrue (list_all (is_free_slot old) slots)

@@ -10,7 +10,11 @@ ghost use Rattle.qg_state.specs.Reach.{extent_of};
 ghost use Rattle.qg_state.specs.State.{State};
 ghost use Rattle.qg_verdict.specs.Verdict.{extent_set, space_failure};
 ghost use Rattle.qg_contents.specs.Writable.{AreWritableFiles, IsFileBy};
-ghost use Rattle.qg_laid.specs.Trees.{AreEnough, AreTreesLaid, nodes_laid, stamp_after};
+ghost use Rattle.qg_state.specs.State.{State, Subvolume};
+ghost use Rattle.qg_state.specs.declared.quota.Group.{Group};
+ghost use Rattle.qg_laid.specs.Anew.{IsCommit};
+ghost use Rattle.qg_laid.specs.Holds.{HasCommit};
+ghost use Rattle.qg_laid.specs.Trees.{AreFor, AreEnough, AreTreesLaid, nodes_laid, stamp_after};
 
 use crate::trees::{NamedRoots, extent_tree, file_tree, quota_tree, root_of, root_tree};
 use qg_image::File;
@@ -47,6 +51,39 @@ pub struct Laid {
 ///
 /// The trees lie in the first of `slots`, which are addresses of free slots, in bytes.
 pub fn lay_out(
+    alloc: Global,
+    committed: &Super,
+    root: &RootItem,
+    files: &[(Ino, File)],
+    extents: &[Element],
+    counters: &Counters,
+    stamp: Generation,
+    slots: &[Address],
+) -> Result<Laid, NoMemory>
+    requires superblock { IsTrue (is_super committed.now) }
+    requires generation { committed.now.generation ≤ 2 ^ 63 }
+    requires copied { root.now.last_snapshot ≤ committed.now.generation }
+    requires stamp { stamp ≤ committed.now.generation }
+    requires files { AreWritableFiles files.now }
+    requires by { All (IsFileBy (committed.now.generation + 1)) files.now }
+    requires space { space_failure (sizes_of committed.now) extents.now ≡ None }
+    requires room { AreEnough (5 * nodes_filled committed.now.nodesize (sum_by (λ file. file_bytes file.1) files.now) + 14) slots.now }
+    ensures superblock { IfOk result (λ laid. IsTrue (is_super laid.superblock)) }
+    ensures trees { IfOk result (λ laid. AreTreesLaid committed.now root.now files.now extents.now counters.now stamp slots.now laid) }
+
+    // What an image stands for that holds them.
+    ensures committed { IfOk result (λ laid. (old : State) (before : Subvolume) (group : Group) (image : List ℕ)
+        → AreFor old before group committed.now root.now files.now extents.now counters.now stamp slots.now
+        → HasCommit laid.superblock (nodes_laid laid) image → IsCommit old image) }
+{
+    let laid = lay_trees(
+        alloc, committed, root, files, extents, counters, stamp, slots,
+    )?;
+    Ok(laid)
+}
+
+// The four trees, one behind the other.
+fn lay_trees(
     alloc: Global,
     committed: &Super,
     root: &RootItem,

@@ -1,0 +1,185 @@
+-- Trees that were laid out one behind the other are those of a commit that builds all anew.
+use Rattle.std.proofs.Common.{◌≡◌, ℕ, ◌+◌, Bool, true, false, inl, inr, List, [], ◌∷◌, ◌++◌, length, take, drop, refl, sym, ap, subst, ◌∙◌, eq-eqb, arith, take-append-drop}
+use Rattle.std.specs.Prelude.{◌==◌}
+use Rattle.std.specs.List.{AllByRecursion, Contains, IsDistinct, filter_map, list_all}
+use Rattle.std.proofs.lemmas.Bool.{and_parts, false≢true}
+use Rattle.std.proofs.lemmas.List.{length-take, take_all}
+use Rattle.std.proofs.lemmas.List.Elements.{Contains-append_right}
+use Rattle.std.proofs.lemmas.Map.Keys.{IsDistinct-head, IsDistinct-tail}
+use Rattle.qg_reach.proofs.Members.{contains_cases, none_contained}
+use Rattle.qg_node.specs.declared.item.Item.{Item}
+use Rattle.qg_node.specs.declared.node.Node.{Node}
+use Rattle.qg_num.specs.declared.counters.Counters.{Counters}
+use Rattle.qg_items.specs.declared.root.RootItem.{RootItem}
+use Rattle.qg_items.specs.declared.tree.TheConstants.{ROOT_TREE, EXTENT_TREE, TOP_LEVEL, QUOTA_TREE}
+use Rattle.qg_super.specs.declared.sizes.Sizes.{Sizes}
+use Rattle.qg_super.specs.declared.superblock.Super.{Super}
+use Rattle.qg_super.specs.SuperText.{sizes_of}
+use Rattle.qg_super.proofs.Served.{SuperFits-is_super}
+use Rattle.qg_image.specs.declared.file.File.{File}
+use Rattle.qg_image.specs.declared.part.QuotaPart.TheVariants.{Status, Info, Limits}
+use Rattle.qg_image.specs.ItemMeaning.{quota_part}
+use Rattle.qg_state.specs.declared.element.Element.{Element}
+use Rattle.qg_state.specs.declared.quota.Group.{Group}
+use Rattle.qg_state.specs.State.{State, Subvolume, next_generation}
+use Rattle.qg_state.specs.Space.{is_free_slot}
+use Rattle.qg_verdict.specs.declared.tree.Tree.{Tree}
+use Rattle.qg_verdict.specs.declared.tree.Tree.TheVariants.{Extents, Quotas, Roots}
+use Rattle.qg_verdict.specs.Walk.{is_item_of, is_owner}
+use Rattle.qg_tree.specs.Build.{IsBuilt}
+use Rattle.qg_tree.proofs.Frame.{IsDistinct-front}
+use Rattle.qg_contents.specs.Written.{info_of, no_limit, status_at}
+use Rattle.qg_laid.specs.declared.laying.Laid.{Laid}
+use Rattle.qg_laid.specs.Anew.{BuildsAnew, BuildsFiles, BuildsOther, IsCommit, bytes_laid, quota_parts_laid, roots_laid, stamp_now}
+use Rattle.qg_laid.specs.Trees.{AreFor, AreTreesLaid, nodes_laid, root_of}
+use Rattle.qg_laid.specs.Holds.{HasCommit}
+use Rattle.qg_laid.proofs.Anew.{IsCommit-anew}
+
+-- ---- slots in front and behind
+
+apart-head : (n x : ℕ) (later : List ℕ) → IsDistinct (λ a b. a == b) (n ∷ later) → Contains later x → n ≡ x → ⊥
+apart-head n x later apart has same = absurd (go later (IsDistinct-head (λ a b. a == b) n later apart) has) where
+  go : (xs : List ℕ) → AllByRecursion (λ y. (n == y) ≡ false) xs → Contains xs x → ⊥
+  go [] all has = none_contained x has
+  go (y ∷ xs) all has = elim (contains_cases y xs x has) [
+    | inl is ↦ false≢true (sym all.0 ∙ eq-eqb n y (same ∙ sym is))
+    | inr later ↦ go xs all.1 later
+  ]
+
+pub apart-parts : (front back : List ℕ) (x : ℕ) → IsDistinct (λ a b. a == b) (front ++ back) → Contains back x → Contains front x → ⊥
+apart-parts [] back x apart behind before = none_contained x before
+apart-parts (n ∷ front) back x apart behind before = elim (contains_cases n front x before) [
+  | inl is ↦ apart-head n x (front ++ back) apart (Contains-append_right front back x behind) is
+  | inr later ↦ apart-parts front back x (IsDistinct-tail (λ a b. a == b) n (front ++ back) apart) behind later
+]
+
+pub apart-at : (slots : List ℕ) (n x : ℕ) → IsDistinct (λ a b. a == b) slots → Contains (drop n slots) x → Contains (take n slots) x → ⊥
+apart-at slots n x apart = apart-parts (take n slots) (drop n slots) x (subst (IsDistinct (λ a b. a == b)) (sym (take-append-drop n slots)) apart)
+
+pub contains-drop : (slots : List ℕ) (n x : ℕ) → Contains (drop n slots) x → Contains slots x
+contains-drop slots n x has = subst (λ (xs : List ℕ). Contains xs x) (take-append-drop n slots) (Contains-append_right (take n slots) (drop n slots) x has)
+
+passes-parts : (p : ℕ → Bool) (front back : List ℕ) → list_all p (front ++ back) ≡ true → (list_all p front ≡ true) × (list_all p back ≡ true)
+passes-parts p [] back all = (refl, all)
+passes-parts p (n ∷ front) back all =
+    let parts = and_parts (p n) (list_all p (front ++ back)) all in
+    let later = passes-parts p front back parts.1 in
+    (rw parts.0 later.0, later.1)
+
+pub passes-drop : (p : ℕ → Bool) (slots : List ℕ) (n : ℕ) → list_all p slots ≡ true → list_all p (drop n slots) ≡ true
+passes-drop p slots n all = (passes-parts p (take n slots) (drop n slots) (subst (λ (xs : List ℕ). list_all p xs ≡ true) (sym (take-append-drop n slots)) all)).1
+
+pub passes-take : (p : ℕ → Bool) (slots : List ℕ) (n : ℕ) → list_all p slots ≡ true → list_all p (take n slots) ≡ true
+passes-take p slots n all = (passes-parts p (take n slots) (drop n slots) (subst (λ (xs : List ℕ). list_all p xs ≡ true) (sym (take-append-drop n slots)) all)).0
+
+distinct-take : (slots : List ℕ) (n : ℕ) → IsDistinct (λ a b. a == b) slots → IsDistinct (λ a b. a == b) (take n slots)
+distinct-take slots n apart = IsDistinct-front (λ a b. a == b) (take n slots) (drop n slots) (subst (IsDistinct (λ a b. a == b)) (sym (take-append-drop n slots)) apart)
+
+-- a tree stands in the very slots that it takes
+pub built-front : (nodesize owner generation : ℕ) (items : List Item) (slots : List ℕ) (nodes : List Node) (root level : ℕ)
+    → IsBuilt nodesize owner generation items slots nodes root level → IsBuilt nodesize owner generation items (take (length nodes) slots) nodes root level
+built-front nodesize owner generation items slots nodes root level is = record {
+  under = is.under;
+  held = is.held;
+  reached = is.reached;
+  shaped = is.shaped;
+  walked = is.walked;
+  made = is.made;
+  placed = is.placed ∙ sym (take_all (length nodes) (take (length nodes) slots) (omega (arith, length-take (length nodes) slots)));
+  few = is.few;
+  low = is.low;
+}
+
+-- ---- all trees
+
+module _ (old : State) (before : Subvolume) (group : Group) (committed : Super) (root : RootItem) (files : List (ℕ × File)) (extents : List Element) (counters : Counters) (stamp : ℕ) (slots : List ℕ) (laid : Laid)
+    (is : AreFor old before group committed root files extents counters stamp slots) (trees : AreTreesLaid committed root files extents counters stamp slots laid) where
+  size : committed.nodesize ≡ old.sizes.nodesize
+  size = ap (λ (sizes : Sizes). sizes.nodesize) is.sizes
+
+  next : committed.generation + 1 ≡ next_generation old
+  next = ap (λ (n : ℕ). n + 1) is.generation
+
+  -- behind the files' tree
+  abbrev behind : List ℕ
+  behind = drop (length laid.files.nodes) slots
+
+  files_built : BuildsFiles old before trees.file_tree.items (take (length laid.files.nodes) slots) laid.files.nodes laid.files.root laid.files.level
+  files_built = record {
+    built = rw (← size, ← next) (built-front committed.nodesize TOP_LEVEL (committed.generation + 1) trees.file_tree.items slots laid.files.nodes laid.files.root laid.files.level trees.file_tree.stands);
+    held = rw (← next, is.held) trees.file_tree.told;
+    distinct = distinct-take slots (length laid.files.nodes) is.apart;
+    free = passes-take (is_free_slot old) slots (length laid.files.nodes) is.free;
+    served = rw (← is.sizes) (SuperFits-is_super committed is.super).served;
+    space = rw (← is.sizes, is.held, ← is.named) is.space;
+  }
+
+  other_built : (tree : Tree) (owner : ℕ) (items : List Item) (those : List ℕ) (nodes : List Node) (from level : ℕ) → is_owner tree owner ≡ true
+      → IsBuilt committed.nodesize owner (committed.generation + 1) items those nodes from level → list_all (is_item_of tree (committed.generation + 1)) items ≡ true
+      → list_all (is_free_slot old) those ≡ true → ((slot : ℕ) → Contains those slot → Contains behind slot)
+      → BuildsOther tree owner old items those (take (length laid.files.nodes) slots) nodes from level
+  other_built tree owner items those nodes from level owned built hold free within = record {
+    built = rw (← size, ← next) built;
+    owned = owned;
+    hold = rw (← next) hold;
+    free = free;
+    elsewhere = λ slot has front. apart-at slots (length laid.files.nodes) slot is.apart (within slot has) front;
+  }
+
+  counted : filter_map quota_part trees.quota_tree.items
+      ≡ quota_parts_laid (next_generation old) (stamp_now group (bytes_laid old before laid.files.nodes) (next_generation old)) (bytes_laid old before laid.files.nodes)
+  counted = trees.quota_tree.told ∙ told where
+    told : Status (status_at (committed.generation + 1)) ∷ Info TOP_LEVEL (info_of laid.stamp laid.counters) ∷ Limits TOP_LEVEL no_limit ∷ []
+        ≡ quota_parts_laid (next_generation old) (stamp_now group (bytes_laid old before laid.files.nodes) (next_generation old)) (bytes_laid old before laid.files.nodes)
+    told = rw (trees.stamped, trees.counted, is.counters_kept, is.stamp_kept, ← next, ← size, is.held, ← is.named) refl
+
+  pub laid-BuildsAnew : BuildsAnew old before group laid.superblock (nodes_laid laid)
+  laid-BuildsAnew =
+      let after_extents = drop (length laid.extents.nodes) behind in
+      let after_quotas = drop (length laid.quotas.nodes) after_extents in
+      let free_behind = passes-drop (is_free_slot old) slots (length laid.files.nodes) is.free in
+      let free_extents = passes-drop (is_free_slot old) behind (length laid.extents.nodes) free_behind in
+      let free_quotas = passes-drop (is_free_slot old) after_extents (length laid.quotas.nodes) free_extents in
+      let empty : trees.extent_tree.items ≡ [] = trees.extent_tree.told in
+      record {
+        one = is.one;
+        extents = root_of laid.extents (committed.generation + 1) 0;
+        subvolume = root_of laid.files (committed.generation + 1) root.last_snapshot;
+        quotas = root_of laid.quotas (committed.generation + 1) 0;
+        tells = record {
+          sizes = ap sizes_of trees.leads ∙ is.sizes;
+          generation = ap (λ (super : Super). super.generation) trees.leads ∙ next;
+          last_snapshot = sym is.copied;
+        };
+        extents_made = next;
+        subvolume_made = next;
+        quotas_made = next;
+        file_items = trees.file_tree.items;
+        file_slots = take (length laid.files.nodes) slots;
+        file_nodes = laid.files.nodes;
+        files = files_built;
+        extent_slots = behind;
+        extent_nodes = laid.extents.nodes;
+        empty = other_built Extents EXTENT_TREE [] behind laid.extents.nodes laid.extents.root laid.extents.level refl
+            (subst (λ (items : List Item). IsBuilt committed.nodesize EXTENT_TREE (committed.generation + 1) items behind laid.extents.nodes laid.extents.root laid.extents.level) empty trees.extent_tree.stands)
+            refl free_behind (λ slot has. has);
+        quota_items = trees.quota_tree.items;
+        quota_slots = after_extents;
+        quota_nodes = laid.quotas.nodes;
+        counts = other_built Quotas QUOTA_TREE trees.quota_tree.items after_extents laid.quotas.nodes laid.quotas.root laid.quotas.level refl trees.quota_tree.stands trees.quota_tree.allowed
+            free_extents (λ slot has. contains-drop behind (length laid.extents.nodes) slot has);
+        counted = counted;
+        root_items = trees.root_tree.items;
+        root_slots = after_quotas;
+        root_nodes = laid.roots.nodes;
+        root_level = laid.roots.level;
+        roots = rw (ap (λ (super : Super). super.root) trees.leads)
+            (other_built Roots ROOT_TREE trees.root_tree.items after_quotas laid.roots.nodes laid.roots.root laid.roots.level refl trees.root_tree.stands trees.root_tree.allowed
+            free_quotas (λ slot has. contains-drop behind (length laid.extents.nodes) slot (contains-drop after_extents (length laid.quotas.nodes) slot has)));
+        named = trees.root_tree.told ∙ ap (λ (own : RootItem). roots_laid (root_of laid.extents (committed.generation + 1) 0) own (root_of laid.quotas (committed.generation + 1) 0)) trees.own_root;
+        all = refl;
+      }
+
+  -- an image that holds them is what the machine's commit leaves
+  pub laid-IsCommit : (image : List ℕ) → HasCommit laid.superblock (nodes_laid laid) image → IsCommit old image
+  laid-IsCommit image has = IsCommit-anew old before group laid.superblock (nodes_laid laid) image laid-BuildsAnew has
