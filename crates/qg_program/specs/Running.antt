@@ -46,7 +46,8 @@ Answers Disk state input commits old new = PutsSome state (script_lines input) c
 Answers Sink state input commits old new = PutsPart state (script_lines input) commits old new
 Answers _ state input commits old new = ⊥
 
--- how many bytes of the input were taken: at most one more than a script may have, so many exactly where it is too long
+-- how many bytes of the input were taken: at most one more than a script may have; so many where the run ends by that, and no more than a
+-- script may have where all was read
 pub record Takes (status : Status) (input left : List ℕ) : Type 0 where
   pub count : ℕ
   pub taken : length input ≡ count + length left
