@@ -1,21 +1,20 @@
 -- The only group of a quota tree, as long as no other is served.
-use Rattle.std.proofs.Common.{◌≡◌, ℕ, Bool, true, false, cond, List, [], ◌∷◌, map, refl, sym, ap, ◌∙◌, subst}
-use Rattle.std.specs.Prelude.{◌&&◌, ◌||◌, ◌==◌, Option, Some, None, is_some}
+use Rattle.std.proofs.Common.{◌≡◌, ℕ, Bool, true, false, cond, List, [], ◌∷◌, map, refl, ap, subst}
+use Rattle.std.specs.Prelude.{◌&&◌, ◌||◌, ◌==◌, Some, None}
 use Rattle.std.specs.List.{list_all, list_any, filter_map, AllByRecursion}
-use Rattle.std.proofs.lemmas.Bool.{and_parts, or_cases, eqb-true}
+use Rattle.std.proofs.lemmas.Bool.{and_parts, eqb-true}
 use Rattle.qg_num.specs.declared.rule.Rule.{Rule}
 use Rattle.qg_num.specs.declared.rule.Rule.TheVariants as rule
 use Rattle.qg_node.specs.Nodes.{is_ascending}
 use Rattle.qg_items.specs.declared.quota.QgroupInfo.{QgroupInfo}
-use Rattle.qg_items.specs.declared.quota.QgroupLimit.{QgroupLimit}
 use Rattle.qg_image.specs.Table.{has_key, keys_of, value_at}
 use Rattle.qg_image.specs.declared.part.QuotaPart.{QuotaPart}
 use Rattle.qg_image.specs.declared.part.QuotaPart.TheVariants.{Status, Info, Limits, Relation}
-use Rattle.qg_verdict.specs.StateOf.{info_told, limit_told, pair_told, group_told, quota_told}
+use Rattle.qg_verdict.specs.StateOf.{info_told, limit_told, group_told, quota_told}
 use Rattle.qg_verdict.specs.Verdict.{is_status_part, fits_quota, is_served_number, is_served_group, is_quota, are_few}
 use Rattle.qg_verdict.specs.declared.failure.Failure.TheVariants.{Broken}
 use Rattle.qg_verdict.specs.Failure.{first_failure, kept}
-use Rattle.qg_parts.specs.Keys.{key_with, quota_key}
+use Rattle.qg_parts.specs.Keys.{quota_key}
 use Rattle.qg_rules.specs.Quota.{quota_rule}
 use Rattle.qg_check.proofs.Ascending.{IsLess, ascending_behind, greater_behind, not_itself}
 
@@ -64,7 +63,7 @@ none_behind info (Limits group limit ∷ parts) greater served =
 none_behind info (Relation group other ∷ parts) greater served = absurd cc
 
 -- there is one, where the group is there
-pub only_group : (parts : List QuotaPart) → is_ascending (map quota_key parts) ≡ true → list_all is_served_group parts ≡ true → has_key 5 (filter_map info_told parts) ≡ true
+only_group : (parts : List QuotaPart) → is_ascending (map quota_key parts) ≡ true → list_all is_served_group parts ≡ true → has_key 5 (filter_map info_told parts) ≡ true
     → keys_of (filter_map info_told parts) ≡ 5 ∷ []
 only_group [] ascending served there = absurd cc
 only_group (Status status ∷ parts) ascending served there = only_group parts (ascending_behind (quota_key (Status status)) (map quota_key parts) ascending) served there
@@ -79,27 +78,15 @@ only_group (Limits group limit ∷ parts) ascending served there =
     (and_parts (is_served_group (Limits group limit)) (list_all is_served_group parts) served).1 there
 only_group (Relation group other ∷ parts) ascending served there = absurd cc
 
--- and no relation
-pub no_pairs : (parts : List QuotaPart) → list_all is_served_group parts ≡ true → filter_map pair_told parts ≡ []
-no_pairs [] served = refl
-no_pairs (Status status ∷ parts) served = no_pairs parts served
-no_pairs (Info group info ∷ parts) served = no_pairs parts (and_parts (is_served_number group) (list_all is_served_group parts) served).1
-no_pairs (Limits group limit ∷ parts) served = no_pairs parts (and_parts (is_served_group (Limits group limit)) (list_all is_served_group parts) served).1
-no_pairs (Relation group other ∷ parts) served = absurd cc
-
 -- ---- of an image with one subvolume
 
-pub record IsOnlyGroup (parts : List QuotaPart) : Type 0 where
-  pub groups : keys_of (filter_map info_told parts) ≡ 5 ∷ []
-  pub pairs : filter_map pair_told parts ≡ []
-
-pub is_quota_only : (parts : List QuotaPart) → is_ascending (map quota_key parts) ≡ true → is_quota (5 ∷ []) parts ≡ true → IsOnlyGroup parts
+pub is_quota_only : (parts : List QuotaPart) → is_ascending (map quota_key parts) ≡ true → is_quota (5 ∷ []) parts ≡ true → keys_of (filter_map info_told parts) ≡ 5 ∷ []
 unfolding is_quota
 is_quota_only parts ascending quota =
     let served = and_parts (list_any is_status_part parts && list_all (fits_quota parts) parts && (has_key 5 (filter_map info_told parts) && true)) (list_all is_served_group parts) quota in
     let there = and_parts (list_any is_status_part parts && list_all (fits_quota parts) parts) (has_key 5 (filter_map info_told parts) && true) served.0 in
     let has = and_parts (has_key 5 (filter_map info_told parts)) true there.1 in
-    record { groups = only_group parts ascending served.1 has.0; pairs = no_pairs parts served.1 }
+    only_group parts ascending served.1 has.0
 
 -- the groups that are told have these numbers
 pub groups_told : (parts : List QuotaPart) → keys_of (quota_told parts).groups ≡ keys_of (filter_map info_told parts)
@@ -108,7 +95,3 @@ groups_told parts = told (filter_map info_told parts) where
   told : (infos : List (ℕ × QgroupInfo)) → keys_of (map (λ (entry : ℕ × QgroupInfo). (entry.0, group_told entry.1 (value_at entry.0 (filter_map limit_told parts)))) infos) ≡ keys_of infos
   told [] = refl
   told (info ∷ infos) = ap (λ (rest : List ℕ). info.0 ∷ rest) (told infos)
-
-pub pairs_told : (parts : List QuotaPart) → (quota_told parts).pairs ≡ filter_map pair_told parts
-unfolding quota_told
-pairs_told parts = refl

@@ -11,3 +11,7 @@ pub mod Pieces
 pub mod StateRead
 pub mod SlotsOf
 pub mod Verdicts
+pub mod Passing
+pub mod FitFiles
+pub mod OneGroup
+pub mod Editable

@@ -135,6 +135,7 @@ pub kept_read : (super : Super) (image : List ℕ) (read : Read) (kept : Image) 
 unfolding state_in
 kept_read super image read kept are same root files quota others nodes ascending extents = record {
   same = same;
+  only = are.trees.named.only ∙ ap (λ (item : RootItem). (5, item) ∷ []) (sym root);
   state = rw (same, root, files, quota, others, subvolumes_read super image read are, quota_read super image read are, others_read super image read are) refl;
   nodes = rw root (subst (λ (addresses : List ℕ). HaveSame kept.nodes addresses) are.subvolume.placed nodes);
   ascending = ascending;

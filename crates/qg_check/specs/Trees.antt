@@ -1,14 +1,19 @@
 -- What is read of each tree of an image (this project's own).
-use Rattle.std.specs.Prelude.{◌≡◌, ℕ, true, List, [], ◌∷◌, map, Some}
+use Rattle.std.specs.Prelude.{◌≡◌, ◌≤◌, ◌<◌, ℕ, true, All, List, [], ◌∷◌, map, None, Some, IsTrue}
 use Rattle.std.specs.List.{filter_map, flat_map}
+use Rattle.std.specs.List.Sorted.{IsStrictlyIncreasing}
 use Rattle.qg_node.specs.Nodes.{header_of, own_items}
 use Rattle.qg_items.specs.declared.root.RootItem.{RootItem}
 use Rattle.qg_items.specs.declared.tree.TheConstants.{EXTENT_TREE, QUOTA_TREE, TOP_LEVEL}
 use Rattle.qg_super.specs.declared.superblock.Super.{Super}
-use Rattle.qg_image.specs.Table.{value_at}
+use Rattle.qg_image.specs.Table.{keys_of, value_at}
 use Rattle.qg_image.specs.ItemMeaning.{file_part, quota_part}
-use Rattle.qg_image.specs.FilesOf.{are_files, files_in, files_of}
+use Rattle.qg_image.specs.FilesOf.{are_files, files_in, files_of, inodes_end, is_file, least_inode}
+use Rattle.qg_image.specs.declared.file.File.{File}
 use Rattle.qg_image.specs.declared.part.FilePart.{FilePart}
+use Rattle.qg_state.specs.declared.quota.Group.{Group}
+use Rattle.qg_state.specs.declared.quota.Quota.{Quota}
+use Rattle.qg_rules.specs.Writable.{IsFileBy}
 use Rattle.qg_verdict.specs.declared.tree.Tree.TheVariants.{Extents, Quotas, Files}
 use Rattle.qg_verdict.specs.StateOf.{root_nodes, roots_in, subvolume_roots, items_of_root, nodes_of_root, quota_told}
 use Rattle.qg_node.specs.declared.node.Node.{Node}
@@ -60,3 +65,25 @@ pub record AreRead (super : Super) (image : List ℕ) (read : Read) : Type 0 whe
   pub extent_nodes : read.extent_nodes ≡ addresses_of (nodes_of_root Extents super image read.trees.extents)
   pub quotas : IsQuotaTree super image read.trees.quotas read.quotas
   pub subvolume : IsFileTree super image read.trees.files read.subvolume
+
+-- ---- over any disk
+
+-- quota has the top-level subvolume's group alone. It has no limit, and its counters were last changed by a commit of no later generation
+pub record HasOneGroup (generation : ℕ) (quota : Quota) : Type 0 where
+  pub group : Group
+  pub counted : quota ≡ record { groups = (TOP_LEVEL, group) ∷ []; pairs = [] }
+  pub no_max_rfer : group.max_rfer ≡ None
+  pub no_max_excl : group.max_excl ≡ None
+  pub stamp : group.stamp ≤ generation
+
+-- a file has a number of a file, is sound, and tells no generation past this one
+pub record IsFitFile (generation : ℕ) (file : ℕ × File) : Type 0 where
+  pub least : least_inode ≤ file.0
+  pub below : file.0 < inodes_end
+  pub sound : IsTrue (is_file file.1)
+  pub by : IsFileBy generation file
+
+-- files ascend by number, and each is fit
+pub record AreFitFiles (generation : ℕ) (files : List (ℕ × File)) : Type 0 where
+  pub ascending : IsStrictlyIncreasing (keys_of files)
+  pub each : All (IsFitFile generation) files

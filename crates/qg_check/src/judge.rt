@@ -8,7 +8,7 @@ ghost use Rattle.qg_image.specs.Table.{keys_of};
 ghost use Rattle.qg_walk.specs.Fault.{FailsAs};
 ghost use Rattle.qg_check.specs.Stages.{together_failure};
 ghost use Rattle.qg_check.specs.Trees.{AreRead};
-ghost use Rattle.qg_check.specs.IsImage.{IsKept};
+ghost use Rattle.qg_check.specs.IsImage.{IsKept, Keeps};
 
 use crate::Image;
 use crate::counts::{judge_counts, judge_extents};
@@ -37,6 +37,7 @@ pub(crate) fn judge_trees(alloc: Global, superblock: Super, read: Read) -> Resul
     ensures failure { (bytes : List ℕ) → AreRead superblock bytes read → FailsAs result (together_failure superblock bytes) }
     ensures image { (bytes : List ℕ) → AreRead superblock bytes read → IfOk result (λ image. IsKept superblock bytes image) }
     ensures superblock { IfOk result (λ image. image.superblock ≡ superblock) }
+    ensures keeps { IfOk result (λ image. Keeps superblock read image) }
     ensures no_disk { IsErrOf result WalkFault.Disk → ⊥ }
 {
     let Read {

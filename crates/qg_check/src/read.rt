@@ -1,14 +1,15 @@
 // An image is read from its superblocks down.
 ghost use Rattle.std.specs.Prelude.{◌≡◌, ◌⊎◌, ◌≤◌, List, Some, IfOk, IfSome, OnOk, IsErrOf, IsTrue};
+ghost use Rattle.std.specs.List.{list_all};
 ghost use Rattle.qg_device.specs.Cause.{HasCause};
 ghost use Rattle.qg_device.specs.History.{Event, content};
-ghost use Rattle.qg_super.specs.Places.{is_served, total_bytes};
+ghost use Rattle.qg_super.specs.Places.{is_served, is_slot, total_bytes};
 ghost use Rattle.qg_super.specs.SuperText.{is_super, sizes_of};
 ghost use Rattle.qg_verdict.specs.Verdict.{verdict};
 ghost use Rattle.qg_walk.specs.Fault.{FailsAs};
 ghost use Rattle.qg_check.specs.Stages.{places_failure, trees_failure};
 ghost use Rattle.qg_check.specs.Trees.{AreTrees};
-ghost use Rattle.qg_check.specs.IsImage.{IsImage, IsKept};
+ghost use Rattle.qg_check.specs.IsImage.{IsEditable, IsImage, IsKept};
 
 use crate::Image;
 use crate::judge::{Read, judge_trees};
@@ -27,6 +28,7 @@ pub fn read_image<D: Disk>(alloc: Global, disk: &mut D) -> Result<Image, WalkFau
     ensures image { (events : List Event) → D.history disk.old ≡ Some events
         → IfOk result (λ image. IsImage (content events) image) }
     ensures served { IfOk result (λ image. IsTrue (is_super image.superblock)) }
+    ensures editable { IfOk result (λ image. IsEditable image) }
     ensures place { IfOk result (λ image. IfSome image.stale (λ place. (place ≡ FIRST_PLACE) ⊎ (place ≡ SECOND_PLACE))) }
     ensures inside { IfOk result (λ image. total_bytes (sizes_of image.superblock) ≤ D.size disk.new) }
     ensures history { D.history disk.new ≡ D.history disk.old }
@@ -74,6 +76,8 @@ fn read_trees<D: Disk>(
     ensures image { (events : List Event) → D.history disk.old ≡ Some events → AreTrees superblock (content events) trees
         → IfOk result (λ image. IsKept superblock (content events) image) }
     ensures superblock { IfOk result (λ image. image.superblock ≡ superblock) }
+    ensures editable { IsTrue (is_super superblock) → IsTrue (list_all (is_slot (sizes_of superblock)) trees.nodes)
+        → trees.files.last_snapshot ≤ superblock.generation → IfOk result (λ image. IsEditable image) }
     ensures history { D.history disk.new ≡ D.history disk.old }
     ensures size { D.size disk.new ≡ D.size disk.old }
     ensures cause { HasCause WalkFault.Disk (D.faults disk.old) (D.faults disk.new) result }

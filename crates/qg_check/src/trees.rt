@@ -1,12 +1,11 @@
 // The trees of an image, one by one.
-ghost use Rattle.std.specs.Prelude.{◌≡◌, ◌∷◌, [], ◌≤◌, ℕ, List, map, None, Some, false, IfOk, IfSome, IfNone, IsTrue};
+ghost use Rattle.std.specs.Prelude.{◌≡◌, ◌≤◌, List, map, None, Some, false, IfOk, IfSome, IfNone, IsTrue};
 ghost use Rattle.std.specs.List.{list_all};
 ghost use Rattle.qg_device.specs.Cause.{HasCause};
 ghost use Rattle.qg_device.specs.History.{Event, content};
 ghost use Rattle.qg_super.specs.Places.{is_served, is_slot, total_bytes};
 ghost use Rattle.qg_super.specs.SuperText.{sizes_of};
 ghost use Rattle.qg_node.specs.Nodes.{is_ascending};
-ghost use Rattle.qg_image.specs.Table.{keys_of};
 ghost use Rattle.qg_parts.specs.Keys.{root_key};
 ghost use Rattle.qg_verdict.specs.declared.tree.Tree.TheVariants.{Extents};
 ghost use Rattle.qg_verdict.specs.Walk.{root_told};
@@ -15,7 +14,7 @@ ghost use Rattle.qg_verdict.specs.Verdict.{are_roots, quota_failure, subvolume_f
 ghost use Rattle.qg_walk.specs.Fault.{FailsAs};
 ghost use Rattle.qg_check.specs.Stages.{roots_failure, extents_failure};
 ghost use Rattle.qg_check.specs.Stages.{given_of};
-ghost use Rattle.qg_check.specs.Trees.{AreNamed, AreTrees, IsQuotaTree, IsFileTree, addresses_of};
+ghost use Rattle.qg_check.specs.Trees.{AreFitFiles, AreNamed, AreTrees, HasOneGroup, IsQuotaTree, IsFileTree, addresses_of};
 
 use qg_disk::Disk;
 use qg_image::{ExtentPart, FileList, FilePart, QuotaPart, RootPart};
@@ -96,6 +95,8 @@ pub(crate) fn read_roots<D: Disk>(
         → FailsAs result (roots_failure superblock.now (content events)) }
     ensures trees { (events : List Event) → D.history disk.old ≡ Some events
         → IfOk result (λ trees. AreTrees superblock.now (content events) trees) }
+    ensures copied { IfOk result (λ trees. trees.files.last_snapshot ≤ superblock.now.generation) }
+    ensures slots { IfOk result (λ trees. IsTrue (list_all (is_slot (sizes_of superblock.now)) trees.nodes)) }
     ensures history { D.history disk.new ≡ D.history disk.old }
     ensures size { D.size disk.new ≡ D.size disk.old }
     ensures cause { HasCause WalkFault.Disk (D.faults disk.old) (D.faults disk.new) result }
@@ -161,6 +162,7 @@ pub(crate) fn read_extents<D: Disk>(
         → FailsAs result (extents_failure superblock.now (content events) root.now) }
     ensures nodes { (events : List Event) → D.history disk.old ≡ Some events
         → IfOk result (λ nodes. nodes ≡ addresses_of (nodes_of_root Extents superblock.now (content events) root.now)) }
+    ensures slots { IfOk result (λ nodes. IsTrue (list_all (is_slot (sizes_of superblock.now)) nodes)) }
     ensures history { D.history disk.new ≡ D.history disk.old }
     ensures size { D.size disk.new ≡ D.size disk.old }
     ensures cause { HasCause WalkFault.Disk (D.faults disk.old) (D.faults disk.new) result }
@@ -190,8 +192,8 @@ pub(crate) fn read_quotas<D: Disk>(
         → FailsAs result (quota_failure superblock.now (content events) (roots_in superblock.now (content events)) (Some root.now)) }
     ensures tree { (events : List Event) → D.history disk.old ≡ Some events
         → IfOk result (λ tree. IsQuotaTree superblock.now (content events) root.now tree) }
-    ensures groups { IfOk result (λ tree. keys_of tree.quota.groups ≡ TOP_LEVEL ∷ []) }
-    ensures pairs { IfOk result (λ tree. tree.quota.pairs ≡ []) }
+    ensures group { IfOk result (λ tree. HasOneGroup superblock.now.generation tree.quota) }
+    ensures slots { IfOk result (λ tree. IsTrue (list_all (is_slot (sizes_of superblock.now)) tree.nodes)) }
     ensures history { D.history disk.new ≡ D.history disk.old }
     ensures size { D.size disk.new ≡ D.size disk.old }
     ensures cause { HasCause WalkFault.Disk (D.faults disk.old) (D.faults disk.new) result }
@@ -227,6 +229,7 @@ pub(crate) fn read_subvolume<D: Disk>(
         → FailsAs result (subvolume_failure superblock.now (content events) root.now) }
     ensures tree { (events : List Event) → D.history disk.old ≡ Some events
         → IfOk result (λ tree. IsFileTree superblock.now (content events) root.now tree) }
+    ensures files { IfOk result (λ tree. AreFitFiles superblock.now.generation tree.files) }
     ensures slots { IfOk result (λ tree. IsTrue (list_all (is_slot (sizes_of superblock.now)) tree.nodes)) }
     ensures history { D.history disk.new ≡ D.history disk.old }
     ensures size { D.size disk.new ≡ D.size disk.old }

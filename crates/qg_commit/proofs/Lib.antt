@@ -5,7 +5,11 @@ pub mod Ranges
 pub mod Written
 pub mod Moments
 pub mod Placed
-pub mod Splitting
+pub mod Goings
+pub mod LaidNodes
+pub mod CommitCalls
+pub mod ReadBack
+pub mod Samples
 pub mod FreshNodes
 pub mod Made
 pub mod MakingCalls

@@ -1,6 +1,6 @@
 -- An image that was just made is fresh, and sound.
-use Rattle.std.proofs.Common.{◌≡◌, ℕ, ◌+◌, ◌-◌, ◌≤◌, ◌<◌, true, false, List, [], ◌∷◌, length, take, Some, Ok, refl, arith, lit<}
-use Rattle.std.specs.Prelude.{◌==◌, IsTrue}
+use Rattle.std.proofs.Common.{◌≡◌, ℕ, ◌+◌, ◌-◌, ◌≤◌, ◌<◌, true, false, List, [], ◌∷◌, length, take, get_or, Some, Ok, refl, arith, lit<}
+use Rattle.std.specs.Prelude.{◌==◌, IsTrue, All}
 use Rattle.std.specs.List.{IsDistinct}
 use Rattle.std.proofs.lemmas.Bool.{le-leb, ne_eqb}
 use Rattle.std.proofs.lemmas.List.{length-replicate}
@@ -10,13 +10,14 @@ use Rattle.qg_device.specs.History.{Event, Wrote, Cut, content}
 use Rattle.qg_disk.proofs.Sizes.{length-overlay}
 use Rattle.qg_node.specs.Fits.{NodeFits}
 use Rattle.qg_node.specs.Nodes.{header_of}
+use Rattle.qg_node.proofs.Again.{text_again}
 use Rattle.qg_super.specs.declared.sizes.Sizes.{Sizes}
 use Rattle.qg_super.specs.Places.{is_served, is_slot, slot_at, sector, total_bytes}
 use Rattle.qg_verdict.specs.Walk.{node_found}
 use Rattle.qg_verdict.specs.IsFresh.{fresh_state}
 use Rattle.qg_commit.specs.Fresh.{fresh_super, fresh_nodes}
-use Rattle.qg_commit.specs.Calls.{with_image}
-use Rattle.qg_commit.specs.Holds.{HasCommit}
+use Rattle.qg_commit.specs.Calls.{IsReadBack, IsWritable, with_image}
+use Rattle.qg_laid.specs.Holds.{HasCommit}
 use Rattle.qg_commit.specs.Mkfs.{HoldsFreshImage}
 use Rattle.qg_commit.proofs.Slots.{SizesServed, SizesServed-is_served, node_size_bounds, slot_at-is_slot}
 use Rattle.qg_commit.proofs.FreshImage.{HasFresh, fresh-sound, fresh-StateOf}
@@ -51,11 +52,18 @@ fresh-AreCommittable sizes served =
     let slot = λ (k : ℕ) (below : k < 4). first_slot-is_slot sizes k fit below in
     record {
       writable = fresh-writable sizes served;
-      fit = All-from_recursion NodeFits (fresh_nodes sizes) (fresh-fit sizes served);
       in_slots = All-from_recursion (λ node. IsTrue (is_slot sizes (header_of node).address)) (fresh_nodes sizes)
           (slot 0 (lit< tt), (slot 1 (lit< tt), (slot 2 (lit< tt), (slot 3 (lit< tt), tt))));
       apart = first_slots-IsDistinct sizes fit;
     }
+
+-- each is read from its text
+fresh-IsReadBack : (sizes : Sizes) → is_served sizes ≡ true → All (IsReadBack sizes.nodesize) (fresh_nodes sizes)
+fresh-IsReadBack sizes served =
+    let bounds = node_size_bounds sizes.nodesize (SizesServed-is_served sizes served).nodesize in
+    let fits = All-from_recursion NodeFits (fresh_nodes sizes) (fresh-fit sizes served) in
+    let writable = All-from_recursion (IsWritable sizes.nodesize) (fresh_nodes sizes) (fresh-writable sizes served) in
+    λ k d below. text_again sizes.nodesize (get_or (fresh_nodes sizes) k d) (omega arith) (fits k d below) (writable k d below).node_of_format
 
 -- what was done before the commit makes the disk as long as the image
 with_image-long : (sizes : Sizes) (before : List Event)
@@ -73,7 +81,8 @@ made-HoldsFreshImage sizes before served =
     let emptied = Wrote (total_bytes sizes - sector) (zeros sector) ∷ Cut 0 ∷ before in
     let image = content (with_image super nodes before) in
     let commit : HasCommit super nodes image =
-    with_commit-HasCommit super nodes emptied (fresh-is_super sizes served) (with_image-long sizes before) (fresh-AreCommittable sizes served) in
+    with_commit-HasCommit super nodes emptied (fresh-is_super sizes served) (with_image-long sizes before) (fresh-AreCommittable sizes served)
+    (fresh-IsReadBack sizes served) in
     let found = recursion_from_All (λ node. node_found super image (header_of node).address ≡ Ok node) nodes commit.found in
     let back = fresh-ReadsBack sizes served in
     let slot0 = first_slot-is_slot sizes 0 fit (lit< tt) in

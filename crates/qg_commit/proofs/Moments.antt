@@ -29,10 +29,11 @@ synced-with_nodes nodesize [] events = refl
 synced-with_nodes nodesize (node ∷ nodes) events =
     synced-with_nodes nodesize nodes (Wrote (header_of node).address (node_text nodesize node) ∷ events)
 
--- a commit adds three syncs to those before it
+-- a commit adds three moments to those before it; at the last the disk holds what it holds after the commit
 pub synced-with_commit : (super : Super) (nodes : List Node) (events : List Event)
     → synced (with_commit super nodes events)
-    ≡ sync_after (up_to_third super nodes events) ∷ sync_after (up_to_second super nodes events) ∷ sync_after (up_to_first super nodes events) ∷ synced events
+    ≡ record { moment = length (up_to_third super nodes events) + 1; content = content (with_commit super nodes events) }
+    ∷ sync_after (up_to_second super nodes events) ∷ sync_after (up_to_first super nodes events) ∷ synced events
 synced-with_commit super nodes events =
     ap (λ (older : List Moment).
     sync_after (up_to_third super nodes events) ∷ sync_after (up_to_second super nodes events) ∷ sync_after (up_to_first super nodes events) ∷ older)

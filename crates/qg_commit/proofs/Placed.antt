@@ -4,9 +4,12 @@ use Rattle.std.specs.Prelude.{◌==◌, IsTrue, All}
 use Rattle.std.specs.List.{IsDistinct}
 use Rattle.std.proofs.Math.Seq.{take-add}
 use Rattle.std.proofs.lemmas.List.{map-append}
-use Rattle.std.proofs.lemmas.List.Elements.{All-nil, All-cons, All-head, All-tail, All-take, All-from_recursion, recursion_from_All}
+use Rattle.std.proofs.lemmas.Bool.Decides.{nat_tests}
+use Rattle.std.proofs.lemmas.List.Elements.{All-contains, All-nil, All-cons, All-head, All-tail, All-take, All-from_recursion, Contains-get_or, recursion_from_All}
+use Rattle.std.proofs.lemmas.List.Sorted.{Contains-permutation, IsPermutation-map, IsPermutation-sym}
+use Rattle.std.proofs.lemmas.Map.Keys.{IsDistinct-IsPermutation}
+use Rattle.std.specs.List.Sorted.{IsPermutation}
 use Rattle.qg_node.specs.declared.node.Node.{Node}
-use Rattle.qg_node.specs.Fits.{NodeFits}
 use Rattle.qg_node.specs.Nodes.{header_of}
 use Rattle.qg_node.specs.NodeText.{IsNode}
 use Rattle.qg_super.specs.declared.superblock.Super.{Super}
@@ -53,12 +56,12 @@ slot-IsWritable super node served is slot =
     let between = is_slot-IsBetween (sizes_of super) (address_of node) served slot in
     record { node_of_format = is; ends = omega (arith, between.end) }
 
--- nodes of the format whose numbers fit, in the first of slots that are all different, are such as a commit may write
+-- nodes of the format, in the first of slots that are all different, are such as a commit may write
 pub placed-AreCommittable : (super : Super) (slots : List ℕ) (nodes : List Node) → is_super super ≡ true
     → All (λ slot. IsTrue (is_slot (sizes_of super) slot)) slots → IsDistinct (λ a b. a == b) slots
-    → map (λ node. (header_of node).address) nodes ≡ take (length nodes) slots → All (IsNode super.nodesize) nodes → All NodeFits nodes
+    → map (λ node. (header_of node).address) nodes ≡ take (length nodes) slots → All (IsNode super.nodesize) nodes
     → AreCommittable super nodes
-placed-AreCommittable super slots nodes is are_slots distinct placed are fit =
+placed-AreCommittable super slots nodes is are_slots distinct placed are =
     let served = SizesServed-is_served (sizes_of super) (is_super-is_served super is) in
     let IsSlot = λ (slot : ℕ). IsTrue (is_slot (sizes_of super) slot) in
     let firsts = All-take IsSlot (length nodes) slots are_slots in
@@ -67,7 +70,24 @@ placed-AreCommittable super slots nodes is are_slots distinct placed are fit =
     record {
       writable = recursion_from_All (IsWritable super.nodesize) nodes
           (λ k d below. slot-IsWritable super (get_or nodes k d) served (are k d below) (in_slots k d below));
-      fit = fit;
       in_slots = in_slots;
       apart = subst (IsDistinct (λ a b. a == b)) (sym placed) apart;
+    }
+
+-- ---- in another order
+
+flips : (a b : ℕ) → (a == b) ≡ (b == a)
+flips a b = grind (arith, nat_tests)
+
+all_moved : {A : Type 0} (P : A → Type 0) (xs ys : List A) → IsPermutation ys xs → All P xs → All P ys
+all_moved P xs ys moved all = λ k d below. All-contains P xs (get_or ys k d) all (Contains-permutation ys xs (get_or ys k d) moved (Contains-get_or ys k d below))
+
+pub moved-AreCommittable : (super : Super) (nodes moved : List Node) → IsPermutation moved nodes → AreCommittable super nodes → AreCommittable super moved
+moved-AreCommittable super nodes moved same are =
+    let Writes = IsWritable super.nodesize in
+    let back = IsPermutation-map address_of nodes moved (IsPermutation-sym moved nodes same) in
+    record {
+      writable = recursion_from_All Writes moved (all_moved Writes nodes moved same (All-from_recursion Writes nodes are.writable));
+      in_slots = all_moved (λ node. IsTrue (is_slot (sizes_of super) (header_of node).address)) nodes moved same are.in_slots;
+      apart = IsDistinct-IsPermutation (λ a b. a == b) flips (map address_of nodes) (map address_of moved) back are.apart;
     }

@@ -1,6 +1,6 @@
 -- Why an image is refused.
-use Rattle.std.proofs.Common.{◌≡◌, List, sym, subst}
-use Rattle.std.specs.Prelude.{Option, Some, None, Result, Ok, Err, IfErr}
+use Rattle.std.proofs.Common.{◌≡◌, sym, subst}
+use Rattle.std.specs.Prelude.{Option, Result, Ok, Err, IfErr}
 use Rattle.std.specs.Result.{IsErrAnd}
 use Rattle.qg_verdict.specs.declared.failure.Failure.{Failure}
 use Rattle.qg_verdict.specs.declared.failure.Failure.TheVariants as failure

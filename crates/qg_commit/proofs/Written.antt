@@ -8,11 +8,9 @@ use Rattle.std.proofs.lemmas.Map.Keys.{IsDistinct-head, IsDistinct-tail}
 use Rattle.qg_device.specs.History.{Event, Wrote, overlay, content}
 use Rattle.qg_disk.proofs.Sizes.{length-overlay}
 use Rattle.qg_node.specs.declared.node.Node.{Node}
-use Rattle.qg_node.specs.Fits.{NodeFits}
 use Rattle.qg_node.specs.Nodes.{header_of}
 use Rattle.qg_node.specs.NodeText.{node_text}
 use Rattle.qg_node.specs.Reading.{node_read}
-use Rattle.qg_node.proofs.Again.{text_again}
 use Rattle.qg_node.proofs.Texts.{length-node_text}
 use Rattle.qg_super.specs.declared.superblock.Super.{Super}
 use Rattle.qg_super.specs.Places.{first_place, second_place, slots_begin, sector, is_slot, is_served, total_bytes}
@@ -20,9 +18,9 @@ use Rattle.qg_super.specs.SuperText.{super_text, super_read, is_super, sizes_of}
 use Rattle.qg_super.proofs.SuperTexts.{length-super_text, super_read-super_text}
 use Rattle.qg_verdict.specs.Walk.{node_found}
 use Rattle.qg_verdict.specs.StateOf.{super_in}
-use Rattle.qg_commit.specs.Calls.{IsWritable, with_nodes, with_commit}
-use Rattle.qg_commit.specs.Holds.{HasCommit}
-use Rattle.qg_commit.proofs.Slots.{SizesServed, SizesServed-is_served, node_size_bounds, is_slot-IsBetween, slots-apart}
+use Rattle.qg_commit.specs.Calls.{IsReadBack, IsWritable, with_nodes, with_commit}
+use Rattle.qg_laid.specs.Holds.{HasCommit}
+use Rattle.qg_commit.proofs.Slots.{SizesServed, SizesServed-is_served, is_slot-IsBetween, slots-apart}
 use Rattle.qg_commit.proofs.Ranges.{HasRange, written-HasRange, kept-HasRange, range-slice_range}
 
 -- where a node lies, in bytes
@@ -31,10 +29,9 @@ address_of node = (header_of node).address
 
 -- ---- the nodes of a commit
 
--- nodes that a commit may write: each has a text and numbers that fit, and lies in a slot of its own
+-- nodes that a commit may write: each has a text and lies in a slot of its own
 pub record AreCommittable (super : Super) (nodes : List Node) : Type 0 where
   pub writable : AllByRecursion (IsWritable super.nodesize) nodes
-  pub fit : All NodeFits nodes
   pub in_slots : All (λ node. IsTrue (is_slot (sizes_of super) (header_of node).address)) nodes
   pub apart : IsDistinct (λ a b. a == b) (map (λ node. (header_of node).address) nodes)
 
@@ -44,21 +41,15 @@ record IsPlaced (super : Super) (node : Node) : Type 0 where
   long : length (node_text super.nodesize node) ≡ super.nodesize
   again : node_read (address_of node) (node_text super.nodesize node) ≡ Ok node
 
-node-IsPlaced : (super : Super) (node : Node) → SizesServed (sizes_of super) → IsWritable super.nodesize node → NodeFits node
-    → is_slot (sizes_of super) (address_of node) ≡ true → IsPlaced super node
-node-IsPlaced super node served writable fits slot =
-    let bounds = node_size_bounds super.nodesize served.nodesize in
-    record {
-      slot = slot;
-      long = length-node_text super.nodesize node writable.node_of_format.fits;
-      again = text_again super.nodesize node (omega arith) fits writable.node_of_format;
-    }
-
-all-IsPlaced : (super : Super) (nodes : List Node) → SizesServed (sizes_of super) → AreCommittable super nodes → AllByRecursion (IsPlaced super) nodes
-all-IsPlaced super nodes served are =
+all-IsPlaced : (super : Super) (nodes : List Node) → AreCommittable super nodes → All (IsReadBack super.nodesize) nodes → AllByRecursion (IsPlaced super) nodes
+all-IsPlaced super nodes are read =
     let writable = All-from_recursion (IsWritable super.nodesize) nodes are.writable in
     recursion_from_All (IsPlaced super) nodes
-    (λ k d below. node-IsPlaced super (get_or nodes k d) served (writable k d below) (are.fit k d below) (are.in_slots k d below))
+    (λ k d below. record {
+      slot = are.in_slots k d below;
+      long = length-node_text super.nodesize (get_or nodes k d) (writable k d below).node_of_format.fits;
+      again = read k d below;
+    })
 
 -- a slot is apart from those at other addresses
 others-apart : (super : Super) (address : ℕ) (nodes : List Node) → is_slot (sizes_of super) address ≡ true
@@ -188,13 +179,13 @@ is_super-is_served super is =
     let served = is_served (sizes_of super) in
     (and_parts fields served (and_parts (fields && served) (super.format == 1) is).0).1
 
--- after a commit an image that was long enough has both superblocks, and each node where it lies
+-- after a commit an image that was long enough has both superblocks, and each node where it lies, if each is read from its text
 pub with_commit-HasCommit : (super : Super) (nodes : List Node) (events : List Event) → is_super super ≡ true
-    → total_bytes (sizes_of super) ≤ length (content events) → AreCommittable super nodes
+    → total_bytes (sizes_of super) ≤ length (content events) → AreCommittable super nodes → All (IsReadBack super.nodesize) nodes
     → HasCommit super nodes (content (with_commit super nodes events))
-with_commit-HasCommit super nodes events is long are =
+with_commit-HasCommit super nodes events is long are read =
     let served = SizesServed-is_served (sizes_of super) (is_super-is_served super is) in
-    let placed = all-IsPlaced super nodes served are in
+    let placed = all-IsPlaced super nodes are read in
     let image = content (with_commit super nodes events) in
     let written = content (with_nodes super.nodesize nodes events) in
     let stand = nodes-stand super nodes events placed are.apart in

@@ -1,6 +1,6 @@
 pub mod Fresh
 pub mod Calls
-pub mod Holds
 pub mod Mkfs
 pub mod Fault
 pub mod Opening
+pub mod Opened

@@ -1,6 +1,7 @@
-//! Making an image, opening one, and the device calls of a commit.
+//! Making an image, opening one, and committing to one.
 #![tactic(auto)]
 
+mod committing;
 mod fault;
 mod fresh;
 mod making;
@@ -9,6 +10,7 @@ mod opening;
 mod tests;
 mod write;
 
+pub use committing::commit;
 pub use fault::{MkfsFault, OpenFault};
 pub use making::mkfs;
 pub use opening::open;

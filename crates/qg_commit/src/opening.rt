@@ -5,7 +5,8 @@ ghost use Rattle.qg_device.specs.History.{Event, Synced, content};
 ghost use Rattle.qg_super.specs.Places.{total_bytes};
 ghost use Rattle.qg_super.specs.SuperText.{is_super, sizes_of};
 ghost use Rattle.qg_verdict.specs.Verdict.{verdict};
-ghost use Rattle.qg_check.specs.IsImage.{IsImage};
+ghost use Rattle.qg_check.specs.IsImage.{IsEditable, IsImage};
+ghost use Rattle.qg_commit.specs.Calls.{GoesOn};
 ghost use Rattle.qg_commit.specs.Opening.{IsRefusal, IsUntouched, with_repair};
 
 use crate::OpenFault;
@@ -28,9 +29,11 @@ pub fn open<D: Disk>(alloc: Global, disk: &mut D) -> Result<Image, OpenFault>
         → IfOk result (λ image. D.history disk.new ≡ Some (with_repair image.superblock image.stale (Synced ∷ events))) }
     ensures unwritten { (events : List Event) → D.history disk.old ≡ Some events
         → IfErr result (λ fault. IsUntouched fault (D.history disk.new) (Synced ∷ events)) }
+    ensures later { (events : List Event) → D.history disk.old ≡ Some events → GoesOn events (D.history disk.new) }
 
     // Over any disk.
     ensures fits { IfOk result (λ image. IsTrue (is_super image.superblock)) }
+    ensures editable { IfOk result (λ image. IsEditable image) }
     ensures long { IfOk result (λ image. total_bytes (sizes_of image.superblock) ≤ D.size disk.new) }
     ensures cause { HasCause OpenFault.Disk (D.faults disk.old) (D.faults disk.new) result }
 {
@@ -48,6 +51,7 @@ fn write_place<D: Disk>(disk: &mut D, superblock: &Super, place: u64) -> Result<
     requires place { (place ≡ FIRST_PLACE) ⊎ (place ≡ SECOND_PLACE) }
     ensures calls { (events : List Event) → D.history disk.old ≡ Some events
         → OnOk result (D.history disk.new ≡ Some (with_repair superblock.now (Some place) events)) }
+    ensures later { (events : List Event) → D.history disk.old ≡ Some events → GoesOn events (D.history disk.new) }
     ensures no_less { D.size disk.old ≤ D.size disk.new }
     ensures cause { HasCause DiskFault.Failed (D.faults disk.old) (D.faults disk.new) result }
 {

@@ -1,10 +1,20 @@
 // What no clause says: that an image is made and opened where memory is ample, with which calls, and its bytes by hand.
+ghost use Rattle.std.specs.Prelude.{◌≡◌, ◌≤◌, [], ◌∷◌, All, IfOk, IsTrue};
+ghost use Rattle.qg_super.specs.Places.{is_slot, total_bytes};
+ghost use Rattle.qg_laid.specs.Trees.{AreEnough};
+ghost use Rattle.qg_commit.specs.Fresh.{fresh_super};
+
 use super::*;
+use crate::fresh::slot_address;
 use qg_bytes::put_bytes;
 use qg_check::Image;
 use qg_disk::{Call, Disk, DiskFault, MemDisk, Request};
-use qg_num::{Address, Rule};
-use qg_super::Sizes;
+use qg_image::File;
+use qg_items::RootItem;
+use qg_laid::Laid;
+use qg_num::{Address, BlockFault, Counters, Generation, Ino, NoMemory, Pieces, Rule};
+use qg_state::Element;
+use qg_super::{Sizes, Super};
 use std::alloc::Global;
 use std::process::Abort;
 use std::test::Fail;
@@ -327,6 +337,162 @@ fn each_call_of_opening_that_fails_is_told(rt: HostRuntime) -> Result<(), Fail> 
         disk.fail_at(vec![in rt.alloc(); number]?);
         let opened = open(rt.alloc(), &mut disk);
         assert_eq!(rt; opened.err(), Some(OpenFault::Disk), "at {number}");
+        assert_eq!(rt; disk.calls().len() as u64, number);
+    }
+    Ok(())
+}
+
+// The slots of the least image behind those that a fresh one fills.
+fn free_slots(alloc: Global) -> Result<Vec<Address>, NoMemory>
+    ensures room { IfOk result (λ slots. AreEnough 19 slots.items) }
+    ensures slots { IfOk result (λ slots. All (λ slot. IsTrue (is_slot LEAST slot)) slots.items) }
+{
+    let mut slots = Vec::new(alloc);
+    for number in 4..23 {
+        slots.push(Address::new(slot_address(LEAST, number)))?;
+    }
+    Ok(slots)
+}
+
+// A file of one sector, the first of the data area, made in generation 2.
+fn one_file(alloc: Global) -> Result<(Ino, File), NoMemory>
+    ensures { IfOk result (λ file. file ≡ (
+      257,
+      record {
+        size = 4096;
+        generation = 2;
+        transid = 2;
+        pieces =
+            record { position = 0; len = 4096; extent = 67174400; offset = 0; stamp = 2; extent_bytes = 4096 } ∷ [];
+      },
+    )) }
+{
+    let mut pieces = Pieces::new(alloc);
+    pieces.push(qg_num::Piece {
+        position: 0,
+        len: 4096,
+        extent: Address::new(67174400),
+        offset: 0,
+        stamp: Generation::new(2),
+        extent_bytes: 4096,
+    })?;
+    let file = File {
+        size: 4096,
+        generation: Generation::new(2),
+        transid: Generation::new(2),
+        pieces,
+    };
+    Ok((Ino::new(257), file))
+}
+
+// The superblock of a fresh image.
+fn least_super() -> Super
+    ensures { result ≡ fresh_super LEAST 1048576 }
+{
+    Super {
+        generation: Generation::new(1),
+        root: Address::new(1048576),
+        nodesize: 4096,
+        slots: 64,
+        sectors: 16,
+        format: 1,
+    }
+}
+
+// The ROOT_ITEM of its top-level subvolume.
+fn least_root() -> RootItem
+    ensures { result.last_snapshot ≡ 0 }
+{
+    RootItem {
+        generation: Generation::new(1),
+        bytenr: Address::new(1056768),
+        last_snapshot: Generation::new(0),
+        refs: 1,
+        level: 0,
+    }
+}
+
+// Commits the file to a fresh image.
+fn commit_one<D: Disk>(alloc: Global, disk: &mut D) -> Result<Laid, BlockFault>
+    requires { total_bytes LEAST ≤ D.size disk.old }
+{
+    let files = [one_file(alloc)?];
+    let extents = [Element {
+        address: Address::new(67174400),
+        bytes: 4096,
+    }];
+    let counters = Counters {
+        rfer: 4096,
+        excl: 4096,
+    };
+    let slots = free_slots(alloc)?;
+    let committed = least_super();
+    let root = least_root();
+    let stamp = Generation::new(1);
+    commit(
+        alloc,
+        disk,
+        &committed,
+        &root,
+        &files,
+        &extents,
+        &counters,
+        stamp,
+        slots.as_slice(),
+    )
+}
+
+// Makes a fresh image, and commits the file to it.
+fn make_and_commit<D: Disk>(alloc: Global, disk: &mut D) -> Result<Laid, BlockFault> {
+    match mkfs(alloc, disk, LEAST) {
+        Ok(()) => commit_one(alloc, disk),
+        Err(_) => Err(BlockFault::NoMemory),
+    }
+}
+
+// The calls of that commit: the root tree's leaf, the extent tree's, the quota tree's, the file tree's, and the superblocks.
+const COMMIT_STEPS: [Step; 9] = [
+    Step::Write(1077248, 4096),
+    Step::Write(1069056, 4096),
+    Step::Write(1073152, 4096),
+    Step::Write(1064960, 4096),
+    Step::Sync,
+    Step::Write(65536, 4096),
+    Step::Sync,
+    Step::Write(67108864, 4096),
+    Step::Sync,
+];
+
+// What is told of the image with the file: its leaf, and the sector of its piece.
+fn has_one_file(rt: &impl Abort, image: &Image) {
+    assert_eq!(rt; image.superblock.generation.value(), 2);
+    assert_eq!(rt; image.superblock.root.value(), 1077248);
+    assert!(rt; image.nodes.len() == 1 && image.nodes.as_slice()[0].value() == 1064960);
+    let files = image.files.as_slice();
+    assert!(rt; files.len() == 1 && files[0].0.value() == 257 && files[0].1.size == 4096);
+    let groups = image.quota.groups.as_slice();
+    assert!(rt; groups.len() == 1 && groups[0].1.counters.excl == 8192);
+    assert_eq!(rt; groups[0].1.stamp.value(), 2);
+}
+
+#[test]
+fn a_file_is_committed(rt: HostRuntime) -> Result<(), Fail> {
+    let mut disk = MemDisk::new(rt.alloc());
+    let laid = make_and_commit(rt.alloc(), &mut disk)?;
+    assert_eq!(rt; laid.root.bytenr.value(), 1064960);
+    has_last_steps(&rt, &disk, 11, &COMMIT_STEPS);
+    let image = open(rt.alloc(), &mut disk).expect(&rt, "it is sound");
+    has_one_file(&rt, &image);
+    Ok(())
+}
+
+#[test]
+fn each_call_of_a_commit_that_fails_is_told(rt: HostRuntime) -> Result<(), Fail> {
+    for number in 12..=20 {
+        let mut disk = MemDisk::new(rt.alloc());
+        disk.fail_at(vec![in rt.alloc(); number]?);
+        let made = make_and_commit(rt.alloc(), &mut disk);
+        assert!(rt; matches!(made, Err(BlockFault::Disk)), "at {number}");
         assert_eq!(rt; disk.calls().len() as u64, number);
     }
     Ok(())

@@ -1,22 +1,29 @@
 // The device calls of a commit.
-ghost use Rattle.std.specs.Prelude.{◌≡◌, ◌≤◌, length, OnOk, IsTrue};
+ghost use Rattle.std.specs.Prelude.{◌≡◌, ◌≤◌, List, length, All, Some, OnOk, IsTrue};
 ghost use Rattle.std.specs.Option.{option_map};
 ghost use Rattle.std.specs.List.{AllByRecursion};
 ghost use Rattle.qg_device.specs.Cause.{HasCause};
+ghost use Rattle.qg_device.specs.History.{Event};
 ghost use Rattle.qg_node.specs.NodeText.{IsNodeSize};
 ghost use Rattle.qg_super.specs.SuperText.{is_super};
-ghost use Rattle.qg_commit.specs.Calls.{with_nodes, with_commit, IsWritable};
+ghost use Rattle.qg_commit.specs.Calls.{GoesOn, IsReadBack, IsWritable, with_commit, with_nodes, with_superblocks};
 
 use qg_disk::{Disk, DiskFault};
 use qg_node::{Node, write_node};
 use qg_super::{FIRST_PLACE, SECOND_PLACE, SUPER_BYTES, Super, write_super};
 
-// Writes nodes into their slots, one after the other, over a buffer of a node's size.
-fn write_nodes<D: Disk>(disk: &mut D, nodes: &[Node], buffer: &mut [u8]) -> Result<(), DiskFault>
+/// Writes nodes into their slots, one after the other, over a buffer of a node's size in bytes.
+pub fn write_nodes<D: Disk>(
+    disk: &mut D,
+    nodes: &[Node],
+    buffer: &mut [u8],
+) -> Result<(), DiskFault>
     requires size { IsNodeSize (length buffer.old) }
     requires nodes { AllByRecursion (IsWritable (length buffer.old)) nodes.now }
     ensures calls { OnOk result (D.history disk.new
         ≡ option_map (with_nodes (length buffer.old) nodes.now) (D.history disk.old)) }
+    ensures read { OnOk result (All (IsReadBack (length buffer.old)) nodes.now) }
+    ensures later { (events : List Event) → D.history disk.old ≡ Some events → GoesOn events (D.history disk.new) }
     ensures no_less { D.size disk.old ≤ D.size disk.new }
     ensures cause { HasCause DiskFault.Failed (D.faults disk.old) (D.faults disk.new) result }
 {
@@ -24,6 +31,26 @@ fn write_nodes<D: Disk>(disk: &mut D, nodes: &[Node], buffer: &mut [u8]) -> Resu
         write_node(node, buffer);
         disk.write_at(node.header().address.value(), buffer)?;
     }
+    Ok(())
+}
+
+/// Makes sure of what was done, and then writes the first superblock, and the second once the first is made sure of (this project's own).
+pub fn write_superblocks<D: Disk>(disk: &mut D, superblock: &Super) -> Result<(), DiskFault>
+    requires { IsTrue (is_super superblock.now) }
+    ensures calls { OnOk result (D.history disk.new
+        ≡ option_map (with_superblocks superblock.now) (D.history disk.old)) }
+    ensures later { (events : List Event) → D.history disk.old ≡ Some events → GoesOn events (D.history disk.new) }
+    ensures no_less { D.size disk.old ≤ D.size disk.new }
+    ensures cause { HasCause DiskFault.Failed (D.faults disk.old) (D.faults disk.new) result }
+{
+    let mut text = [0; SUPER_BYTES];
+    disk.sync()?;
+    write_super(superblock, FIRST_PLACE, &mut text);
+    disk.write_at(FIRST_PLACE, &text)?;
+    disk.sync()?;
+    write_super(superblock, SECOND_PLACE, &mut text);
+    disk.write_at(SECOND_PLACE, &text)?;
+    disk.sync()?;
     Ok(())
 }
 
@@ -43,14 +70,6 @@ pub fn write_commit<D: Disk>(
     ensures no_less { D.size disk.old ≤ D.size disk.new }
     ensures cause { HasCause DiskFault.Failed (D.faults disk.old) (D.faults disk.new) result }
 {
-    let mut text = [0; SUPER_BYTES];
     write_nodes(disk, nodes, buffer)?;
-    disk.sync()?;
-    write_super(superblock, FIRST_PLACE, &mut text);
-    disk.write_at(FIRST_PLACE, &text)?;
-    disk.sync()?;
-    write_super(superblock, SECOND_PLACE, &mut text);
-    disk.write_at(SECOND_PLACE, &text)?;
-    disk.sync()?;
-    Ok(())
+    write_superblocks(disk, superblock)
 }

@@ -9,7 +9,7 @@ use Rattle.qg_items.specs.Laws.{InodeFits, ExtentDataFits}
 use Rattle.qg_image.specs.declared.file.File.{File}
 use Rattle.qg_image.specs.FilesOf.{are_pieces, is_aligned, is_file, is_piece, largest_size, piece_end}
 use Rattle.qg_rules.proofs.Pieces.{file_small}
-use Rattle.qg_contents.specs.Writable.{IsPlaced, IsWritableFile, IsFileBy}
+use Rattle.qg_rules.specs.Writable.{IsPlaced, IsWritableFile, IsFileBy}
 use Rattle.qg_contents.specs.Written.{inode_of, extent_data_of}
 
 -- a piece ends by the size, and lies in its extent

@@ -27,7 +27,7 @@ use Rattle.qg_rules.proofs.Reading.{IsNext, IsReading, IsReading-none, IsReading
 use Rattle.qg_state.specs.Need.{file_bytes}
 use Rattle.qg_verdict.specs.Walk.{is_item_of}
 use Rattle.qg_verdict.specs.declared.tree.Tree.TheVariants.{Files}
-use Rattle.qg_contents.specs.Writable.{AreWritableFiles, IsWritableFile, IsFileBy}
+use Rattle.qg_rules.specs.Writable.{AreWritableFiles, IsWritableFile, IsFileBy}
 use Rattle.qg_contents.specs.Written.{inode_of, extent_data_of, item_of_inode, item_of_piece, items_of_file}
 use Rattle.qg_contents.proofs.Bodies.{item-fits, inode_text-AreBytes, extent_data_text-AreBytes}
 use Rattle.qg_contents.proofs.FileBounds.{FileFits, IsSoundFile, IsWithin, file_fits, sound_file}

@@ -5,7 +5,7 @@ use Rattle.std.proofs.lemmas.List.Elements.{All-from_recursion}
 use Rattle.qg_num.specs.declared.piece.Piece.{Piece}
 use Rattle.qg_image.specs.declared.file.File.{File}
 use Rattle.qg_image.specs.FilesOf.{are_pieces, is_file, is_piece}
-use Rattle.qg_contents.specs.Writable.{AreWritableFiles, IsPlaced, IsWritableFile}
+use Rattle.qg_rules.specs.Writable.{AreWritableFiles, IsPlaced, IsWritableFile}
 
 abbrev pub front_piece : Piece
 front_piece = record { position = 0; len = 8192; extent = 67174400; offset = 0; stamp = 2; extent_bytes = 8192 }

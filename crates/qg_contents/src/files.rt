@@ -7,7 +7,7 @@ ghost use Rattle.qg_image.specs.FilesOf.{files_of, pieces_bytes};
 ghost use Rattle.qg_state.specs.Need.{file_bytes};
 ghost use Rattle.qg_verdict.specs.Walk.{is_item_of};
 ghost use Rattle.qg_verdict.specs.declared.tree.Tree.TheVariants.{Files};
-ghost use Rattle.qg_contents.specs.Writable.{AreWritableFiles, IsFileBy};
+ghost use Rattle.qg_rules.specs.Writable.{AreWritableFiles, IsFileBy};
 ghost use Rattle.qg_contents.specs.Written.{item_of_inode, item_of_piece, items_of_file};
 
 use crate::item::item_under;

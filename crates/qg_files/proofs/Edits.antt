@@ -56,23 +56,34 @@ in_order from to xs first end apart order begin finish = elim (cases_lt end firs
 
 -- ---- cuts
 
--- where pieces meet the range, what is left of the first and the last one stands in their place
+-- where pieces meet the range, what is left of the first of them stands behind those in front of it
+pub before_meeting : (from to : ℕ) (xs : List Piece) (first end : ℕ) (x : Piece) → AreApart xs → AreMeeting from to xs first end → first < end → x ≡ get_or xs first x
+    → before from xs ≡ take first xs ++ option_to_list (part_before from x)
+before_meeting from to xs first end x apart meeting some is =
+    let short : first < length xs = omega (arith, meeting.finish.bound) in
+    let past = subst (λ z. from < piece_end z) (sym is) (at_drop (λ z. from < piece_end z) xs first x short meeting.begin.back) in
+    before_at from xs first x apart meeting.begin.front short is past
+
+-- and what is left of the last of them in front of those behind it
+pub after_meeting : (from to : ℕ) (xs : List Piece) (first end : ℕ) (y : Piece) → AreApart xs → AreMeeting from to xs first end → first < end → y ≡ get_or xs (end - 1) y
+    → after to xs ≡ option_to_list (part_after to y) ++ drop end xs
+after_meeting from to xs first end y apart meeting some is =
+    let begun = subst (λ z. z.position < to) (sym is) (at_take (λ z. z.position < to) xs end y (omega arith) meeting.finish.bound meeting.finish.front) in
+    let last : end - 1 + 1 ≡ end = omega arith in
+    let behind = subst (λ k. All (λ z. to ≤ z.position) (drop k xs)) (sym last) meeting.finish.back in
+    after_at to xs (end - 1) y apart behind (omega (arith, meeting.finish.bound)) is begun ∙ ap (λ k. option_to_list (part_after to y) ++ drop k xs) last
+
+-- so both stand in the place of those that the range meets
 pub cut_meeting : (from to : ℕ) (xs : List Piece) (first end : ℕ) (x y : Piece) → AreApart xs → AreMeeting from to xs first end → first < end
     → x ≡ get_or xs first x → y ≡ get_or xs (end - 1) y
     → with_range from to [] xs ≡ take first xs ++ option_to_list (part_before from x) ++ option_to_list (part_after to y) ++ drop end xs
 cut_meeting from to xs first end x y apart meeting some first_is last_is =
-    let short : first < length xs = omega (arith, meeting.finish.bound) in
-    let past = subst (λ z. from < piece_end z) (sym first_is) (at_drop (λ z. from < piece_end z) xs first x short meeting.begin.back) in
-    let begun = subst (λ z. z.position < to) (sym last_is) (at_take (λ z. z.position < to) xs end y (omega arith) meeting.finish.bound meeting.finish.front) in
-    let front = before_at from xs first x apart meeting.begin.front short first_is past in
-    let last : end - 1 + 1 ≡ end = omega arith in
-    let behind = subst (λ k. All (λ z. to ≤ z.position) (drop k xs)) (sym last) meeting.finish.back in
-    let back = after_at to xs (end - 1) y apart behind (omega (arith, meeting.finish.bound)) last_is begun in
-    ap (λ zs. before from xs ++ [] ++ zs) back
-    ∙ ap (λ zs. zs ++ [] ++ (option_to_list (part_after to y) ++ drop (end - 1 + 1) xs)) front
-    ∙ ap (λ zs. zs ++ (option_to_list (part_after to y) ++ drop (end - 1 + 1) xs)) (append-nil (take first xs ++ option_to_list (part_before from x)))
-    ∙ ap (λ k. take first xs ++ option_to_list (part_before from x) ++ (option_to_list (part_after to y) ++ drop k xs)) last
-    ∙ sym (append_assoc (take first xs ++ option_to_list (part_before from x)) (option_to_list (part_after to y)) (drop end xs))
+    let front = take first xs ++ option_to_list (part_before from x) in
+    let back = option_to_list (part_after to y) in
+    ap (λ zs. before from xs ++ [] ++ zs) (after_meeting from to xs first end y apart meeting some last_is)
+    ∙ ap (λ zs. zs ++ [] ++ (back ++ drop end xs)) (before_meeting from to xs first end x apart meeting some first_is)
+    ∙ ap (λ zs. zs ++ (back ++ drop end xs)) (append-nil front)
+    ∙ sym (append_assoc front back (drop end xs))
 
 -- where no piece meets the range, given pieces stand between those in front of it and those behind
 pub put_between : (from to : ℕ) (given xs : List Piece) (i : ℕ) → AreApart xs → from ≤ to → All (λ z. piece_end z ≤ from) (take i xs) → All (λ z. to ≤ z.position) (drop i xs)
@@ -110,7 +121,8 @@ filter_map_twice {B = B} g f (x ∷ xs) = first (f x) ∙ ap (λ ys. cons_option
   first None = refl
   first (Some y) = refl
 
-in_three : {A : Type 0} (xs : List A) (first end : ℕ) → first ≤ end → xs ≡ take first xs ++ (take (end - first) (drop first xs) ++ drop end xs)
+-- a list in front of an index, up to another one, and from there on
+pub in_three : {A : Type 0} (xs : List A) (first end : ℕ) → first ≤ end → xs ≡ take first xs ++ (take (end - first) (drop first xs) ++ drop end xs)
 in_three xs first end order =
     let over : first + (end - first) ≡ end = omega arith in
     sym (take-append-drop first xs)

@@ -4,7 +4,7 @@ use Rattle.std.specs.Prelude.{nat_lt, nat_le, ◌&&◌}
 use Rattle.std.specs.Bool.{then_some}
 use Rattle.std.specs.List.{All, AllByRecursion, cons_option}
 use Rattle.std.proofs.lemmas.Bool.{and_parts, and_from, leb-true, le-leb, ltb-true, lt-ltb, ltb-false, eqb-true, eq-eqb}
-use Rattle.std.proofs.lemmas.List.Elements.{recursion_from_All}
+use Rattle.std.proofs.lemmas.List.Elements.{All-from_recursion, recursion_from_All}
 use Rattle.qg_num.specs.declared.piece.Piece.{Piece}
 use Rattle.qg_super.specs.Places.{sector}
 use Rattle.qg_image.specs.declared.file.File.{File}
@@ -277,6 +277,17 @@ pub AreApart-is_file : (file : File) → All (λ piece. piece.extent_bytes < 2 ^
 AreApart-is_file file extents is =
     let whole = IsWholeFile-is_file file is in
     AreApart-are_pieces file.size file.pieces whole.least extents whole.pieces
+
+-- and end by its size
+ends_by_size : (a size : ℕ) (xs : List Piece) → AreWhole a size xs → AllByRecursion (λ x. piece_end x ≤ size) xs
+unfolding AreWhole
+ends_by_size a size [] whole = tt
+ends_by_size a size (x ∷ xs) whole = (end_by (piece_end x) size xs whole.2, ends_by_size (piece_end x) size xs whole.2)
+
+pub ends-is_file : (file : File) → is_file file ≡ true → All (λ piece. piece_end piece ≤ file.size) file.pieces
+ends-is_file file is =
+    let whole = AreWhole-are_pieces 0 file.size file.pieces (IsWholeFile-is_file file is).pieces in
+    All-from_recursion (λ piece. piece_end piece ≤ file.size) file.pieces (ends_by_size 0 file.size file.pieces whole)
 
 -- a file with given pieces in a range
 pub is_file-with_pieces : (generation from to : ℕ) (given : List Piece) (file : File) → is_aligned from ≡ true → is_aligned to ≡ true → to ≤ largest_size → are_pieces from to given ≡ true → is_file file ≡ true

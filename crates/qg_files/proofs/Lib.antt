@@ -8,3 +8,4 @@ pub mod Outcome
 pub mod Sectors
 pub mod Kept
 pub mod Puts
+pub mod Splits

@@ -1,14 +1,16 @@
-//! What is done to the pieces of one file: a range is cut out, a piece is put, a range is taken, the end is cut off.
+//! What is done to the pieces of one file: a range is cut out, a piece is put, a range is taken or only looked at, the end is cut off.
 #![tactic(auto)]
 
 mod cut;
 mod part;
 mod put;
 mod search;
+mod split;
 mod take;
 
 pub use cut::{cut_range, truncate};
 pub use put::put_piece;
+pub use split::{Split, split_range};
 pub use take::take_range;
 
 #[cfg(test)]

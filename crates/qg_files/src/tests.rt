@@ -1,7 +1,7 @@
 ghost use Rattle.std.specs.Prelude.{◌≡◌, ◌≤◌, ◌∷◌, [], IfOk};
 ghost use Rattle.qg_files.specs.Apart.{AreApart, AreApartFrom};
 
-use crate::{cut_range, put_piece, take_range, truncate};
+use crate::{cut_range, put_piece, split_range, take_range, truncate};
 use qg_num::{Address, Generation, NoMemory, Piece, Pieces};
 use std::alloc::Global;
 use std::test::Fail;
@@ -48,6 +48,21 @@ fn has(alloc: Global, from: u64, to: u64, taken: &[Piece]) -> Result<bool, NoMem
     let pieces = three_pieces(alloc)?;
     let part = take_range(alloc, &pieces, from, to)?;
     Ok(part.as_slice() == taken)
+}
+
+// Whether that is what a range takes out of the three pieces, and what rests of it.
+fn parts(
+    alloc: Global,
+    from: u64,
+    to: u64,
+    gone: &[Piece],
+    rests: &[Piece],
+) -> Result<bool, NoMemory>
+    requires { from ≤ to }
+{
+    let pieces = three_pieces(alloc)?;
+    let split = split_range(alloc, &pieces, from, to)?;
+    Ok(split.gone.as_slice() == gone && split.rests.as_slice() == rests)
 }
 
 // Whether that is what the three pieces have left before a size.
@@ -145,6 +160,47 @@ fn parts_taken(rt: HostRuntime) -> Result<(), Fail> {
     assert!(rt; has(alloc, 0, 40960, &[first, second, third])?);
     assert!(rt; has(alloc, 12288, 16384, &[])?);
     assert!(rt; has(alloc, 4096, 4096, &[])?);
+    Ok(())
+}
+
+#[test]
+fn ranges_take_out_whole_pieces(rt: HostRuntime) -> Result<(), Fail> {
+    let alloc = rt.alloc();
+    let first = piece(0, 8192, 4096);
+    let second = piece(8192, 4096, 0);
+    let third = piece(16384, 12288, 40960);
+    let front = piece(16384, 4096, 40960);
+    // All three with two rests, one in its midst, at its front, whole, none in the hole, and one in its midst for no byte.
+    assert!(rt;
+        parts(
+            alloc,
+            4096,
+            20480,
+            &[first, second, third],
+            &[piece(0, 4096, 4096), piece(20480, 8192, 45056)]
+        )?
+    );
+    assert!(rt;
+        parts(
+            alloc,
+            20480,
+            24576,
+            &[third],
+            &[front, piece(24576, 4096, 49152)]
+        )?
+    );
+    assert!(rt; parts(alloc, 12288, 20480, &[third], &[piece(20480, 8192, 45056)])?);
+    assert!(rt; parts(alloc, 8192, 16384, &[second], &[])?);
+    assert!(rt; parts(alloc, 12288, 16384, &[], &[])?);
+    assert!(rt;
+        parts(
+            alloc,
+            20480,
+            20480,
+            &[third],
+            &[front, piece(20480, 8192, 45056)]
+        )?
+    );
     Ok(())
 }
 

@@ -4,11 +4,11 @@ use Rattle.qg_num.specs.declared.command.Command.{Command}
 use Rattle.qg_num.specs.declared.command.Command.TheVariants.{Write, Clone, Truncate, Unlink, Commit, SubCreate, Snap, Delete, QuotaOn, QuotaOff, GroupCreate, GroupDestroy, Assign, Remove, Limit, Show, Ls, Owners}
 
 abbrev pub is_served : Command → Bool
-is_served (Write sub ino off len) = false
+is_served (Write sub ino off len) = true
 is_served (Clone sub ino off len to_sub to_ino to_off) = false
 is_served (Truncate sub ino size) = false
 is_served (Unlink sub ino) = false
-is_served Commit = false
+is_served Commit = true
 is_served SubCreate = false
 is_served (Snap sub groups) = false
 is_served (Delete sub) = false

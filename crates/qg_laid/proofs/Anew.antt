@@ -1,11 +1,11 @@
 -- Four trees that were built for a commit: an image that holds them is sound, and the machine's commit leaves its state.
-use Rattle.std.proofs.Common.{◌≡◌, ℕ, ◌+◌, ◌*◌, Bool, true, false, List, [], ◌∷◌, ◌++◌, map, length, take, drop, get_or, not, refl, sym, ap, subst}
+use Rattle.std.proofs.Common.{◌≡◌, ℕ, ◌+◌, ◌*◌, Bool, true, false, List, [], ◌∷◌, ◌++◌, map, length, take, drop, get_or, not, refl, sym, ap, subst, ◌∙◌}
 use Rattle.std.specs.Prelude.{◌&&◌, ◌||◌, is_some, Option, Some, None, Ok}
 use Rattle.std.specs.List.{All, Contains, filter_map, list_all}
 use Rattle.std.specs.List.Sorted.{IsPermutation}
 use Rattle.std.specs.Option.{option_map}
 use Rattle.std.proofs.lemmas.Bool.{and_from}
-use Rattle.std.proofs.lemmas.List.{take-append-drop}
+use Rattle.std.proofs.lemmas.List.{map-append, take-append-drop}
 use Rattle.std.proofs.lemmas.List.Elements.{All-contains, Contains-append_left, Contains-append_right, Contains-get_or}
 use Rattle.std.proofs.lemmas.List.Sorted.{Contains-permutation}
 use Rattle.qg_node.specs.declared.item.Item.{Item}
@@ -18,7 +18,7 @@ use Rattle.qg_super.specs.Places.{is_slot}
 use Rattle.qg_super.specs.SuperText.{sizes_of}
 use Rattle.qg_image.specs.FilesOf.{files_of}
 use Rattle.qg_image.specs.ItemMeaning.{quota_part}
-use Rattle.qg_image.specs.Table.{has_key, value_at}
+use Rattle.qg_image.specs.Table.{has_key, keys_of, value_at}
 use Rattle.qg_state.specs.declared.quota.Group.{Group}
 use Rattle.qg_state.specs.State.{Placed, State, Subvolume, next_generation}
 use Rattle.qg_state.specs.Counts.{bytes_of}
@@ -27,9 +27,11 @@ use Rattle.qg_verdict.specs.declared.expected.Expected.{Expected}
 use Rattle.qg_verdict.specs.declared.tree.Tree.{Tree}
 use Rattle.qg_verdict.specs.declared.tree.Tree.TheVariants.{Extents, Files, Quotas, Roots}
 use Rattle.qg_verdict.specs.StateOf.{StateOf}
-use Rattle.qg_verdict.specs.Verdict.{space_failure}
+use Rattle.qg_verdict.specs.Verdict.{IsSound, space_failure}
 use Rattle.qg_verdict.specs.Walk.{is_generation, is_item_of, is_owner, node_found, root_expected, root_told}
 use Rattle.qg_machine.specs.Layout.{is_other_slot}
+use Rattle.qg_machine.specs.Step.{Commits}
+use Rattle.qg_reach.specs.Sets.{HaveSame}
 use Rattle.qg_reach.proofs.Layouts.{node_at-layout_other}
 use Rattle.qg_reach.proofs.Members.{contains_map, one_mapped}
 use Rattle.qg_tree.specs.Build.{Allows}
@@ -37,12 +39,13 @@ use Rattle.qg_tree.specs.Row.{address_of}
 use Rattle.qg_check.specs.Trees.{addresses_of}
 use Rattle.qg_laid.specs.Holds.{HasCommit, IsTreeIn}
 use Rattle.qg_laid.proofs.Commits.{each_passes, free_is_slot, generation_to_come, items_hold, laid_out_as, top_level_number, Commits-laid}
+use Rattle.qg_laid.proofs.LayoutKeys.{layout-addresses, same-addresses, same-append}
 use Rattle.qg_laid.proofs.Rebuilt.{all_contained, each_contained, passes_all}
 use Rattle.qg_laid.proofs.Slots.{placed_apart}
 use Rattle.qg_laid.proofs.Sound.{HasSuper, HasTrees, laid_sound, laid_StateOf, others, state_laid}
 use Rattle.qg_laid.proofs.Told.{files_said}
 use Rattle.qg_laid.proofs.TreesIn.{IsBuiltFor, IsTreeIn-open, IsTreeIn-told, those_told}
-use Rattle.qg_laid.specs.Anew.{quota_parts_laid, extents_held, stamp_now, BuildsFiles, bytes_laid, BuildsOther, BuildsAnew, IsCommit}
+use Rattle.qg_laid.specs.Anew.{quota_parts_laid, extents_held, stamp_now, BuildsFiles, bytes_laid, BuildsOther, BuildsAnew}
 
 -- ---- the trees
 
@@ -127,9 +130,9 @@ files_for super old before items slots nodes root level sizes generation builds 
 }
 
 -- the tree, with its nodes in the order in which they were built
-record IsTold (tree : Tree) (super : Super) (image : List ℕ) (expected : Expected) (root : ℕ) (items : List Item) (nodes those : List Node) : Type 0 where
-  is : IsTreeIn tree super image expected root items nodes
-  order : is.those ≡ those
+pub record IsTold (tree : Tree) (super : Super) (image : List ℕ) (expected : Expected) (root : ℕ) (items : List Item) (nodes those : List Node) : Type 0 where
+  pub is : IsTreeIn tree super image expected root items nodes
+  pub order : is.those ≡ those
 
 told_by : (tree : Tree) (super : Super) (nodesize owner generation : ℕ) (items : List Item) (slots : List ℕ) (nodes : List Node) (root : RootItem)
     → (is : IsBuiltFor tree super nodesize owner generation items slots nodes root.bytenr root.level) → root.generation ≡ generation → (image : List ℕ)
@@ -154,22 +157,22 @@ module _ (old : State) (before : Subvolume) (group : Group) (super : Super) (nod
   found_first : All IsThere (b.root_nodes ++ b.extent_nodes)
   found_first = all_front IsThere (b.root_nodes ++ b.extent_nodes) b.quota_nodes found_others
 
-  root_tree : IsTreeIn Roots super image (root_expected None None) super.root b.root_items b.root_nodes
+  pub root_tree : IsTreeIn Roots super image (root_expected None None) super.root b.root_items b.root_nodes
   root_tree =
       let for_roots = other_for Roots super 1 old b.root_items b.root_slots b.file_slots b.root_nodes super.root b.root_level b.tells.sizes b.tells.generation b.roots in
       IsTreeIn-open Roots super old.sizes.nodesize 1 (next_generation old) b.root_items b.root_slots b.root_nodes super.root b.root_level for_roots image (all_front IsThere b.root_nodes b.extent_nodes found_first)
 
-  extent_tree : IsTold Extents super image (root_told b.extents) b.extents.bytenr [] b.extent_nodes b.empty.built.reached.those
+  pub extent_tree : IsTold Extents super image (root_told b.extents) b.extents.bytenr [] b.extent_nodes b.empty.built.reached.those
   extent_tree =
       let for_extents = other_for Extents super 2 old [] b.extent_slots b.file_slots b.extent_nodes b.extents.bytenr b.extents.level b.tells.sizes b.tells.generation b.empty in
       told_by Extents super old.sizes.nodesize 2 (next_generation old) [] b.extent_slots b.extent_nodes b.extents for_extents b.extents_made image (all_back IsThere b.root_nodes b.extent_nodes found_first)
 
-  quota_tree : IsTold Quotas super image (root_told b.quotas) b.quotas.bytenr b.quota_items b.quota_nodes b.counts.built.reached.those
+  pub quota_tree : IsTold Quotas super image (root_told b.quotas) b.quotas.bytenr b.quota_items b.quota_nodes b.counts.built.reached.those
   quota_tree =
       let for_quotas = other_for Quotas super 8 old b.quota_items b.quota_slots b.file_slots b.quota_nodes b.quotas.bytenr b.quotas.level b.tells.sizes b.tells.generation b.counts in
       told_by Quotas super old.sizes.nodesize 8 (next_generation old) b.quota_items b.quota_slots b.quota_nodes b.quotas for_quotas b.quotas_made image (all_back IsThere (b.root_nodes ++ b.extent_nodes) b.quota_nodes found_others)
 
-  file_tree : IsTold Files super image (root_told b.subvolume) b.subvolume.bytenr b.file_items b.file_nodes b.files.built.reached.those
+  pub file_tree : IsTold Files super image (root_told b.subvolume) b.subvolume.bytenr b.file_items b.file_nodes b.files.built.reached.those
   file_tree =
       let for_files = files_for super old before b.file_items b.file_slots b.file_nodes b.subvolume.bytenr b.subvolume.level b.tells.sizes b.tells.generation b.files in
       told_by Files super old.sizes.nodesize 5 (next_generation old) b.file_items b.file_slots b.file_nodes b.subvolume for_files b.subvolume_made image (all_back IsThere (b.root_nodes ++ b.extent_nodes ++ b.quota_nodes) b.file_nodes found)
@@ -182,7 +185,7 @@ module _ (old : State) (before : Subvolume) (group : Group) (super : Super) (nod
   abbrev stamp : ℕ
   stamp = stamp_now group bytes (next_generation old)
 
-  supers : HasSuper super image
+  pub supers : HasSuper super image
   supers = record { first = has.first; second = has.second; long = has.long }
 
   abbrev trees : HasTrees super image b.extents b.quotas b.subvolume stamp before.files
@@ -231,10 +234,36 @@ module _ (old : State) (before : Subvolume) (group : Group) (super : Super) (nod
   abbrev state_now : List Node → State
   state_now nodes = state_laid super all_others b.subvolume before.files nodes stamp bytes
 
-  pub IsCommit-anew : IsCommit old image
-  IsCommit-anew = record {
-    sound = laid_sound super image b.extents b.quotas b.subvolume stamp before.files supers trees;
-    state = state_now those;
-    stands = subst (λ (nodes : List Node). StateOf image (state_now nodes)) file_tree.order (laid_StateOf super image b.extents b.quotas b.subvolume stamp before.files supers trees);
-    commits = Commits-laid old before group b.file_items b.file_slots b.file_nodes b.subvolume.bytenr b.subvolume.level b.one b.files super b.subvolume all_others b.tells refl others_free;
-  }
+  -- the state of the image
+  abbrev pub state_anew : State
+  state_anew = state_now those
+
+  pub anew-sound : IsSound image
+  anew-sound = laid_sound super image b.extents b.quotas b.subvolume stamp before.files supers trees
+
+  pub anew-StateOf : StateOf image state_anew
+  anew-StateOf = subst (λ (nodes : List Node). StateOf image (state_now nodes)) file_tree.order (laid_StateOf super image b.extents b.quotas b.subvolume stamp before.files supers trees)
+
+  pub anew-Commits : Commits old state_anew
+  anew-Commits = Commits-laid old before group b.file_items b.file_slots b.file_nodes b.subvolume.bytenr b.subvolume.level b.one b.files super b.subvolume all_others b.tells refl others_free
+
+  -- its layout has the nodes of the files' tree, and the commit holds those of all trees
+  pub anew-nodes : HaveSame (keys_of state_anew.layout) (map address_of b.file_nodes)
+  anew-nodes = layout-addresses [] those b.file_nodes b.files.built.reached.same
+
+  others_same : HaveSame all_others (map address_of (b.root_nodes ++ b.extent_nodes ++ b.quota_nodes))
+  others_same =
+      let roots = same-addresses root_tree.those b.root_nodes root_tree.same in
+      let extents = same-addresses extent_tree.is.those b.extent_nodes extent_tree.is.same in
+      let quotas = same-addresses quota_tree.is.those b.quota_nodes quota_tree.is.same in
+      let first = same-append (addresses_of root_tree.those) (addresses_of extent_tree.is.those) (map address_of b.root_nodes) (map address_of b.extent_nodes) roots extents in
+      let all = same-append (addresses_of root_tree.those ++ addresses_of extent_tree.is.those) (addresses_of quota_tree.is.those)
+      (map address_of b.root_nodes ++ map address_of b.extent_nodes) (map address_of b.quota_nodes) first quotas in
+      rw (map-append address_of (b.root_nodes ++ b.extent_nodes) b.quota_nodes, map-append address_of b.root_nodes b.extent_nodes) all
+
+  pub anew-held : HaveSame state_anew.held.nodes (map address_of nodes)
+  anew-held =
+      let all = same-append all_others (keys_of state_anew.layout) (map address_of (b.root_nodes ++ b.extent_nodes ++ b.quota_nodes)) (map address_of b.file_nodes) others_same anew-nodes in
+      let front = b.root_nodes ++ b.extent_nodes ++ b.quota_nodes in
+      let are : map address_of front ++ map address_of b.file_nodes ≡ map address_of nodes = sym (map-append address_of front b.file_nodes) ∙ ap (map address_of) (sym b.all) in
+      subst (HaveSame state_anew.held.nodes) are all

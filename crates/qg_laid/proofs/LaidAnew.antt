@@ -1,6 +1,6 @@
 -- Trees that were laid out one behind the other are those of a commit that builds all anew.
 use Rattle.std.proofs.Common.{◌≡◌, ℕ, ◌+◌, Bool, true, false, inl, inr, List, [], ◌∷◌, ◌++◌, length, take, drop, refl, sym, ap, subst, ◌∙◌, eq-eqb, arith, take-append-drop}
-use Rattle.std.specs.Prelude.{◌==◌}
+use Rattle.std.specs.Prelude.{◌==◌, Some, None}
 use Rattle.std.specs.List.{AllByRecursion, Contains, IsDistinct, filter_map, list_all}
 use Rattle.std.proofs.lemmas.Bool.{and_parts, false≢true}
 use Rattle.std.proofs.lemmas.List.{length-take, take_all}
@@ -21,8 +21,9 @@ use Rattle.qg_image.specs.declared.part.QuotaPart.TheVariants.{Status, Info, Lim
 use Rattle.qg_image.specs.ItemMeaning.{quota_part}
 use Rattle.qg_state.specs.declared.element.Element.{Element}
 use Rattle.qg_state.specs.declared.quota.Group.{Group}
+use Rattle.qg_state.specs.declared.quota.Quota.{Quota}
 use Rattle.qg_state.specs.State.{State, Subvolume, next_generation}
-use Rattle.qg_state.specs.Space.{is_free_slot}
+use Rattle.qg_state.specs.Space.{is_free_slot, present_extents}
 use Rattle.qg_verdict.specs.declared.tree.Tree.{Tree}
 use Rattle.qg_verdict.specs.declared.tree.Tree.TheVariants.{Extents, Quotas, Roots}
 use Rattle.qg_verdict.specs.Walk.{is_item_of, is_owner}
@@ -30,10 +31,11 @@ use Rattle.qg_tree.specs.Build.{IsBuilt}
 use Rattle.qg_tree.proofs.Frame.{IsDistinct-front}
 use Rattle.qg_contents.specs.Written.{info_of, no_limit, status_at}
 use Rattle.qg_laid.specs.declared.laying.Laid.{Laid}
-use Rattle.qg_laid.specs.Anew.{BuildsAnew, BuildsFiles, BuildsOther, IsCommit, bytes_laid, quota_parts_laid, roots_laid, stamp_now}
-use Rattle.qg_laid.specs.Trees.{AreFor, AreTreesLaid, nodes_laid, root_of}
+use Rattle.qg_laid.specs.Anew.{BuildsAnew, BuildsFiles, BuildsOther, bytes_laid, one_group, quota_parts_laid, roots_laid, stamp_now}
+use Rattle.qg_laid.specs.Trees.{AreFor, AreTreesLaid, IsCommitOf, IsLaidState, nodes_laid, root_of}
 use Rattle.qg_laid.specs.Holds.{HasCommit}
-use Rattle.qg_laid.proofs.Anew.{IsCommit-anew}
+use Rattle.qg_laid.proofs.Anew.{anew-Commits, anew-StateOf, anew-held, anew-nodes, anew-sound, state_anew}
+use Rattle.qg_laid.proofs.Told.{quota_laid}
 
 -- ---- slots in front and behind
 
@@ -133,7 +135,7 @@ module _ (old : State) (before : Subvolume) (group : Group) (committed : Super) 
         ≡ quota_parts_laid (next_generation old) (stamp_now group (bytes_laid old before laid.files.nodes) (next_generation old)) (bytes_laid old before laid.files.nodes)
     told = rw (trees.stamped, trees.counted, is.counters_kept, is.stamp_kept, ← next, ← size, is.held, ← is.named) refl
 
-  pub laid-BuildsAnew : BuildsAnew old before group laid.superblock (nodes_laid laid)
+  abbrev laid-BuildsAnew : BuildsAnew old before group laid.superblock (nodes_laid laid)
   laid-BuildsAnew =
       let after_extents = drop (length laid.extents.nodes) behind in
       let after_quotas = drop (length laid.quotas.nodes) after_extents in
@@ -180,6 +182,44 @@ module _ (old : State) (before : Subvolume) (group : Group) (committed : Super) 
         all = refl;
       }
 
-  -- an image that holds them is what the machine's commit leaves
-  pub laid-IsCommit : (image : List ℕ) → HasCommit laid.superblock (nodes_laid laid) image → IsCommit old image
-  laid-IsCommit image has = IsCommit-anew old before group laid.superblock (nodes_laid laid) image laid-BuildsAnew has
+  -- ---- the state
+
+  module _ (image : List ℕ) (has : HasCommit laid.superblock (nodes_laid laid) image) where
+    abbrev state_laid : State
+    state_laid = state_anew old before group laid.superblock (nodes_laid laid) image laid-BuildsAnew has
+
+    one_subvolume : state_laid.subvolumes ≡ (TOP_LEVEL, record { files = files; root = laid.root.bytenr; last_snapshot = laid.root.last_snapshot }) ∷ []
+    one_subvolume = rw (is.held, trees.own_root) refl
+
+    group_now : quota_laid (stamp_now group (bytes_laid old before laid.files.nodes) (next_generation old)) (bytes_laid old before laid.files.nodes)
+        ≡ one_group (record { counters = laid.counters; max_rfer = None; max_excl = None; stamp = laid.stamp })
+    group_now = rw (trees.stamped, trees.counted, is.counters_kept, is.stamp_kept, ← next, ← size, is.held, ← is.named) refl
+
+    held_extents : state_laid.held.extents ≡ present_extents state_laid
+    unfolding present_extents
+    held_extents = refl
+
+    laid-IsLaidState : IsLaidState laid files state_laid
+    laid-IsLaidState =
+        let nodes = anew-nodes old before group laid.superblock (nodes_laid laid) image laid-BuildsAnew has in
+        let held = anew-held old before group laid.superblock (nodes_laid laid) image laid-BuildsAnew has in
+        record {
+          sizes = refl;
+          generation = refl;
+          subvolumes = one_subvolume;
+          quota = ap (λ (quota : Quota). Some quota) group_now;
+          pending = refl;
+          nodes = λ slot. (nodes.into slot, nodes.back slot);
+          held_nodes = λ slot. (held.into slot, held.back slot);
+          held_extents = held_extents;
+        }
+
+    -- an image that holds them is what the machine's commit leaves
+    pub laid-IsCommitOf : IsCommitOf old laid files image
+    laid-IsCommitOf = record {
+      sound = anew-sound old before group laid.superblock (nodes_laid laid) image laid-BuildsAnew has;
+      state = state_laid;
+      stands = anew-StateOf old before group laid.superblock (nodes_laid laid) image laid-BuildsAnew has;
+      commits = anew-Commits old before group laid.superblock (nodes_laid laid) image laid-BuildsAnew has;
+      laid_so = laid-IsLaidState;
+    }

@@ -4,6 +4,7 @@ pub mod Told
 pub mod Sound
 pub mod Rebuilt
 pub mod Commits
+pub mod LayoutKeys
 pub mod Anew
 pub mod Enough
 pub mod LaidAnew

@@ -22,10 +22,8 @@ use Rattle.qg_state.specs.Reach.{extent_of}
 use Rattle.qg_state.specs.Space.{is_free_slot}
 use Rattle.qg_verdict.specs.declared.tree.Tree.{Tree}
 use Rattle.qg_verdict.specs.declared.tree.Tree.TheVariants.{Extents, Quotas, Roots}
-use Rattle.qg_verdict.specs.StateOf.{StateOf}
-use Rattle.qg_verdict.specs.Verdict.{IsSound, extent_set, space_failure}
+use Rattle.qg_verdict.specs.Verdict.{extent_set, space_failure}
 use Rattle.qg_verdict.specs.Walk.{is_item_of, is_owner}
-use Rattle.qg_machine.specs.Step.{Commits}
 use Rattle.qg_tree.specs.Build.{IsBuilt}
 
 -- ---- what is told
@@ -126,10 +124,3 @@ pub record BuildsAnew (old : State) (before : Subvolume) (group : Group) (super 
   pub roots : BuildsOther Roots ROOT_TREE old root_items root_slots file_slots root_nodes super.root root_level
   pub named : filter_map root_part root_items ≡ roots_laid extents subvolume quotas
   pub all : nodes ≡ root_nodes ++ extent_nodes ++ quota_nodes ++ file_nodes
-
--- the image is sound, and the machine comes from the old state to the one that it stands for
-pub record IsCommit (old : State) (image : List ℕ) : Type 0 where
-  pub sound : IsSound image
-  pub state : State
-  pub stands : StateOf image state
-  pub commits : Commits old state

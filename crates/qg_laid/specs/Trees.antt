@@ -1,9 +1,10 @@
 -- The four trees that a commit builds, one behind the other in free slots (this project's own).
-use Rattle.std.specs.Prelude.{◌≡◌, ℕ, ◌+◌, ◌*◌, ◌≤◌, true, None, List, Some, [], ◌∷◌, ◌++◌, length, drop, ◌==◌, if◌then◌else◌, IsTrue}
-use Rattle.std.specs.List.{IsDistinct, filter_map, list_all}
+use Rattle.std.specs.Prelude.{◌≡◌, ◌↔◌, ℕ, ◌+◌, ◌*◌, ◌≤◌, true, None, List, Some, [], ◌∷◌, ◌++◌, map, length, drop, ◌==◌, if◌then◌else◌, IsTrue}
+use Rattle.std.specs.List.{Contains, IsDistinct, filter_map, list_all}
 use Rattle.qg_num.specs.declared.counters.Counters.{Counters}
 use Rattle.qg_node.specs.declared.item.Item.{Item}
 use Rattle.qg_node.specs.declared.node.Node.{Node}
+use Rattle.qg_node.specs.Nodes.{header_of}
 use Rattle.qg_items.specs.declared.root.RootItem.{RootItem}
 use Rattle.qg_items.specs.declared.tree.TheConstants.{ROOT_TREE, EXTENT_TREE, TOP_LEVEL, QUOTA_TREE}
 use Rattle.qg_super.specs.declared.superblock.Super.{Super}
@@ -11,18 +12,21 @@ use Rattle.qg_image.specs.declared.file.File.{File}
 use Rattle.qg_image.specs.declared.part.QuotaPart.TheVariants.{Status, Info, Limits}
 use Rattle.qg_image.specs.ItemMeaning.{quota_part, root_part}
 use Rattle.qg_image.specs.FilesOf.{files_of}
+use Rattle.qg_image.specs.Table.{keys_of}
 use Rattle.qg_super.specs.SuperText.{is_super, sizes_of}
 use Rattle.qg_state.specs.declared.element.Element.{Element}
 use Rattle.qg_state.specs.declared.quota.Group.{Group}
 use Rattle.qg_state.specs.State.{State, Subvolume}
-use Rattle.qg_state.specs.Space.{is_free_slot}
-use Rattle.qg_verdict.specs.Verdict.{space_failure}
-use Rattle.qg_laid.specs.Anew.{IsOne, extents_held}
+use Rattle.qg_state.specs.Space.{is_free_slot, present_extents}
+use Rattle.qg_verdict.specs.StateOf.{StateOf}
+use Rattle.qg_verdict.specs.Verdict.{IsSound, space_failure}
+use Rattle.qg_laid.specs.Anew.{IsOne, extents_held, one_group}
 use Rattle.qg_state.specs.Counts.{bytes_of}
 use Rattle.qg_verdict.specs.declared.tree.Tree.{Tree}
 use Rattle.qg_verdict.specs.declared.tree.Tree.TheVariants.{Extents, Files, Quotas, Roots}
 use Rattle.qg_verdict.specs.Walk.{is_item_of}
 use Rattle.qg_machine.specs.GroupChange.{same_counters}
+use Rattle.qg_machine.specs.Step.{Commits}
 use Rattle.qg_tree.specs.declared.building.Built.{Built}
 use Rattle.qg_tree.specs.Build.{IsBuilt}
 use Rattle.qg_contents.specs.Written.{info_of, no_limit, status_at}
@@ -100,3 +104,22 @@ pub record AreFor (old : State) (before : Subvolume) (group : Group) (committed 
   pub space : space_failure (sizes_of committed) extents ≡ None
   pub apart : IsDistinct (λ a b. a == b) slots
   pub free : IsTrue (list_all (is_free_slot old) slots)
+
+-- the state after a commit: its only subvolume has these files, its group these counters, and its trees lie where they were laid
+pub record IsLaidState (laid : Laid) (files : List (ℕ × File)) (state : State) : Type 0 where
+  pub sizes : sizes_of laid.superblock ≡ state.sizes
+  pub generation : laid.superblock.generation ≡ state.generation
+  pub subvolumes : state.subvolumes ≡ (TOP_LEVEL, record { files = files; root = laid.root.bytenr; last_snapshot = laid.root.last_snapshot }) ∷ []
+  pub quota : state.quota ≡ Some (one_group (record { counters = laid.counters; max_rfer = None; max_excl = None; stamp = laid.stamp }))
+  pub pending : state.pending ≡ []
+  pub nodes : (slot : ℕ) → Contains (keys_of state.layout) slot ↔ Contains (map (λ node. (header_of node).address) laid.files.nodes) slot
+  pub held_nodes : (slot : ℕ) → Contains state.held.nodes slot ↔ Contains (map (λ node. (header_of node).address) (nodes_laid laid)) slot
+  pub held_extents : state.held.extents ≡ present_extents state
+
+-- the image is sound, and the machine comes by a commit from the old state to the one that the image stands for, which is this
+pub record IsCommitOf (old : State) (laid : Laid) (files : List (ℕ × File)) (image : List ℕ) : Type 0 where
+  pub sound : IsSound image
+  pub state : State
+  pub stands : StateOf image state
+  pub commits : Commits old state
+  pub laid_so : IsLaidState laid files state

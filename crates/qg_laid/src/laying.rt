@@ -7,14 +7,12 @@ ghost use Rattle.qg_super.specs.SuperText.{is_super, sizes_of};
 ghost use Rattle.qg_state.specs.Counts.{bytes_of};
 ghost use Rattle.qg_state.specs.Need.{file_bytes, nodes_filled};
 ghost use Rattle.qg_state.specs.Reach.{extent_of};
-ghost use Rattle.qg_state.specs.State.{State};
 ghost use Rattle.qg_verdict.specs.Verdict.{extent_set, space_failure};
-ghost use Rattle.qg_contents.specs.Writable.{AreWritableFiles, IsFileBy};
+ghost use Rattle.qg_rules.specs.Writable.{AreWritableFiles, IsFileBy};
 ghost use Rattle.qg_state.specs.State.{State, Subvolume};
 ghost use Rattle.qg_state.specs.declared.quota.Group.{Group};
-ghost use Rattle.qg_laid.specs.Anew.{IsCommit};
 ghost use Rattle.qg_laid.specs.Holds.{HasCommit};
-ghost use Rattle.qg_laid.specs.Trees.{AreFor, AreEnough, AreTreesLaid, nodes_laid, stamp_after};
+ghost use Rattle.qg_laid.specs.Trees.{AreFor, AreEnough, AreTreesLaid, IsCommitOf, nodes_laid, stamp_after};
 
 use crate::trees::{NamedRoots, extent_tree, file_tree, quota_tree, root_of, root_tree};
 use qg_image::File;
@@ -74,7 +72,7 @@ pub fn lay_out(
     // What an image stands for that holds them.
     ensures committed { IfOk result (λ laid. (old : State) (before : Subvolume) (group : Group) (image : List ℕ)
         → AreFor old before group committed.now root.now files.now extents.now counters.now stamp slots.now
-        → HasCommit laid.superblock (nodes_laid laid) image → IsCommit old image) }
+        → HasCommit laid.superblock (nodes_laid laid) image → IsCommitOf old laid files.now image) }
 {
     let laid = lay_trees(
         alloc, committed, root, files, extents, counters, stamp, slots,

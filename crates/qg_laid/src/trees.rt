@@ -5,7 +5,8 @@ ghost use Rattle.qg_node.specs.NodeText.{IsNodeSize};
 ghost use Rattle.qg_items.specs.declared.tree.TheConstants.{EXTENT_TREE, QUOTA_TREE, ROOT_TREE, TOP_LEVEL};
 ghost use Rattle.qg_state.specs.Need.{file_bytes, nodes_filled};
 ghost use Rattle.qg_verdict.specs.declared.tree.Tree.TheVariants.{Extents, Files, Quotas, Roots};
-ghost use Rattle.qg_contents.specs.Writable.{AreWritableFiles, IsFileBy, IsRootBy, IsWritableRoot};
+ghost use Rattle.qg_rules.specs.Writable.{AreWritableFiles, IsFileBy};
+ghost use Rattle.qg_contents.specs.Writable.{IsRootBy, IsWritableRoot};
 ghost use Rattle.qg_laid.specs.Trees.{AreEnough, FilesTell, IsTreeOfItems, NoItems, QuotaTells, RootsTell, root_of};
 
 use qg_contents::{file_items, quota_items, root_items};

@@ -1,10 +1,12 @@
 -- What is named, by a list of what the pieces name.
-use Rattle.std.proofs.Common.{◌≡◌, ℕ, ◌+◌, ◌<◌, true, List, [], ◌∷◌, ◌++◌, sym, ap, subst, ◌∙◌, arith, inl, inr}
+use Rattle.std.proofs.Common.{◌≡◌, ℕ, ◌+◌, ◌<◌, ◌≤◌, true, List, length, [], ◌∷◌, ◌++◌, sym, ap, subst, ◌∙◌, arith, inl, inr}
 use Rattle.std.specs.Prelude.{◌↔◌, if◌then◌else◌}
 use Rattle.std.specs.List.{Contains, count_by}
 use Rattle.std.proofs.lemmas.Bool.{cases_Bool, cond-true, cond-false}
 use Rattle.std.proofs.lemmas.List.{append-nil}
-use Rattle.std.proofs.lemmas.List.Sums.{sum_by-append, sum_by-cons}
+use Rattle.std.specs.List.Sorted.{IsPermutation}
+use Rattle.std.proofs.lemmas.List.Sorted.{sum_by-IsPermutation}
+use Rattle.std.proofs.lemmas.List.Sums.{count_by-le-length, sum_by-append, sum_by-cons}
 use Rattle.qg_state.specs.declared.element.Element.{Element}
 use Rattle.qg_verdict.specs.Verdict.{same_extent}
 use Rattle.qg_reach.proofs.Members.{none_contained, contains_cases, contains_here, contains_later}
@@ -54,6 +56,63 @@ named_less old new extent front back more are other =
     let was : named_count old other ≡ count_by (same_extent other) (front ++ back) + one other extent = are other ∙ listed_within other extent front back in
     let is : named_count old other ≡ named_count new other + one other extent = more other in
     omega (arith, was, is)
+
+-- ---- a list in another order
+
+-- a list with the same extents in another order names each as often
+pub named_permuted : (named : List (Element × ℕ)) (extents others : List Element) → IsPermutation extents others → AreNamed named extents → AreNamed named others
+named_permuted named extents others moved are extent = are extent ∙ sym (sum_by-IsPermutation (one extent) extents others moved)
+
+-- so does one with two of its parts the other way round
+pub named_swapped : (named : List (Element × ℕ)) (front first second back : List Element) → AreNamed named (front ++ (first ++ (second ++ back))) → AreNamed named (front ++ (second ++ (first ++ back)))
+named_swapped named front first second back are extent =
+    omega (
+      arith,
+      are extent,
+      listed_both extent front (first ++ (second ++ back)),
+      listed_both extent first (second ++ back),
+      listed_both extent second back,
+      listed_both extent front (second ++ (first ++ back)),
+      listed_both extent second (first ++ back),
+      listed_both extent first back,
+    )
+
+-- ---- many extents more, or less
+
+-- some extents more are named, each as often as it is listed, and all others as often as before
+pub HasMore : List (Element × ℕ) → List (Element × ℕ) → List Element → Type 0
+HasMore old new extents = (other : Element) → named_count new other ≡ named_count old other + count_by (same_extent other) extents
+
+pub more_none : (named : List (Element × ℕ)) → HasMore named named []
+unfolding HasMore
+more_none named other = omega arith
+
+pub more_one : (old new : List (Element × ℕ)) (extent : Element) → HasOneMore old new extent → HasMore old new (extent ∷ [])
+unfolding HasMore
+more_one old new extent more other = omega (arith, more other, listed_first other extent [])
+
+-- some more, and then others more
+pub more_then : (old between new : List (Element × ℕ)) (extents others : List Element) → HasMore old between extents → HasMore between new others → HasMore old new (extents ++ others)
+unfolding HasMore
+more_then old between new extents others more then_more other = omega (arith, more other, then_more other, listed_both other extents others)
+
+-- some extents more, anywhere in the list
+pub named_with : (old new : List (Element × ℕ)) (front more back : List Element) → HasMore old new more → AreNamed old (front ++ back) → AreNamed new (front ++ (more ++ back))
+unfolding HasMore
+named_with old new front more back has are other =
+    omega (arith, has other, are other, listed_both other front back, listed_both other front (more ++ back), listed_both other more back)
+
+-- some extents less, anywhere in the list
+pub named_without : (old new : List (Element × ℕ)) (front less back : List Element) → HasMore new old less → AreNamed old (front ++ (less ++ back)) → AreNamed new (front ++ back)
+unfolding HasMore
+named_without old new front less back has are other =
+    omega (arith, has other, are other, listed_both other front back, listed_both other front (less ++ back), listed_both other less back)
+
+-- ---- how many there can be
+
+-- an extent is named no more often than there are extents
+pub named_few : (named : List (Element × ℕ)) (extents : List Element) (extent : Element) → AreNamed named extents → named_count named extent ≤ length extents
+named_few named extents extent are = omega (arith, are extent, count_by-le-length (same_extent extent) extents)
 
 -- ---- what is listed
 

@@ -4,4 +4,7 @@
 mod named;
 mod search;
 
-pub use named::{Named, name_all, named_by};
+pub use named::{Named, named_by};
+
+#[cfg(test)]
+mod tests;

@@ -1,5 +1,5 @@
 // How many pieces name each data extent.
-ghost use Rattle.std.specs.Prelude.{◌≡◌, ◌<◌, ◌↔◌, ◌++◌, List, map, IfOk, OnOk, OnErr, IsTrue};
+ghost use Rattle.std.specs.Prelude.{◌≡◌, ◌-◌, ◌^◌, ◌<◌, ◌↔◌, ◌++◌, map, IfOk, OnOk, OnErr, IsTrue};
 ghost use Rattle.std.specs.List.{flat_map};
 ghost use Rattle.qg_state.specs.declared.element.Element.{Element};
 ghost use Rattle.qg_state.specs.Reach.{extent_of};
@@ -52,17 +52,15 @@ impl Named {
         }
     }
 
-    /// One piece more names an extent. Memory is wanting too where a count would be 2^64, since so many pieces fit in none.
+    /// One piece more names an extent.
     pub fn add(&mut self, extent: &Element) -> Result<(), NoMemory>
+        requires room { named_count self.old extent.now < 2 ^ 64 - 1 }
         ensures ok { OnOk result (HasOneMore self.old self.new extent.now) }
         ensures err { OnErr result (self.new ≡ self.old) }
     {
         match entry_of(self.entries.as_slice(), extent) {
             Ok(index) => {
                 let count = self.entries.as_slice()[index].1;
-                if count == u64::MAX {
-                    return Err(NoMemory);
-                }
                 self.entries.set(index, (*extent, count + 1));
             }
             Err(index) => self.entries.insert(index, (*extent, 1))?,
@@ -91,26 +89,39 @@ impl Named {
     }
 }
 
-/// Adds the extents that pieces name.
-pub fn name_all(mut named: Named, pieces: &[Piece]) -> Result<Named, NoMemory>
-    ensures { IfOk result (λ all. (extents : List Element) → AreNamed named extents → AreNamed all (extents ++ map extent_of pieces.now)) }
-{
-    for piece in pieces {
-        named.add(&Element {
-            address: piece.extent,
-            bytes: piece.extent_bytes,
-        })?;
-    }
-    Ok(named)
-}
-
 /// How many pieces of some files name each extent.
 pub fn named_by(alloc: Global, files: &[(Ino, File)]) -> Result<Named, NoMemory>
     ensures { IfOk result (λ named. AreNamed named (flat_map (λ file. map extent_of file.1.pieces) files.now)) }
 {
-    let mut named = Named::new(alloc);
+    let mut extents = Vec::new(alloc);
     for file in files {
-        named = name_all(named, file.1.pieces.as_slice())?;
+        put_extents(&mut extents, file.1.pieces.as_slice())?;
+    }
+    // Of extents that ascend each is counted without a search.
+    extents.sort_unstable_by_key(|extent| (extent.address, extent.bytes));
+    count_all(alloc, extents.as_slice())
+}
+
+/// Puts the extents that pieces name at the end of a list.
+fn put_extents(extents: &mut Vec<Element>, pieces: &[Piece]) -> Result<(), NoMemory>
+    ensures { OnOk result (extents.new.items ≡ extents.old.items ++ map extent_of pieces.now) }
+{
+    for piece in pieces {
+        extents.push(Element {
+            address: piece.extent,
+            bytes: piece.extent_bytes,
+        })?;
+    }
+    Ok(())
+}
+
+/// How often each extent is listed.
+fn count_all(alloc: Global, extents: &[Element]) -> Result<Named, NoMemory>
+    ensures { IfOk result (λ named. AreNamed named extents.now) }
+{
+    let mut named = Named::new(alloc);
+    for extent in extents {
+        named.add(extent)?;
     }
     Ok(named)
 }

@@ -4,15 +4,22 @@ use Rattle.std.specs.List.{concat}
 use Rattle.std.specs.Io.KnownBytes.{append_known, IsAtEnd}
 use Rattle.std.proofs.Math.Seq.{take-append_seam, take-append-add}
 use Rattle.std.proofs.lemmas.List.{append-nil, length-append, take-append-le}
+use Rattle.qg_device.specs.History.{Event}
 use Rattle.qg_edge.specs.Appended.{AppendsFront}
 use Rattle.qg_grammar.specs.ScriptText.{script_lines, longest_script}
 use Rattle.qg_script.specs.Feeding.{Feeding, IsTooLong, IsWithinLimit}
 use Rattle.qg_script.specs.Lines.{LosesLine, pending, CountsTaken}
 use Rattle.qg_state.specs.State.{State}
 use Rattle.qg_machine.specs.Run.{Run}
+use Rattle.qg_commit.specs.Calls.{GoesOn}
+use Rattle.qg_commit.specs.Opened.{IsOpened}
+use Rattle.qg_store.specs.Making.{Makes}
+use Rattle.qg_store.specs.Stored.{Stored, IsStoreOf}
+use Rattle.qg_store.proofs.Synced.{Makes-append, synced-Makes}
 use Rattle.qg_program.specs.declared.status.Status.{Status}
 use Rattle.qg_program.specs.declared.status.Status.TheVariants as status
-use Rattle.qg_program.specs.Running.{Answers, IsTaken, PutsSome, PutsPart, ended_lines}
+use Rattle.qg_program.specs.Following.{Follows, MakesAll, MakesSome}
+use Rattle.qg_program.specs.Running.{IsTaken, PutsSome, PutsPart, ended_lines}
 use Rattle.qg_program.specs.Turning.{Turns, TurnsPart, IsTurn, FailsToTurn}
 use Rattle.qg_program.proofs.EndedLines.{ended_lines-line, ended_lines-none}
 use Rattle.qg_program.proofs.Steps.{append_known-nil, put-snoc, run-snoc}
@@ -26,28 +33,42 @@ pub record IsFront (input : List ℕ) (lines : List (List ℕ)) (left : List ℕ
   pub parted : input ≡ front ++ left
   pub ended : (tail : List ℕ) → ended_lines (front ++ tail) ≡ lines ++ ended_lines tail
 
--- some lines of the input were answered and their replies put; so much of it is left
-pub record HasAnswered (state : State) (input : List ℕ) (pend old new : Option (List ℕ)) : Type 0 where
+-- some lines of the input were answered and their replies put; so much of it is left. The store stands for the present state, and since it
+-- was opened the disk was made to hold what was committed
+pub record HasAnswered (state : State) (input : List ℕ) (opened : List Event) (pend : Option (List ℕ)) (store : Stored) (history : Option (List Event)) (old new : Option (List ℕ)) : Type 0 where
   pub left : List ℕ
   pub told : pend ≡ Some left
   pub lines : List (List ℕ)
   pub replies : List (List ℕ)
-  pub run : Run state lines replies [] state
+  pub commits : List State
+  pub present : State
+  pub run : Run state lines replies commits present
   pub put : new ≡ append_known old (concat replies)
   pub ahead : script_lines input ≡ lines ++ script_lines left
   pub limit : IsFront input lines left ⊎ (left ≡ [])
+  pub stands : IsStoreOf store present
+  pub events : List Event
+  pub known : history ≡ Some events
+  pub made : Makes commits opened events
 
 -- at the beginning
-pub answered-none : (state : State) (input : List ℕ) (pend old : Option (List ℕ)) → pend ≡ Some input → HasAnswered state input pend old old
-answered-none state input pend old told = record {
+pub answered-none : (state : State) (input : List ℕ) (opened : List Event) (pend : Option (List ℕ)) (store : Stored) (history : Option (List Event)) (old : Option (List ℕ))
+    → pend ≡ Some input → IsStoreOf store state → history ≡ Some opened → HasAnswered state input opened pend store history old old
+answered-none state input opened pend store history old told stands known = record {
   left = input;
   told = told;
   lines = [];
   replies = [];
+  commits = [];
+  present = state;
   run = (refl, refl);
   put = append_known-nil old;
   ahead = refl;
   limit = inl (record { front = []; parted = refl; ended = λ tail. refl });
+  stands = stands;
+  events = opened;
+  known = known;
+  made = refl;
 }
 
 -- a line that ended is one more in front
@@ -83,44 +104,85 @@ ahead-line : (input : List ℕ) (lines : List (List ℕ)) {line before after : L
 ahead-line input lines {line} {before} {after} ahead loses =
     ahead ∙ ap (λ (more : List (List ℕ)). lines ++ more) loses.first ∙ sym (append_assoc lines (line ∷ []) (script_lines after))
 
-answered-line : {state : State} {input after : List ℕ} {pend old mid new : Option (List ℕ)} → (so_far : HasAnswered state input pend old mid)
-    → Turns state so_far.left after mid new → HasAnswered state input (Some after) old new
-answered-line {state} {input} {after} {pend} {old} {mid} {new} so_far turns =
+answered-line : {state : State} {input after : List ℕ} {opened : List Event} {pend : Option (List ℕ)} {before store : Stored} {history told : Option (List Event)} {old mid new : Option (List ℕ)}
+    → (so_far : HasAnswered state input opened pend before history old mid)
+    → Turns so_far.present so_far.events so_far.left after store told mid new → HasAnswered state input opened (Some after) store told old new
+answered-line {state} {input} {after} {opened} {pend} {before} {store} {history} {told} {old} {mid} {new} so_far turns =
     let line = turns.replies.line in
     let loses = turns.replies.loses in
+    let is = turns.replies.answered in
     record {
       left = after;
       told = refl;
       lines = so_far.lines ++ line ∷ [];
       replies = so_far.replies ++ turns.reply ∷ [];
-      run = run-snoc state state state so_far.lines so_far.replies line turns.reply [] [] so_far.run turns.replies.turn;
+      commits = so_far.commits ++ is.commits;
+      present = is.new;
+      run = run-snoc state so_far.present is.new so_far.lines so_far.replies line turns.reply so_far.commits is.commits so_far.run is.turn;
       put = turns.put ∙ ap (λ (told : Option (List ℕ)). append_known told turns.reply) so_far.put ∙ put-snoc old so_far.replies turns.reply;
       ahead = ahead-line input so_far.lines so_far.ahead loses;
       limit = limit-line so_far.limit loses;
+      stands = is.stands;
+      events = is.later;
+      known = is.told;
+      made = Makes-append so_far.commits is.commits opened so_far.events is.later so_far.made is.made;
     }
 
 -- a turn that goes on
-pub answered-more : {state : State} {input : List ℕ} {pend old mid new : Option (List ℕ)} → (after : Option (List ℕ)) → (so_far : HasAnswered state input pend old mid)
-    → IsTurn true state so_far.left after mid new → HasAnswered state input after old new
+pub answered-more : {state : State} {input : List ℕ} {opened : List Event} {pend : Option (List ℕ)} {before store : Stored} {history told : Option (List Event)} {old mid new : Option (List ℕ)}
+    → (after : Option (List ℕ)) → (so_far : HasAnswered state input opened pend before history old mid)
+    → IsTurn true so_far.present so_far.events so_far.left after store told mid new → HasAnswered state input opened after store told old new
 answered-more None so_far turns = absurd turns
 answered-more (Some after) so_far turns = answered-line so_far turns
 
+-- ---- the end
+
+-- what was committed, and nothing else, was done to the disk
+made-all : {commits : List State} {events opened after : List Event} {history : Option (List Event)} → IsOpened events (Some opened)
+    → history ≡ Some after → Makes commits opened after → MakesAll commits events history
+made-all {commits} {events} {opened} {after} {history} opens told made = record {
+  opened = opened;
+  opens = opens;
+  after = after;
+  told = told;
+  made = made;
+  synced = synced-Makes commits opened after made;
+}
+
+-- and perhaps more
+made-first : {commits : List State} {events opened mid : List Event} {history : Option (List Event)} → IsOpened events (Some opened)
+    → Makes commits opened mid → GoesOn mid history → MakesSome commits events history
+made-first {commits} {events} {opened} {mid} {history} opens made more = inl (record {
+  opened = opened;
+  opens = opens;
+  mid = mid;
+  made = made;
+  synced = synced-Makes commits opened mid made;
+  more = more;
+})
+
 -- the turn that finds nothing left
-pub answered-all : {state : State} {input : List ℕ} {pend old mid new : Option (List ℕ)} → (after : Option (List ℕ)) → (so_far : HasAnswered state input pend old mid)
-    → IsTurn false state so_far.left after mid new → Answers status.Done state input [] old new
-answered-all {state} {input} {pend} {old} {mid} {new} after so_far over =
+pub answered-all : {state : State} {input : List ℕ} {events opened : List Event} {pend : Option (List ℕ)} {before : Stored} {history told : Option (List Event)} {old mid new : Option (List ℕ)}
+    → (after : Option (List ℕ)) (store : Stored) → (so_far : HasAnswered state input opened pend before history old mid) → IsOpened events (Some opened)
+    → IsTurn false so_far.present so_far.events so_far.left after store told mid new → Follows status.Done state input events told old new
+answered-all {state} {input} {events} {opened} {pend} {before} {history} {told} {old} {mid} {new} after store so_far opens over =
     let all : script_lines input ≡ so_far.lines =
     so_far.ahead ∙ ap (λ (bytes : List ℕ). so_far.lines ++ script_lines bytes) over.0 ∙ append-nil so_far.lines in
     record {
-      replies = so_far.replies;
-      after = state;
-      run = subst (λ (lines : List (List ℕ)). Run state lines so_far.replies [] state) (sym all) so_far.run;
-      put = over.2 ∙ so_far.put;
+      commits = so_far.commits;
+      answers = record {
+        replies = so_far.replies;
+        after = so_far.present;
+        run = subst (λ (lines : List (List ℕ)). Run state lines so_far.replies so_far.commits so_far.present) (sym all) so_far.run;
+        put = over.3 ∙ so_far.put;
+      };
+      made = made-all opens over.2 so_far.made;
     }
 
 -- whole replies up to a fault
-answered-some : {state : State} {input : List ℕ} {pend old mid new : Option (List ℕ)} → (so_far : HasAnswered state input pend old mid) → new ≡ mid
-    → PutsSome state (script_lines input) [] old new
+answered-some : {state : State} {input : List ℕ} {opened : List Event} {pend : Option (List ℕ)} {before : Stored} {history : Option (List Event)} {old mid new : Option (List ℕ)}
+    → (so_far : HasAnswered state input opened pend before history old mid) → new ≡ mid
+    → PutsSome state (script_lines input) so_far.commits old new
 answered-some {state} {input} so_far same =
     let front : take (length so_far.lines) (script_lines input) ≡ so_far.lines =
     ap (take (length so_far.lines)) so_far.ahead ∙ take-append_seam so_far.lines (script_lines so_far.left) in
@@ -128,28 +190,43 @@ answered-some {state} {input} so_far same =
       count = length so_far.lines;
       puts = record {
         replies = so_far.replies;
-        after = state;
-        run = subst (λ (lines : List (List ℕ)). Run state lines so_far.replies [] state) (sym front) so_far.run;
+        after = so_far.present;
+        run = subst (λ (lines : List (List ℕ)). Run state lines so_far.replies so_far.commits so_far.present) (sym front) so_far.run;
         put = same ∙ so_far.put;
       };
     }
 
 -- a front of the last reply
-answered-part : {state : State} {input : List ℕ} {pend old mid new : Option (List ℕ)} → (so_far : HasAnswered state input pend old mid)
-    → TurnsPart state so_far.left mid new → PutsPart state (script_lines input) [] old new
-answered-part {state} {input} {pend} {old} {mid} {new} so_far turns =
+answered-part : {state : State} {input : List ℕ} {opened : List Event} {pend : Option (List ℕ)} {before store : Stored} {history told : Option (List Event)} {old mid new : Option (List ℕ)}
+    → (so_far : HasAnswered state input opened pend before history old mid)
+    → (turns : TurnsPart so_far.present so_far.events so_far.left store told mid new)
+    → PutsPart state (script_lines input) (so_far.commits ++ turns.replies.answered.commits) old new
+answered-part {state} {input} {opened} {pend} {before} {store} {history} {told} {old} {mid} {new} so_far turns =
     let line = turns.replies.line in
+    let is = turns.replies.answered in
     let lines = so_far.lines ++ line ∷ [] in
     let front : take (length lines) (script_lines input) ≡ lines =
     ap (take (length lines)) (ahead-line input so_far.lines so_far.ahead turns.replies.loses) ∙ take-append_seam lines (script_lines turns.after) in
-    let run = run-snoc state state state so_far.lines so_far.replies line turns.reply [] [] so_far.run turns.replies.turn in
+    let run = run-snoc state so_far.present is.new so_far.lines so_far.replies line turns.reply so_far.commits is.commits so_far.run is.turn in
     record {
       count = length lines;
       replies = so_far.replies;
       last = turns.reply;
-      after = state;
-      run = subst (λ (answered : List (List ℕ)). Run state answered (so_far.replies ++ turns.reply ∷ []) [] state) (sym front) run;
-      put = subst (λ (told : Option (List ℕ)). AppendsFront told new turns.reply) so_far.put turns.put;
+      after = is.new;
+      run = subst (λ (answered : List (List ℕ)). Run state answered (so_far.replies ++ turns.reply ∷ []) (so_far.commits ++ is.commits) is.new) (sym front) run;
+      put = subst (λ (held : Option (List ℕ)). AppendsFront held new turns.reply) so_far.put turns.put;
+    }
+
+-- the sink failed
+failed-sink : {state : State} {input : List ℕ} {events opened : List Event} {pend : Option (List ℕ)} {before store : Stored} {history told : Option (List Event)} {old mid new : Option (List ℕ)}
+    → (so_far : HasAnswered state input opened pend before history old mid) → IsOpened events (Some opened)
+    → TurnsPart so_far.present so_far.events so_far.left store told mid new → Follows status.Sink state input events told old new
+failed-sink {state} {input} {events} {opened} so_far opens turns =
+    let is = turns.replies.answered in
+    record {
+      commits = so_far.commits ++ is.commits;
+      answers = answered-part so_far turns;
+      made = made-all opens is.told (Makes-append so_far.commits is.commits opened so_far.events is.later so_far.made is.made);
     }
 
 -- ---- a script that is too long
@@ -179,49 +256,55 @@ ended-at_limit {input} {rest} left {lines} {taken} is counted too_long held =
     ∙ append-nil lines
 
 -- the lines within the limit, where the input is too long
-answered-limit : {state : State} {input : List ℕ} {old mid : Option (List ℕ)} (feeding : Feeding) (left : Option (List ℕ))
-    → (so_far : HasAnswered state input (pending feeding left) old mid) → HasFed input feeding left → IsTooLong feeding
-    → ended_lines (take longest_script input) ≡ so_far.lines
-answered-limit feeding None so_far fed too_long = absurd fed.counted
-answered-limit {state} {input} {old} {mid} feeding (Some left) so_far fed too_long =
-    let is : feeding.rest ++ left ≡ so_far.left = some-injective so_far.told in
-    elim so_far.limit [
-      | inl front ↦ ended-at_limit left (subst (λ (bytes : List ℕ). IsFront input so_far.lines bytes) (sym is) front) fed.counted too_long fed.within.handed_out
+answered-limit : {input : List ℕ} {lines : List (List ℕ)} {rest : List ℕ} (feeding : Feeding) (left : Option (List ℕ)) → pending feeding left ≡ Some rest
+    → IsFront input lines rest ⊎ (rest ≡ []) → HasFed input feeding left → IsTooLong feeding → ended_lines (take longest_script input) ≡ lines
+answered-limit feeding None told limit fed too_long = absurd fed.counted
+answered-limit {input} {lines} {rest} feeding (Some left) told limit fed too_long =
+    let is : feeding.rest ++ left ≡ rest = some-injective told in
+    elim limit [
+      | inl front ↦ ended-at_limit left (subst (λ (bytes : List ℕ). IsFront input lines bytes) (sym is) front) fed.counted too_long fed.within.handed_out
       | inr nothing ↦
           let none : length feeding.rest + length left ≡ 0 = sym (length-append feeding.rest left) ∙ ap length (is ∙ nothing) in
           absurd (omega (arith, none, fed.within.handed_out, too_long.taken))
     ]
 
 -- a turn that fails
-pub answered-failed : {state : State} {input : List ℕ} {pend old mid : Option (List ℕ)} → (end : Status) (feeding : Feeding) (left new : Option (List ℕ))
-    → (so_far : HasAnswered state input pend old mid) → HasFed input feeding left → (end ≡ status.TooLong → IsTooLong feeding)
-    → FailsToTurn end state so_far.left (pending feeding left) mid new → Answers end state input [] old new
-answered-failed status.Sink feeding left new so_far fed too_long fails = answered-part so_far fails
-answered-failed status.NoMemory feeding left new so_far fed too_long fails = answered-some so_far fails
-answered-failed status.Source feeding left new so_far fed too_long fails = answered-some so_far fails
-answered-failed {state} {input} {pend} {old} {mid} status.TooLong feeding left new so_far fed too_long fails =
-    let there : HasAnswered state input (pending feeding left) old mid = record {
-      left = so_far.left;
-      told = fails.0;
-      lines = so_far.lines;
-      replies = so_far.replies;
-      run = so_far.run;
-      put = so_far.put;
-      ahead = so_far.ahead;
-      limit = so_far.limit;
-    } in
-    let lines = answered-limit feeding left there fed (too_long refl) in
+pub answered-failed : {state : State} {input : List ℕ} {events opened : List Event} {pend : Option (List ℕ)} {before : Stored} {history told : Option (List Event)} {old mid new : Option (List ℕ)}
+    → (end : Status) (feeding : Feeding) (left : Option (List ℕ)) (store : Stored) → (so_far : HasAnswered state input opened pend before history old mid)
+    → IsOpened events (Some opened) → HasFed input feeding left → (end ≡ status.TooLong → IsTooLong feeding)
+    → FailsToTurn end so_far.present so_far.events so_far.left (pending feeding left) store told mid new → Follows end state input events told old new
+answered-failed status.Sink feeding left store so_far opens fed too_long fails = failed-sink so_far opens fails
+answered-failed status.Source feeding left store so_far opens fed too_long fails = record {
+  commits = so_far.commits;
+  answers = answered-some so_far fails.1;
+  made = made-all opens fails.0 so_far.made;
+}
+answered-failed status.NoMemory feeding left store so_far opens fed too_long fails = record {
+  commits = so_far.commits;
+  answers = answered-some so_far fails.1;
+  made = made-first opens so_far.made fails.0;
+}
+answered-failed status.Disk feeding left store so_far opens fed too_long fails = record {
+  commits = so_far.commits;
+  answers = answered-some so_far fails.1;
+  made = made-first opens so_far.made fails.0;
+}
+answered-failed {state} {input} status.TooLong feeding left store so_far opens fed too_long fails =
+    let lines = answered-limit feeding left fails.0 so_far.limit fed (too_long refl) in
     record {
-      replies = so_far.replies;
-      after = state;
-      run = subst (λ (lines : List (List ℕ)). Run state lines so_far.replies [] state) (sym lines) so_far.run;
-      put = fails.1 ∙ so_far.put;
+      commits = so_far.commits;
+      answers = record {
+        replies = so_far.replies;
+        after = so_far.present;
+        run = subst (λ (lines : List (List ℕ)). Run state lines so_far.replies so_far.commits so_far.present) (sym lines) so_far.run;
+        put = fails.2 ∙ so_far.put;
+      };
+      made = made-all opens fails.1 so_far.made;
     }
-answered-failed status.Done feeding left new so_far fed too_long fails = absurd fails
-answered-failed status.Words feeding left new so_far fed too_long fails = absurd fails
-answered-failed status.Image feeding left new so_far fed too_long fails = absurd fails
-answered-failed status.Disk feeding left new so_far fed too_long fails = absurd fails
-answered-failed status.Sizes feeding left new so_far fed too_long fails = absurd fails
+answered-failed status.Done feeding left store so_far opens fed too_long fails = absurd fails
+answered-failed status.Words feeding left store so_far opens fed too_long fails = absurd fails
+answered-failed status.Image feeding left store so_far opens fed too_long fails = absurd fails
+answered-failed status.Sizes feeding left store so_far opens fed too_long fails = absurd fails
 
 -- ---- how many bytes were taken
 

@@ -1,22 +1,21 @@
 -- An image that was opened, and one that was not.
-use Rattle.std.proofs.Common.{◌≡◌, ℕ, List, Option, Some, None, refl, ap, ◌∙◌}
+use Rattle.std.proofs.Common.{◌≡◌, ◌⊎◌, ℕ, List, [], Option, Some, None, inl, inr, refl, sym, ◌∙◌, subst}
 use Rattle.qg_device.specs.History.{Event}
 use Rattle.qg_super.specs.declared.superblock.Super.{Super}
 use Rattle.qg_state.specs.State.{State}
 use Rattle.qg_verdict.specs.StateOf.{StateOf, state_in, super_of}
 use Rattle.qg_verdict.specs.Verdict.{IsSound}
-use Rattle.qg_check.specs.IsImage.{IsImage}
-use Rattle.qg_check.specs.declared.image.Image.{Image}
+use Rattle.qg_grammar.specs.ScriptText.{script_lines}
 use Rattle.qg_check.proofs.Verdicts.{verdict_none}
 use Rattle.qg_commit.specs.declared.fault.OpenFault.{OpenFault}
 use Rattle.qg_commit.specs.declared.fault.OpenFault.TheVariants as opening
+use Rattle.qg_commit.specs.Calls.{GoesOn}
 use Rattle.qg_commit.specs.Opening.{IsUntouched}
-
--- quota is on in what a sound image stands for, and is what was read
-pub kept-quota : {bytes : List ℕ} {image : Image} {state : State} → IsImage bytes image → StateOf bytes state → state.quota ≡ Some image.quota
-kept-quota {bytes} {image} {state} is stands =
-    let same : stands.super ≡ image.superblock = cc in
-    ap (λ (kept : State). kept.quota) (stands.stands ∙ ap (λ (super : Super). state_in super bytes) same ∙ is.kept.state)
+use Rattle.qg_program.specs.declared.status.Status.{Status}
+use Rattle.qg_program.specs.declared.status.Status.TheVariants as status
+use Rattle.qg_program.specs.Following.{Follows}
+use Rattle.qg_program.specs.Running.{PutsSome}
+use Rattle.qg_program.proofs.Steps.{append_known-nil}
 
 -- a sound image stands for a state
 state-found : (bytes : List ℕ) (found : Option Super) → super_of bytes ≡ found → IsSound bytes → (state : State) × StateOf bytes state
@@ -33,3 +32,20 @@ untouched-judged (opening.Broken rule address) same disk memory = same
 untouched-judged (opening.Differs group which stored counted) same disk memory = same
 untouched-judged opening.Disk same disk memory = absurd (disk refl)
 untouched-judged opening.NoMemory same disk memory = absurd (memory refl)
+
+-- no line was answered
+puts-none : (state : State) (lines : List (List ℕ)) (old new : Option (List ℕ)) → new ≡ old → PutsSome state lines [] old new
+puts-none state lines old new same = record {
+  count = 0;
+  puts = record { replies = []; after = state; run = (refl, refl); put = same ∙ append_known-nil old };
+}
+
+-- a sound image that was not opened: no line was answered, and nothing was committed
+pub follows-unopened : (end : Status) {state : State} {input : List ℕ} {events : List Event} {history : Option (List Event)} {old new : Option (List ℕ)}
+    → (end ≡ status.Disk) ⊎ (end ≡ status.NoMemory) → GoesOn events history → new ≡ old → Follows end state input events history old new
+follows-unopened end {state} {input} {events} {history} {old} {new} (inl is) later same =
+    subst (λ (end : Status). Follows end state input events history old new) (sym is)
+    (record { commits = []; answers = puts-none state (script_lines input) old new same; made = inr (refl, later) })
+follows-unopened end {state} {input} {events} {history} {old} {new} (inr is) later same =
+    subst (λ (end : Status). Follows end state input events history old new) (sym is)
+    (record { commits = []; answers = puts-none state (script_lines input) old new same; made = inr (refl, later) })

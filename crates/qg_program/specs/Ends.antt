@@ -29,14 +29,6 @@ is_told Image = true
 is_told NoMemory = true
 is_told _ = false
 
--- the image was opened: some line was asked for
-abbrev pub is_opened : Status → Bool
-is_opened Done = true
-is_opened Source = true
-is_opened Sink = true
-is_opened TooLong = true
-is_opened _ = false
-
 -- the image was looked at whole and refused: some line was to be put
 abbrev pub is_judged : Status → Bool
 is_judged Image = true
@@ -77,6 +69,16 @@ is_refusers NoMemory = true
 is_refusers Sink = true
 is_refusers Disk = true
 is_refusers _ = false
+
+-- the ends of a run that answers lines
+abbrev pub is_answerers : Status → Bool
+is_answerers Done = true
+is_answerers NoMemory = true
+is_answerers Source = true
+is_answerers Sink = true
+is_answerers Disk = true
+is_answerers TooLong = true
+is_answerers _ = false
 
 -- the ends of a run
 abbrev pub is_runners : Status → Bool

@@ -3,4 +3,4 @@ pub mod Ends
 pub mod Putting
 pub mod Running
 pub mod Turning
-pub mod Opened
+pub mod Following

@@ -1,42 +1,64 @@
--- One turn of a run (this project's own): the next line is taken and answered. Nothing is committed so far, and the state stays.
-use Rattle.std.specs.Prelude.{◌≡◌, ℕ, Bool, true, false, List, [], Option, Some, None}
+-- One turn of a run (this project's own): the next line is taken and answered.
+use Rattle.std.specs.Prelude.{◌≡◌, ℕ, ◌≤◌, Bool, true, false, List, [], Option, Some, None}
 use Rattle.std.specs.Io.KnownBytes.{append_known}
+use Rattle.qg_device.specs.History.{Event}
+use Rattle.qg_super.specs.Places.{total_bytes}
 use Rattle.qg_edge.specs.Appended.{AppendsFront}
 use Rattle.qg_script.specs.Lines.{LosesLine}
 use Rattle.qg_state.specs.State.{State}
 use Rattle.qg_machine.specs.Run.{Turn}
+use Rattle.qg_commit.specs.Calls.{GoesOn}
+use Rattle.qg_store.specs.Making.{Makes}
+use Rattle.qg_store.specs.Stored.{Stored, IsStoreOf, sizes_stored}
 use Rattle.qg_program.specs.declared.status.Status.{Status}
-use Rattle.qg_program.specs.declared.status.Status.TheVariants.{NoMemory, Source, Sink, TooLong}
+use Rattle.qg_program.specs.declared.status.Status.TheVariants.{NoMemory, Source, Sink, Disk, TooLong}
+
+-- a store has not stopped, and its disk of so many bytes has all of its image
+pub record IsReady (store : Stored) (size : ℕ) : Type 0 where
+  pub running : store.stopped ≡ None
+  pub long : total_bytes (sizes_stored store) ≤ size
+
+-- the machine answers a line by this reply; the store stands for the state that it comes to, and the disk was made to hold what it commits
+pub record IsReply (old : State) (events : List Event) (line reply : List ℕ) (store : Stored) (history : Option (List Event)) : Type 0 where
+  pub new : State
+  pub commits : List State
+  pub turn : Turn old line reply commits new
+  pub stands : IsStoreOf store new
+  pub later : List Event
+  pub told : history ≡ Some later
+  pub made : Makes commits events later
 
 -- the first line of what was pending has this reply
-pub record Replies (state : State) (before after reply : List ℕ) : Type 0 where
+pub record Replies (old : State) (events : List Event) (before after reply : List ℕ) (store : Stored) (history : Option (List Event)) : Type 0 where
   pub line : List ℕ
   pub loses : LosesLine before after line
-  pub turn : Turn state line reply [] state
+  pub answered : IsReply old events line reply store history
 
 -- and the reply was put
-pub record Turns (state : State) (before after : List ℕ) (old new : Option (List ℕ)) : Type 0 where
+pub record Turns (old : State) (events : List Event) (before after : List ℕ) (store : Stored) (history : Option (List Event)) (held now : Option (List ℕ)) : Type 0 where
   pub reply : List ℕ
-  pub replies : Replies state before after reply
-  pub put : new ≡ append_known old reply
+  pub replies : Replies old events before after reply store history
+  pub put : now ≡ append_known held reply
 
 -- and a front of it was put
-pub record TurnsPart (state : State) (before : List ℕ) (old new : Option (List ℕ)) : Type 0 where
+pub record TurnsPart (old : State) (events : List Event) (before : List ℕ) (store : Stored) (history : Option (List Event)) (held now : Option (List ℕ)) : Type 0 where
   pub after : List ℕ
   pub reply : List ℕ
-  pub replies : Replies state before after reply
-  pub put : AppendsFront old new reply
+  pub replies : Replies old events before after reply store history
+  pub put : AppendsFront held now reply
 
--- a line was answered; where there was none, nothing was put
-abbrev pub IsTurn : Bool → State → List ℕ → Option (List ℕ) → Option (List ℕ) → Option (List ℕ) → Type 0
-IsTurn true state before (Some after) old new = Turns state before after old new
-IsTurn true state before None old new = ⊥
-IsTurn false state before after old new = (before ≡ []) × (after ≡ Some []) × (new ≡ old)
+-- a line was answered; where there was none, nothing was put and nothing was done to the disk
+abbrev pub IsTurn : Bool → State → List Event → List ℕ → Option (List ℕ) → Stored → Option (List Event) → Option (List ℕ) → Option (List ℕ) → Type 0
+IsTurn true old events before (Some after) store history held now = Turns old events before after store history held now
+IsTurn true old events before None store history held now = ⊥
+IsTurn false old events before after store history held now = (before ≡ []) × (after ≡ Some []) × (history ≡ Some events) × (now ≡ held)
 
--- a turn that fails
-abbrev pub FailsToTurn : Status → State → List ℕ → Option (List ℕ) → Option (List ℕ) → Option (List ℕ) → Type 0
-FailsToTurn Sink state before after old new = TurnsPart state before old new
-FailsToTurn NoMemory state before after old new = new ≡ old
-FailsToTurn Source state before after old new = new ≡ old
-FailsToTurn TooLong state before after old new = (after ≡ Some before) × (new ≡ old)
-FailsToTurn _ state before after old new = ⊥
+-- A turn that fails. Where the sink failed, the line was answered but for its reply. Where no line was read, nothing was done; else perhaps
+-- some calls of a commit.
+abbrev pub FailsToTurn : Status → State → List Event → List ℕ → Option (List ℕ) → Stored → Option (List Event) → Option (List ℕ) → Option (List ℕ) → Type 0
+FailsToTurn Sink old events before after store history held now = TurnsPart old events before store history held now
+FailsToTurn Source old events before after store history held now = (history ≡ Some events) × (now ≡ held)
+FailsToTurn TooLong old events before after store history held now = (after ≡ Some before) × (history ≡ Some events) × (now ≡ held)
+FailsToTurn NoMemory old events before after store history held now = GoesOn events history × (now ≡ held)
+FailsToTurn Disk old events before after store history held now = GoesOn events history × (now ≡ held)
+FailsToTurn _ old events before after store history held now = ⊥

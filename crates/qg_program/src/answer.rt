@@ -1,60 +1,42 @@
 // A line is answered.
-ghost use Rattle.std.specs.Prelude.{◌≡◌, ◌++◌, Some, IfOk, OnOk, []};
-ghost use Rattle.qg_num.specs.declared.answer.Answer.TheVariants.{Shown};
-ghost use Rattle.qg_grammar.specs.ReplyText.{reply_text};
+ghost use Rattle.std.specs.Prelude.{◌≡◌, ◌⊎◌, List, Some, IfErr, OnOk};
+ghost use Rattle.qg_device.specs.Cause.{HasCause};
+ghost use Rattle.qg_device.specs.History.{Event};
 ghost use Rattle.qg_state.specs.State.{State};
-ghost use Rattle.qg_machine.specs.Run.{Turn};
-ghost use Rattle.qg_machine.specs.Step.{row_of, rows_of};
+ghost use Rattle.qg_commit.specs.Calls.{GoesOn};
+ghost use Rattle.qg_store.specs.Stored.{IsStoreOf};
+ghost use Rattle.qg_program.specs.Turning.{IsReady, IsReply};
 
-use qg_num::{Answer, Command, GroupId, NoMemory, Row, Rows};
+use crate::Status;
+use crate::session::Session;
+use qg_disk::Disk;
 use qg_script::{Text, parse_line, write_no_line, write_reply};
-use qg_state::{Group, Quota};
 use std::alloc::Global;
+use std::sync::ledger::Ledger;
 
-// What is shown of a group.
-fn row_of(entry: &(GroupId, Group)) -> Row
-    ensures { result ≡ row_of entry.now }
-{
-    Row {
-        group: entry.0,
-        counters: entry.1.counters,
-        max_rfer: entry.1.max_rfer,
-        max_excl: entry.1.max_excl,
-    }
-}
-
-// The stored counters and limits of each group.
-fn shown(alloc: Global, quota: &Quota) -> Result<Answer, NoMemory>
-    ensures { IfOk result (λ answer. answer ≡ Shown (rows_of (Some quota.now))) }
-{
-    let mut rows = Rows::new(alloc);
-    for entry in quota.groups.as_slice() {
-        rows.push(row_of(entry))?;
-    }
-    Ok(Answer::Shown(rows))
-}
-
-// Adds the reply to `show`.
-fn write_show(alloc: Global, quota: &Quota, text: &mut Text) -> Result<(), NoMemory>
-    ensures { OnOk result (text.new ≡ text.old ++ reply_text (Shown (rows_of (Some quota.now)))) }
-{
-    let answer = shown(alloc, quota)?;
-    write_reply(&answer, text)
-}
-
-/// Makes a text the reply to a line, where quota is on and is this.
-pub(crate) fn answer_line(
+/// Does or refuses the command of a line, if it has one, and makes a text the reply; `Err` says how the program ends.
+pub(crate) fn answer_line<D: Disk, L: Ledger, M: Ledger>(
     alloc: Global,
-    quota: &Quota,
+    session: &mut Session<L, M>,
+    disk: &mut D,
     line: &[u8],
     text: &mut Text,
-) -> Result<(), NoMemory>
-    ensures { (state : State) → state.quota ≡ Some quota.now → OnOk result (Turn state line.now text.new [] state) }
+) -> Result<(), Status>
+    requires { IsReady session.old.store (D.size disk.old) }
+    ensures reply { (state : State) (events : List Event) → IsStoreOf session.old.store state → D.history disk.old ≡ Some events
+        → OnOk result (IsReply state events line.now text.new session.new.store (D.history disk.new)) }
+    ensures later { (events : List Event) → D.history disk.old ≡ Some events → GoesOn events (D.history disk.new) }
+    ensures ready { OnOk result (IsReady session.new.store (D.size disk.new)) }
+    ensures ends { IfErr result (λ status. (status ≡ Status.Disk) ⊎ (status ≡ Status.NoMemory)) }
+    ensures cause { HasCause Status.Disk (D.faults disk.old) (D.faults disk.new) result }
 {
     text.clear();
     match parse_line(alloc, line)? {
-        Some(Command::Show) => write_show(alloc, quota, text),
-        Some(_) => unreachable!(),
-        None => write_no_line(text),
+        Some(command) => {
+            let answer = session.apply(disk, &command)?;
+            write_reply(&answer, text)?;
+        }
+        None => write_no_line(text)?,
     }
+    Ok(())
 }

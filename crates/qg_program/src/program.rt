@@ -15,10 +15,10 @@ ghost use Rattle.qg_commit.specs.Fresh.{fresh_nodes, fresh_super};
 ghost use Rattle.qg_commit.specs.Mkfs.{HoldsFreshImage};
 ghost use Rattle.qg_words.specs.Words.{texts, HaveForm};
 ghost use Rattle.qg_program.specs.Words.{AskServed, AskToMake, AskToRun, AskUnserved};
-ghost use Rattle.qg_program.specs.Ends.{is_judged, is_made, is_opened, is_refused, is_settled, is_told};
-ghost use Rattle.qg_program.specs.Opened.{IsOpened};
+ghost use Rattle.qg_program.specs.Ends.{is_judged, is_made, is_refused, is_settled, is_told};
 ghost use Rattle.qg_program.specs.Putting.{PutsFailure, Refuses, SaysMade, failure_text};
-ghost use Rattle.qg_program.specs.Running.{Answers, IsTaken};
+ghost use Rattle.qg_program.specs.Following.{Follows};
+ghost use Rattle.qg_program.specs.Running.{IsTaken};
 
 use crate::Status;
 use crate::make::make;
@@ -54,12 +54,11 @@ pub fn run_program<D: Disk, S: Source, K: Sink>(
         → SaysMade result (K.bytes_held sink.old) (K.bytes_held sink.new) }
     ensures unread { (sizes : Sizes) → AskToMake words.now.items sizes → source.new ≡ source.old }
 
-    // A run over a sound image answers as the machine does from the state that the image stands for.
-    ensures answers { (events : List Event) (input : List ℕ) (state : State) → AskToRun words.now.items
+    // A run over a sound image follows the machine from the state that the image stands for.
+    ensures follows { (events : List Event) (input : List ℕ) (state : State) → AskToRun words.now.items
         → D.history disk.old ≡ Some events → S.bytes_left source.old ≡ Some input → IsSound (content events)
-        → StateOf (content events) state → Answers result state input [] (K.bytes_held sink.old) (K.bytes_held sink.new) }
-    ensures opened { (events : List Event) → AskToRun words.now.items → D.history disk.old ≡ Some events
-        → IsSound (content events) → IsTrue (is_opened result) → IsOpened events (D.history disk.new) }
+        → StateOf (content events) state
+        → Follows result state input events (D.history disk.new) (K.bytes_held sink.old) (K.bytes_held sink.new) }
     ensures takes { AskToRun words.now.items → IsTaken result (S.bytes_left source.old) (S.bytes_left source.new) }
 
     // A run over any other image says the first failure.

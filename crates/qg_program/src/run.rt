@@ -8,19 +8,22 @@ ghost use Rattle.qg_verdict.specs.Verdict.{IsSound, verdict};
 ghost use Rattle.qg_verdict.specs.declared.failure.Failure.{Failure};
 ghost use Rattle.qg_commit.specs.declared.fault.OpenFault.TheVariants as opening;
 ghost use Rattle.qg_commit.specs.Opening.{IsRefusal};
-ghost use Rattle.qg_program.specs.Ends.{is_judged, is_opened, is_refusers, is_runners};
-ghost use Rattle.qg_program.specs.Opened.{IsOpened};
+ghost use Rattle.qg_program.specs.Ends.{is_judged, is_refusers, is_runners};
+ghost use Rattle.qg_program.specs.Following.{Follows};
 ghost use Rattle.qg_program.specs.Putting.{PutsFailure, Refuses, failure_text};
-ghost use Rattle.qg_program.specs.Running.{Answers, IsTaken};
+ghost use Rattle.qg_program.specs.Running.{IsTaken};
 
 use crate::Status;
 use crate::put::put;
 use crate::turn::answer_lines;
-use qg_commit::{OpenFault, open};
+use qg_commit::OpenFault;
 use qg_disk::Disk;
 use qg_edge::{Sink, Source};
 use qg_script::{Text, write_broken, write_differs};
+use qg_store::Store;
 use std::alloc::Global;
+use std::marker::Brand;
+use std::sync::ledger::Blank;
 
 /// Opens the image, and answers the lines of the source; of an image that is not sound it says why.
 pub(crate) fn run<D: Disk, S: Source, K: Sink>(
@@ -29,15 +32,13 @@ pub(crate) fn run<D: Disk, S: Source, K: Sink>(
     source: &mut S,
     sink: &mut K,
 ) -> Status
-    ensures answers { (events : List Event) (input : List ℕ) (state : State) → D.history disk.old ≡ Some events
+    ensures follows { (events : List Event) (input : List ℕ) (state : State) → D.history disk.old ≡ Some events
         → S.bytes_left source.old ≡ Some input → IsSound (content events) → StateOf (content events) state
-        → Answers result state input [] (K.bytes_held sink.old) (K.bytes_held sink.new) }
+        → Follows result state input events (D.history disk.new) (K.bytes_held sink.old) (K.bytes_held sink.new) }
     ensures refuses { (events : List Event) (failure : Failure) → D.history disk.old ≡ Some events
         → verdict (content events) ≡ Some failure
         → Refuses result (failure_text failure) (K.bytes_held sink.old) (K.bytes_held sink.new) }
     ensures told { result ≡ Status.Image → PutsFailure (K.bytes_held sink.old) (K.bytes_held sink.new) }
-    ensures opened { (events : List Event) → D.history disk.old ≡ Some events → IsSound (content events)
-        → IsTrue (is_opened result) → IsOpened events (D.history disk.new) }
     ensures unwritten { (events : List Event) (failure : Failure) → D.history disk.old ≡ Some events
         → verdict (content events) ≡ Some failure → IsTrue (is_judged result) → D.history disk.new ≡ Some (Synced ∷ events) }
     ensures unread { (events : List Event) (failure : Failure) → D.history disk.old ≡ Some events
@@ -48,8 +49,16 @@ pub(crate) fn run<D: Disk, S: Source, K: Sink>(
     ensures sink_fault { result ≡ Status.Sink → Rose (K.faults sink.old) (K.faults sink.new) }
     ensures disk_fault { result ≡ Status.Disk → Rose (D.faults disk.old) (D.faults disk.new) }
 {
-    match open(alloc, disk) {
-        Ok(image) => answer_lines(alloc, &image.quota, source, sink),
+    match Store::open(alloc, disk) {
+        Ok(store) => answer_lines::<Brand, Brand, D, S, K>(
+            alloc,
+            store,
+            Blank::new(1),
+            Blank::new(1),
+            disk,
+            source,
+            sink,
+        ),
         Err(fault) => refuse(alloc, fault, sink),
     }
 }

@@ -1,69 +1,10 @@
 // Scripts over a fresh image in memory.
+use crate::test_images::{TABLE, change, ends_so, fresh_disk, run_over, run_word};
 use crate::{Status, run_program};
 use qg_disk::{Disk, MemDisk, Request};
 use qg_edge::{MemSink, MemSource};
-use std::alloc::Global;
 use std::process::Abort;
 use std::test::Fail;
-
-// The table of a fresh image.
-const TABLE: &[u8] = b"0/5 16384 16384 none none\nok\n";
-
-// The words of a command line.
-fn run_word(alloc: Global) -> Result<Vec<String>, Fail> {
-    let mut words = Vec::new(alloc);
-    words.push("run".to_string(alloc)?)?;
-    Ok(words)
-}
-
-// A disk with a fresh image of 1024 slots of 16384 bytes and 1024 sectors.
-fn fresh_disk(alloc: Global) -> Result<MemDisk, Fail> {
-    let mut words = Vec::new(alloc);
-    for word in ["mkfs", "16384", "1024", "1024"] {
-        words.push(word.to_string(alloc)?)?;
-    }
-    let mut disk = MemDisk::new(alloc);
-    let mut source = MemSource::new(Vec::new(alloc));
-    let mut sink = MemSink::new(alloc);
-    run_program(alloc, &words, &mut disk, &mut source, &mut sink);
-    Ok(disk)
-}
-
-// Runs a script over a disk; the sink fails at these calls.
-fn run_over(
-    alloc: Global,
-    disk: &mut MemDisk,
-    script: &[u8],
-    fail_at: Vec<u64>,
-) -> Result<(Status, MemSink), Fail> {
-    let words = run_word(alloc)?;
-    let mut source = MemSource::new(script.to_vec(alloc)?);
-    let mut sink = MemSink::new(alloc);
-    sink.fail_at(fail_at);
-    let status = run_program(alloc, &words, disk, &mut source, &mut sink);
-    Ok((status, sink))
-}
-
-// A script over a disk ends so, and puts this.
-fn ends_so(
-    rt: &impl Abort,
-    alloc: Global,
-    disk: &mut MemDisk,
-    script: &[u8],
-    wanted: Status,
-    text: &[u8],
-) -> Result<(), Fail> {
-    let (status, sink) = run_over(alloc, disk, script, Vec::new(alloc))?;
-    assert_eq!(rt; status, wanted);
-    assert_eq!(rt; sink.bytes(), text);
-    Ok(())
-}
-
-// The bytes at a place are changed.
-fn change(disk: &mut MemDisk, at: u32, bytes: &[u8]) -> Result<(), Fail> {
-    disk.write_at(at.into(), bytes)?;
-    Ok(())
-}
 
 // The disk is made this long.
 fn resize(rt: &impl Abort, disk: &mut MemDisk, len: u32) -> Result<(), Fail> {
@@ -113,15 +54,9 @@ fn lines_of_a_script_are_answered(rt: HostRuntime) -> Result<(), Fail> {
 fn each_line_has_its_reply(rt: HostRuntime) -> Result<(), Fail> {
     let alloc = rt.alloc();
     let mut disk = fresh_disk(alloc)?;
-    let text = b"no line\n0/5 16384 16384 none none\nok\nno line\n";
-    ends_so(
-        &rt,
-        alloc,
-        &mut disk,
-        b"shown\nshow\ncommit",
-        Status::Done,
-        text,
-    )
+    let script = b"shown\nshow\ncommit";
+    let text = b"no line\n0/5 16384 16384 none none\nok\nok commit 1\n";
+    ends_so(&rt, alloc, &mut disk, script, Status::Done, text)
 }
 
 #[test]

@@ -1,38 +1,51 @@
 // One line after the other.
-ghost use Rattle.std.specs.Prelude.{◌≡◌, ◌⊎◌, ◌<◌, ◌≤◌, List, ℕ, Some, Ok, Err, true, false, [], IfOk, IfErr, IsTrue};
+ghost use Rattle.std.specs.Prelude.{◌≡◌, ◌<◌, List, ℕ, Some, Ok, Err, true, false, [], IfOk, IfErr, OnOk, IsTrue};
 ghost use Rattle.std.specs.Io.KnownBytes.{IsAtEnd};
 ghost use Rattle.qg_device.specs.Cause.{HasCause, Rose};
+ghost use Rattle.qg_device.specs.History.{Event};
 ghost use Rattle.qg_script.specs.Feeding.{IsTooLong, IsWithinLimit, most_to_come};
 ghost use Rattle.qg_script.specs.Lines.{CountsTaken, pending};
 ghost use Rattle.qg_state.specs.State.{State};
-ghost use Rattle.qg_program.specs.Ends.{is_opened};
-ghost use Rattle.qg_program.specs.Running.{Answers, IsTaken};
-ghost use Rattle.qg_program.specs.Turning.{FailsToTurn, IsTurn};
+ghost use Rattle.qg_commit.specs.Opened.{IsOpened};
+ghost use Rattle.qg_store.specs.Stored.{IsStoreOf};
+ghost use Rattle.qg_program.specs.Ends.{is_answerers};
+ghost use Rattle.qg_program.specs.Following.{Follows};
+ghost use Rattle.qg_program.specs.Running.{IsTaken};
+ghost use Rattle.qg_program.specs.Turning.{FailsToTurn, IsReady, IsTurn};
 
 use crate::Status;
 use crate::answer::answer_line;
 use crate::put::put;
+use crate::session::Session;
+use qg_disk::Disk;
 use qg_edge::{Sink, Source};
+use qg_num::Steps;
 use qg_script::{Feed, Text, next_line};
-use qg_state::Quota;
+use qg_store::Store;
 use std::alloc::Global;
+use std::sync::ledger::{Blank, Ledger};
 
 // Answers the next line, if there is one; says whether there was.
-fn turn<S: Source, K: Sink>(
+fn turn<L: Ledger, M: Ledger, D: Disk, S: Source, K: Sink>(
     alloc: Global,
-    quota: &Quota,
+    session: &mut Session<L, M>,
+    disk: &mut D,
     source: &mut S,
     feed: &mut Feed,
     text: &mut Text,
     sink: &mut K,
 ) -> Result<bool, Status>
-    ensures ok { (state : State) (before : List ℕ) → state.quota ≡ Some quota.now
-        → pending feed.old (S.bytes_left source.old) ≡ Some before → IfOk result (λ more.
-        IsTurn more state before (pending feed.new (S.bytes_left source.new)) (K.bytes_held sink.old) (K.bytes_held sink.new)) }
-    ensures err { (state : State) (before : List ℕ) → state.quota ≡ Some quota.now
-        → pending feed.old (S.bytes_left source.old) ≡ Some before → IfErr result (λ status.
-        FailsToTurn status state before (pending feed.new (S.bytes_left source.new)) (K.bytes_held sink.old) (K.bytes_held sink.new)) }
-    ensures ends { IfErr result (λ status. (IsTrue (is_opened status)) ⊎ (status ≡ Status.NoMemory)) }
+    requires { IsReady session.old.store (D.size disk.old) }
+    ensures ok { (state : State) (events : List Event) (before : List ℕ) → IsStoreOf session.old.store state
+        → D.history disk.old ≡ Some events → pending feed.old (S.bytes_left source.old) ≡ Some before → IfOk result (λ more.
+        IsTurn more state events before (pending feed.new (S.bytes_left source.new))
+        session.new.store (D.history disk.new) (K.bytes_held sink.old) (K.bytes_held sink.new)) }
+    ensures err { (state : State) (events : List Event) (before : List ℕ) → IsStoreOf session.old.store state
+        → D.history disk.old ≡ Some events → pending feed.old (S.bytes_left source.old) ≡ Some before → IfErr result (λ status.
+        FailsToTurn status state events before (pending feed.new (S.bytes_left source.new))
+        session.new.store (D.history disk.new) (K.bytes_held sink.old) (K.bytes_held sink.new)) }
+    ensures ready { OnOk result (IsReady session.new.store (D.size disk.new)) }
+    ensures ends { IfErr result (λ status. IsTrue (is_answerers status)) }
     ensures not_done { IfErr result (λ status. status ≡ Status.Done → ⊥) }
 
     // How many bytes are taken and handed out.
@@ -44,33 +57,59 @@ fn turn<S: Source, K: Sink>(
     ensures shrinks { result ≡ Ok true → most_to_come feed.new < most_to_come feed.old }
     ensures source_cause { HasCause Status.Source (S.faults source.old) (S.faults source.new) result }
     ensures sink_cause { HasCause Status.Sink (K.faults sink.old) (K.faults sink.new) result }
+    ensures disk_cause { HasCause Status.Disk (D.faults disk.old) (D.faults disk.new) result }
 {
     let Some(line) = next_line(source, feed)? else {
         return Ok(false);
     };
-    answer_line(alloc, quota, line.as_slice(), text)?;
+    answer_line(alloc, session, disk, line.as_slice(), text)?;
     put(sink, text.as_slice())?;
     Ok(true)
 }
 
-/// Answers the lines of a source, where quota is on and is this, by one put each.
-pub(crate) fn answer_lines<S: Source, K: Sink>(
+/// Answers the lines of a source over a store that was just opened, by one put each; counts steps by two new ledgers.
+pub(crate) fn answer_lines<L: Ledger, M: Ledger, D: Disk, S: Source, K: Sink>(
     alloc: Global,
-    quota: &Quota,
+    store: Store,
+    looks: Blank,
+    reads: Blank,
+    disk: &mut D,
     source: &mut S,
     sink: &mut K,
 ) -> Status
-    ensures answers { (state : State) (input : List ℕ) → state.quota ≡ Some quota.now → S.bytes_left source.old ≡ Some input
-        → Answers result state input [] (K.bytes_held sink.old) (K.bytes_held sink.new) }
+    requires ready { IsReady store (D.size disk.old) }
+    requires looks_name { looks.name ≡ L.name }
+    requires looks_parts { looks.parts ≡ L.parts }
+    requires looks_some { 0 < looks.parts }
+    requires reads_name { reads.name ≡ M.name }
+    requires reads_parts { reads.parts ≡ M.parts }
+    requires reads_some { 0 < reads.parts }
+    ensures follows { (state : State) (events opened : List Event) (input : List ℕ) → IsStoreOf store state
+        → IsOpened events (Some opened) → D.history disk.old ≡ Some opened → S.bytes_left source.old ≡ Some input
+        → Follows result state input events (D.history disk.new) (K.bytes_held sink.old) (K.bytes_held sink.new) }
     ensures takes { IsTaken result (S.bytes_left source.old) (S.bytes_left source.new) }
-    ensures ends { (IsTrue (is_opened result)) ⊎ (result ≡ Status.NoMemory) }
+    ensures ends { IsTrue (is_answerers result) }
     ensures source_fault { result ≡ Status.Source → Rose (S.faults source.old) (S.faults source.new) }
     ensures sink_fault { result ≡ Status.Sink → Rose (K.faults sink.old) (K.faults sink.new) }
+    ensures disk_fault { result ≡ Status.Disk → Rose (D.faults disk.old) (D.faults disk.new) }
 {
+    let mut session = Session {
+        store,
+        looks: Steps::<L>::new(looks),
+        reads: Steps::<M>::new(reads),
+    };
     let mut feed = Feed::new(alloc);
     let mut text = Text::new(alloc);
     loop {
-        match turn(alloc, quota, source, &mut feed, &mut text, sink) {
+        match turn(
+            alloc,
+            &mut session,
+            disk,
+            source,
+            &mut feed,
+            &mut text,
+            sink,
+        ) {
             Ok(true) => {}
             Ok(false) => return Status::Done,
             Err(status) => return status,

@@ -2,3 +2,4 @@ pub mod Files
 pub mod Parts
 pub mod Quota
 pub mod Roots
+pub mod Writable

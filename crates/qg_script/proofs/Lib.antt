@@ -1,3 +1,6 @@
 pub mod FirstLine
 pub mod Scanning
 pub mod Adding
+pub mod Parting
+pub mod Rows
+pub mod Serving

@@ -1,4 +1,5 @@
 pub mod Feeding
 pub mod Lines
+pub mod Reading
 pub mod ServedLines
 pub mod Added

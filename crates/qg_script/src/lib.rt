@@ -6,6 +6,7 @@ mod fault;
 mod feed;
 mod line;
 mod next;
+mod numbers;
 mod parse;
 mod reply;
 #[cfg(test)]

@@ -1,19 +1,54 @@
 // The command of a line.
-ghost use Rattle.std.specs.Prelude.{IfOk, IfSome, IfNone};
+ghost use Rattle.std.specs.Prelude.{◌≡◌, ◌≢◌, ◌++◌, codes, IfOk, IfSome, IfNone, IsTrue};
 ghost use Rattle.qg_num.specs.declared.command.Command.{Command};
+ghost use Rattle.qg_grammar.specs.Served.{is_served};
+ghost use Rattle.qg_script.specs.Reading.{IsParted, IsTextOf, Reads};
 ghost use Rattle.qg_script.specs.ServedLines.{IsServedLineOf};
 
+use crate::numbers::{file_of, first_word, numbers};
 use qg_num::{Command, NoMemory};
 use std::alloc::Global;
 
+/// The most bytes that a line may have.
+const LONGEST_LINE: usize = 256;
+
+// The command of `write` and what is behind it.
+fn read_write(rest: &[u8]) -> Option<Command>
+    ensures { Reads (codes "write" ++ rest.now) result }
+{
+    let [sub, ino, off, len] = numbers::<4>(rest)?;
+    let (sub, ino) = file_of(sub, ino)?;
+    Some(Command::Write { sub, ino, off, len })
+}
+
+// The command of a text, if it is served.
+fn command_of(text: &[u8]) -> Option<Command>
+    ensures served { IfSome result (λ command. IsTrue (is_served command)) }
+    ensures found { IfSome result (IsTextOf text.now) }
+    ensures none { IfNone result ((command : Command) → IsTrue (is_served command) → IsTextOf text.now command → ⊥) }
+{
+    if text == b"commit".as_slice() {
+        return Some(Command::Commit);
+    }
+    if text == b"show".as_slice() {
+        return Some(Command::Show);
+    }
+    let (word, rest) = first_word(text);
+    if word == b"write".as_slice() {
+        read_write(rest)
+    } else {
+        None
+    }
+}
+
 /// The command that is served and has this line, and `None` exactly where there is none (this project's own).
-#[tactic(auto, unfolding(qg_grammar::specs::ScriptText::command_text, qg_grammar::specs::ScriptText::is_in_grammar))]
 pub fn parse_line(alloc: Global, line: &[u8]) -> Result<Option<Command>, NoMemory>
     ensures found { IfOk result (λ found. IfSome found (λ command. IsServedLineOf line.now command)) }
     ensures none { IfOk result (λ found. IfNone found ((command : Command) → IsServedLineOf line.now command → ⊥)) }
 {
-    match line {
-        b"show" => Ok(Some(Command::Show)),
-        _ => Ok(None),
+    if line.len() <= LONGEST_LINE {
+        Ok(command_of(line))
+    } else {
+        Ok(None)
     }
 }

@@ -70,13 +70,48 @@ fn a_fault_in_a_line_loses_no_byte(rt: HostRuntime) -> Result<(), Fail> {
     Ok(())
 }
 
+// Whether a command writes by these numbers.
+fn is_write(command: &Command, numbers: [u64; 4]) -> bool {
+    match command {
+        Command::Write { sub, ino, off, len } => {
+            sub.value() == numbers[0]
+                && ino.value() == numbers[1]
+                && *off == numbers[2]
+                && *len == numbers[3]
+        }
+        _ => false,
+    }
+}
+
 #[test]
-fn only_show_is_served(rt: HostRuntime) -> Result<(), Fail> {
+fn lines_have_their_commands(rt: HostRuntime) {
     let alloc = rt.alloc();
-    let found = parse_line(alloc, b"show").ok().flatten();
-    assert!(rt; matches!(&found, Some(Command::Show)), "{found:?}");
-    let lines: [&[u8]; 12] = [
+    let show = parse_line(alloc, b"show").ok().flatten();
+    assert!(rt; matches!(&show, Some(Command::Show)), "{show:?}");
+    let commit = parse_line(alloc, b"commit").ok().flatten();
+    assert!(rt; matches!(&commit, Some(Command::Commit)), "{commit:?}");
+    let writes: [(&[u8], [u64; 4]); 3] = [
+        (b"write 5 257 4096 8192", [5, 257, 4096, 8192]),
+        (b"write 0 257 0 0", [0, 257, 0, 0]),
+        (
+            b"write 281474976710655 281474976710655 18446744073709551615 1",
+            [281474976710655, 281474976710655, 18446744073709551615, 1],
+        ),
+    ];
+    for (line, numbers) in writes {
+        match parse_line(alloc, line) {
+            Ok(Some(command)) => assert!(rt; is_write(&command, numbers), "{line:?}: {command:?}"),
+            found => panic!(rt; "{line:?}: {found:?}"),
+        }
+    }
+}
+
+#[test]
+fn other_lines_have_none(rt: HostRuntime) {
+    let alloc = rt.alloc();
+    let lines: [&[u8]; 34] = [
         b"",
+        b" ",
         b" show",
         b"show ",
         b"show 5",
@@ -84,16 +119,36 @@ fn only_show_is_served(rt: HostRuntime) -> Result<(), Fail> {
         b"show\r",
         b"show\n",
         b"sho",
-        b"\0",
         b"show\0",
-        b"commit",
+        b"commit 1",
+        b"write",
+        b"write ",
+        b"write5 257 0 8192",
+        b"write 5 257 0",
+        b"write 5 257 0 8192 1",
+        b"write 5 257 0 8192 ",
+        b"write  5 257 0 8192",
+        b"write 5  257 0 8192",
+        b" write 5 257 0 8192",
+        b"Write 5 257 0 8192",
+        b"write 5 257 0 8192\r",
+        b"write 5\t257 0 8192",
+        b"write 05 257 0 8192",
+        b"write 5 257 +0 8192",
+        b"write 5 257 0 -1",
+        b"write 5 257 0 0x10",
+        b"write 5 257 0 \xff",
+        b"write 5 257 0 18446744073709551616",
+        b"write 5 256 0 8192",
+        b"write 5 281474976710656 0 8192",
+        b"write 281474976710656 257 0 8192",
+        b"snap 5",
         &[b'a'; 257],
     ];
     for line in lines {
         let found = parse_line(alloc, line).ok().flatten();
         assert!(rt; found.is_none(), "{line:?}: {found:?}");
     }
-    Ok(())
 }
 
 #[test]

@@ -11,3 +11,4 @@ pub mod Agreements
 pub mod Fronts
 pub mod Firsts
 pub mod Counted
+pub mod Listed

@@ -65,7 +65,7 @@ same_appended xs ys xs' ys' first second x = (into, back) where
 
 -- ---- a filter
 
-contains_filter : {A : Type 0} (p : A → Bool) (xs : List A) (x : A) → Contains xs x → p x ≡ true → Contains (filter p xs) x
+pub contains_filter : {A : Type 0} (p : A → Bool) (xs : List A) (x : A) → Contains xs x → p x ≡ true → Contains (filter p xs) x
 contains_filter p [] x has passes = absurd (none_contained x has)
 contains_filter {A} p (y ∷ ys) x has passes = elim (contains_cases y ys x has) [
   | inl is ↦
@@ -76,7 +76,7 @@ contains_filter {A} p (y ∷ ys) x has passes = elim (contains_cases y ys x has)
       (λ fails. contains_filter p ys x later passes)
 ]
 
-filter_contains : {A : Type 0} (p : A → Bool) (xs : List A) (x : A) → Contains (filter p xs) x → Contains xs x × (p x ≡ true)
+pub filter_contains : {A : Type 0} (p : A → Bool) (xs : List A) (x : A) → Contains (filter p xs) x → Contains xs x × (p x ≡ true)
 filter_contains p [] x has = absurd (none_contained x has)
 filter_contains {A} p (y ∷ ys) x has = elim (cases_Bool (p y)) [
   | inl passes ↦ elim (contains_cases y (filter p ys) x (subst (λ zs. Contains zs x) (cond-true (p y) (y ∷ filter p ys) (filter p ys) passes) has)) [

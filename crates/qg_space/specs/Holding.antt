@@ -65,6 +65,10 @@ is_free_slot holding address = is_slot holding.sizes address && not (list_any (�
 unfoldable pub first_slot : Holding → Option ℕ
 first_slot holding = option_map (slot_at holding.sizes) (least (λ k. is_free_slot holding (slot_at holding.sizes k)) 0 holding.sizes.slots)
 
+-- the free slots, ascending
+unfoldable pub free_list : Holding → List ℕ
+free_list holding = filter (is_free_slot holding) (map (slot_at holding.sizes) (range_with_len 0 holding.sizes.slots))
+
 -- how many slots are free
 unfoldable pub free_slots : Holding → ℕ
 free_slots holding = count_by (is_free_slot holding) (map (slot_at holding.sizes) (range_with_len 0 holding.sizes.slots))

@@ -1,10 +1,10 @@
 // Node slots, by what holds them.
-ghost use Rattle.std.specs.Prelude.{◌≡◌, ◌<◌, ◌≤◌, true, false, map, length, replicate, IfOk, MatchOption, IsTrue};
+ghost use Rattle.std.specs.Prelude.{◌≡◌, ◌<◌, ◌≤◌, true, false, map, length, take, replicate, IfOk, MatchOption, IsTrue};
 ghost use Rattle.std.specs.List.{AllWithin, HoldsAt, count_by};
 ghost use Rattle.qg_super.specs.Places.{is_served, is_slot, slot_at};
-ghost use Rattle.qg_space.specs.Lying.{is_unused, committed_slot};
+ghost use Rattle.qg_space.specs.Lying.{slots_where, is_unused, committed_slot};
 
-use qg_num::Address;
+use qg_num::{Address, Sequence};
 use qg_super::Sizes;
 use std::alloc::{AllocError, Global};
 
@@ -78,6 +78,31 @@ pub(crate) fn first_unused(slots: &[Slot], from: usize) -> Option<usize>
         }
     }
     None
+}
+
+/// The addresses of the first so many slots that nothing holds, ascending. There is none before a number.
+pub(crate) fn first_unused_slots(
+    alloc: Global,
+    sizes: &Sizes,
+    slots: &[Slot],
+    from: usize,
+    count: u64,
+) -> Result<Sequence<Address>, AllocError>
+    requires served { IsTrue (is_served sizes.now) }
+    requires all { length slots.now ≡ sizes.now.slots }
+    requires used { AllWithin (λ slot. is_unused slot ≡ false) slots.now 0 from }
+    ensures { IfOk result (λ list. list ≡ take count (slots_where is_unused sizes.now 0 slots.now)) }
+{
+    let mut list = Sequence::new(alloc);
+    for number in from..slots.len() {
+        if list.len() as u64 == count {
+            return Ok(list);
+        }
+        if is_unused(&slots[number]) {
+            list.push(address_of(sizes, number))?;
+        }
+    }
+    Ok(list)
 }
 
 /// Whether neither the present state nor the last commit holds a slot.

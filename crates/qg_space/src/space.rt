@@ -1,14 +1,16 @@
 // What is free of an image.
-ghost use Rattle.std.specs.Prelude.{◌≡◌, ◌*◌, ◌<◌, IfOk, IfSome, IfNone, OnOk, OnErr, IsTrue};
+ghost use Rattle.std.specs.Prelude.{◌≡◌, ◌*◌, ◌<◌, ◌==◌, min, take, length, IfOk, IfSome, IfNone, IsOk, OnOk, OnErr, IsTrue};
+ghost use Rattle.std.specs.List.{IsDistinct, list_all};
 ghost use Rattle.qg_super.specs.Places.{is_served, sector, slot_at};
 ghost use Rattle.qg_image.specs.Table.{with_number};
-ghost use Rattle.qg_space.specs.Holding.{nothing_held, is_free_run, first_run, has_run, with_run, without_run, is_free_slot, first_slot, free_slots, has_slot, without_slot};
+ghost use Rattle.qg_space.specs.Holding.{nothing_held, is_free_run, first_run, has_run, with_run, without_run, is_free_slot, first_slot, free_list, free_slots, has_slot, without_slot};
 
 use crate::runs::{Run, commit_runs, first_gap, has_run, packed_runs, put_run, take_out_run};
 use crate::slots::{
-    Slot, address_of, commit_slots, count_unused, first_unused, is_slot, number_of, unused_slots,
+    Slot, address_of, commit_slots, count_unused, first_unused, first_unused_slots, is_slot,
+    number_of, unused_slots,
 };
-use qg_num::{Address, NoMemory};
+use qg_num::{Address, NoMemory, Sequence};
 use qg_state::Element;
 use qg_super::{SECTOR, Sizes};
 use std::alloc::Global;
@@ -126,6 +128,7 @@ impl Space {
     /// The present state takes a free slot.
     pub fn take_slot_at(&mut self, at: Address) -> Result<(), NoMemory>
         requires { IsTrue (is_free_slot self.old at) }
+        ensures sure { IsOk result }
         ensures ok { OnOk result (self.new ≡ record self.old { slots = with_number at self.old.slots }) }
         ensures err { OnErr result (self.new ≡ self.old) }
     {
@@ -170,6 +173,17 @@ impl Space {
         ensures { result ≡ free_slots self.now }
     {
         self.unused
+    }
+
+    /// The first so many free slots, ascending; fewer exactly where there are not so many.
+    pub fn free_list(&self, alloc: Global, count: u64) -> Result<Sequence<Address>, NoMemory>
+        ensures first { IfOk result (λ slots. slots ≡ take count (free_list self.now)) }
+        ensures apart { IfOk result (λ slots. IsDistinct (λ a b. a == b) slots) }
+        ensures free { IfOk result (λ slots. IsTrue (list_all (is_free_slot self.now) slots)) }
+        ensures count { IfOk result (λ slots. length slots ≡ min count (free_slots self.now)) }
+    {
+        let slots = first_unused_slots(alloc, &self.sizes, &self.slots, self.first, count)?;
+        Ok(slots)
     }
 
     /// A commit was done: it holds what the present state has, and nothing else. What was given back is free.

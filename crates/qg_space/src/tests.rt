@@ -127,6 +127,37 @@ fn slots_are_free_when_nothing_holds_them(rt: HostRuntime) -> Result<(), Fail> {
     Ok(())
 }
 
+// Whether the first so many free slots are at these addresses.
+fn are_first_free(
+    alloc: Global,
+    space: &Space,
+    count: u64,
+    slots: &[Address],
+) -> Result<bool, NoMemory> {
+    let list = space.free_list(alloc, count)?;
+    Ok(list.as_slice() == slots)
+}
+
+#[test]
+fn free_slots_are_listed_from_the_first_on(rt: HostRuntime) -> Result<(), Fail> {
+    let alloc = rt.alloc();
+    let mut space = fresh(alloc)?;
+    let first = Address::new(1048576);
+    let third = Address::new(1056768);
+    let fourth = Address::new(1060864);
+    space.take_slot()?;
+    space.take_slot()?;
+    space.committed();
+    assert!(rt; give_slot(&mut space, 1048576));
+    // The last commit holds the first two, and the next one only the second.
+    assert!(rt; are_first_free(alloc, &space, 2, &[third, fourth])?);
+    space.committed();
+    assert!(rt; are_first_free(alloc, &space, 3, &[first, third, fourth])?);
+    assert!(rt; are_first_free(alloc, &space, 0, &[])?);
+    assert_eq!(rt; space.free_list(alloc, 64)?.len(), 63);
+    Ok(())
+}
+
 #[test]
 fn slots_come_to_an_end(rt: HostRuntime) -> Result<(), Fail> {
     let mut space = fresh(rt.alloc())?;

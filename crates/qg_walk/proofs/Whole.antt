@@ -22,6 +22,7 @@ use Rattle.qg_verdict.specs.ItemsUnder.{is_way, items_under, nodes_under}
 use Rattle.qg_verdict.specs.StateOf.{level_in, tree_items, tree_nodes}
 use Rattle.qg_walk.specs.IsWalk.{IsWalk}
 use Rattle.qg_walk.specs.Added.{below_node, Found, HasAdded}
+use Rattle.qg_walk.specs.Held.{AreHeld}
 use Rattle.qg_walk.proofs.Failures.{expected_below, first_none, neither, none_of_two}
 
 -- ---- a walk that keeps all rules keeps those on the way
@@ -110,3 +111,9 @@ slots-added tree meaning super history from to root old new no_nodes added =
     let nodes : new.nodes ≡ map (λ (node : Node). (header_of node).address) added.nodes =
     added.more_nodes ∙ ap (λ front. front ++ map (λ (node : Node). (header_of node).address) added.nodes) no_nodes in
     rw (nodes, list_all-map) added.slots
+
+pub held-added : {P : Type 0} (tree : Tree) (meaning : Item → Option P) (super : Super) (history : Option (List Event)) (from to : Option Key) (root : ℕ) (old new : Found P)
+    → old.parts ≡ [] → HasAdded tree meaning super history from to (below_node super root) old new → AreHeld tree meaning super.generation new.parts
+held-added tree meaning super history from to root old new no_parts added =
+    let parts : new.parts ≡ added.parts = added.more_parts ∙ ap (λ front. front ++ added.parts) no_parts in
+    record { items = added.items; held = added.held; said = rw parts added.said }

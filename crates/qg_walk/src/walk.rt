@@ -10,6 +10,7 @@ ghost use Rattle.qg_verdict.specs.Walk.{next_key, node_failure, node_found, poin
 ghost use Rattle.qg_parts.specs.Said.{AreSaid};
 ghost use Rattle.qg_walk.specs.declared.fault.WalkFault.TheVariants.{Unsound};
 ghost use Rattle.qg_walk.specs.Fault.{FailsAs};
+ghost use Rattle.qg_walk.specs.Held.{AreHeld};
 ghost use Rattle.qg_walk.specs.IsWalk.{IsWalk};
 ghost use Rattle.qg_walk.specs.Standing.{levels_below};
 ghost use Rattle.qg_walk.specs.Added.{AreSpaced, HasAdded, below_node, below_pointers, found_by};
@@ -48,6 +49,7 @@ pub fn walk_tree<P: TreePart, L: PartList<P>, D: Disk>(
 
     // Over any disk.
     ensures ascending { IfOk result (λ walked. AreSaid P.meaning (L.list walked.parts)) }
+    ensures held { IfOk result (λ walked. AreHeld P.tree P.meaning superblock.now.generation (L.list walked.parts)) }
     ensures slots { IfOk result (λ walked. IsTrue (list_all (is_slot (sizes_of superblock.now)) walked.nodes)) }
     ensures history { D.history disk.new ≡ D.history disk.old }
     ensures size { D.size disk.new ≡ D.size disk.old }

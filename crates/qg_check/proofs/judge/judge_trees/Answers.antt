@@ -127,8 +127,23 @@ returns-clause-failure c = λ bytes are.
     let counts = quota_state super bytes read are ∙ c.in_ok-judge_counts.ensures.failure (state_in super bytes) facts.all in
     pass_first _ _ facts.space ∙ pass_first _ _ counts
 
+-- and the nodes of the other trees
+others_at : (c : goal.After-drop-subvolume-2) → c.in_ok-given.field-0 ≡ c.args.read.trees.nodes ++ c.args.read.extent_nodes ++ c.args.read.quotas.nodes
+others_at c =
+    let read = c.args.read in
+    given_ok (λ (list : List ℕ). list ≡ read.trees.nodes ++ read.extent_nodes ++ read.quotas.nodes) c.joined.result c.in_ok-given.field-0 (sym c.given-3.ensures ∙ c.in_ok-given.was) c.joined.ensures
+
 pub returns-clause-image : goal.returns-clause-image
 returns-clause-image c = λ bytes are.
-    let read = c.args.read in
-    let others = given_ok (λ (list : List ℕ). list ≡ read.trees.nodes ++ read.extent_nodes ++ read.quotas.nodes) c.joined.result c.in_ok-given.field-0 (sym c.given-3.ensures ∙ c.in_ok-given.was) c.joined.ensures in
-    kept_read c.args.superblock bytes read _ are refl refl refl refl others (once_at c).same (once_at c).ascending (told_at c)
+    kept_read c.args.superblock bytes c.args.read _ are refl refl refl refl (others_at c) (once_at c).same (once_at c).ascending (told_at c)
+
+pub returns-clause-keeps : goal.returns-clause-keeps
+returns-clause-keeps c = record {
+  root = refl;
+  files = refl;
+  quota = refl;
+  others = others_at c;
+  nodes = (once_at c).same;
+  extents = told_at c;
+  space = same_space (sizes_of c.args.superblock) c.sizes-sizes.result c.in_ok-extents.extents c.as_slice-2.result.now c.sizes-sizes.ensures c.as_slice-2.ensures ∙ c.in_ok-judge_extents.ensures.failure;
+}

@@ -1,19 +1,16 @@
 use Rattle.std.proofs.Common.{◌≡◌, ℕ, List, [], ◌∷◌, length, None, Some, refl, sym, ap, ◌∙◌, subst}
-use Rattle.std.specs.Prelude.{Option, Result, Ok, Err, IfOk}
-use Rattle.qg_device.specs.History.{Event, content}
+use Rattle.std.specs.Prelude.{Option}
+use Rattle.qg_device.specs.History.{content}
 use Rattle.qg_super.specs.declared.superblock.Super.{Super}
 use Rattle.qg_super.specs.SuperText.{choose}
 use Rattle.qg_verdict.specs.Failure.{first_failure}
 use Rattle.qg_verdict.specs.Verdict.{verdict}
 use Rattle.qg_verdict.specs.StateOf.{super_in, super_of}
-use Rattle.qg_walk.specs.declared.fault.WalkFault.{WalkFault}
-use Rattle.qg_walk.specs.Fault.{FailsAs}
-use Rattle.qg_check.specs.declared.image.Image.{Image}
-use Rattle.qg_check.specs.IsImage.{IsImage, IsKept}
+use Rattle.qg_check.specs.IsImage.{IsKept}
 use Rattle.qg_check.specs.Stages.{places_failure, roots_failure}
-use Rattle.qg_check.proofs.Staging.{tells_first, pass_first, tells_same, fails_handed, fails_same}
+use Rattle.qg_check.proofs.Editable.{stale_editable}
+use Rattle.qg_check.proofs.Staging.{tells_first, pass_first, tells_same, fails_handed}
 use Rattle.qg_check.proofs.Verdicts.{alone, verdict_none, verdict_some, image_failure_parts, rest_failure, rest_failure_trees}
-use Rattle.qg_check.proofs.read.read_image.Given.{Over}
 use Rattle.qg_check.proofs.read.read_image.Goals as goal
 
 -- the superblock that counts, of those that were read
@@ -97,5 +94,9 @@ returns-clause-image g c = λ events told.
       chosen = chosen ∙ ap (λ (s : Super). Some s) (sym kept.same);
       stale = c.stale-image.ensures.value ∙ (rw (first, second) refl);
       kept = subst (λ (s : Super). IsKept s (content events) (record c.in_ok-image.image { stale = c.stale-image.result })) (sym kept.same)
-          (record { same = kept.same; state = kept.state; nodes = kept.nodes; ascending = kept.ascending; extents = kept.extents });
+          (record { same = kept.same; only = kept.only; state = kept.state; nodes = kept.nodes; ascending = kept.ascending; extents = kept.extents });
     }
+
+pub returns-clause-editable : goal.returns-clause-editable
+returns-clause-editable g c =
+    stale_editable c.in_ok-image.image c.stale-image.result (c.in_ok-image.ensures.editable c.in-Some.ensures.fits c.in_ok-trees.ensures.slots c.in_ok-trees.ensures.copied)

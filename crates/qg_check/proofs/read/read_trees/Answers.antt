@@ -1,9 +1,12 @@
-use Rattle.std.proofs.Common.{◌≡◌, List, Some, refl, sym, ap, ◌∙◌, subst}
-use Rattle.qg_device.specs.History.{Event, content}
+use Rattle.std.proofs.Common.{ap, ◌∙◌}
+use Rattle.qg_device.specs.History.{content}
+use Rattle.qg_image.specs.Table.{keys_of}
+use Rattle.qg_state.specs.declared.quota.Quota.{Quota}
+use Rattle.qg_check.proofs.Editable.{answer_editable}
 use Rattle.qg_check.proofs.Staging.{tells_first, pass_first, tells_same, fails_handed, fails_same}
 use Rattle.qg_check.proofs.Verdicts.{alone}
 use Rattle.qg_check.specs.Stages.{together_failure}
-use Rattle.qg_check.proofs.read.read_trees.Given.{Over}
+use Rattle.qg_check.specs.declared.judge.Read.{Read}
 use Rattle.qg_check.proofs.read.read_trees.Goals as goal
 
 pub returns-in_err-quotas-clause-failure : goal.returns-in_err-quotas-clause-failure
@@ -37,3 +40,25 @@ returns-clause-failure g c = λ events told are.
       subvolume = c.in_ok-subvolume.ensures.tree events last;
     }) in
     fails_same c.judge_trees.result (pass_first _ _ extents ∙ pass_first _ _ quotas ∙ pass_first _ _ files ∙ alone (together_failure c.args.superblock (content events))) together
+
+pub judge_trees-requires-clause-groups : goal.judge_trees-requires-clause-groups
+judge_trees-requires-clause-groups g c = ap (λ (quota : Quota). keys_of quota.groups) c.in_ok-quotas.ensures.group.counted
+
+pub returns-clause-editable : goal.returns-clause-editable
+returns-clause-editable g c = λ is roots copied.
+    let read : Read = record {
+      trees = c.args.trees;
+      extent_nodes = c.in_ok-extent_nodes.extent_nodes;
+      quotas = c.in_ok-quotas.quotas;
+      subvolume = c.in_ok-subvolume.subvolume;
+    } in
+    answer_editable c.args.superblock read c.judge_trees.result c.judge_trees.ensures.superblock c.judge_trees.ensures.keeps (record {
+      superblock = is;
+      copied = copied;
+      roots = roots;
+      extents = c.in_ok-extent_nodes.ensures.slots;
+      quotas = c.in_ok-quotas.ensures.slots;
+      group = c.in_ok-quotas.ensures.group;
+      slots = c.in_ok-subvolume.ensures.slots;
+      files = c.in_ok-subvolume.ensures.files;
+    })

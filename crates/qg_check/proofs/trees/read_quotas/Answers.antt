@@ -1,30 +1,27 @@
 use Rattle.std.proofs.Common.{◌≡◌, ℕ, List, [], ◌∷◌, None, Some, refl, sym, ap, ◌∙◌, subst}
 use Rattle.qg_device.specs.History.{content}
-use Rattle.qg_items.specs.declared.root.RootItem.{RootItem}
 use Rattle.qg_image.specs.declared.part.QuotaPart.{QuotaPart}
 use Rattle.qg_image.specs.ItemMeaning.{quota_part}
-use Rattle.qg_image.specs.Table.{keys_of}
 use Rattle.qg_verdict.specs.declared.tree.Tree.TheVariants.{Quotas}
 use Rattle.qg_verdict.specs.StateOf.{quota_parts, quota_told}
 use Rattle.qg_verdict.specs.declared.expected.Expected.{Expected}
+use Rattle.qg_walk.specs.Held.{AreHeld}
 use Rattle.qg_walk.specs.IsWalk.{IsWalk}
 use Rattle.qg_parts.specs.Said.{AreSaid}
 use Rattle.qg_parts.proofs.Keys.{quotas_ascending}
-use Rattle.qg_state.specs.declared.quota.Quota.{Quota}
 use Rattle.qg_rules.specs.declared.quota.QuotaFault.{QuotaFault}
 use Rattle.qg_rules.specs.Quota.{quota_rule, IfRule}
 use Rattle.qg_check.proofs.Said.{tree_read, quota_parts_of}
-use Rattle.qg_check.proofs.Groups.{KeepsRules, quota_rule_kept, quota_rule_told, IsOnlyGroup, is_quota_only, groups_told, pairs_told}
+use Rattle.qg_check.specs.Trees.{HasOneGroup}
+use Rattle.qg_check.proofs.Groups.{KeepsRules, quota_rule_kept, quota_rule_told}
+use Rattle.qg_check.proofs.OneGroup.{quota_one}
+use Rattle.qg_check.proofs.Passing.{quotas_by}
 use Rattle.qg_check.proofs.trees.read_quotas.Given.{Over}
 use Rattle.qg_check.proofs.trees.read_quotas.Goals as goal
 
 -- the rules are kept by what was read, beside the only subvolume
 kept : (g : Over) (c : goal.After-drop-walked g) → KeepsRules (5 ∷ []) c.as_slice.result.now
 kept g c = quota_rule_kept (5 ∷ []) c.as_slice.result.now (subst (λ (n : ℕ). quota_rule (n ∷ []) c.as_slice.result.now ≡ None) c.new.ensures c.in-Ok.ensures.sound)
-
-only : (g : Over) (c : goal.After-drop-walked g) → IsOnlyGroup c.as_slice.result.now
-only g c = is_quota_only c.as_slice.result.now
-    (quotas_ascending c.as_slice.result.now (subst (λ (parts : List QuotaPart). AreSaid quota_part parts) (sym c.as_slice.ensures) c.in_ok-walked.ensures.ascending)) (kept g c).quota
 
 pub returns-in-Ok-clause-failure : goal.returns-in-Ok-clause-failure
 returns-in-Ok-clause-failure g c = λ events extents told named.
@@ -46,12 +43,13 @@ returns-in-Ok-clause-tree g c = λ events told.
       placed = walk.placed;
     }
 
-pub returns-in-Ok-clause-groups : goal.returns-in-Ok-clause-groups
-returns-in-Ok-clause-groups g c =
-    ap (λ (quota : Quota). keys_of quota.groups) c.in-Ok.ensures.told ∙ groups_told c.as_slice.result.now ∙ (only g c).groups
-
-pub returns-in-Ok-clause-pairs : goal.returns-in-Ok-clause-pairs
-returns-in-Ok-clause-pairs g c = ap (λ (quota : Quota). quota.pairs) c.in-Ok.ensures.told ∙ pairs_told c.as_slice.result.now ∙ (only g c).pairs
+pub returns-in-Ok-clause-group : goal.returns-in-Ok-clause-group
+returns-in-Ok-clause-group g c =
+    let generation = c.args.superblock.now.generation in
+    let parts = c.as_slice.result.now in
+    let held = subst (λ (parts : List QuotaPart). AreHeld Quotas quota_part c.args.superblock.now.generation parts) (sym c.as_slice.ensures) c.in_ok-walked.ensures.held in
+    let ascending = quotas_ascending parts (subst (λ (parts : List QuotaPart). AreSaid quota_part parts) (sym c.as_slice.ensures) c.in_ok-walked.ensures.ascending) in
+    subst (HasOneGroup generation) (sym c.in-Ok.ensures.told) (quota_one generation c.args.files.now parts ascending (kept g c).quota (quotas_by generation parts held))
 
 pub returns-in-Err-Rule-clause-failure : goal.returns-in-Err-Rule-clause-failure
 returns-in-Err-Rule-clause-failure g c = λ events extents told named.

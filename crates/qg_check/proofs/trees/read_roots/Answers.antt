@@ -1,14 +1,18 @@
-use Rattle.std.proofs.Common.{◌≡◌, Bool, true, false, refl, sym, ◌∙◌, subst}
+use Rattle.std.proofs.Common.{◌≡◌, ℕ, List, false, refl, sym, ◌∙◌, subst}
 use Rattle.qg_device.specs.History.{content}
 use Rattle.qg_num.specs.declared.rule.Rule.TheVariants.{Root}
+use Rattle.qg_items.specs.declared.root.RootItem.{RootItem}
 use Rattle.qg_image.specs.ItemMeaning.{root_part}
 use Rattle.qg_verdict.specs.declared.failure.Failure.TheVariants.{Broken}
+use Rattle.qg_verdict.specs.declared.tree.Tree.TheVariants.{Roots}
 use Rattle.qg_verdict.specs.StateOf.{roots_in}
 use Rattle.qg_verdict.specs.Verdict.{are_roots}
 use Rattle.qg_parts.specs.Said.{AreSaid}
 use Rattle.qg_parts.proofs.Keys.{roots_ascending}
+use Rattle.qg_walk.specs.Held.{AreHeld}
 use Rattle.qg_walk.specs.declared.fault.WalkFault.TheVariants.{Unsound}
 use Rattle.qg_check.specs.Trees.{AreNamed}
+use Rattle.qg_check.proofs.Passing.{copied_by}
 use Rattle.qg_check.proofs.Said.{roots_read}
 use Rattle.qg_check.proofs.trees.read_roots.Goals as goal
 
@@ -38,3 +42,10 @@ returns-clause-trees g c = λ events told.
     let super = c.args.superblock.now in
     let roots : roots_in super (content events) ≡ c.as_slice.result.now = roots_read super (content events) _ _ walk ∙ sym c.as_slice.ensures in
     record { named = rw roots c.in-Some.ensures.some; placed = walk.placed }
+
+pub returns-clause-copied : goal.returns-clause-copied
+returns-clause-copied g c =
+    let generation = c.args.superblock.now.generation in
+    let held = subst (λ (roots : List (ℕ × RootItem)). AreHeld Roots root_part c.args.superblock.now.generation roots) (sym c.as_slice.ensures) c.in_ok-walked.ensures.held in
+    let named : AreNamed c.as_slice.result.now c.in-Some.named.extents c.in-Some.named.quotas c.in-Some.named.files = c.in-Some.ensures.some in
+    copied_by generation c.as_slice.result.now c.in-Some.named.files held named.only

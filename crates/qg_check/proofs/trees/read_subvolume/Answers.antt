@@ -19,6 +19,8 @@ use Rattle.qg_walk.specs.IsWalk.{IsWalk}
 use Rattle.qg_parts.proofs.Keys.{files_ascending}
 use Rattle.qg_check.proofs.Said.{tree_read, given_ok, is_none}
 use Rattle.qg_check.proofs.Found.{items_under-nodes}
+use Rattle.qg_check.proofs.FitFiles.{files_fit}
+use Rattle.qg_check.proofs.Passing.{files_by}
 use Rattle.qg_check.proofs.Held.{files_read, files_none, files_of_held}
 use Rattle.qg_check.proofs.trees.read_subvolume.Goals as goal
 
@@ -78,3 +80,11 @@ returns-clause-tree g c = λ events told.
       fit = files.are;
       told = files.is;
     }
+
+pub returns-clause-files : goal.returns-clause-files
+returns-clause-files g c =
+    let generation = c.args.superblock.now.generation in
+    let parts = c.in_ok-walked.walked.parts in
+    let files = files_read parts c.in-Some.files
+    (sym c.in-Some.is ∙ found_of c.read_files.result c.given.result c.in_ok-files.field-0 parts c.given.ensures c.in_ok-files.was c.read_files.ensures) in
+    files_fit generation parts c.in-Some.files (files_ascending parts c.in_ok-walked.ensures.ascending) (files_by generation parts c.in_ok-walked.ensures.held) files.are files.is

@@ -1,5 +1,5 @@
 use Rattle.std.proofs.Common.{subst, sym}
-use Rattle.qg_contents.specs.Writable.{IsWritableFile}
+use Rattle.qg_rules.specs.Writable.{IsWritableFile}
 use Rattle.qg_contents.proofs.FileTree.{pieces_small}
 use Rattle.qg_contents.proofs.files.items_of_files.Goals as goal
 

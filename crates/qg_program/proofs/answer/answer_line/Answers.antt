@@ -1,15 +1,16 @@
-use Rattle.qg_program.proofs.Turned.{on_ok, turn-show, turn-no_line}
+use Rattle.qg_program.proofs.Turned.{reply-command, reply-no_line}
 use Rattle.qg_program.proofs.answer.answer_line.Goals as goal
-use Rattle.qg_program.proofs.answer.answer_line.Goals.{in-Some-Show, in-None}
 
-pub returns : goal.returns
-returns c = elim c.match-branch-2.branch [
-  | in-Some-Show w ↦ λ state on.
-      let asked = rw (w.in-Some-Show.is, w.in-Some-Show.field-0-is) at c.in_ok-parse_line.ensures.found in
-      let told = rw c.clear.ensures at w.write_show.ensures in
-      rw (w.result-is, w.text-is) (on_ok w.write_show.result (λ is. turn-show state c.args.quota.now c.args.line.now _ on asked is) told)
-  | in-None w ↦ λ state on.
-      let none = rw w.in-None.is at c.in_ok-parse_line.ensures.none in
-      let told = rw c.clear.ensures at w.write_no_line.ensures.ok in
-      rw (w.result-is, w.text-is) (on_ok w.write_no_line.result (λ is. turn-no_line state c.args.line.now _ none is) told)
-]
+pub returns-in_ok-write_reply-in-Some-clause-reply : goal.returns-in_ok-write_reply-in-Some-clause-reply
+returns-in_ok-write_reply-in-Some-clause-reply g c = λ state events stands known.
+    let asked = rw c.in-Some.is at c.in_ok-command.ensures.found in
+    let done = c.in_ok-answer-in-Some.ensures in
+    let told = rw c.clear.ensures at c.in_ok-write_reply-in-Some.ensures.ok in
+    reply-command state events c.args.line.now _ _ _ c.in-Some.command c.in_ok-answer-in-Some.answer asked (done.step state events stands known)
+    done.ready.running told
+
+pub returns-in_ok-write_no_line-in-None-clause-reply : goal.returns-in_ok-write_no_line-in-None-clause-reply
+returns-in_ok-write_no_line-in-None-clause-reply g c = λ state events stands known.
+    let none = rw c.in-None.is at c.in_ok-command.ensures.none in
+    let told = rw c.clear.ensures at c.in_ok-write_no_line-in-None.ensures.ok in
+    reply-no_line state events c.args.line.now _ _ _ none stands known told

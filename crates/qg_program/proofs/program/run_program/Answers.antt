@@ -39,13 +39,10 @@ returns-in-Some-Mkfs-clause-settled g c = λ sizes asks sink disk.
     (λ is. sink (c.make.ensures.sink_fault is))
     (λ is. disk (c.make.ensures.disk_fault is))
 
-pub returns-in-Some-Run-clause-opened : goal.returns-in-Some-Run-clause-opened
-returns-in-Some-Run-clause-opened g c = λ events ask told sound opened. c.run.ensures.opened events told sound opened
-
 pub returns-in-Some-Run-clause-run_settled : goal.returns-in-Some-Run-clause-run_settled
 returns-in-Some-Run-clause-run_settled g c = λ events input ask told source fits sound no_source no_sink no_disk.
     let stands = state-sound (content events) sound in
-    is_settled-run c.run.result stands.0 input _ _ _ _ (c.run.ensures.answers events input stands.0 told source sound stands.1)
+    is_settled-run c.run.result stands.0 input _ _ _ _ (c.run.ensures.follows events input stands.0 told source sound stands.1).answers
     (rw source at c.run.ensures.takes) fits
     (λ is. no_source (c.run.ensures.source_fault is))
     (λ is. no_sink (c.run.ensures.sink_fault is))

@@ -1,21 +1,18 @@
-use Rattle.std.proofs.Common.{◌∷◌, Option, ℕ, Some, ap, ◌∙◌}
-use Rattle.qg_device.specs.History.{Synced}
-use Rattle.qg_commit.specs.Opening.{with_repair}
-use Rattle.qg_program.proofs.Judged.{kept-quota, untouched-judged}
+use Rattle.std.proofs.Common.{refl, subst}
+use Rattle.qg_commit.specs.Opening.{IsRefusal}
+use Rattle.qg_program.proofs.Judged.{follows-unopened, untouched-judged}
 use Rattle.qg_program.proofs.run.run.Goals as goal
 
-pub returns-in-Ok-clause-answers : goal.returns-in-Ok-clause-answers
-returns-in-Ok-clause-answers g c = λ events input state told source sound stands.
-    c.answer_lines.ensures.answers state input (kept-quota (c.in-Ok.ensures.image events told) stands) source
+pub returns-in-Ok-clause-follows : goal.returns-in-Ok-clause-follows
+returns-in-Ok-clause-follows g c = λ events input state told source sound stands.
+    let opens = c.in-Ok.ensures.repaired events told in
+    c.answer_lines.ensures.follows state events _ input (c.in-Ok.ensures.opened events state told stands)
+    (record { super = opens.super; chosen = opens.chosen; repaired = refl }) opens.repaired source
 
-pub returns-in-Ok-clause-opened : goal.returns-in-Ok-clause-opened
-returns-in-Ok-clause-opened g c = λ events told sound opened.
-    let image = c.in-Ok.ensures.image events told in
-    record {
-      super = c.in-Ok.image.superblock;
-      chosen = image.chosen;
-      repaired = c.in-Ok.ensures.repaired events told ∙ ap (λ (stale : Option ℕ). Some (with_repair c.in-Ok.image.superblock stale (Synced ∷ events))) image.stale;
-    }
+pub returns-in-Err-clause-follows : goal.returns-in-Err-clause-follows
+returns-in-Err-clause-follows g c = λ events input state told source sound stands.
+    let silent = c.refuse.ensures.silent (subst (IsRefusal c.in-Err.fault) sound (c.in-Err.ensures.refused events told)) in
+    follows-unopened c.refuse.result silent.0 (c.open.ensures.later events told) silent.1
 
 pub returns-in-Err-clause-unwritten : goal.returns-in-Err-clause-unwritten
 returns-in-Err-clause-unwritten g c = λ events failure told unsound judged.

@@ -4,28 +4,33 @@ use Rattle.qg_program.proofs.turn.answer_lines.Goals as goal
 
 pub loop-text-init : goal.loop-text-init
 loop-text-init g c = record {
-  answered = λ state input on told. answered-none state input _ _ (rw (c.new-feed.ensures, told) refl);
+  ready = c.requires.ready;
+  answered = λ state opened input stands known told. answered-none state input opened _ _ _ _ (rw (c.new-feed.ensures, told) refl) stands known;
   counted = rw c.new-feed.ensures (counted-none _);
   within = rw c.new-feed.ensures within-none;
   source_later = omega arith;
   sink_later = omega arith;
+  disk_later = omega arith;
 }
 
 pub loop-text-preserved : goal.loop-text-preserved
 loop-text-preserved g c = record {
-  answered = λ state input on told.
-      let so_far = c.loop-text.invariant.answered state input on told in
-      answered-more _ so_far (rw c.in-Ok-true.field-0-test at c.in-Ok-true.ensures.ok state so_far.left on so_far.told);
+  ready = rw c.in-Ok-true.is at c.turn.ensures.ready;
+  answered = λ state opened input stands known told.
+      let so_far = c.loop-text.invariant.answered state opened input stands known told in
+      answered-more _ so_far (rw c.in-Ok-true.field-0-test at c.in-Ok-true.ensures.ok so_far.present so_far.events so_far.left so_far.stands so_far.known so_far.told);
   counted = counted-on _ _ _ _ _ c.loop-text.invariant.counted c.turn.ensures.counted;
   within = c.turn.ensures.within;
   source_later = omega (arith, c.loop-text.invariant.source_later, c.turn.ensures.source_cause.later);
   sink_later = omega (arith, c.loop-text.invariant.sink_later, c.turn.ensures.sink_cause.later);
+  disk_later = omega (arith, c.loop-text.invariant.disk_later, c.turn.ensures.disk_cause.later);
 }
 
-pub returns-in-Ok-false-clause-answers : goal.returns-in-Ok-false-clause-answers
-returns-in-Ok-false-clause-answers g c = λ state input on told.
-    let so_far = c.loop-text.invariant.answered state input on told in
-    answered-all _ so_far (rw c.in-Ok-false.field-0-test at c.in-Ok-false.ensures.ok state so_far.left on so_far.told)
+pub returns-in-Ok-false-clause-follows : goal.returns-in-Ok-false-clause-follows
+returns-in-Ok-false-clause-follows g c = λ state events opened input stands opens known told.
+    let so_far = c.loop-text.invariant.answered state opened input stands known told in
+    answered-all _ c.turn.new.session.store so_far opens
+    (rw c.in-Ok-false.field-0-test at c.in-Ok-false.ensures.ok so_far.present so_far.events so_far.left so_far.stands so_far.known so_far.told)
 
 pub returns-in-Ok-false-clause-takes : goal.returns-in-Ok-false-clause-takes
 returns-in-Ok-false-clause-takes g c =
@@ -33,12 +38,13 @@ returns-in-Ok-false-clause-takes g c =
     let counted = counted-on _ _ _ _ _ c.loop-text.invariant.counted c.turn.ensures.counted in
     taken-whole c.turn.new.feed _ _ counted c.turn.ensures.within over.0 over.1
 
-pub returns-in-Err-clause-answers : goal.returns-in-Err-clause-answers
-returns-in-Err-clause-answers g c = λ state input on told.
-    let so_far = c.loop-text.invariant.answered state input on told in
+pub returns-in-Err-clause-follows : goal.returns-in-Err-clause-follows
+returns-in-Err-clause-follows g c = λ state events opened input stands opens known told.
+    let so_far = c.loop-text.invariant.answered state opened input stands known told in
     let counted = counted-on _ _ _ _ _ c.loop-text.invariant.counted c.turn.ensures.counted in
-    answered-failed _ c.turn.new.feed _ _ so_far (record { counted = rw told at counted; within = c.turn.ensures.within })
-    (λ is. c.turn.ensures.too_long (c.in-Err.is ∙ ap Err is)) (c.in-Err.ensures.err state so_far.left on so_far.told)
+    answered-failed _ c.turn.new.feed _ c.turn.new.session.store so_far opens (record { counted = rw told at counted; within = c.turn.ensures.within })
+    (λ is. c.turn.ensures.too_long (c.in-Err.is ∙ ap Err is))
+    (c.in-Err.ensures.err so_far.present so_far.events so_far.left so_far.stands so_far.known so_far.told)
 
 pub returns-in-Err-clause-takes : goal.returns-in-Err-clause-takes
 returns-in-Err-clause-takes g c =

@@ -1,18 +1,25 @@
 use Rattle.std.proofs.Common.{◌≡◌, ◌≤◌, List, ℕ, Some}
+use Rattle.qg_device.specs.History.{Event}
 use Rattle.qg_script.specs.Feeding.{IsWithinLimit, most_to_come}
 use Rattle.qg_script.specs.Lines.{CountsTaken, pending}
 use Rattle.qg_state.specs.State.{State}
+use Rattle.qg_store.specs.Stored.{IsStoreOf}
+use Rattle.qg_program.specs.Turning.{IsReady}
 use Rattle.qg_program.proofs.Answered.{HasAnswered}
 use Rattle.qg_program.proofs.turn.answer_lines.Given as goal
 
 abbrev pub invariant-loop-text : goal.invariant-loop-text
 invariant-loop-text g l = record {
-  answered : (state : State) (input : List ℕ) → state.quota ≡ Some l.quota → g.S.Source.bytes_left l.initial.source ≡ Some input
-      → HasAnswered state input (pending l.feed (g.S.Source.bytes_left l.source)) (g.K.Sink.bytes_held l.initial.sink) (g.K.Sink.bytes_held l.sink);
+  ready : IsReady l.session.store (g.D.Disk.size l.disk);
+  answered : (state : State) (opened : List Event) (input : List ℕ) → IsStoreOf l.initial.session.store state
+      → g.D.Disk.history l.initial.disk ≡ Some opened → g.S.Source.bytes_left l.initial.source ≡ Some input
+      → HasAnswered state input opened (pending l.feed (g.S.Source.bytes_left l.source)) l.session.store (g.D.Disk.history l.disk)
+      (g.K.Sink.bytes_held l.initial.sink) (g.K.Sink.bytes_held l.sink);
   counted : CountsTaken (g.S.Source.bytes_left l.initial.source) (g.S.Source.bytes_left l.source) 0 l.feed.taken;
   within : IsWithinLimit l.feed;
   source_later : g.S.Source.faults l.initial.source ≤ g.S.Source.faults l.source;
   sink_later : g.K.Sink.faults l.initial.sink ≤ g.K.Sink.faults l.sink;
+  disk_later : g.D.Disk.faults l.initial.disk ≤ g.D.Disk.faults l.disk;
 }
 
 abbrev pub decreases-loop-text : goal.decreases-loop-text

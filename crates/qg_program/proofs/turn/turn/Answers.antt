@@ -3,9 +3,10 @@ use Rattle.qg_program.proofs.Turned.{fails-reply}
 use Rattle.qg_program.proofs.turn.turn.Goals as goal
 
 pub returns-in_err-put-clause-err : goal.returns-in_err-put-clause-err
-returns-in_err-put-clause-err g c = λ state before on told.
+returns-in_err-put-clause-err g c = λ state events before stands known told.
     let found = err_from_is_err_and c.from_residual-in_err-put.result c.from_residual-in_err-put.ensures.1 in
     let takes = rw told at rw c.in-Some.is at c.in_ok-line.ensures.line in
-    let turns = rw c.as_slice.ensures at c.in_ok-answer_line.ensures state on in
+    let replies = rw c.as_slice.ensures at c.in_ok-answer_line.ensures.reply state events stands known in
+    let later = c.in_ok-answer_line.ensures.later events known in
     let fails = rw c.as_slice-2.ensures at c.in_err-put.ensures.err in
-    rw found.1 (rw found.2 (fails-reply c.in_err-put.field-0.0 state before _ _ c.in-Some.line _ _ _ takes turns fails))
+    rw found.1 (rw found.2 (fails-reply c.in_err-put.field-0.0 state events before _ _ c.in-Some.line _ _ _ _ _ takes replies later fails))

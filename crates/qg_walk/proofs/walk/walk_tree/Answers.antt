@@ -4,7 +4,7 @@ use Rattle.qg_verdict.specs.Walk.{deepest, tree_failure}
 use Rattle.qg_walk.specs.declared.fault.WalkFault.TheVariants.{Unsound}
 use Rattle.qg_walk.specs.Added.{found_by}
 use Rattle.qg_walk.proofs.Failures.{levels_few}
-use Rattle.qg_walk.proofs.Whole.{IsWalk-added, slots-added}
+use Rattle.qg_walk.proofs.Whole.{IsWalk-added, held-added, slots-added}
 use Rattle.qg_walk.proofs.walk.walk_tree.Goals as goal
 
 pub returns-in_err-walk-clause-unsound : goal.returns-in_err-walk-clause-unsound
@@ -26,3 +26,8 @@ pub returns-clause-slots : goal.returns-clause-slots
 returns-clause-slots g c =
     slots-added g.P.TreePart.tree g.P.TreePart.meaning c.args.superblock.now (g.D.Disk.history c.args.disk.now) c.args.expected.now.from c.args.expected.now.to c.args.root
     (record { parts = g.L.PartList.list c.new.result; nodes = c.new-2.result }) (found_by g.L.PartList.list c.walk.new.walked) c.new-2.ensures c.in_ok-walk.ensures.added
+
+pub returns-clause-held : goal.returns-clause-held
+returns-clause-held g c =
+    held-added g.P.TreePart.tree g.P.TreePart.meaning c.args.superblock.now (g.D.Disk.history c.args.disk.now) c.args.expected.now.from c.args.expected.now.to c.args.root
+    (record { parts = g.L.PartList.list c.new.result; nodes = c.new-2.result }) (found_by g.L.PartList.list c.walk.new.walked) c.new.ensures c.in_ok-walk.ensures.added

@@ -6,8 +6,8 @@ use Rattle.qg_named.specs.Tally.{IsTally}
 use Rattle.qg_named.proofs.Entries.{found_entry, more_by_insert, more_by_set, tally_insert}
 use Rattle.qg_named.proofs.named.Named.add.Goals as goal
 
-pub returns-else-count-clause-ok : goal.returns-else-count-clause-ok
-returns-else-count-clause-ok c =
+pub returns-in-Ok-clause-ok : goal.returns-in-Ok-clause-ok
+returns-in-Ok-clause-ok c =
     let old = c.self.inside.entries in
     let read = c.as_slice-in-Ok.result.now in
     let extent = c.args.extent.now in

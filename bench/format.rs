@@ -1,0 +1,254 @@
+//! Nodes, items and superblocks of an image with one subvolume, in plain Rust. It shares no code with the program.
+#![allow(dead_code)]
+use checksum::crc32c;
+use std::fs::File;
+use std::io;
+use std::os::unix::fs::FileExt;
+
+#[allow(dead_code)]
+#[path = "crc32c.rs"]
+mod checksum;
+
+/// Bytes of a node, and how many of them items and pointers may take.
+pub const NODE: usize = 16384;
+pub const ROOM: usize = NODE - 101;
+
+/// Where slots and data begin.
+pub const SLOTS_BEGIN: u64 = 1048576;
+pub const DATA_BEGIN: u64 = 67174400;
+
+/// Where the superblocks are.
+pub const PLACES: [u64; 2] = [65536, 67108864];
+
+/// Bytes of a sector.
+pub const SECTOR: u64 = 4096;
+
+/// What the items take that aren't those of files: of the root and quota trees.
+pub const OTHER_ITEMS: usize = 3 * (25 + 439) + (25 + 32) + 2 * (25 + 40);
+
+/// What a file takes without its pieces, and what a piece takes.
+pub const INODE: usize = 25 + 160;
+pub const PIECE: usize = 25 + 53;
+
+/// Slots and sectors of an image.
+#[derive(Clone, Copy)]
+pub struct Sizes {
+    pub slots: u64,
+    pub sectors: u64,
+}
+
+#[derive(Clone, Copy)]
+pub struct Key {
+    objectid: u64,
+    kind: u8,
+    offset: u64,
+}
+
+/// A key, and a body under it or a pointer's place and generation.
+pub struct Part {
+    key: Key,
+    body: Vec<u8>,
+}
+
+/// Nodes of one generation, each with its address; they go into these slots, in their order.
+pub struct Nodes<'a> {
+    pub generation: u64,
+    pub slots: &'a [u64],
+    pub written: Vec<(u64, Vec<u8>)>,
+}
+
+/// A node that was written.
+#[derive(Clone, Copy)]
+pub struct Root {
+    pub address: u64,
+    pub level: u8,
+}
+
+/// The address of a slot.
+pub fn slot_at(slot: u64) -> u64 {
+    SLOTS_BEGIN + NODE as u64 * slot
+}
+
+fn put(bytes: &mut [u8], at: usize, part: &[u8]) {
+    bytes[at..at + part.len()].copy_from_slice(part);
+}
+
+fn put_key(bytes: &mut [u8], at: usize, key: Key) {
+    put(bytes, at, &key.objectid.to_le_bytes());
+    bytes[at + 8] = key.kind;
+    put(bytes, at + 9, &key.offset.to_le_bytes());
+}
+
+/// A body of so many bytes, of numbers at places.
+fn body(len: usize, numbers: &[(usize, u64)]) -> Vec<u8> {
+    let mut bytes = vec![0; len];
+    for (at, number) in numbers {
+        put(&mut bytes, *at, &number.to_le_bytes());
+    }
+    bytes
+}
+
+impl Nodes<'_> {
+    fn put_node(&mut self, owner: u64, level: u8, parts: &[Part]) -> Root {
+        let address = self.slots[self.written.len()];
+        let mut node = vec![0; NODE];
+        put(&mut node, 48, &address.to_le_bytes());
+        put(&mut node, 80, &self.generation.to_le_bytes());
+        put(&mut node, 88, &owner.to_le_bytes());
+        put(&mut node, 96, &(parts.len() as u32).to_le_bytes());
+        node[100] = level;
+        let mut end = NODE;
+        for (i, part) in parts.iter().enumerate() {
+            if level == 0 {
+                let header = 101 + 25 * i;
+                end -= part.body.len();
+                put(&mut node, end, &part.body);
+                put_key(&mut node, header, part.key);
+                put(&mut node, header + 17, &(end as u32 - 101).to_le_bytes());
+                put(&mut node, header + 21, &(part.body.len() as u32).to_le_bytes());
+            } else {
+                let pointer = 101 + 33 * i;
+                put_key(&mut node, pointer, part.key);
+                put(&mut node, pointer + 17, &part.body);
+            }
+        }
+        let sum = crc32c(&node[32..]);
+        put(&mut node, 0, &sum.to_le_bytes());
+        self.written.push((address, node));
+        Root { address, level }
+    }
+
+    /// Writes the nodes of one level, each as full as it can be while the rest fills a quarter, and those above.
+    pub fn put_tree(&mut self, owner: u64, level: u8, parts: &[Part]) -> Root {
+        let weight = |part: &Part| if level == 0 { 25 + part.body.len() } else { 33 };
+        let mut left: usize = parts.iter().map(weight).sum();
+        if left <= ROOM {
+            return self.put_node(owner, level, parts);
+        }
+        let mut above = Vec::new();
+        let mut begin = 0;
+        while begin < parts.len() {
+            let mut taken = 0;
+            let mut end = begin;
+            for part in &parts[begin..] {
+                let more = taken + weight(part);
+                if more > ROOM || left > ROOM && 4 * more + ROOM > 4 * left {
+                    break;
+                }
+                taken = more;
+                end += 1;
+            }
+            let node = self.put_node(owner, level, &parts[begin..end]);
+            above.push(Part {
+                key: parts[begin].key,
+                body: body(16, &[(0, node.address), (8, self.generation)]),
+            });
+            begin = end;
+            left -= taken;
+        }
+        self.put_tree(owner, level + 1, &above)
+    }
+}
+
+fn item(objectid: u64, kind: u8, offset: u64, body: Vec<u8>) -> Part {
+    let key = Key {
+        objectid,
+        kind,
+        offset,
+    };
+    Part { key, body }
+}
+
+/// The item of a file, of this size, whose pieces take so many bytes.
+pub fn inode_item(ino: u64, made: u64, changed: u64, size: u64, bytes: u64) -> Part {
+    let numbers = [(0, made), (8, changed), (16, size), (24, bytes)];
+    item(ino, 1, 0, body(160, &numbers))
+}
+
+/// A piece of an extent.
+#[derive(Clone, Copy)]
+pub struct Piece {
+    pub position: u64,
+    pub len: u64,
+    pub extent: u64,
+    pub offset: u64,
+    pub stamp: u64,
+    pub extent_bytes: u64,
+}
+
+/// The item of a piece.
+pub fn piece_item(ino: u64, piece: &Piece) -> Part {
+    let numbers = [
+        (0, piece.stamp),
+        (8, piece.extent_bytes),
+        (21, piece.extent),
+        (29, piece.extent_bytes),
+        (37, piece.offset),
+        (45, piece.len),
+    ];
+    let mut bytes = body(53, &numbers);
+    bytes[20] = 1;
+    item(ino, 108, piece.position, bytes)
+}
+
+fn root_item(tree: u64, root: Root, generation: u64) -> Part {
+    let mut root_body = body(439, &[(160, generation), (176, root.address), (216, 1)]);
+    root_body[238] = root.level;
+    item(tree, 132, 0, root_body)
+}
+
+fn superblock(place: u64, root: u64, generation: u64, sizes: Sizes) -> Vec<u8> {
+    let mut bytes = vec![0; 4096];
+    put(&mut bytes, 48, &place.to_le_bytes());
+    put(&mut bytes, 64, b"QGRPIMG1");
+    put(&mut bytes, 72, &generation.to_le_bytes());
+    put(&mut bytes, 80, &root.to_le_bytes());
+    put(&mut bytes, 112, &(DATA_BEGIN + SECTOR * sizes.sectors).to_le_bytes());
+    put(&mut bytes, 144, &(SECTOR as u32).to_le_bytes());
+    put(&mut bytes, 148, &(NODE as u32).to_le_bytes());
+    put(&mut bytes, 2048, &sizes.slots.to_le_bytes());
+    put(&mut bytes, 2056, &sizes.sectors.to_le_bytes());
+    bytes[2064] = 1;
+    let sum = crc32c(&bytes[32..]);
+    put(&mut bytes, 0, &sum.to_le_bytes());
+    bytes
+}
+
+/// Writes a commit of these items of files, whose extents take so many bytes, into these slots: nodes, a sync, and the two superblocks with
+/// a sync each. How many nodes there are.
+pub fn commit(
+    file: &File,
+    sizes: Sizes,
+    generation: u64,
+    slots: &[u64],
+    items: &[Part],
+    extent_bytes: u64,
+) -> io::Result<usize> {
+    let mut nodes = Nodes {
+        generation,
+        slots,
+        written: Vec::new(),
+    };
+    let files = nodes.put_tree(5, 0, items);
+    let counted = (NODE * nodes.written.len()) as u64 + extent_bytes;
+    let extents = nodes.put_tree(2, 0, &[]);
+    let counts = [(0, generation), (8, counted), (16, counted), (24, counted), (32, counted)];
+    let quota_items = [
+        item(0, 240, 0, body(32, &[(0, 1), (8, generation), (16, 1)])),
+        item(0, 242, 5, body(40, &counts)),
+        item(0, 244, 5, body(40, &[])),
+    ];
+    let quotas = nodes.put_tree(8, 0, &quota_items);
+    let roots = [(2, extents), (5, files), (8, quotas)];
+    let roots = roots.map(|(tree, root)| root_item(tree, root, generation));
+    let root = nodes.put_tree(1, 0, &roots);
+    for (address, node) in &nodes.written {
+        file.write_all_at(node, *address)?;
+    }
+    file.sync_all()?;
+    for place in PLACES {
+        file.write_all_at(&superblock(place, root.address, generation, sizes), place)?;
+        file.sync_all()?;
+    }
+    Ok(nodes.written.len())
+}

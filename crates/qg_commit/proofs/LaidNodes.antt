@@ -1,0 +1,113 @@
+-- The nodes of trees that were laid out for a commit: they lie apart in the slots that were given, and a commit may write them.
+use Rattle.std.proofs.Common.{◌≡◌, ℕ, ◌+◌, true, List, [], ◌∷◌, ◌++◌, map, length, take, drop, sym, ap, subst, ◌∙◌, append_assoc, length-append}
+use Rattle.std.specs.Prelude.{◌==◌, IsTrue, All}
+use Rattle.std.specs.List.{AllByRecursion, Contains, IsDistinct}
+use Rattle.std.specs.List.Sorted.{IsPermutation}
+use Rattle.std.proofs.lemmas.List.{drop-drop, take-append-drop}
+use Rattle.std.proofs.lemmas.List.Elements.{All-from_recursion, Contains-append_left}
+use Rattle.std.proofs.lemmas.List.Sorted.{Contains-permutation, IsPermutation-append_comm, IsPermutation-append_right, IsPermutation-map, IsPermutation-trans}
+use Rattle.qg_num.specs.declared.counters.Counters.{Counters}
+use Rattle.qg_node.specs.declared.node.Node.{Node}
+use Rattle.qg_node.specs.Nodes.{header_of}
+use Rattle.qg_node.specs.NodeText.{IsNode}
+use Rattle.qg_items.specs.declared.root.RootItem.{RootItem}
+use Rattle.qg_super.specs.declared.superblock.Super.{Super}
+use Rattle.qg_super.specs.Places.{is_slot}
+use Rattle.qg_super.specs.SuperText.{is_super, sizes_of}
+use Rattle.qg_image.specs.declared.file.File.{File}
+use Rattle.qg_state.specs.declared.element.Element.{Element}
+use Rattle.qg_tree.specs.Build.{IsMadeFor}
+use Rattle.qg_laid.specs.declared.laying.Laid.{Laid}
+use Rattle.qg_laid.specs.Trees.{AreTreesLaid, nodes_laid}
+use Rattle.qg_commit.proofs.Placed.{moved-AreCommittable, placed-append, placed-AreCommittable}
+use Rattle.qg_commit.proofs.Written.{address_of, AreCommittable}
+
+-- ---- lists
+
+both_all : {A : Type 0} (P : A → Type 0) (front back : List A) → AllByRecursion P front → AllByRecursion P back → AllByRecursion P (front ++ back)
+both_all P [] back first second = second
+both_all P (x ∷ front) back first second = (first.0, both_all P front back first.1 second)
+
+-- the last list first
+last_first : {A : Type 0} (a b c d : List A) → IsPermutation (d ++ b ++ c ++ a) (a ++ b ++ c ++ d)
+last_first {A} a b c d =
+    let front : IsPermutation (d ++ b ++ c ++ a) (a ++ (d ++ b ++ c)) = IsPermutation-append_comm (d ++ b ++ c) a in
+    let inner : IsPermutation (d ++ (b ++ c)) ((b ++ c) ++ d) = IsPermutation-append_comm d (b ++ c) in
+    let joined : d ++ (b ++ c) ≡ d ++ b ++ c = simp append_assoc in
+    let behind : IsPermutation (a ++ (d ++ b ++ c)) (a ++ ((b ++ c) ++ d)) =
+    IsPermutation-append_right a (d ++ b ++ c) ((b ++ c) ++ d) (subst (λ (list : List A). IsPermutation list ((b ++ c) ++ d)) joined inner) in
+    let same : a ++ ((b ++ c) ++ d) ≡ a ++ b ++ c ++ d = simp append_assoc in
+    IsPermutation-trans (d ++ b ++ c ++ a) (a ++ (d ++ b ++ c)) (a ++ b ++ c ++ d) front (subst (IsPermutation (a ++ (d ++ b ++ c))) same behind)
+
+-- nodes behind two others' slots
+drop_both : (slots : List ℕ) (front back : List Node) → drop (length back) (drop (length front) slots) ≡ drop (length (front ++ back)) slots
+drop_both slots front back = drop-drop (length back) (length front) slots ∙ ap (λ (n : ℕ). drop n slots) (sym (length-append front back))
+
+abbrev pub LieIn : List ℕ → List Node → Type 0
+LieIn slots nodes = map (λ node. (header_of node).address) nodes ≡ take (length nodes) slots
+
+lie_both : (slots : List ℕ) (front back : List Node) → LieIn slots front → LieIn (drop (length front) slots) back → LieIn slots (front ++ back)
+lie_both slots front back first second = placed-append slots front back first second
+
+made_format : (nodesize owner generation : ℕ) (nodes : List Node) → AllByRecursion (IsMadeFor nodesize owner generation) nodes → AllByRecursion (IsNode nodesize) nodes
+made_format nodesize owner generation [] all = tt
+made_format nodesize owner generation (node ∷ nodes) all = (all.0.node_of_format, made_format nodesize owner generation nodes all.1)
+
+-- ---- the nodes of a commit
+
+module _ (committed : Super) (root : RootItem) (files : List (ℕ × File)) (extents : List Element) (counters : Counters) (stamp : ℕ) (slots : List ℕ) (laid : Laid)
+    (trees : AreTreesLaid committed root files extents counters stamp slots laid) where
+  abbrev own : List Node
+  own = laid.files.nodes
+
+  abbrev empty : List Node
+  empty = laid.extents.nodes
+
+  abbrev quotas : List Node
+  quotas = laid.quotas.nodes
+
+  -- in the order of their slots
+  abbrev pub in_slots : List Node
+  in_slots = own ++ empty ++ quotas ++ laid.roots.nodes
+
+  pub moved : IsPermutation (nodes_laid laid) in_slots
+  moved = last_first own empty quotas laid.roots.nodes
+
+  pub lie : LieIn slots in_slots
+  lie =
+      let first = lie_both slots own empty trees.file_tree.stands.placed trees.extent_tree.stands.placed in
+      let quotas_lie : LieIn (drop (length (own ++ empty)) slots) quotas =
+      subst (λ (list : List ℕ). LieIn list quotas) (drop_both slots own empty) trees.quota_tree.stands.placed in
+      let second = lie_both slots (own ++ empty) quotas first quotas_lie in
+      let roots_lie : LieIn (drop (length (own ++ empty ++ quotas)) slots) laid.roots.nodes =
+      subst (λ (list : List ℕ). LieIn list laid.roots.nodes) (ap (drop (length quotas)) (drop_both slots own empty) ∙ drop_both slots (own ++ empty) quotas) trees.root_tree.stands.placed in
+      lie_both slots (own ++ empty ++ quotas) laid.roots.nodes second roots_lie
+
+  -- each lies in one of the slots that were given
+  pub laid-placed : (slot : ℕ) → Contains (map (λ node. (header_of node).address) (nodes_laid laid)) slot → Contains slots slot
+  laid-placed slot has =
+      let there = Contains-permutation (map address_of (nodes_laid laid)) (map address_of in_slots) slot (IsPermutation-map address_of (nodes_laid laid) in_slots moved) has in
+      let among = subst (λ (list : List ℕ). Contains list slot) lie there in
+      subst (λ (list : List ℕ). Contains list slot) (take-append-drop (length in_slots) slots)
+      (Contains-append_left (take (length in_slots) slots) (drop (length in_slots) slots) slot among)
+
+  formed : All (IsNode committed.nodesize) in_slots
+  formed =
+      let n = committed.nodesize in
+      let next = committed.generation + 1 in
+      let first = both_all (IsNode n) own empty (made_format n 5 next own trees.file_tree.stands.made) (made_format n 2 next empty trees.extent_tree.stands.made) in
+      let second = both_all (IsNode n) (own ++ empty) quotas first (made_format n 8 next quotas trees.quota_tree.stands.made) in
+      let all = both_all (IsNode n) (own ++ empty ++ quotas) laid.roots.nodes second (made_format n 1 next laid.roots.nodes trees.root_tree.stands.made) in
+      All-from_recursion (IsNode n) in_slots all
+
+  -- a commit may write them
+  pub laid-AreCommittable : is_super committed ≡ true → All (λ slot. IsTrue (is_slot (sizes_of committed) slot)) slots → IsDistinct (λ a b. a == b) slots
+      → AreCommittable laid.superblock (nodes_laid laid)
+  laid-AreCommittable is are_slots apart =
+      let are = moved-AreCommittable committed in_slots (nodes_laid laid) moved (placed-AreCommittable committed slots in_slots is are_slots apart lie formed) in
+      let same : AreCommittable (record committed { generation = committed.generation + 1; root = laid.roots.root }) (nodes_laid laid) = record {
+        writable = are.writable;
+        in_slots = are.in_slots;
+        apart = are.apart;
+      } in
+      subst (λ (super : Super). AreCommittable super (nodes_laid laid)) (sym trees.leads) same

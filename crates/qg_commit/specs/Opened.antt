@@ -1,0 +1,18 @@
+-- What opening a sound image does to the disk (this project's own).
+use Rattle.std.specs.Prelude.{◌≡◌, ℕ, List, ◌∷◌, Option, Some}
+use Rattle.qg_device.specs.History.{Event, Synced, content}
+use Rattle.qg_super.specs.declared.superblock.Super.{Super}
+use Rattle.qg_super.specs.Places.{first_place, second_place}
+use Rattle.qg_verdict.specs.StateOf.{super_in, super_of}
+use Rattle.qg_check.specs.Stale.{stale_place}
+use Rattle.qg_commit.specs.Opening.{with_repair}
+
+-- the place that does not hold the superblock that counts, if there is one
+abbrev pub stale_of : List ℕ → Option ℕ
+stale_of image = stale_place (super_in image first_place) (super_in image second_place)
+
+-- the image was opened: a sync, and where a place was stale its text and a sync; nothing else was done
+pub record IsOpened (events : List Event) (history : Option (List Event)) : Type 0 where
+  pub super : Super
+  pub chosen : super_of (content events) ≡ Some super
+  pub repaired : history ≡ Some (with_repair super (stale_of (content events)) (Synced ∷ events))

@@ -1,0 +1,106 @@
+// A commit.
+ghost use Rattle.std.specs.Prelude.{◌≡◌, ◌⊎◌, ◌≤◌, ◌+◌, ◌*◌, ◌^◌, List, ℕ, Some, None, length, map, All, OnOk, IfOk, IfErr, IsTrue};
+ghost use Rattle.std.specs.List.{AllByRecursion, Contains, sum_by};
+ghost use Rattle.std.specs.Option.{option_map};
+ghost use Rattle.qg_device.specs.Cause.{HasCause};
+ghost use Rattle.qg_device.specs.History.{Event, content};
+ghost use Rattle.qg_node.specs.Nodes.{header_of};
+ghost use Rattle.qg_node.specs.NodeText.{IsNodeSize};
+ghost use Rattle.qg_super.specs.Places.{is_slot, total_bytes};
+ghost use Rattle.qg_super.specs.SuperText.{is_super, sizes_of};
+ghost use Rattle.qg_state.specs.declared.quota.Group.{Group};
+ghost use Rattle.qg_state.specs.Need.{file_bytes, nodes_filled};
+ghost use Rattle.qg_state.specs.State.{State, Subvolume};
+ghost use Rattle.qg_verdict.specs.Verdict.{space_failure};
+ghost use Rattle.qg_rules.specs.Writable.{AreWritableFiles, IsFileBy};
+ghost use Rattle.qg_laid.specs.Trees.{AreEnough, AreFor, AreTreesLaid, IsCommitOf, nodes_laid};
+ghost use Rattle.qg_commit.specs.Calls.{GoesOn, IsReadBack, IsWritable, with_commit};
+
+use crate::write::{write_nodes, write_superblocks};
+use qg_disk::{Disk, DiskFault};
+use qg_image::File;
+use qg_items::RootItem;
+use qg_laid::{Laid, lay_out};
+use qg_num::{Address, BlockFault, Counters, Generation, Ino};
+use qg_state::Element;
+use qg_super::Super;
+use std::alloc::Global;
+
+/// Builds all trees anew in free slots and writes them, then the superblocks (this project's own).
+///
+/// The only subvolume is the top-level one, which has these files and names these extents; its ROOT_ITEM and its group's counters and stamp
+/// are those of the last commit, whose superblock `committed` is. `slots` are addresses of free slots, in bytes.
+pub fn commit<D: Disk>(
+    alloc: Global,
+    disk: &mut D,
+    committed: &Super,
+    root: &RootItem,
+    files: &[(Ino, File)],
+    extents: &[Element],
+    counters: &Counters,
+    stamp: Generation,
+    slots: &[Address],
+) -> Result<Laid, BlockFault>
+    requires superblock { IsTrue (is_super committed.now) }
+    requires generation { committed.now.generation ≤ 2 ^ 63 }
+    requires copied { root.now.last_snapshot ≤ committed.now.generation }
+    requires stamp { stamp ≤ committed.now.generation }
+    requires files { AreWritableFiles files.now }
+    requires by { All (IsFileBy (committed.now.generation + 1)) files.now }
+    requires space { space_failure (sizes_of committed.now) extents.now ≡ None }
+    requires room { AreEnough (5 * nodes_filled committed.now.nodesize (sum_by (λ file. file_bytes file.1) files.now) + 14) slots.now }
+    requires slots { All (λ slot. IsTrue (is_slot (sizes_of committed.now) slot)) slots.now }
+    requires long { total_bytes (sizes_of committed.now) ≤ D.size disk.old }
+
+    // What was built, whatever the disk tells.
+    ensures superblock { IfOk result (λ laid. IsTrue (is_super laid.superblock)) }
+    ensures trees { IfOk result (λ laid. AreTreesLaid committed.now root.now files.now extents.now counters.now stamp slots.now laid) }
+    ensures placed { IfOk result (λ laid. (slot : ℕ)
+        → Contains (map (λ node. (header_of node).address) (nodes_laid laid)) slot → Contains slots.now slot) }
+
+    // Over a disk that tells what it holds: exactly these calls, and what then stands.
+    ensures calls { (events : List Event) → D.history disk.old ≡ Some events
+        → IfOk result (λ laid. D.history disk.new ≡ Some (with_commit laid.superblock (nodes_laid laid) events)) }
+    ensures committed { (events : List Event) (old : State) (before : Subvolume) (group : Group) → D.history disk.old ≡ Some events
+        → IfOk result (λ laid. AreFor old before group committed.now root.now files.now extents.now counters.now stamp slots.now
+        → IsCommitOf old laid files.now (content (with_commit laid.superblock (nodes_laid laid) events))) }
+
+    // Whatever it answers, nothing of what was done before is lost.
+    ensures later { (events : List Event) → D.history disk.old ≡ Some events → GoesOn events (D.history disk.new) }
+
+    // Over any disk.
+    ensures no_less { D.size disk.old ≤ D.size disk.new }
+    ensures no_image { IfErr result (λ fault. (fault ≡ BlockFault.Disk) ⊎ (fault ≡ BlockFault.NoMemory)) }
+    ensures cause { HasCause BlockFault.Disk (D.faults disk.old) (D.faults disk.new) result }
+{
+    let laid = lay_out(
+        alloc, committed, root, files, extents, counters, stamp, slots,
+    )?;
+    let mut buffer = vec![in alloc; 0; committed.nodesize as usize]?;
+    match write_laid(disk, &laid, &mut buffer) {
+        Ok(()) => Ok(laid),
+        Err(DiskFault::Failed) => Err(BlockFault::Disk),
+        Err(DiskFault::NoMemory) => Err(BlockFault::NoMemory),
+    }
+}
+
+// Writes the nodes of the four trees, over a buffer of a node's size, and then the superblocks.
+fn write_laid<D: Disk>(disk: &mut D, laid: &Laid, buffer: &mut [u8]) -> Result<(), DiskFault>
+    requires superblock { IsTrue (is_super laid.now.superblock) }
+    requires size { length buffer.old ≡ laid.now.superblock.nodesize }
+    requires node_size { IsNodeSize (length buffer.old) }
+    requires nodes { AllByRecursion (IsWritable (length buffer.old)) (nodes_laid laid.now) }
+    ensures calls { OnOk result (D.history disk.new
+        ≡ option_map (with_commit laid.now.superblock (nodes_laid laid.now)) (D.history disk.old)) }
+    ensures read { OnOk result (All (IsReadBack (length buffer.old)) (nodes_laid laid.now)) }
+    ensures later { (events : List Event) → D.history disk.old ≡ Some events → GoesOn events (D.history disk.new) }
+    ensures no_less { D.size disk.old ≤ D.size disk.new }
+    ensures cause { HasCause DiskFault.Failed (D.faults disk.old) (D.faults disk.new) result }
+{
+    write_nodes(disk, laid.roots.nodes.as_slice(), buffer)?;
+    write_nodes(disk, laid.extents.nodes.as_slice(), buffer)?;
+    write_nodes(disk, laid.quotas.nodes.as_slice(), buffer)?;
+    write_nodes(disk, laid.files.nodes.as_slice(), buffer)?;
+    write_superblocks(disk, &laid.superblock)?;
+    Ok(())
+}

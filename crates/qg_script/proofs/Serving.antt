@@ -1,0 +1,36 @@
+-- Which texts are those of commands that are served.
+use Rattle.std.proofs.Common.{◌≡◌, ◌≢◌, ℕ, List, [], ◌∷◌, ◌++◌, true, refl, ◌∙◌}
+use Rattle.std.specs.Prelude.{codes, IsTrue, ◌==◌, not}
+use Rattle.std.specs.List.{flat_map, list_all}
+use Rattle.qg_num.specs.declared.command.Command.{Command}
+use Rattle.qg_num.specs.declared.command.Command.TheVariants.{Write, Commit, Show}
+use Rattle.qg_grammar.specs.ScriptText.{command_text, is_in_grammar, then_number}
+use Rattle.qg_grammar.specs.Served.{is_served}
+use Rattle.qg_script.specs.Reading.{IsParted, IsTextOf}
+use Rattle.qg_script.proofs.Parting.{parted_once, plain_word, numbers_behind}
+use Rattle.qg_script.proofs.Rows.{write_text}
+
+-- a command that is a text by itself
+pub commit_read : {text : List ℕ} → text ≡ codes "commit" → IsTextOf text Commit
+unfolding command_text is_in_grammar
+commit_read is = record { spelled = is; in_grammar = refl }
+
+pub show_read : {text : List ℕ} → text ≡ codes "show" → IsTextOf text Show
+unfolding command_text is_in_grammar
+show_read is = record { spelled = is; in_grammar = refl }
+
+-- the first word of a text is the one that some numbers stand behind
+first_is : {text word rest : List ℕ} (written numbers : List ℕ) → IsParted text word rest → list_all (λ byte. not (byte == 32)) written ≡ true
+    → text ≡ written ++ flat_map then_number numbers → word ≡ written
+first_is written numbers parted plain is =
+    (parted_once parted (record { whole = is; plain = plain_word written plain; behind = numbers_behind numbers })).0
+
+-- a text that is none of these is that of no served command
+pub not_served : {text word rest : List ℕ} → IsParted text word rest → text ≢ codes "commit" → text ≢ codes "show" → word ≢ codes "write"
+    → (command : Command) → IsTrue (is_served command) → IsTextOf text command → ⊥
+unfolding command_text
+not_served parted commit show write (Write sub ino off len) served is =
+    write (first_is (codes "write") (sub ∷ ino ∷ off ∷ len ∷ []) parted refl (is.spelled ∙ write_text sub ino off len))
+not_served parted commit show write Commit served is = commit is.spelled
+not_served parted commit show write Show served is = show is.spelled
+not_served parted commit show write command served is = absurd cc

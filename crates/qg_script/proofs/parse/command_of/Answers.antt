@@ -1,0 +1,33 @@
+use Rattle.std.proofs.Common.{◌≡◌, ◌≢◌, ℕ, List, true, false, refl, sym, ◌∙◌}
+use Rattle.std.specs.Prelude.{codes, bytes_eq, IsTrue}
+use Rattle.std.proofs.lemmas.Bool.{false≢true}
+use Rattle.std.proofs.lemmas.Slice.Eq.{bytes_eq-Decides}
+use Rattle.qg_grammar.specs.Served.{is_served}
+use Rattle.qg_script.proofs.Rows.{of_found, only_write}
+use Rattle.qg_script.proofs.Serving.{commit_read, show_read, not_served}
+use Rattle.qg_script.proofs.parse.command_of.Goals as goal
+
+-- bytes that were compared with a word that is written out
+is_word : (bytes word written : List ℕ) → true ≡ bytes_eq bytes word → word ≡ written → bytes ≡ written
+is_word bytes word written test is = (bytes_eq-Decides bytes word).0 (sym test) ∙ is
+
+is_other : (bytes word written : List ℕ) → false ≡ bytes_eq bytes word → word ≡ written → bytes ≢ written
+is_other bytes word written test is same = false≢true (test ∙ (bytes_eq-Decides bytes word).1 (same ∙ sym is))
+
+pub returns-then-eq-clause-found : goal.returns-then-eq-clause-found
+returns-then-eq-clause-found c = commit_read (is_word c.args.text.now c.as_slice.result.now (codes "commit") c.if-eq.ensures c.as_slice.ensures)
+
+pub returns-then-eq-2-clause-found : goal.returns-then-eq-2-clause-found
+returns-then-eq-2-clause-found c = show_read (is_word c.args.text.now c.as_slice-2.result.now (codes "show") c.if-eq-2.ensures c.as_slice-2.ensures)
+
+pub returns-then-eq-3-clause-served : goal.returns-then-eq-3-clause-served
+returns-then-eq-3-clause-served c =
+    of_found c.read_write.result
+    (only_write (λ command. IsTrue (is_served command)) c.first_word.result.1.now (λ sub ino off len file are. refl)) c.read_write.ensures.command
+
+pub returns-else-eq-3-clause-none : goal.returns-else-eq-3-clause-none
+returns-else-eq-3-clause-none c =
+    not_served c.first_word.ensures
+    (is_other c.args.text.now c.as_slice.result.now (codes "commit") c.if-eq.ensures c.as_slice.ensures)
+    (is_other c.args.text.now c.as_slice-2.result.now (codes "show") c.if-eq-2.ensures c.as_slice-2.ensures)
+    (is_other c.first_word.result.0.now c.as_slice-3.result.now (codes "write") c.if-eq-3.ensures c.as_slice-3.ensures)

@@ -1,0 +1,21 @@
+use Rattle.std.proofs.Common.{◌≡◌, true, subst, sym}
+use Rattle.qg_grammar.specs.ScriptText.{is_in_grammar}
+use Rattle.qg_store.specs.Answering.{Commands}
+use Rattle.qg_store.proofs.Served.{inode_told}
+use Rattle.qg_store.proofs.Shown.{does_show}
+use Rattle.qg_store.proofs.store.answer.Goals as goal
+
+pub write-requires-clause-least : goal.write-requires-clause-least
+write-requires-clause-least g c =
+    (inode_told c.in-Write.sub c.in-Write.ino c.in-Write.off c.in-Write.len (subst (λ command. is_in_grammar command ≡ true) c.in-Write.is c.requires.numbers)).0
+
+pub write-requires-clause-below : goal.write-requires-clause-below
+write-requires-clause-below g c =
+    (inode_told c.in-Write.sub c.in-Write.ino c.in-Write.off c.in-Write.len (subst (λ command. is_in_grammar command ≡ true) c.in-Write.is c.requires.numbers)).1
+
+pub returns-in_ok-show-in-Show-clause-step : goal.returns-in_ok-show-in-Show-clause-step
+returns-in_ok-show-in-Show-clause-step g c = λ state events keeps told.
+    let shown = c.in_ok-show-in-Show.field-0 in
+    let history = g.D.Disk.history c.args.disk.now in
+    subst (λ command. Commands state command shown c.args.kept.now events history) (sym c.in-Show.is)
+    (does_show c.args.kept.now state shown events history keeps told c.in_ok-show-in-Show.ensures)

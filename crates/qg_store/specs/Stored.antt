@@ -1,0 +1,36 @@
+-- A store as its callers see it (this project's own).
+use Rattle.std.specs.Prelude.{◌≡◌, Option, None, Some}
+use Rattle.qg_num.specs.declared.fault.BlockFault.{BlockFault}
+use Rattle.qg_num.specs.declared.fault.BlockFault.TheVariants as fault
+use Rattle.qg_num.specs.declared.fault.Stop.{Stop}
+use Rattle.qg_num.specs.declared.fault.Stop.TheVariants.{NoMemory, Disk, Image, Aborted}
+use Rattle.qg_super.specs.declared.sizes.Sizes.{Sizes}
+use Rattle.qg_super.specs.SuperText.{sizes_of}
+use Rattle.qg_state.specs.State.{State}
+use Rattle.qg_store.specs.declared.kept.Kept.{Kept}
+use Rattle.qg_store.specs.Keeping.{IsKept, IsKeptOf}
+
+-- what it keeps, and why it stopped, if it did
+pub record Stored : Type 0 where
+  pub kept : Kept
+  pub stopped : Option BlockFault
+
+-- as long as it has not stopped, what it keeps fits together
+abbrev pub IsStore : Stored → Type 0
+IsStore store = store.stopped ≡ None → IsKept store.kept
+
+-- it has not stopped, and keeps this state
+pub record IsStoreOf (store : Stored) (state : State) : Type 0 where
+  pub running : store.stopped ≡ None
+  pub keeps : IsKeptOf store.kept state
+
+-- the sizes of its image
+abbrev pub sizes_stored : Stored → Sizes
+sizes_stored store = sizes_of store.kept.superblock
+
+-- a command stops a store, or finds that it has stopped
+abbrev pub Stops : Stop → Stored → Stored → Type 0
+Stops (Aborted cause) old new = (old.stopped ≡ Some cause) × (new ≡ old)
+Stops NoMemory old new = (old.stopped ≡ None) × (new.stopped ≡ Some fault.NoMemory)
+Stops Disk old new = (old.stopped ≡ None) × (new.stopped ≡ Some fault.Disk)
+Stops (Image rule address) old new = ⊥

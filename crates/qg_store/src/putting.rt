@@ -1,0 +1,107 @@
+// A range is written, and what is held and counted follows.
+ghost use Rattle.std.specs.Prelude.{◌≡◌, ◌+◌, ◌-◌, ◌%◌, ◌^◌, ◌<◌, ◌≤◌, ◌∷◌, length, map, OnOk, IsTrue};
+ghost use Rattle.std.specs.List.{All, count_by};
+ghost use Rattle.qg_super.specs.Places.{sector};
+ghost use Rattle.qg_image.specs.Table.{value_at};
+ghost use Rattle.qg_state.specs.declared.element.Element.{Element};
+ghost use Rattle.qg_state.specs.Reach.{extent_of};
+ghost use Rattle.qg_verdict.specs.Verdict.{same_extent};
+ghost use Rattle.qg_machine.specs.FileChange.{pieces_or_none};
+ghost use Rattle.qg_files.specs.Split.{IsSplit};
+ghost use Rattle.qg_named.specs.Named.{HasOneMore, named_count};
+ghost use Rattle.qg_space.specs.Holding.{free_slots, is_free_run};
+ghost use Rattle.qg_store.specs.Held.{HasMore, HoldsNamed, SameBesideRuns};
+ghost use Rattle.qg_store.specs.Keeping.{IsKept, files_weight, need_of};
+ghost use Rattle.qg_store.specs.Writing.{IsWritable, IsWritten, files_written};
+
+use crate::kept::Kept;
+use qg_files::Split;
+use qg_named::Named;
+use qg_num::{Address, Generation, Ino, NoMemory, Piece};
+use qg_space::Space;
+use qg_state::Element;
+use qg_super::SECTOR;
+
+/// Puts one new extent, which is free, in a range of a file, and takes its run; of the pieces that go, the last one that names an extent
+/// gives its run back.
+pub(crate) fn put_extent(
+    kept: &mut Kept,
+    ino: Ino,
+    off: u64,
+    len: u64,
+    run: Address,
+    split: &Split,
+    weight: u64,
+) -> Result<(), NoMemory>
+    requires kept { IsKept kept.old }
+    requires range { IsWritable ino off len }
+    requires free { IsTrue (is_free_run kept.old.space run len) }
+    requires split { IsSplit off (off + len) (pieces_or_none (value_at ino kept.old.files)) split.now.gone split.now.rests }
+    requires weight { weight ≡ files_weight (files_written (kept.old.superblock.generation + 1) ino off len run kept.old.files) }
+    requires reserved { need_of kept.old.superblock.nodesize weight ≤ free_slots kept.old.space }
+    requires few { kept.old.pending < 65536 }
+    ensures written { OnOk result (IsWritten kept.old ino off len run kept.new) }
+    ensures kept { OnOk result (IsKept kept.new) }
+    ensures superblock { kept.new.superblock ≡ kept.old.superblock }
+{
+    kept.space.take_run(run, len / SECTOR)?;
+    let generation = Generation::new(kept.superblock.generation.value() + 1);
+    qg_subvol::write(kept.alloc, &mut kept.files, generation, ino, off, len, run)?;
+    let extent = Element {
+        address: run,
+        bytes: len,
+    };
+    // What a rest names is added first, so that no piece that goes is the last one to name it.
+    add_names(&mut kept.named, &extent, split.rests.as_slice())?;
+    drop_names(&mut kept.named, &mut kept.space, split.gone.as_slice());
+    kept.weight = weight;
+    kept.pending += 1;
+    Ok(())
+}
+
+/// One piece more names an extent, and each of some pieces the extent that it names.
+fn add_names(named: &mut Named, extent: &Element, pieces: &[Piece]) -> Result<(), NoMemory>
+    requires { (other : Element) → named_count named.old other + length pieces.now < 2 ^ 64 - 1 }
+    ensures { OnOk result (HasMore named.old named.new (extent.now ∷ map extent_of pieces.now)) }
+{
+    named.add(extent)?;
+    for piece in pieces {
+        named.add(&Element {
+            address: piece.extent,
+            bytes: piece.extent_bytes,
+        })?;
+    }
+    Ok(())
+}
+
+/// Each of some pieces names its extent no more. Where none does any more, the present state gives the run back.
+fn drop_names(named: &mut Named, space: &mut Space, pieces: &[Piece])
+    requires named { (extent : Element) → count_by (same_extent extent) (map extent_of pieces.now) ≤ named_count named.old extent }
+    requires held { HoldsNamed space.old named.old }
+    requires whole { All (λ piece. piece.extent_bytes % sector ≡ 0) pieces.now }
+    ensures less { HasMore named.new named.old (map extent_of pieces.now) }
+    ensures held { HoldsNamed space.new named.new }
+    ensures beside { SameBesideRuns space.old space.new }
+{
+    for piece in pieces {
+        drop_name(named, space, piece);
+    }
+}
+
+/// A piece names its extent no more. Where none does any more, the present state gives the run back.
+fn drop_name(named: &mut Named, space: &mut Space, piece: &Piece)
+    requires named { 0 < named_count named.old (extent_of piece.now) }
+    requires held { HoldsNamed space.old named.old }
+    requires whole { piece.now.extent_bytes % sector ≡ 0 }
+    ensures less { HasOneMore named.new named.old (extent_of piece.now) }
+    ensures held { HoldsNamed space.new named.new }
+    ensures beside { SameBesideRuns space.old space.new }
+{
+    let extent = Element {
+        address: piece.extent,
+        bytes: piece.extent_bytes,
+    };
+    if named.drop_one(&extent) {
+        space.give_run(extent.address, extent.bytes / SECTOR);
+    }
+}

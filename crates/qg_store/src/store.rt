@@ -1,0 +1,177 @@
+// The store, and its one step.
+ghost use Rattle.std.specs.Prelude.{◌≡◌, ◌⊎◌, ◌≤◌, ◌∷◌, List, None, Some, Err, IfOk, IfErr, IsTrue, false};
+ghost use Rattle.qg_device.specs.Cause.{HasCause};
+ghost use Rattle.qg_device.specs.History.{Event, Synced, content};
+ghost use Rattle.qg_num.specs.declared.answer.Answer.{Answer};
+ghost use Rattle.qg_num.specs.declared.fault.BlockFault.{BlockFault};
+ghost use Rattle.qg_num.specs.Fault.{stop_of};
+ghost use Rattle.qg_super.specs.Places.{total_bytes};
+ghost use Rattle.qg_super.specs.SuperText.{sizes_of};
+ghost use Rattle.qg_grammar.specs.ScriptText.{is_in_grammar};
+ghost use Rattle.qg_grammar.specs.Served.{is_served};
+ghost use Rattle.qg_state.specs.State.{State};
+ghost use Rattle.qg_verdict.specs.StateOf.{StateOf};
+ghost use Rattle.qg_verdict.specs.Verdict.{verdict};
+ghost use Rattle.qg_commit.specs.Calls.{GoesOn};
+ghost use Rattle.qg_commit.specs.Opened.{IsOpened};
+ghost use Rattle.qg_commit.specs.Opening.{IsRefusal, IsUntouched};
+ghost use Rattle.qg_store.specs.Answering.{Commands, is_commit, is_unchanging};
+ghost use Rattle.qg_store.specs.Keeping.{IsKept, IsKeptOf};
+ghost use Rattle.qg_store.specs.Stored.{IsStoreOf, Stops, sizes_stored};
+
+use crate::committing::commit;
+use crate::kept::Kept;
+use crate::opening::kept_of;
+use crate::showing::show;
+use crate::writing::write;
+use qg_commit::{OpenFault, open};
+use qg_disk::Disk;
+use qg_num::{Answer, BlockFault, Command, Generation, NoMemory, Steps, Stop};
+use std::alloc::Global;
+use std::marker::Model;
+use std::sync::ledger::Ledger;
+
+/// An open image, with what is pending (this project's own).
+#[derive(Drop)]
+pub struct Store {
+    kept: Kept,
+    stopped: Option<BlockFault>,
+}
+
+impl Model for Store {
+    ghost use Rattle.qg_store.specs.Stored.{Stored, IsStore};
+
+    ghost Value = { Stored };
+
+    ghost view = { λ s. record { kept = s.kept; stopped = s.stopped } };
+
+    ghost invariant = { λ s. IsStore (record { kept = s.kept; stopped = s.stopped }) };
+}
+
+impl Store {
+    /// Opens an image (this project's own): where it is sound, the store of the state that it stands for; else the first rule that it breaks,
+    /// or the first stored counter that is not the direct count. Only a superblock place that does not hold the superblock that counts is
+    /// written.
+    pub fn open<D: Disk>(alloc: Global, disk: &mut D) -> Result<Store, OpenFault>
+        // Over a disk that tells what it holds.
+        ensures sound { (events : List Event) → D.history disk.old ≡ Some events
+            → IfOk result (λ store. verdict (content events) ≡ None) }
+        ensures opened { (events : List Event) (state : State) → D.history disk.old ≡ Some events → StateOf (content events) state
+            → IfOk result (λ store. IsStoreOf store state) }
+        ensures refused { (events : List Event) → D.history disk.old ≡ Some events
+            → IfErr result (λ fault. IsRefusal fault (verdict (content events))) }
+        ensures repaired { (events : List Event) → D.history disk.old ≡ Some events
+            → IfOk result (λ store. IsOpened events (D.history disk.new)) }
+        ensures unwritten { (events : List Event) → D.history disk.old ≡ Some events
+            → IfErr result (λ fault. IsUntouched fault (D.history disk.new) (Synced ∷ events)) }
+        ensures later { (events : List Event) → D.history disk.old ≡ Some events → GoesOn events (D.history disk.new) }
+
+        // Over any disk.
+        ensures running { IfOk result (λ store. store.stopped ≡ None) }
+        ensures long { IfOk result (λ store. total_bytes (sizes_stored store) ≤ D.size disk.new) }
+        ensures cause { HasCause OpenFault.Disk (D.faults disk.old) (D.faults disk.new) result }
+    {
+        let image = open(alloc, disk)?;
+        match kept_of(alloc, image) {
+            Ok(kept) => Ok(Store {
+                kept,
+                stopped: None,
+            }),
+            Err(NoMemory) => Err(OpenFault::NoMemory),
+        }
+    }
+
+    /// Does a command or refuses it (this project's own). After a `Stop` the store does nothing more, and the image is to be opened again.
+    ///
+    /// No step is counted so far.
+    pub fn apply<D: Disk, L: Ledger, M: Ledger>(
+        &mut self,
+        disk: &mut D,
+        command: &Command,
+        looks: &mut Steps<L>,
+        reads: &mut Steps<M>,
+    ) -> Result<Answer, Stop>
+        requires long { total_bytes (sizes_stored self.old) ≤ D.size disk.old }
+        requires numbers { IsTrue (is_in_grammar command.now) }
+        requires served { IsTrue (is_served command.now) }
+
+        // Over a disk that tells what it holds, the answer is the machine's, and the disk was made to hold what the machine commits.
+        ensures step { (state : State) (events : List Event) → IsStoreOf self.old state → D.history disk.old ≡ Some events
+            → IfOk result (λ answer. Commands state command.now answer self.new.kept events (D.history disk.new)) }
+        ensures later { (events : List Event) → D.history disk.old ≡ Some events → GoesOn events (D.history disk.new) }
+
+        // Over any disk: what is refused or asked changes nothing, and only a commit comes to the disk.
+        ensures running { IfOk result (λ answer. (self.old.stopped ≡ None) × (self.new.stopped ≡ None)) }
+        ensures unchanged { IfOk result (λ answer. IsTrue (is_unchanging answer) → self.new ≡ self.old) }
+        ensures untouched { IfOk result (λ answer. is_commit answer ≡ false → disk.new ≡ disk.old) }
+
+        // After a stop nothing is done any more.
+        ensures stops { IfErr result (λ stop. Stops stop self.old self.new) }
+        ensures aborted { (cause : BlockFault) → self.old.stopped ≡ Some cause
+            → (result ≡ Err (Stop.Aborted cause)) × (self.new ≡ self.old) × (disk.new ≡ disk.old) }
+        ensures cause { HasCause Stop.Disk (D.faults disk.old) (D.faults disk.new) result }
+
+        ensures sizes { sizes_stored self.new ≡ sizes_stored self.old }
+        ensures no_less { D.size disk.old ≤ D.size disk.new }
+        ensures looks { looks.new ≡ looks.old }
+        ensures reads { reads.new ≡ reads.old }
+    {
+        if let Some(cause) = self.stopped {
+            return Err(Stop::Aborted(cause));
+        }
+        match answer(&mut self.kept, disk, command) {
+            Ok(answer) => Ok(answer),
+            Err(fault) => {
+                let stop = stop_of(&fault);
+                self.stopped = Some(fault);
+                Err(stop)
+            }
+        }
+    }
+
+    /// The committed generation.
+    pub fn generation(&self) -> Generation
+        ensures { result ≡ self.now.kept.superblock.generation }
+    {
+        self.kept.superblock.generation
+    }
+}
+
+// What a store answers that stops for a fault.
+fn stop_of(fault: &BlockFault) -> Stop
+    ensures { result ≡ stop_of fault.now }
+{
+    match fault {
+        BlockFault::NoMemory => Stop::NoMemory,
+        BlockFault::Disk => Stop::Disk,
+        BlockFault::Image { rule, address } => Stop::Image {
+            rule: *rule,
+            address: *address,
+        },
+    }
+}
+
+// Does a command or refuses it.
+fn answer<D: Disk>(kept: &mut Kept, disk: &mut D, command: &Command) -> Result<Answer, BlockFault>
+    requires kept { IsKept kept.old }
+    requires long { total_bytes (sizes_of kept.old.superblock) ≤ D.size disk.old }
+    requires numbers { IsTrue (is_in_grammar command.now) }
+    requires served { IsTrue (is_served command.now) }
+    ensures kept { IfOk result (λ answer. IsKept kept.new) }
+    ensures step { (state : State) (events : List Event) → IsKeptOf kept.old state → D.history disk.old ≡ Some events
+        → IfOk result (λ answer. Commands state command.now answer kept.new events (D.history disk.new)) }
+    ensures later { (events : List Event) → D.history disk.old ≡ Some events → GoesOn events (D.history disk.new) }
+    ensures unchanged { IfOk result (λ answer. IsTrue (is_unchanging answer) → kept.new ≡ kept.old) }
+    ensures untouched { IfOk result (λ answer. is_commit answer ≡ false → disk.new ≡ disk.old) }
+    ensures no_image { IfErr result (λ fault. (fault ≡ BlockFault.Disk) ⊎ (fault ≡ BlockFault.NoMemory)) }
+    ensures sizes { sizes_of kept.new.superblock ≡ sizes_of kept.old.superblock }
+    ensures no_less { D.size disk.old ≤ D.size disk.new }
+    ensures cause { HasCause BlockFault.Disk (D.faults disk.old) (D.faults disk.new) result }
+{
+    match command {
+        Command::Write { sub, ino, off, len } => Ok(write(kept, *sub, *ino, *off, *len)?),
+        Command::Commit => commit(kept, disk),
+        Command::Show => Ok(show(kept.alloc, &kept.group)?),
+        _ => unreachable!(),
+    }
+}

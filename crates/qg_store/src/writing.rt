@@ -1,0 +1,130 @@
+// A range of a file is written.
+ghost use Rattle.std.specs.Prelude.{◌≡◌, ◌+◌, ◌^◌, ◌≤◌, ◌<◌, ◌&&◌, ℕ, IfNone, IfOk, IsTrue, nat_le, nat_lt};
+ghost use Rattle.qg_num.specs.declared.command.Command.TheVariants.{Write};
+ghost use Rattle.qg_image.specs.FilesOf.{inodes_end, is_aligned, largest_size, least_inode};
+ghost use Rattle.qg_image.specs.Table.{value_at};
+ghost use Rattle.qg_state.specs.State.{State};
+ghost use Rattle.qg_verdict.specs.Verdict.{longest_extent};
+ghost use Rattle.qg_machine.specs.FileChange.{pieces_or_none};
+ghost use Rattle.qg_files.specs.Split.{IsSplit};
+ghost use Rattle.qg_store.specs.Answering.{Does, is_unchanging};
+ghost use Rattle.qg_store.specs.Keeping.{IsKept, IsKeptOf, files_weight};
+ghost use Rattle.qg_store.specs.Writing.{IsWritable, files_written, range_refusal};
+
+use crate::kept::Kept;
+use crate::putting::put_extent;
+use crate::weight::{INODE_BYTES, PIECE_BYTES, need_of};
+use qg_files::{Split, split_range};
+use qg_items::tree::TOP_LEVEL;
+use qg_num::{Answer, Ino, NoMemory, Pieces, Refusal, RootId};
+use qg_subvol::pieces;
+use qg_super::SECTOR;
+
+/// The largest size of a file, in bytes.
+const LARGEST_SIZE: u64 = 1 << 40;
+
+/// The longest data extent, in bytes.
+const LONGEST_EXTENT: u64 = 134217728;
+
+/// The most file commands that may be pending.
+const MOST_PENDING: u64 = 65536;
+
+/// Writes a range of a file, in bytes, or refuses to.
+pub(crate) fn write(
+    kept: &mut Kept,
+    sub: RootId,
+    ino: Ino,
+    off: u64,
+    len: u64,
+) -> Result<Answer, NoMemory>
+    requires kept { IsKept kept.old }
+    requires least { least_inode ≤ ino }
+    requires below { ino < inodes_end }
+    ensures kept { IfOk result (λ answer. IsKept kept.new) }
+    ensures step { (state : State) → IsKeptOf kept.old state → IfOk result (λ answer. Does state (Write sub ino off len) answer kept.new) }
+    ensures unchanged { IfOk result (λ answer. IsTrue (is_unchanging answer) → kept.new ≡ kept.old) }
+    ensures superblock { kept.new.superblock ≡ kept.old.superblock }
+{
+    if let Some(why) = refusal_of_range(kept, sub, off, len) {
+        return Ok(Answer::Refused(why));
+    }
+    let Some(run) = kept.space.first_run(len / SECTOR) else {
+        return Ok(Answer::Refused(Refusal::NoRun));
+    };
+    let cut = cut_of(kept, ino, off, len)?;
+    let need = need_of(kept.superblock.nodesize, cut.weight);
+    let free = kept.space.free_slots();
+    if free < need {
+        return Ok(Answer::Refused(Refusal::NoNodes { free, need }));
+    }
+    put_extent(kept, ino, off, len, run, &cut.split, cut.weight)?;
+    Ok(Answer::Extent(run))
+}
+
+// Why a range may not be written, before anything is looked for.
+fn refusal_of_range(kept: &Kept, sub: RootId, off: u64, len: u64) -> Option<Refusal>
+    ensures value { (state : State) → IsKeptOf kept.now state → result ≡ range_refusal state sub off len }
+    ensures writable { IfNone result ((ino : ℕ) → least_inode ≤ ino → ino < inodes_end → IsWritable ino off len) }
+    ensures few { IfNone result (kept.now.pending < 65536) }
+    ensures top { IfNone result (sub ≡ TOP_LEVEL) }
+{
+    if sub.value() != TOP_LEVEL {
+        Some(Refusal::NoSub)
+    } else if !is_whole(off, len) {
+        Some(Refusal::Align)
+    } else if !is_near(off, len) {
+        Some(Refusal::Far)
+    } else if kept.pending >= MOST_PENDING {
+        Some(Refusal::TooMany)
+    } else {
+        None
+    }
+}
+
+// Whether a range is of whole sectors, one at least.
+fn is_whole(off: u64, len: u64) -> bool
+    ensures { result ≡ (is_aligned off && is_aligned len && nat_lt 0 len) }
+{
+    off % SECTOR == 0 && len % SECTOR == 0 && len > 0
+}
+
+// Whether a range ends by the largest size, and is no longer than an extent may be.
+fn is_near(off: u64, len: u64) -> bool
+    ensures { result ≡ (nat_le (off + len) largest_size && nat_le len longest_extent) }
+{
+    len <= LONGEST_EXTENT && off <= LARGEST_SIZE - len
+}
+
+// What a range takes out of a file, and what the items of all files take, in bytes, once one piece stands there.
+#[derive(Drop)]
+struct Cut {
+    split: Split,
+    weight: u64,
+}
+
+// What a write of a range takes out of a file, which may not be there yet.
+fn cut_of(kept: &Kept, ino: Ino, off: u64, len: u64) -> Result<Cut, NoMemory>
+    requires kept { IsKept kept.now }
+    requires range { IsWritable ino off len }
+    ensures split { IfOk result (λ cut.
+        IsSplit off (off + len) (pieces_or_none (value_at ino kept.now.files)) cut.split.gone cut.split.rests) }
+    ensures weight { (run : ℕ) → IfOk result (λ cut.
+        cut.weight ≡ files_weight (files_written (kept.now.superblock.generation + 1) ino off len run kept.now.files)) }
+    ensures light { IfOk result (λ cut. cut.weight ≤ 2 ^ 63) }
+{
+    match pieces(&kept.files, ino) {
+        None => Ok(Cut {
+            split: Split {
+                gone: Pieces::new(kept.alloc),
+                rests: Pieces::new(kept.alloc),
+            },
+            weight: kept.weight + INODE_BYTES + PIECE_BYTES,
+        }),
+        Some(file) => {
+            let split = split_range(kept.alloc, &file.pieces, off, off + len)?;
+            let less = kept.weight - PIECE_BYTES * split.gone.len() as u64;
+            let weight = less + PIECE_BYTES * (split.rests.len() as u64 + 1);
+            Ok(Cut { split, weight })
+        }
+    }
+}
