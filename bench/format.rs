@@ -64,6 +64,11 @@ pub struct Root {
     pub level: u8,
 }
 
+/// Whether a node has its checksum.
+pub fn has_checksum(node: &[u8]) -> bool {
+    crc32c(&node[32..]).to_le_bytes() == node[..4]
+}
+
 /// The address of a slot.
 pub fn slot_at(slot: u64) -> u64 {
     SLOTS_BEGIN + NODE as u64 * slot
@@ -176,6 +181,13 @@ pub struct Piece {
     pub extent_bytes: u64,
 }
 
+impl Piece {
+    /// Where it ends in its file.
+    pub fn end(&self) -> u64 {
+        self.position + self.len
+    }
+}
+
 /// The item of a piece.
 pub fn piece_item(ino: u64, piece: &Piece) -> Part {
     let numbers = [
@@ -214,8 +226,16 @@ fn superblock(place: u64, root: u64, generation: u64, sizes: Sizes) -> Vec<u8> {
     bytes
 }
 
+/// What a commit wrote.
+pub struct Commit {
+    /// How many nodes there are.
+    pub nodes: usize,
+    /// What the subvolume's nodes and extents take, in bytes.
+    pub counted: u64,
+}
+
 /// Writes a commit of these items of files, whose extents take so many bytes, into these slots: nodes, a sync, and the two superblocks with
-/// a sync each. How many nodes there are.
+/// a sync each.
 pub fn commit(
     file: &File,
     sizes: Sizes,
@@ -223,7 +243,7 @@ pub fn commit(
     slots: &[u64],
     items: &[Part],
     extent_bytes: u64,
-) -> io::Result<usize> {
+) -> io::Result<Commit> {
     let mut nodes = Nodes {
         generation,
         slots,
@@ -250,5 +270,8 @@ pub fn commit(
         file.write_all_at(&superblock(place, root.address, generation, sizes), place)?;
         file.sync_all()?;
     }
-    Ok(nodes.written.len())
+    Ok(Commit {
+        nodes: nodes.written.len(),
+        counted,
+    })
 }

@@ -1,14 +1,17 @@
-//! Writes an image that is as full as `write` leaves one, in one of two forms: `image PATH ordered|scattered`. Build it by
-//! `rustc -O`.
+//! Writes an image of some pieces: `image PATH ordered|scattered|broken [PIECES FILES]`. Build it by `rustc -O`.
 //!
-//! The image is sound. It has one file, each sector of which is a piece of an extent of its own. In the form `ordered` the
-//! extents follow each other as the pieces do; in the form `scattered` they are shuffled. Nodes are as full as they can be,
-//! and data sectors aren't written.
-use format::{DATA_BEGIN, INODE, OTHER_ITEMS, PIECE, Part, Piece, ROOM, SECTOR, Sizes};
+//! Each piece is a sector of an extent of its own, and in each of the files they follow each other without holes. In the form `ordered`
+//! the extents follow each other as the pieces do; in the form `scattered` they are shuffled. Without the numbers there is one
+//! file, as full as `write` can leave an image. Nodes are as full as they can be, and data sectors aren't written. The image is sound; in the form `broken` it is
+//! the ordered one, but for the checksum of its last leaf of files.
+use draws::shuffled;
+use format::{DATA_BEGIN, INODE, NODE, OTHER_ITEMS, PIECE, Part, Piece, ROOM, SECTOR, Sizes};
 use format::{commit, inode_item, piece_item, slot_at};
-use std::fs::OpenOptions;
+use std::fs::{File, OpenOptions};
 use std::io;
+use std::os::unix::fs::FileExt;
 
+mod draws;
 mod format;
 
 /// The most slots and sectors that an image can have.
@@ -20,31 +23,18 @@ const SIZES: Sizes = Sizes {
 /// The commit that wrote all of it.
 const GENERATION: u64 = 2;
 
-/// The file.
+/// The first file.
 const INO: u64 = 257;
 
 /// As many pieces as the need of slots lets the last write have, in whose commit only four slots are held before:
 /// 8·ceil(U/ROOM) + 40 is at most the slots less 4, U being what all items take.
-const PIECES: u64 = (((SIZES.slots as usize - 4 - 40) / 8 * ROOM - OTHER_ITEMS - INODE) / PIECE) as u64;
+const MOST_PIECES: u64 = (((SIZES.slots as usize - 4 - 40) / 8 * ROOM - OTHER_ITEMS - INODE) / PIECE) as u64;
 
-/// The sectors of the pieces, in the order of their positions.
-fn sectors(is_scattered: bool) -> Vec<u64> {
-    let mut sectors: Vec<u64> = (0..PIECES).collect();
-    let mut state = 1u64;
-    for i in (1..sectors.len()).rev().filter(|_| is_scattered) {
-        state = state
-            .wrapping_mul(6364136223846793005)
-            .wrapping_add(1442695040888963407);
-        sectors.swap(i, (state >> 33) as usize % (i + 1));
-    }
-    sectors
-}
-
-/// The file's items.
-fn file_items(is_scattered: bool) -> Vec<Part> {
-    let size = SECTOR * PIECES;
-    let mut items = vec![inode_item(INO, GENERATION, GENERATION, size, size)];
-    for (i, sector) in sectors(is_scattered).into_iter().enumerate() {
+/// The items of a file, whose pieces are these sectors of data.
+fn file_items(ino: u64, sectors: &[u64]) -> Vec<Part> {
+    let size = SECTOR * sectors.len() as u64;
+    let mut items = vec![inode_item(ino, GENERATION, GENERATION, size, size)];
+    for (i, sector) in sectors.iter().enumerate() {
         let piece = Piece {
             position: SECTOR * i as u64,
             len: SECTOR,
@@ -53,25 +43,54 @@ fn file_items(is_scattered: bool) -> Vec<Part> {
             stamp: GENERATION,
             extent_bytes: SECTOR,
         };
-        items.push(piece_item(INO, &piece));
+        items.push(piece_item(ino, &piece));
     }
     items
 }
 
+/// Changes the checksum of the last leaf of files. These leaves fill the first slots.
+fn break_last_leaf(file: &File) -> io::Result<()> {
+    let mut node = [0; NODE];
+    let mut last = slot_at(0);
+    for slot in 0..SIZES.slots {
+        file.read_exact_at(&mut node, slot_at(slot))?;
+        if node[100] > 0 || node[88] != 5 {
+            break;
+        }
+        last = slot_at(slot);
+    }
+    file.read_exact_at(&mut node[..1], last)?;
+    file.write_all_at(&[!node[0]], last)
+}
+
 fn main() -> io::Result<()> {
     let words: Vec<String> = std::env::args().skip(1).collect();
-    let [path, form] = words.as_slice() else {
-        panic!("image PATH ordered|scattered");
+    let number = |word: &String| word.parse::<u64>().expect("a number");
+    let (path, form, pieces, files) = match words.as_slice() {
+        [path, form] => (path, form, MOST_PIECES, 1),
+        [path, form, pieces, files] => (path, form, number(pieces), number(files)),
+        _ => panic!("image PATH ordered|scattered|broken [PIECES FILES]"),
     };
-    let items = file_items(form == "scattered");
+    let sectors = match form.as_str() {
+        "scattered" => shuffled(pieces),
+        _ => (0..pieces).collect(),
+    };
+    let items: Vec<Part> = (INO..)
+        .zip(sectors.chunks((pieces / files) as usize))
+        .flat_map(|(ino, sectors)| file_items(ino, sectors))
+        .collect();
     let file = OpenOptions::new()
+        .read(true)
         .write(true)
         .create(true)
         .truncate(true)
         .open(path)?;
     file.set_len(DATA_BEGIN + SECTOR * SIZES.sectors)?;
     let slots: Vec<u64> = (0..SIZES.slots).map(slot_at).collect();
-    let nodes = commit(&file, SIZES, GENERATION, &slots, &items, SECTOR * PIECES)?;
-    println!("{form}: {PIECES} pieces, {nodes} nodes");
+    let nodes = commit(&file, SIZES, GENERATION, &slots, &items, SECTOR * pieces)?.nodes;
+    if form == "broken" {
+        break_last_leaf(&file)?;
+    }
+    println!("{form}: {pieces} pieces, {nodes} nodes");
     Ok(())
 }

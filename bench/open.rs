@@ -5,22 +5,14 @@
 //! them. Of an image it prints, each as the fastest of ROUNDS in microseconds: the checksums of its nodes, which lie in memory;
 //! these with the reading of the nodes from the file; and the program's whole run over the image on an empty input, less that
 //! over FRESH. The last number is the ratio of the third to the first.
-use checksum::crc32c;
+use format::{NODE, SLOTS_BEGIN, has_checksum};
 use std::fs::File;
 use std::io;
 use std::os::unix::fs::FileExt;
 use std::process::{Command, Stdio};
 use std::time::Instant;
 
-#[allow(dead_code)]
-#[path = "crc32c.rs"]
-mod checksum;
-
-/// Bytes of a node, of which its checksum leaves out the first 32.
-const NODE: usize = 16384;
-
-/// Where the slots begin.
-const SLOTS_BEGIN: u64 = 1048576;
+mod format;
 
 /// The nodes of an image.
 fn nodes_of(path: &str) -> io::Result<Vec<u8>> {
@@ -36,14 +28,9 @@ fn nodes_of(path: &str) -> io::Result<Vec<u8>> {
     }
 }
 
-/// Whether a node has its checksum.
-fn is_sound(node: &[u8]) -> bool {
-    crc32c(&node[32..]).to_le_bytes() == node[..4]
-}
-
 /// Takes the checksum of each node in memory.
 fn check_all(nodes: &[u8]) {
-    assert!(nodes.chunks_exact(NODE).all(is_sound));
+    assert!(nodes.chunks_exact(NODE).all(has_checksum));
 }
 
 /// Reads each node, and takes its checksum.
@@ -52,7 +39,7 @@ fn read_all(path: &str, count: usize) -> io::Result<()> {
     let mut node = vec![0; NODE];
     for i in 0..count {
         file.read_exact_at(&mut node, SLOTS_BEGIN + (NODE * i) as u64)?;
-        assert!(is_sound(&node));
+        assert!(has_checksum(&node));
     }
     Ok(())
 }

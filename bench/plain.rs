@@ -1,26 +1,37 @@
-//! Runs a script of `write S I OFF LEN` and `commit` over an image that was just made, in plain Rust: `plain IMAGE SLOTS SECTORS <SCRIPT`.
-//! Build it by `rustc -O`.
+//! Runs a script over an image, in plain Rust: `plain IMAGE run <SCRIPT`. Build it by `rustc -O`.
 //!
-//! It is the baseline of `bench/run`: it keeps files as lists of pieces, takes the free run with the least address, and builds all trees anew
-//! at each commit. It checks nothing and refuses nothing.
-use format::{DATA_BEGIN, Piece, SECTOR, Sizes, commit, inode_item, piece_item, slot_at};
+//! It is the baseline of `bench/run` and `bench/growth`, and answers as the program does the lines `write`, `clone`, `truncate`, `unlink`,
+//! `commit`, `show` and `ls`. It keeps files as lists of pieces, takes the free run with the least address, and builds all trees anew
+//! at each commit. Of an image's rules it looks at checksums alone. Lines must be in the grammar.
+use format::{Commit, DATA_BEGIN, INODE, OTHER_ITEMS, PIECE, Piece, ROOM, SECTOR, Sizes};
+use format::{commit, inode_item, piece_item, slot_at};
+use pieces::{meeting, rests, within};
+use reading::{Content, Stop, read_image};
 use std::collections::{BTreeMap, BTreeSet};
+use std::fmt::Write as _;
 use std::fs::{File, OpenOptions};
 use std::io::{self, BufRead, Write};
+use std::ops::Range;
+use std::process::ExitCode;
 
 mod format;
+mod pieces;
+mod reading;
 
-struct Content {
-    size: u64,
-    made: u64,
-    changed: u64,
-    pieces: Vec<Piece>,
-}
+/// The largest size of a file and the longest extent, in bytes, and the most file commands that may be pending.
+const LARGEST_SIZE: u64 = 1 << 40;
+const LONGEST_EXTENT: u64 = 134217728;
+const MOST_PENDING: u64 = 65536;
+
+/// The reply to a command that was done, or to one that was refused.
+type Reply = Result<String, String>;
 
 struct Store {
     file: File,
     sizes: Sizes,
     generation: u64,
+    /// The bytes that the subvolume took at the last commit.
+    counted: u64,
     files: BTreeMap<u64, Content>,
     /// How many pieces name an extent, by its address, and its length.
     named: BTreeMap<u64, (u64, u64)>,
@@ -29,14 +40,76 @@ struct Store {
     slots: BTreeSet<u64>,
     /// The free runs, each as long as can be, by address, and their lengths.
     free: BTreeMap<u64, u64>,
+    /// What the items of files take of nodes, in bytes.
+    weight: usize,
+    pending: u64,
+}
+
+/// Refuses a command where something holds.
+fn refuse(holds: bool, reply: &str) -> Result<(), String> {
+    if holds { Err(reply.to_string()) } else { Ok(()) }
+}
+
+/// Whether positions and a length are of whole sectors, and the length isn't 0.
+fn are_whole(positions: &[u64], len: u64) -> bool {
+    len > 0 && len % SECTOR == 0 && positions.iter().all(|it| it % SECTOR == 0)
+}
+
+fn is_far(off: u64, len: u64) -> bool {
+    off.saturating_add(len) > LARGEST_SIZE
+}
+
+/// The free runs of so many sectors between extents. Runs and extents go by address, with their lengths in bytes.
+fn free_runs(sectors: u64, held: &BTreeMap<u64, u64>) -> BTreeMap<u64, u64> {
+    let mut free = BTreeMap::new();
+    let mut from = DATA_BEGIN;
+    let end = DATA_BEGIN + SECTOR * sectors;
+    for (extent, len) in held.iter().chain([(&end, &0)]) {
+        if from < *extent {
+            free.insert(from, extent - from);
+        }
+        from = extent + len;
+    }
+    free
 }
 
 impl Store {
-    /// Takes the front of a free run.
+    fn open(file: File) -> Result<Store, Stop> {
+        let image = read_image(&file)?;
+        let mut named = BTreeMap::new();
+        let mut weight = 0;
+        for content in image.files.values() {
+            weight += INODE + PIECE * content.pieces.len();
+            for piece in &content.pieces {
+                named.entry(piece.extent).or_insert((0, piece.extent_bytes)).0 += 1;
+            }
+        }
+        let held = named.iter().map(|(at, (_, len))| (*at, *len)).collect();
+        Ok(Store {
+            file,
+            sizes: image.sizes,
+            generation: image.generation,
+            counted: image.counted,
+            files: image.files,
+            named,
+            free: free_runs(image.sizes.sectors, &held),
+            held,
+            slots: image.slots,
+            weight,
+            pending: 0,
+        })
+    }
+
+    /// Takes a part of a free run.
     fn take(&mut self, run: u64, len: u64) {
-        let bytes = self.free.remove(&run).unwrap();
-        if len < bytes {
-            self.free.insert(run + len, bytes - len);
+        let (at, bytes) = self.free.range(..=run).next_back().unwrap();
+        let (at, end) = (*at, at + bytes);
+        self.free.remove(&at);
+        if at < run {
+            self.free.insert(at, run - at);
+        }
+        if run + len < end {
+            self.free.insert(run + len, end - run - len);
         }
     }
 
@@ -56,12 +129,13 @@ impl Store {
     }
 
     /// The free run of so many bytes with the least address.
-    fn first_run(&self, len: u64) -> u64 {
-        self.free
-            .iter()
-            .find(|(_, bytes)| len <= **bytes)
-            .map(|(at, _)| *at)
-            .expect("a run is free")
+    fn first_run(&self, len: u64) -> Option<u64> {
+        let fits = self.free.iter().find(|(_, bytes)| len <= **bytes);
+        fits.map(|(at, _)| *at)
+    }
+
+    fn add_name(&mut self, piece: &Piece) {
+        self.named.entry(piece.extent).or_insert((0, piece.extent_bytes)).0 += 1;
     }
 
     fn drop_name(&mut self, extent: u64) {
@@ -76,50 +150,116 @@ impl Store {
         }
     }
 
-    fn write(&mut self, ino: u64, off: u64, len: u64) -> u64 {
-        let run = self.first_run(len);
-        self.take(run, len);
+    /// Refuses a command after which items of files would take so much that a commit might want slots.
+    fn check_slots(&self, weight: usize) -> Result<(), String> {
+        let free = self.sizes.slots as usize - self.slots.len();
+        let need = 8 * (weight + OTHER_ITEMS).div_ceil(ROOM) + 40;
+        refuse(free < need, &format!("no nodes {free} {need}"))
+    }
+
+    fn file(&self, ino: u64) -> Result<&Content, String> {
+        self.files.get(&ino).ok_or("no file".to_string())
+    }
+
+    /// Puts pieces in the place of what a file has in a range, and sets its size.
+    fn edit(&mut self, ino: u64, range: Range<u64>, given: &[Piece], size: u64) -> Result<(), String> {
+        let pieces = self.files.get(&ino).map_or(&[][..], |content| &content.pieces);
+        let gone = meeting(pieces, &range);
+        let [front, rest] = rests(&pieces[gone.clone()], &range);
+        let put: Vec<Piece> = front.into_iter().chain(given.iter().copied()).chain(rest).collect();
+        let made = if self.files.contains_key(&ino) { 0 } else { INODE };
+        let weight = self.weight + made + PIECE * put.len() - PIECE * gone.len();
+        self.check_slots(weight)?;
+        // No piece that goes is the last one to name what is put.
+        for piece in &put {
+            self.add_name(piece);
+        }
         let next = self.generation + 1;
         let content = self.files.entry(ino).or_insert(Content {
-            size: 0,
+            size,
             made: next,
             changed: next,
             pieces: Vec::new(),
         });
-        content.size = content.size.max(off + len);
+        content.size = size;
         content.changed = next;
-        let end = off + len;
-        let from = content.pieces.partition_point(|piece| piece.position + piece.len <= off);
-        let to = content.pieces.partition_point(|piece| piece.position < end);
-        let mut put = Vec::new();
-        let gone: Vec<Piece> = content.pieces[from..to].to_vec();
-        for piece in gone.iter().filter(|piece| piece.position < off) {
-            put.push(Piece { len: off - piece.position, ..*piece });
+        let gone: Vec<Piece> = content.pieces.splice(gone, put).collect();
+        for piece in gone {
+            self.drop_name(piece.extent);
         }
-        put.push(Piece {
+        self.weight = weight;
+        self.pending += 1;
+        Ok(())
+    }
+
+    fn size_or_none(&self, ino: u64) -> u64 {
+        self.files.get(&ino).map_or(0, |content| content.size)
+    }
+
+    fn write(&mut self, ino: u64, off: u64, len: u64) -> Reply {
+        refuse(!are_whole(&[off], len), "no align")?;
+        refuse(len > LONGEST_EXTENT || is_far(off, len), "no far")?;
+        refuse(self.pending >= MOST_PENDING, "no many")?;
+        let run = self.first_run(len).ok_or("no run")?;
+        let piece = Piece {
             position: off,
             len,
             extent: run,
             offset: 0,
-            stamp: next,
+            stamp: self.generation + 1,
             extent_bytes: len,
-        });
-        for piece in gone.iter().filter(|piece| end < piece.position + piece.len) {
-            put.push(Piece {
-                position: end,
-                len: piece.position + piece.len - end,
-                offset: piece.offset + end - piece.position,
-                ..*piece
-            });
+        };
+        let size = self.size_or_none(ino).max(off + len);
+        self.edit(ino, off..off + len, &[piece], size)?;
+        self.take(run, len);
+        Ok(format!("ok extent {run}"))
+    }
+
+    fn clone(&mut self, ino: u64, off: u64, len: u64, to_ino: u64, to_off: u64) -> Reply {
+        let source = self.file(ino)?;
+        refuse(!are_whole(&[off, to_off], len), "no align")?;
+        refuse(is_far(off, len) || is_far(to_off, len), "no far")?;
+        refuse(off + len > source.size, "no source")?;
+        refuse(ino == to_ino && off.abs_diff(to_off) < len, "no overlap")?;
+        refuse(self.pending >= MOST_PENDING, "no many")?;
+        let mut taken = within(&source.pieces, &(off..off + len));
+        for piece in &mut taken {
+            piece.position = piece.position - off + to_off;
         }
-        for piece in &put {
-            self.named.entry(piece.extent).or_insert((0, piece.extent_bytes)).0 += 1;
-        }
-        content.pieces.splice(from..to, put);
-        for piece in gone {
+        let size = self.size_or_none(to_ino).max(to_off + len);
+        self.edit(to_ino, to_off..to_off + len, &taken, size)?;
+        Ok("ok".to_string())
+    }
+
+    fn truncate(&mut self, ino: u64, size: u64) -> Reply {
+        self.file(ino)?;
+        refuse(size % SECTOR != 0, "no align")?;
+        refuse(size > LARGEST_SIZE, "no far")?;
+        refuse(self.pending >= MOST_PENDING, "no many")?;
+        self.edit(ino, size..u64::MAX, &[], size)?;
+        Ok("ok".to_string())
+    }
+
+    fn unlink(&mut self, ino: u64) -> Reply {
+        let weight = self.weight - INODE - PIECE * self.file(ino)?.pieces.len();
+        refuse(self.pending >= MOST_PENDING, "no many")?;
+        self.check_slots(weight)?;
+        for piece in self.files.remove(&ino).unwrap().pieces {
             self.drop_name(piece.extent);
         }
-        run
+        self.weight = weight;
+        self.pending += 1;
+        Ok("ok".to_string())
+    }
+
+    fn ls(&self, ino: u64) -> Reply {
+        let content = self.file(ino)?;
+        let mut reply = String::new();
+        for piece in &content.pieces {
+            let Piece { position, len, extent, offset, .. } = piece;
+            writeln!(reply, "{position} {len} {extent} {offset}").unwrap();
+        }
+        Ok(reply + &format!("ok file {}", content.size))
     }
 
     fn commit(&mut self) -> io::Result<()> {
@@ -135,48 +275,62 @@ impl Store {
             .collect();
         let extent_bytes = self.named.values().map(|(_, len)| len).sum();
         self.generation += 1;
-        let count = commit(&self.file, self.sizes, self.generation, &free, &items, extent_bytes)?;
-        self.slots = free[..count].iter().copied().collect();
+        let Commit { nodes, counted } = commit(&self.file, self.sizes, self.generation, &free, &items, extent_bytes)?;
+        self.counted = counted;
+        self.slots = free[..nodes].iter().copied().collect();
         for (extent, len) in std::mem::take(&mut self.held) {
             if !self.named.contains_key(&extent) {
                 self.give(extent, len);
             }
         }
         self.held = self.named.iter().map(|(at, (_, len))| (*at, *len)).collect();
+        self.pending = 0;
         Ok(())
+    }
+
+    /// The reply to a line.
+    fn answer(&mut self, line: &str) -> io::Result<Reply> {
+        let words: Vec<&str> = line.split(' ').collect();
+        let number = |at: usize| words[at].parse::<u64>().expect("a number");
+        let subs: &[usize] = match words[0] {
+            "clone" => &[1, 5],
+            "commit" | "show" => &[],
+            _ => &[1],
+        };
+        if subs.iter().any(|at| words[*at] != "5") {
+            return Ok(Err("no sub".to_string()));
+        }
+        if words[0] == "commit" && self.pending > 0 {
+            self.commit()?;
+        }
+        Ok(match words[0] {
+            "write" => self.write(number(2), number(3), number(4)),
+            "clone" => self.clone(number(2), number(3), number(4), number(6), number(7)),
+            "truncate" => self.truncate(number(2), number(3)),
+            "unlink" => self.unlink(number(2)),
+            "commit" => Ok(format!("ok commit {}", self.generation)),
+            "show" => Ok(format!("0/5 {} {} none none\nok", self.counted, self.counted)),
+            "ls" => self.ls(number(2)),
+            _ => panic!("{line}: not served"),
+        })
     }
 }
 
-fn main() -> io::Result<()> {
-    let words: Vec<String> = std::env::args().skip(1).collect();
-    let [path, slots, sectors] = words.as_slice() else {
-        panic!("plain IMAGE SLOTS SECTORS");
-    };
-    let mut store = Store {
-        file: OpenOptions::new().read(true).write(true).open(path)?,
-        sizes: Sizes {
-            slots: slots.parse().expect("SLOTS is a number"),
-            sectors: sectors.parse().expect("SECTORS is a number"),
-        },
-        generation: 1,
-        files: BTreeMap::new(),
-        named: BTreeMap::new(),
-        held: BTreeMap::new(),
-        slots: (0..4).map(slot_at).collect(),
-        free: BTreeMap::new(),
-    };
-    store.free.insert(DATA_BEGIN, SECTOR * store.sizes.sectors);
+fn main() -> io::Result<ExitCode> {
+    let path = std::env::args().nth(1).expect("plain IMAGE run");
+    let file = OpenOptions::new().read(true).write(true).open(path)?;
     let mut out = io::stdout().lock();
-    for line in io::stdin().lock().lines() {
-        let line = line?;
-        let words: Vec<&str> = line.split(' ').collect();
-        let number = |at: usize| words[at].parse::<u64>().expect("a number");
-        if words[0] == "commit" {
-            store.commit()?;
-            writeln!(out, "ok commit {}", store.generation)?;
-        } else {
-            writeln!(out, "ok extent {}", store.write(number(2), number(3), number(4)))?;
+    let mut store = match Store::open(file) {
+        Ok(store) => store,
+        Err(Stop::Disk(error)) => return Err(error),
+        Err(Stop::Checksum(address)) => {
+            writeln!(out, "broken csum {address}")?;
+            return Ok(ExitCode::from(3));
         }
+    };
+    for line in io::stdin().lock().lines() {
+        let (Ok(reply) | Err(reply)) = store.answer(&line?)?;
+        writeln!(out, "{reply}")?;
     }
-    Ok(())
+    Ok(ExitCode::SUCCESS)
 }

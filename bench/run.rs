@@ -3,13 +3,11 @@
 //!
 //! Each image is made anew by the program. Of a script it prints the fastest of ROUNDS, less the time of the program's run over an empty
 //! script, and both must answer the same.
-use std::fs::File;
-use std::io::{self, Read, Write};
-use std::process::{Command, Stdio};
-use std::time::Instant;
+use runs::{Run, make};
+use std::fs;
+use std::io;
 
-/// Slots of each image, the most there can be.
-const SLOTS: &str = "4032";
+mod runs;
 
 /// The fewest and the most sectors of an image here.
 const FEW: &str = "65536";
@@ -35,45 +33,20 @@ fn script(each: u64) -> String {
     lines
 }
 
-/// Makes an image.
-fn make(program: &str, sectors: &str) -> io::Result<()> {
-    let status = Command::new(program)
-        .args(["run.img", "mkfs", "16384", SLOTS, sectors])
-        .stdout(Stdio::null())
-        .status()?;
-    assert!(status.success(), "{program} run.img mkfs: {status}");
-    Ok(())
-}
-
-/// Runs a command on a script in a file; the microseconds that it took, and what it answered.
-fn run(command: &mut Command, path: &str) -> io::Result<(u128, Vec<u8>)> {
-    let start = Instant::now();
-    let mut child = command
-        .stdin(File::open(path)?)
-        .stdout(Stdio::piped())
-        .spawn()?;
-    let mut answers = Vec::new();
-    child.stdout.take().unwrap().read_to_end(&mut answers)?;
-    let status = child.wait()?;
-    let took = start.elapsed().as_micros();
-    assert!(status.success(), "{command:?}: {status}");
-    Ok((took, answers))
-}
-
 /// The fastest of some rounds of a script: the program's time, less that of an empty one, and plain Rust's.
-fn race(rounds: u32, program: &str, plain: &str, sectors: &str, path: &str) -> io::Result<(u128, u128)> {
+fn race(rounds: u32, program: &str, plain: &str, sectors: &str, script: &str) -> io::Result<(u128, u128)> {
     let [mut empty, mut own, mut other] = [u128::MAX; 3];
     for _ in 0..rounds {
-        make(program, sectors)?;
-        empty = empty.min(run(Command::new(program).args(["run.img", "run"]), "empty.txt")?.0);
-        let (took, answers) = run(Command::new(program).args(["run.img", "run"]), path)?;
-        own = own.min(took);
-        make(program, sectors)?;
-        let (took, wanted) = run(Command::new(plain).args(["run.img", SLOTS, sectors]), path)?;
-        other = other.min(took);
-        assert!(answers == wanted, "the answers differ");
+        make(program, "run.img", sectors)?;
+        empty = empty.min(Run::of(program, "run.img", "empty.txt")?.took);
+        let answered = Run::of(program, "run.img", script)?;
+        own = own.min(answered.took);
+        make(program, "run.img", sectors)?;
+        let wanted = Run::of(plain, "run.img", script)?;
+        other = other.min(wanted.took);
+        assert!(answered.replies == wanted.replies, "the answers differ");
         // What plain Rust wrote is sound.
-        run(Command::new(program).args(["run.img", "run"]), "empty.txt")?;
+        assert!(Run::of(program, "run.img", "empty.txt")?.replies.is_empty());
     }
     Ok((own - empty, other))
 }
@@ -84,11 +57,11 @@ fn main() -> io::Result<()> {
         panic!("run ROUNDS PROGRAM PLAIN");
     };
     let rounds: u32 = rounds.parse().expect("ROUNDS is a number");
-    File::create("empty.txt")?;
+    fs::write("empty.txt", "")?;
     let mut took = Vec::new();
     for (name, each, sectors) in [("commits", EACH, FEW), ("few", 0, FEW), ("many", 0, MANY)] {
         let lines = script(each);
-        File::create("script.txt")?.write_all(lines.as_bytes())?;
+        fs::write("script.txt", &lines)?;
         let (own, other) = race(rounds, program, plain, sectors, "script.txt")?;
         let speed = lines.lines().count() as u128 * 1_000_000 / own;
         let ratio = own as f64 / other as f64;

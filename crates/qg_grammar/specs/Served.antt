@@ -5,9 +5,9 @@ use Rattle.qg_num.specs.declared.command.Command.TheVariants.{Write, Clone, Trun
 
 abbrev pub is_served : Command → Bool
 is_served (Write sub ino off len) = true
-is_served (Clone sub ino off len to_sub to_ino to_off) = false
-is_served (Truncate sub ino size) = false
-is_served (Unlink sub ino) = false
+is_served (Clone sub ino off len to_sub to_ino to_off) = true
+is_served (Truncate sub ino size) = true
+is_served (Unlink sub ino) = true
 is_served Commit = true
 is_served SubCreate = false
 is_served (Snap sub groups) = false
@@ -20,5 +20,5 @@ is_served (Assign member parent) = false
 is_served (Remove member parent) = false
 is_served (Limit group which max) = false
 is_served Show = true
-is_served (Ls sub ino) = false
+is_served (Ls sub ino) = true
 is_served (Owners address) = false

@@ -45,7 +45,8 @@ use Rattle.qg_laid.proofs.Slots.{placed_apart}
 use Rattle.qg_laid.proofs.Sound.{HasSuper, HasTrees, laid_sound, laid_StateOf, others, state_laid}
 use Rattle.qg_laid.proofs.Told.{files_said}
 use Rattle.qg_laid.proofs.TreesIn.{IsBuiltFor, IsTreeIn-open, IsTreeIn-told, those_told}
-use Rattle.qg_laid.specs.Anew.{quota_parts_laid, extents_held, stamp_now, BuildsFiles, bytes_laid, BuildsOther, BuildsAnew}
+use Rattle.qg_check.specs.IsImage.{extents_in}
+use Rattle.qg_laid.specs.Anew.{quota_parts_laid, stamp_now, BuildsFiles, bytes_laid, BuildsOther, BuildsAnew}
 
 -- ---- the trees
 
@@ -201,12 +202,12 @@ module _ (old : State) (before : Subvolume) (group : Group) (super : Super) (nod
     file_tree = file_tree.is;
     held = subst (λ (g : ℕ). files_of g b.file_items ≡ Some before.files) (sym b.tells.generation) b.files.held;
     apart = placed_apart b.file_nodes b.file_slots b.files.built.placed b.files.distinct;
-    space = subst (λ (s : Sizes). space_failure s (extents_held before.files) ≡ None) (sym b.tells.sizes) b.files.space;
+    space = subst (λ (s : Sizes). space_failure s (extents_in before.files) ≡ None) (sym b.tells.sizes) b.files.space;
     quota_items = b.quota_items;
     quota_nodes = b.quota_nodes;
     quota_tree = quota_tree.is;
     bytes = bytes;
-    counted = ap (λ (s : Sizes). s.nodesize * length b.file_nodes + bytes_of (extents_held before.files)) (sym b.tells.sizes);
+    counted = ap (λ (s : Sizes). s.nodesize * length b.file_nodes + bytes_of (extents_in before.files)) (sym b.tells.sizes);
     told = subst (λ (g : ℕ). filter_map quota_part b.quota_items ≡ quota_parts_laid g stamp bytes) (sym b.tells.generation) b.counted;
   }
 

@@ -40,7 +40,8 @@ use Rattle.qg_laid.proofs.Rebuilt.{all_contained, each_contained, in_slots, pass
 use Rattle.qg_laid.proofs.Slots.{AreInOrder, count_addresses, in_order, ordered_addresses, placed_apart}
 use Rattle.qg_laid.proofs.Sound.{state_laid}
 use Rattle.qg_laid.proofs.Told.{all_said, files_said, quota_laid, SayFiles}
-use Rattle.qg_laid.specs.Anew.{extents_held, stamp_now, one_entry, one_group, IsOne, BuildsFiles, bytes_laid, Continues}
+use Rattle.qg_check.specs.IsImage.{extents_in}
+use Rattle.qg_laid.specs.Anew.{stamp_now, one_entry, one_group, IsOne, BuildsFiles, bytes_laid, Continues}
 
 -- ---- a group that is counted anew
 
@@ -155,7 +156,7 @@ module _ (old : State) (before : Subvolume) (group : Group) (items : List Item) 
         let free = each_contained (λ (slot : ℕ). is_free_slot old slot ≡ true) slots (address_of node.0) (each_passes (is_free_slot old) slots builds.free) there in
         subst (λ (slot : ℕ). is_slot old.sizes slot ≡ true) node.2 (free_is_slot old (address_of node.0) free)
 
-  keep : KeepSpace old.sizes (in_order addresses) (extents_held before.files)
+  keep : KeepSpace old.sizes (in_order addresses) (extents_in before.files)
   keep = record {
     served = builds.served;
     are_slots = same_slots old.sizes (in_order addresses) addresses ordered.same all_slots;
@@ -163,20 +164,20 @@ module _ (old : State) (before : Subvolume) (group : Group) (items : List Item) 
     space = builds.space;
   }
 
-  named : HaveSame (extents_held before.files) (flat_map extents_named those)
+  named : HaveSame (extents_in before.files) (flat_map extents_named those)
   named =
       let own = items_below-nodes (node_among nodes) level root items those builds.built.held builds.built.reached.under in
-      extents_told those items (file_parts items) before.files (extents_held before.files) own (all_said (next_generation old) items say.each) say.fit say.told refl
+      extents_told those items (file_parts items) before.files (extents_in before.files) own (all_said (next_generation old) items say.each) say.fit say.told refl
 
   single : IsSingle laid_out (one_group group) moved
   single = record { subvolumes = refl; groups = refl }
 
   referenced_laid : referenced laid_out (one_group group) 5 ≡ bytes_laid old before nodes
   referenced_laid =
-      let told : AreTold those (in_order addresses) (extents_held before.files) = AreTold-space old.sizes those (in_order addresses) (extents_held before.files) keep ordered.same named in
+      let told : AreTold those (in_order addresses) (extents_in before.files) = AreTold-space old.sizes those (in_order addresses) (extents_in before.files) keep ordered.same named in
       let has = HasNodes-laid laid_out moved old.sizes.nodesize (next_generation old) items slots nodes level is_laid in
-      referenced_told laid_out (one_group group) moved those (in_order addresses) (extents_held before.files) single has told
-      ∙ ap (λ (n : ℕ). old.sizes.nodesize * n + bytes_of (extents_held before.files)) (count_addresses those nodes builds.built.reached.same apart)
+      referenced_told laid_out (one_group group) moved those (in_order addresses) (extents_in before.files) single has told
+      ∙ ap (λ (n : ℕ). old.sizes.nodesize * n + bytes_of (extents_in before.files)) (count_addresses those nodes builds.built.reached.same apart)
 
   counted_laid : direct_count laid_out (one_group group) 5 ≡ both (bytes_laid old before nodes)
   counted_laid =

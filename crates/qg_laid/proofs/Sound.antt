@@ -47,7 +47,8 @@ use Rattle.qg_check.proofs.Verdicts.{image_failure_parts, rest_failure, rest_fai
 use Rattle.qg_laid.specs.Holds.{IsTreeIn}
 use Rattle.qg_laid.proofs.Slots.{AreInOrder, count_addresses, found_slots, in_order, ordered_addresses}
 use Rattle.qg_laid.proofs.Told.{file_tree_laid, files_said, quota_laid, quota_laid_few, quota_laid_keeps, quota_tree_laid, read_served, roots_named, SayFiles}
-use Rattle.qg_laid.specs.Anew.{roots_laid, quota_parts_laid, extents_held}
+use Rattle.qg_check.specs.IsImage.{extents_in}
+use Rattle.qg_laid.specs.Anew.{roots_laid, quota_parts_laid}
 
 -- the image has this superblock at both places and is as long as it says
 pub record HasSuper (super : Super) (image : List ℕ) : Type 0 where
@@ -69,12 +70,12 @@ pub record HasTrees (super : Super) (image : List ℕ) (extents quotas subvolume
   pub file_tree : IsTreeIn Files super image (root_told subvolume) subvolume.bytenr file_items file_nodes
   pub held : files_of super.generation file_items ≡ Some files
   pub apart : IsDistinct (λ a b. a == b) (map address_of file_nodes)
-  pub space : space_failure (sizes_of super) (extents_held files) ≡ None
+  pub space : space_failure (sizes_of super) (extents_in files) ≡ None
   pub quota_items : List Item
   pub quota_nodes : List Node
   pub quota_tree : IsTreeIn Quotas super image (root_told quotas) quotas.bytenr quota_items quota_nodes
   pub bytes : ℕ
-  pub counted : bytes ≡ super.nodesize * length file_nodes + bytes_of (extents_held files)
+  pub counted : bytes ≡ super.nodesize * length file_nodes + bytes_of (extents_in files)
   pub told : filter_map quota_part quota_items ≡ quota_parts_laid super.generation stamp bytes
 
 -- the state of such an image: these are the addresses of the nodes of the root, extent and quota trees, the subvolume's root, and its
@@ -213,7 +214,7 @@ module _ (super : Super) (image : List ℕ) (extents quotas subvolume : RootItem
   ordered : AreInOrder (in_order addresses) addresses
   ordered = ordered_addresses trees.file_tree.those trees.file_nodes trees.file_tree.same trees.apart
 
-  keep : KeepSpace (sizes_of super) (in_order addresses) (extents_held files)
+  keep : KeepSpace (sizes_of super) (in_order addresses) (extents_in files)
   keep = record {
     served = read_served first_place (slice_range image first_place (first_place + 4096)) super has.first;
     are_slots = same_slots (sizes_of super) (in_order addresses) addresses ordered.same (found_slots super image trees.file_tree.those finds);
@@ -221,15 +222,15 @@ module _ (super : Super) (image : List ℕ) (extents quotas subvolume : RootItem
     space = trees.space;
   }
 
-  bytes_are : super.nodesize * length (in_order addresses) + bytes_of (extents_held files) ≡ trees.bytes
+  bytes_are : super.nodesize * length (in_order addresses) + bytes_of (extents_in files) ≡ trees.bytes
   bytes_are =
       let many = count_addresses trees.file_tree.those trees.file_nodes trees.file_tree.same trees.apart in
-      ap (λ (n : ℕ). super.nodesize * n + bytes_of (extents_held files)) many ∙ sym trees.counted
+      ap (λ (n : ℕ). super.nodesize * n + bytes_of (extents_in files)) many ∙ sym trees.counted
 
   count_all : CountAll (state_in super image) (quota_laid stamp trees.bytes) trees.bytes
   count_all =
       subst (CountAll (state_in super image) (quota_laid stamp trees.bytes)) bytes_are
-      (count_read super image read (in_order addresses) (extents_held files) are refl keep ordered.same refl)
+      (count_read super image read (in_order addresses) (extents_in files) are refl keep ordered.same refl)
 
   counts_pass : counts_failure (state_in super image) (state_in super image).quota ≡ None
   counts_pass =

@@ -22,8 +22,9 @@ use Rattle.qg_state.specs.Reach.{extent_of}
 use Rattle.qg_state.specs.Space.{is_free_slot}
 use Rattle.qg_verdict.specs.declared.tree.Tree.{Tree}
 use Rattle.qg_verdict.specs.declared.tree.Tree.TheVariants.{Extents, Quotas, Roots}
-use Rattle.qg_verdict.specs.Verdict.{extent_set, space_failure}
+use Rattle.qg_verdict.specs.Verdict.{space_failure}
 use Rattle.qg_verdict.specs.Walk.{is_item_of, is_owner}
+use Rattle.qg_check.specs.IsImage.{extents_in}
 use Rattle.qg_tree.specs.Build.{IsBuilt}
 
 -- ---- what is told
@@ -39,10 +40,6 @@ quota_parts_laid generation stamp bytes =
     ∷ Info TOP_LEVEL (record { generation = stamp; rfer = bytes; rfer_cmpr = bytes; excl = bytes; excl_cmpr = bytes })
     ∷ Limits TOP_LEVEL (record { flags = 0; max_rfer = 0; max_excl = 0 })
     ∷ []
-
--- the extents that files name
-abbrev pub extents_held : List (ℕ × File) → List Element
-extents_held files = extent_set (flat_map (λ (file : ℕ × File). map extent_of file.1.pieces) files)
 
 -- the generation of the commit that last changed the counters, where they are so many bytes now
 abbrev pub stamp_now : Group → ℕ → ℕ → ℕ
@@ -71,11 +68,11 @@ pub record BuildsFiles (state : State) (subvolume : Subvolume) (items : List Ite
   pub distinct : IsDistinct (λ a b. a == b) slots
   pub free : IsTrue (list_all (is_free_slot state) slots)
   pub served : IsTrue (is_served state.sizes)
-  pub space : space_failure state.sizes (extents_held subvolume.files) ≡ None
+  pub space : space_failure state.sizes (extents_in subvolume.files) ≡ None
 
 -- what the subvolume takes then, in bytes
 abbrev pub bytes_laid : State → Subvolume → List Node → ℕ
-bytes_laid state subvolume nodes = state.sizes.nodesize * length nodes + bytes_of (extents_held subvolume.files)
+bytes_laid state subvolume nodes = state.sizes.nodesize * length nodes + bytes_of (extents_in subvolume.files)
 
 -- the new superblock has the same sizes and the generation to come, and the subvolume's ROOT_ITEM the last snapshot that it had
 pub record Continues (old : State) (before : Subvolume) (super : Super) (subvolume : RootItem) : Type 0 where

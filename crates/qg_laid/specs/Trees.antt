@@ -20,7 +20,8 @@ use Rattle.qg_state.specs.State.{State, Subvolume}
 use Rattle.qg_state.specs.Space.{is_free_slot, present_extents}
 use Rattle.qg_verdict.specs.StateOf.{StateOf}
 use Rattle.qg_verdict.specs.Verdict.{IsSound, space_failure}
-use Rattle.qg_laid.specs.Anew.{IsOne, extents_held, one_group}
+use Rattle.qg_check.specs.IsImage.{extents_in}
+use Rattle.qg_laid.specs.Anew.{IsOne, one_group}
 use Rattle.qg_state.specs.Counts.{bytes_of}
 use Rattle.qg_verdict.specs.declared.tree.Tree.{Tree}
 use Rattle.qg_verdict.specs.declared.tree.Tree.TheVariants.{Extents, Files, Quotas, Roots}
@@ -100,7 +101,7 @@ pub record AreFor (old : State) (before : Subvolume) (group : Group) (committed 
   pub copied : before.last_snapshot ≡ root.last_snapshot
   pub counters_kept : group.counters ≡ counters
   pub stamp_kept : group.stamp ≡ stamp
-  pub named : extents ≡ extents_held files
+  pub named : extents ≡ extents_in files
   pub space : space_failure (sizes_of committed) extents ≡ None
   pub apart : IsDistinct (λ a b. a == b) slots
   pub free : IsTrue (list_all (is_free_slot old) slots)

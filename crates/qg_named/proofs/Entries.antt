@@ -8,7 +8,7 @@ use Rattle.std.proofs.lemmas.List.{get_or_default}
 use Rattle.std.proofs.lemmas.List.Elements.{All-cons}
 use Rattle.std.proofs.lemmas.List.Kept.{AllPairs-cons}
 use Rattle.std.proofs.lemmas.List.Sorted.{All-permutation, IsPermutation-insert}
-use Rattle.std.proofs.lemmas.List.Sums.{sum_by-cons, sum_by-insert, sum_by-remove, sum_by-set}
+use Rattle.std.proofs.lemmas.List.Sums.{sum_by-append, sum_by-cons, sum_by-insert, sum_by-remove, sum_by-set}
 use Rattle.std.proofs.lemmas.Bool.Decides.{nat_tests}
 use Rattle.qg_state.specs.declared.element.Element.{Element}
 use Rattle.qg_verdict.specs.Verdict.{is_before, same_extent}
@@ -22,16 +22,16 @@ Ascend entries = AllPairs (λ entry later. is_before entry.0 later.0 ≡ true) e
 later_ascend : (x : Element × ℕ) (xs : List (Element × ℕ)) → Ascend (x ∷ xs) → Ascend xs
 later_ascend x xs up = λ i j d h k. up (suc i) (suc j) d (omega arith) (omega arith)
 
-before_differs : (a b : Element) → is_before a b ≡ true → same_extent a b ≡ false
+pub before_differs : (a b : Element) → is_before a b ≡ true → same_extent a b ≡ false
 before_differs a b h = grind (arith, nat_tests)
 
 -- of two that differ, one that does not come before the other comes after it
-after_if_not : (a b : Element) → is_before b a ≡ false → same_extent b a ≡ false → is_before a b ≡ true
+pub after_if_not : (a b : Element) → is_before b a ≡ false → same_extent b a ≡ false → is_before a b ≡ true
 after_if_not a b h k = grind (arith, nat_tests)
 
 -- ---- counts
 
-abbrev counted : Element → Element × ℕ → ℕ
+abbrev pub counted : Element → Element × ℕ → ℕ
 counted extent entry = if same_extent extent entry.0 then entry.1 else 0
 
 none_counted : (extent : Element) (xs : List (Element × ℕ)) → ((k : ℕ) (d : Element × ℕ) → k < length xs → same_extent extent (get_or xs k d).0 ≡ false) → sum_by (counted extent) xs ≡ 0
@@ -195,6 +195,11 @@ less_by_set xs i extent n inside each some other =
 pub more_by_insert : (xs : List (Element × ℕ)) (i : ℕ) (extent : Element) → HasOneMore xs (insert xs i (extent, 1)) extent
 unfolding named_count
 more_by_insert xs i extent other = sum_by-insert (counted other) xs i (extent, 1)
+
+pub more_by_push : (xs : List (Element × ℕ)) (extent : Element) → HasOneMore xs (xs ++ (extent, 1) ∷ []) extent
+unfolding named_count
+more_by_push xs extent other =
+    omega (arith, sum_by-append (counted other) xs ((extent, 1) ∷ []), sum_by-cons (counted other) (extent, 1) [])
 
 pub less_by_remove : (xs : List (Element × ℕ)) (i : ℕ) (extent : Element) → i < length xs → ((d : Element × ℕ) → get_or xs i d ≡ (extent, 1)) → HasOneMore (take i xs ++ drop (i + 1) xs) xs extent
 unfolding named_count

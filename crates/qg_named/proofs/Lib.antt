@@ -1,2 +1,4 @@
 pub mod Entries
 pub mod Names
+pub mod Bases
+pub mod Many

@@ -14,12 +14,12 @@ use Rattle.qg_reach.proofs.Order.{same_itself, same_extent_is}
 use Rattle.qg_named.specs.Named.{named_count, HasOneMore, AreNamed}
 
 -- one where two extents are the same
-abbrev one : Element → Element → ℕ
+abbrev pub one : Element → Element → ℕ
 one extent other = if same_extent extent other then 1 else 0
 
 -- ---- how often an extent is listed
 
-listed_first : (extent other : Element) (extents : List Element) → count_by (same_extent extent) (other ∷ extents) ≡ one extent other + count_by (same_extent extent) extents
+pub listed_first : (extent other : Element) (extents : List Element) → count_by (same_extent extent) (other ∷ extents) ≡ one extent other + count_by (same_extent extent) extents
 listed_first extent other extents = sum_by-cons (one extent) other extents
 
 listed_both : (extent : Element) (front back : List Element) → count_by (same_extent extent) (front ++ back) ≡ count_by (same_extent extent) front + count_by (same_extent extent) back

@@ -1,10 +1,12 @@
 //! How many pieces name each data extent.
 #![tactic(auto)]
 
+mod base;
 mod named;
 mod search;
+mod tally;
 
-pub use named::{Named, named_by};
+pub use named::{Named, named_by, named_of};
 
 #[cfg(test)]
 mod tests;

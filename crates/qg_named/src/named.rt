@@ -1,13 +1,15 @@
 // How many pieces name each data extent.
-ghost use Rattle.std.specs.Prelude.{◌≡◌, ◌-◌, ◌^◌, ◌<◌, ◌↔◌, ◌++◌, map, IfOk, OnOk, OnErr, IsTrue};
+ghost use Rattle.std.specs.Prelude.{◌≡◌, ◌-◌, ◌^◌, ◌<◌, ◌↔◌, ◌==◌, length, map, IfOk, OnOk, OnErr, IsTrue};
 ghost use Rattle.std.specs.List.{flat_map};
 ghost use Rattle.qg_state.specs.declared.element.Element.{Element};
 ghost use Rattle.qg_state.specs.Reach.{extent_of};
+ghost use Rattle.qg_verdict.specs.Verdict.{extent_set};
 ghost use Rattle.qg_named.specs.Named.{named_count, HasOneMore, AreNamed};
 
-use crate::search::entry_of;
+use crate::base::index_of;
+use crate::tally::{Tally, tally_by};
 use qg_image::File;
-use qg_num::{Ino, NoMemory, Piece, Sequence};
+use qg_num::{Ino, NoMemory, Sequence};
 use qg_state::Element;
 use std::alloc::Global;
 use std::marker::Model;
@@ -16,19 +18,21 @@ use std::marker::Model;
 /// counts, and asks for the count of one.
 #[derive(Drop)]
 pub struct Named {
-    entries: Sequence<(Element, u64)>,
+    // Each is named by one piece more than `more` counts.
+    extents: Sequence<Element>,
+    more: Tally,
 }
 
 impl Model for Named {
-    ghost use Rattle.std.specs.Prelude.{List, ℕ};
+    ghost use Rattle.std.specs.Prelude.{List, ℕ, ◌++◌, map};
     ghost use Rattle.qg_state.specs.declared.element.Element.{Element};
-    ghost use Rattle.qg_named.specs.Tally.{IsTally};
+    ghost use Rattle.qg_named.specs.Base.{IsBase, named_once};
 
     ghost Value = { List (Element × ℕ) };
 
-    ghost view = { λ n. n.entries };
+    ghost view = { λ n. map named_once n.extents ++ n.more };
 
-    ghost invariant = { λ n. IsTally n.entries };
+    ghost invariant = { λ n. IsBase n.extents n.more };
 }
 
 impl Named {
@@ -37,7 +41,8 @@ impl Named {
         ensures { (extent : Element) → named_count result extent ≡ 0 }
     {
         Named {
-            entries: Sequence::new(alloc),
+            extents: Sequence::new(alloc),
+            more: Tally::new(alloc),
         }
     }
 
@@ -45,10 +50,10 @@ impl Named {
     pub fn count(&self, extent: &Element) -> u64
         ensures { result ≡ named_count self.now extent.now }
     {
-        let entries = self.entries.as_slice();
-        match entry_of(entries, extent) {
-            Ok(index) => entries[index].1,
-            Err(_) => 0,
+        let more = self.more.count(extent);
+        match index_of(self.extents.as_slice(), extent) {
+            Some(_) => more + 1,
+            None => more,
         }
     }
 
@@ -58,13 +63,7 @@ impl Named {
         ensures ok { OnOk result (HasOneMore self.old self.new extent.now) }
         ensures err { OnErr result (self.new ≡ self.old) }
     {
-        match entry_of(self.entries.as_slice(), extent) {
-            Ok(index) => {
-                let count = self.entries.as_slice()[index].1;
-                self.entries.set(index, (*extent, count + 1));
-            }
-            Err(index) => self.entries.insert(index, (*extent, 1))?,
-        }
+        self.more.add(extent)?;
         Ok(())
     }
 
@@ -74,17 +73,22 @@ impl Named {
         ensures less { HasOneMore self.new self.old extent.now }
         ensures last { IsTrue result ↔ (named_count self.new extent.now ≡ 0) }
     {
-        match entry_of(self.entries.as_slice(), extent) {
-            Ok(index) => {
-                let count = self.entries.as_slice()[index].1;
-                if count == 1 {
-                    self.entries.remove_range(index, index + 1);
-                    return true;
-                }
-                self.entries.set(index, (*extent, count - 1));
-                false
-            }
-            Err(_) => unreachable!(),
+        self.take_one(extent);
+        self.count(extent) == 0
+    }
+
+    /// One piece less names an extent.
+    fn take_one(&mut self, extent: &Element)
+        requires { 0 < named_count self.old extent.now }
+        ensures { HasOneMore self.new self.old extent.now }
+    {
+        if self.more.count(extent) > 0 {
+            self.more.drop_one(extent);
+            return;
+        }
+        match index_of(self.extents.as_slice(), extent) {
+            Some(index) => self.extents.remove_range(index, index + 1),
+            None => unreachable!(),
         }
     }
 }
@@ -93,35 +97,42 @@ impl Named {
 pub fn named_by(alloc: Global, files: &[(Ino, File)]) -> Result<Named, NoMemory>
     ensures { IfOk result (λ named. AreNamed named (flat_map (λ file. map extent_of file.1.pieces) files.now)) }
 {
-    let mut extents = Vec::new(alloc);
+    Ok(Named {
+        extents: Sequence::new(alloc),
+        more: tally_by(alloc, files)?,
+    })
+}
+
+/// The same, where the extents that the files name are known.
+pub fn named_of(
+    alloc: Global,
+    files: &[(Ino, File)],
+    extents: Sequence<Element>,
+) -> Result<Named, NoMemory>
+    requires { extents ≡ extent_set (flat_map (λ file. map extent_of file.1.pieces) files.now) }
+    ensures { IfOk result (λ named. AreNamed named (flat_map (λ file. map extent_of file.1.pieces) files.now)) }
+{
+    // Of as many extents as pieces each is named once.
+    if have_pieces(files, extents.len()) {
+        return Ok(Named {
+            extents,
+            more: Tally::new(alloc),
+        });
+    }
+    named_by(alloc, files)
+}
+
+/// Whether files have so many pieces.
+fn have_pieces(files: &[(Ino, File)], count: usize) -> bool
+    ensures { result ≡ (length (flat_map (λ file. map extent_of file.1.pieces) files.now) == count) }
+{
+    let mut left = count;
     for file in files {
-        put_extents(&mut extents, file.1.pieces.as_slice())?;
+        let pieces = file.1.pieces.len();
+        if left < pieces {
+            return false;
+        }
+        left -= pieces;
     }
-    // Of extents that ascend each is counted without a search.
-    extents.sort_unstable_by_key(|extent| (extent.address, extent.bytes));
-    count_all(alloc, extents.as_slice())
-}
-
-/// Puts the extents that pieces name at the end of a list.
-fn put_extents(extents: &mut Vec<Element>, pieces: &[Piece]) -> Result<(), NoMemory>
-    ensures { OnOk result (extents.new.items ≡ extents.old.items ++ map extent_of pieces.now) }
-{
-    for piece in pieces {
-        extents.push(Element {
-            address: piece.extent,
-            bytes: piece.extent_bytes,
-        })?;
-    }
-    Ok(())
-}
-
-/// How often each extent is listed.
-fn count_all(alloc: Global, extents: &[Element]) -> Result<Named, NoMemory>
-    ensures { IfOk result (λ named. AreNamed named extents.now) }
-{
-    let mut named = Named::new(alloc);
-    for extent in extents {
-        named.add(extent)?;
-    }
-    Ok(named)
+    left == 0
 }

@@ -48,7 +48,7 @@ fn place_of(entries: &[(Element, u64)], extent: &Element) -> usize
 }
 
 /// Whether an extent comes before another.
-fn is_before(extent: &Element, other: &Element) -> bool
+pub(crate) fn is_before(extent: &Element, other: &Element) -> bool
     ensures { result ≡ is_before extent.now other.now }
 {
     extent.address < other.address

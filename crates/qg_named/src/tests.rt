@@ -1,6 +1,7 @@
-use crate::{Named, named_by};
+use crate::{Named, named_by, named_of};
 use qg_image::{File, FileList};
 use qg_num::{Address, Generation, Ino, NoMemory, Piece, Pieces};
+use qg_reach::extents_of;
 use qg_state::Element;
 use std::alloc::Global;
 use std::test::Fail;
@@ -42,6 +43,14 @@ fn of_two_files(alloc: Global, first: &[Element], second: &[Element]) -> Result<
     files.push((Ino::new(257), file_of(alloc, first)?))?;
     files.push((Ino::new(258), file_of(alloc, second)?))?;
     named_by(alloc, files.as_slice())
+}
+
+// What a file of these extents names, once they are known.
+fn of_known(alloc: Global, extents: &[Element]) -> Result<Named, NoMemory> {
+    let mut files = FileList::new(alloc);
+    files.push((Ino::new(257), file_of(alloc, extents)?))?;
+    let known = extents_of(alloc, files.as_slice())?;
+    named_of(alloc, files.as_slice(), known)
 }
 
 // One piece less, if some piece names the extent; whether it was the last one.
@@ -93,5 +102,37 @@ fn the_last_piece_is_told(rt: HostRuntime) -> Result<(), Fail> {
     assert!(rt; add_if_room(&mut named, &first)?);
     assert_eq!(rt; named.count(&first), 1);
     assert_eq!(rt; named.count(&second), 1);
+    Ok(())
+}
+
+#[test]
+fn extents_named_in_their_order_are_counted(rt: HostRuntime) -> Result<(), Fail> {
+    let first = extent(4000, 1);
+    let second = extent(5000, 2);
+    let named = of_two_files(rt.alloc(), &[first, first], &[first, second])?;
+    assert_eq!(rt; named.count(&first), 3);
+    assert_eq!(rt; named.count(&second), 1);
+    Ok(())
+}
+
+#[test]
+fn an_extent_named_once_is_the_last(rt: HostRuntime) -> Result<(), Fail> {
+    let first = extent(4000, 1);
+    let second = extent(5000, 2);
+    let mut named = of_known(rt.alloc(), &[second, first])?;
+    assert!(rt; add_if_room(&mut named, &first)?);
+    assert_eq!(rt; named.count(&first), 2);
+    assert_eq!(rt; drop_if_named(&mut named, &first), Some(false));
+    assert_eq!(rt; drop_if_named(&mut named, &first), Some(true));
+    assert_eq!(rt; drop_if_named(&mut named, &first), None);
+    assert_eq!(rt; named.count(&second), 1);
+    Ok(())
+}
+
+#[test]
+fn an_extent_named_twice_is_counted(rt: HostRuntime) -> Result<(), Fail> {
+    let first = extent(4000, 1);
+    let named = of_known(rt.alloc(), &[first, extent(5000, 1), first])?;
+    assert_eq!(rt; named.count(&first), 2);
     Ok(())
 }

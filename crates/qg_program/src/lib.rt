@@ -2,6 +2,10 @@
 #![tactic(auto)]
 
 mod answer;
+#[cfg(test)]
+mod fault_tests;
+#[cfg(test)]
+mod file_tests;
 mod make;
 mod program;
 mod put;

@@ -65,6 +65,28 @@ pub(crate) fn ends_so(
     Ok(())
 }
 
+// Each script over a fresh image of 1024 slots of 16384 bytes and 1024 sectors puts these replies.
+pub(crate) fn answers_so(
+    rt: &impl Abort,
+    alloc: Global,
+    table: &[(&[u8], &[u8])],
+) -> Result<(), Fail> {
+    for (script, text) in table {
+        let mut disk = fresh_disk(alloc)?;
+        ends_so(rt, alloc, &mut disk, script, Status::Done, text)?;
+    }
+    Ok(())
+}
+
+// Some lines, so many times.
+pub(crate) fn times(alloc: Global, count: u64, lines: &[u8]) -> Result<Vec<u8>, Fail> {
+    let mut text = Vec::new(alloc);
+    for _ in 0..count {
+        text.extend_from_slice(lines)?;
+    }
+    Ok(text)
+}
+
 // The bytes at a place are changed.
 pub(crate) fn change(disk: &mut MemDisk, at: u32, bytes: &[u8]) -> Result<(), Fail> {
     disk.write_at(at.into(), bytes)?;

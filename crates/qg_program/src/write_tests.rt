@@ -1,6 +1,8 @@
 // Scripts of writes and commits over images in memory.
 use crate::Status;
-use crate::test_images::{TABLE, change, ends_so, fresh_disk, made_disk, run_over};
+use crate::test_images::{
+    TABLE, answers_so, change, ends_so, fresh_disk, made_disk, run_over, times,
+};
 use qg_disk::MemDisk;
 use std::alloc::Global;
 use std::process::Abort;
@@ -8,15 +10,6 @@ use std::test::Fail;
 
 // The first run: a range is written and committed, and the group's counts are shown.
 const FIRST_RUN: &[u8] = b"write 5 257 0 8192\ncommit\nshow\n";
-
-// Each script over a fresh image of 1024 slots of 16384 bytes and 1024 sectors puts these replies.
-fn answers_so(rt: &impl Abort, alloc: Global, table: &[(&[u8], &[u8])]) -> Result<(), Fail> {
-    for (script, text) in table {
-        let mut disk = fresh_disk(alloc)?;
-        ends_so(rt, alloc, &mut disk, script, Status::Done, text)?;
-    }
-    Ok(())
-}
 
 #[test]
 fn writes_are_counted_once_they_are_committed(rt: HostRuntime) -> Result<(), Fail> {
@@ -108,6 +101,15 @@ fn the_first_refusal_that_holds_is_told(rt: HostRuntime) -> Result<(), Fail> {
     answers_so(&rt, rt.alloc(), &table)
 }
 
+#[test]
+fn the_longest_write_is_done(rt: HostRuntime) -> Result<(), Fail> {
+    let alloc = rt.alloc();
+    let mut disk = made_disk(alloc, ["16384", "1024", "32768"])?;
+    let script = b"write 5 257 0 134221824\nwrite 5 257 0 134217728\n";
+    let text = b"no far\nok extent 67174400\n";
+    ends_so(&rt, alloc, &mut disk, script, Status::Done, text)
+}
+
 // A script of writes of one sector each, one behind the other.
 fn writes_of_sectors(alloc: Global, count: u64) -> Result<Vec<u8>, Fail> {
     let mut script = Vec::new(alloc);
@@ -155,27 +157,16 @@ fn a_write_that_finds_too_few_slots_or_no_run_is_refused(rt: HostRuntime) -> Res
     refused_after(&rt, alloc, ["16384", "64", "16"], 16, b"no run\n")
 }
 
-// The replies to writes of the same sector: the runs that are taken alternate.
-fn alternating(alloc: Global, pairs: u64, last: &[u8]) -> Result<Vec<u8>, Fail> {
-    let mut text = Vec::new(alloc);
-    for _ in 0..pairs {
-        text.extend_from_slice(b"ok extent 67174400\nok extent 67178496\n")?;
-    }
-    text.extend_from_slice(last)?;
-    Ok(text)
-}
-
 #[test]
-fn no_more_than_65536_commands_may_be_pending(rt: HostRuntime) -> Result<(), Fail> {
+fn no_more_than_65536_writes_may_be_pending(rt: HostRuntime) -> Result<(), Fail> {
     let alloc = rt.alloc();
     let mut disk = fresh_disk(alloc)?;
-    let mut script = Vec::new(alloc);
-    for _ in 0..65536u64 {
-        script.extend_from_slice(b"write 5 257 0 4096\n")?;
-    }
+    let mut script = times(alloc, 65536, b"write 5 257 0 4096\n")?;
+    // The runs that are taken alternate.
+    let mut text = times(alloc, 32768, b"ok extent 67174400\nok extent 67178496\n")?;
     // There is no run of 1025 sectors either.
     script.extend_from_slice(b"write 5 257 0 4198400\ncommit\nwrite 5 257 0 4096\n")?;
-    let text = alternating(alloc, 32768, b"no many\nok commit 2\nok extent 67174400\n")?;
+    text.extend_from_slice(b"no many\nok commit 2\nok extent 67174400\n")?;
     ends_so(&rt, alloc, &mut disk, &script, Status::Done, &text)
 }
 

@@ -101,9 +101,8 @@ fn free() -> QuotaPart {
 }
 
 #[test]
-fn quota(rt: HostRuntime) {
+fn quota_of_one_subvolume(rt: HostRuntime) {
     let alloc = rt.alloc();
-    let top = [root(5)];
     let two = [root(5), root(256)];
     let parts = [status(), plain(), free()];
     assert!(rt; quota_fault(alloc, &two, &parts) == Some(QuotaFault::Rule(Rule::Quota)));
@@ -113,46 +112,31 @@ fn quota(rt: HostRuntime) {
         ("no counters", [status(), free()].as_slice(), false),
         ("no limits", [status(), plain()].as_slice(), false),
         ("the status alone", [status()].as_slice(), false),
-        (
-            "rfer_cmpr",
-            [status(), counters(5, 4096, 4096), free()].as_slice(),
-            false,
-        ),
-        (
-            "excl_cmpr",
-            [status(), counters(5, 8192, 8192), free()].as_slice(),
-            false,
-        ),
-        (
-            "a limit is set",
-            [status(), plain(), limits(5, 1, 4096, 0)].as_slice(),
-            false,
-        ),
-        (
-            "one that isn't",
-            [status(), plain(), limits(5, 0, 0, 1)].as_slice(),
-            false,
-        ),
-        (
-            "a group more",
-            [
-                status(),
-                plain(),
-                counters(256, 8192, 4096),
-                free(),
-                limits(256, 0, 0, 0),
-            ]
-            .as_slice(),
-            false,
-        ),
-        (
-            "a relation",
-            [status(), plain(), free(), relation(5, 281474976710657)].as_slice(),
-            false,
-        ),
     ] {
-        let fault = quota_fault(alloc, &top, parts);
+        let fault = quota_fault(alloc, &[root(5)], parts);
         assert_eq!(rt; fault.is_none(), wanted, "{what}");
+    }
+}
+
+#[test]
+fn quota_that_breaks_a_rule(rt: HostRuntime) {
+    let alloc = rt.alloc();
+    let rfer = [status(), counters(5, 4096, 4096), free()];
+    let excl = [status(), counters(5, 8192, 8192), free()];
+    let set = [status(), plain(), limits(5, 1, 4096, 0)];
+    let unset = [status(), plain(), limits(5, 0, 0, 1)];
+    let other = counters(256, 8192, 4096);
+    let more = [status(), plain(), other, free(), limits(256, 0, 0, 0)];
+    let related = [status(), plain(), free(), relation(5, 281474976710657)];
+    for (what, parts) in [
+        ("rfer_cmpr", rfer.as_slice()),
+        ("excl_cmpr", excl.as_slice()),
+        ("a limit is set", set.as_slice()),
+        ("one that isn't", unset.as_slice()),
+        ("a group more", more.as_slice()),
+        ("a relation", related.as_slice()),
+    ] {
+        assert!(rt; quota_fault(alloc, &[root(5)], parts).is_some(), "{what}");
     }
 }
 
@@ -279,99 +263,86 @@ fn two_files(rt: HostRuntime) -> Result<(), Fail> {
     Ok(())
 }
 
-#[test]
-fn one_file(rt: HostRuntime) -> Result<(), Fail> {
-    let alloc = rt.alloc();
-    for (what, parts, wanted) in [
-        ("a piece alone", [piece(257, 0, 4096)].as_slice(), false),
-        (
-            "another file's",
-            [inode(257, 4096, 0), piece(258, 0, 4096)].as_slice(),
-            false,
-        ),
-        (
-            "an overlap",
-            [
-                inode(257, 16384, 12288),
-                piece(257, 0, 8192),
-                piece(257, 4096, 4096),
-            ]
-            .as_slice(),
-            false,
-        ),
-        (
-            "they touch",
-            [
-                inode(257, 16384, 12288),
-                piece(257, 0, 8192),
-                piece(257, 8192, 4096),
-            ]
-            .as_slice(),
-            true,
-        ),
-        ("no whole sector", [inode(257, 100, 0)].as_slice(), false),
-        (
-            "nbytes",
-            [inode(257, 4096, 8192), piece(257, 0, 4096)].as_slice(),
-            false,
-        ),
-        ("inode 256", [inode(256, 0, 0)].as_slice(), false),
-        (
-            "inode 2^48",
-            [inode(281474976710656, 0, 0)].as_slice(),
-            false,
-        ),
-        (
-            "past the size",
-            [inode(257, 4096, 8192), piece(257, 0, 8192)].as_slice(),
-            false,
-        ),
-        (
-            "past 2^64",
-            [
-                inode(257, 4096, 8192),
-                piece(257, 18446744073709547520, 8192),
-            ]
-            .as_slice(),
-            false,
-        ),
-        (
-            "the largest size",
-            [inode(257, 1099511627776, 0)].as_slice(),
-            true,
-        ),
-        (
-            "a larger one",
-            [inode(257, 1099511631872, 0)].as_slice(),
-            false,
-        ),
-        (
-            "past the extent",
-            [inode(257, 8192, 8192), piece_of(257, 0, 8192, 4096, 8192)].as_slice(),
-            false,
-        ),
-        (
-            "past all extents",
-            [
-                inode(257, 8192, 8192),
-                piece_of(257, 0, 8192, 18446744073709547520, 8192),
-            ]
-            .as_slice(),
-            false,
-        ),
-        (
-            "the extent's end",
-            [inode(257, 8192, 8192), piece_of(257, 0, 8192, 4096, 12288)].as_slice(),
-            true,
-        ),
-        (
-            "no bytes",
-            [inode(257, 8192, 0), piece(257, 0, 0)].as_slice(),
-            false,
-        ),
-    ] {
-        let files = files_of(&rt, alloc, parts)?;
+// Each of these lists of parts is some files, or isn't.
+fn each_is(
+    rt: &impl Abort,
+    alloc: Global,
+    wanted: bool,
+    lists: &[(&str, &[FilePart])],
+) -> Result<(), Fail> {
+    for (what, parts) in lists {
+        let files = files_of(rt, alloc, parts)?;
         assert_eq!(rt; files.is_some(), wanted, "{what}");
     }
     Ok(())
+}
+
+#[test]
+fn pieces_follow_their_inode_and_lie_apart(rt: HostRuntime) -> Result<(), Fail> {
+    let alloc = rt.alloc();
+    let touching = [
+        inode(257, 16384, 12288),
+        piece(257, 0, 8192),
+        piece(257, 8192, 4096),
+    ];
+    each_is(&rt, alloc, true, &[("they touch", touching.as_slice())])?;
+    let other = [inode(257, 4096, 0), piece(258, 0, 4096)];
+    let overlapping = [
+        inode(257, 16384, 12288),
+        piece(257, 0, 8192),
+        piece(257, 4096, 4096),
+    ];
+    let alone = [piece(257, 0, 4096)];
+    let lists = [
+        ("a piece alone", alone.as_slice()),
+        ("another file's", other.as_slice()),
+        ("an overlap", overlapping.as_slice()),
+    ];
+    each_is(&rt, alloc, false, &lists)
+}
+
+#[test]
+fn sizes_and_numbers_of_one_file(rt: HostRuntime) -> Result<(), Fail> {
+    let alloc = rt.alloc();
+    let largest = [inode(257, 1099511627776, 0)];
+    each_is(
+        &rt,
+        alloc,
+        true,
+        &[("the largest size", largest.as_slice())],
+    )?;
+    let wrong = [inode(257, 4096, 8192), piece(257, 0, 4096)];
+    let past = [inode(257, 4096, 8192), piece(257, 0, 8192)];
+    let part = [inode(257, 100, 0)];
+    let low = [inode(256, 0, 0)];
+    let high = [inode(281474976710656, 0, 0)];
+    let larger = [inode(257, 1099511631872, 0)];
+    let lists = [
+        ("no whole sector", part.as_slice()),
+        ("nbytes", wrong.as_slice()),
+        ("inode 256", low.as_slice()),
+        ("inode 2^48", high.as_slice()),
+        ("past the size", past.as_slice()),
+        ("a larger one", larger.as_slice()),
+    ];
+    each_is(&rt, alloc, false, &lists)
+}
+
+#[test]
+fn pieces_lie_within_their_extent(rt: HostRuntime) -> Result<(), Fail> {
+    let alloc = rt.alloc();
+    let whole = [inode(257, 8192, 8192), piece_of(257, 0, 8192, 4096, 12288)];
+    each_is(&rt, alloc, true, &[("the extent's end", whole.as_slice())])?;
+    let end = 18446744073709547520;
+    let past_all = [inode(257, 4096, 8192), piece(257, end, 8192)];
+    let past = [inode(257, 8192, 8192), piece_of(257, 0, 8192, 4096, 8192)];
+    let past_all_extents = [inode(257, 8192, 8192), piece_of(257, 0, 8192, end, 8192)];
+    let empty = [inode(257, 8192, 0), piece(257, 0, 0)];
+    let lists = [
+        ("past 2^64", past_all.as_slice()),
+        ("past the extent", past.as_slice()),
+        ("past all extents", past_all_extents.as_slice()),
+        ("no bytes", empty.as_slice()),
+    ];
+    each_is(&rt, alloc, false, &lists)
 }

@@ -7,7 +7,7 @@ use Rattle.std.proofs.lemmas.Bool.Decides.{nat_tests}
 use Rattle.std.proofs.lemmas.List.{append-nil, append_cancel_left}
 use Rattle.std.proofs.lemmas.List.Elements.{All-nil, All-cons}
 use Rattle.qg_num.specs.declared.command.Command.{Command}
-use Rattle.qg_num.specs.declared.command.Command.TheVariants.{Write}
+use Rattle.qg_num.specs.declared.command.Command.TheVariants.{Write, Clone, Truncate, Unlink, Ls}
 use Rattle.qg_grammar.specs.ScriptText.{command_text, is_in_grammar, is_sub_word, is_ino_word, is_word, then_number}
 use Rattle.qg_script.specs.Reading.{AreNumbers, IsTextOf, Reads}
 use Rattle.qg_script.proofs.Parting.{number_at}
@@ -68,6 +68,21 @@ is_word-fits n fits = grind (arith, nat_tests)
 pub word_at : {count : ℕ} {text numbers : List ℕ} (place : ℕ) → AreNumbers count text numbers → place < count → is_word (get_or numbers place 0) ≡ true
 word_at {count} {text} {numbers} place are within = is_word-fits (get_or numbers place 0) (are.fit place 0 (omega (arith, are.as_many)))
 
+-- two numbers one by one
+pub two : {text : List ℕ} (numbers : List ℕ) → AreNumbers 2 text numbers → numbers ≡ get_or numbers 0 0 ∷ get_or numbers 1 0 ∷ []
+two [] are = absurd (omega (arith, are.as_many))
+two (a ∷ []) are = absurd (omega (arith, are.as_many))
+two (a ∷ b ∷ []) are = refl
+two (a ∷ b ∷ c ∷ numbers) are = absurd (omega (arith, are.as_many))
+
+-- three numbers one by one
+pub three : {text : List ℕ} (numbers : List ℕ) → AreNumbers 3 text numbers → numbers ≡ get_or numbers 0 0 ∷ get_or numbers 1 0 ∷ get_or numbers 2 0 ∷ []
+three [] are = absurd (omega (arith, are.as_many))
+three (a ∷ []) are = absurd (omega (arith, are.as_many))
+three (a ∷ b ∷ []) are = absurd (omega (arith, are.as_many))
+three (a ∷ b ∷ c ∷ []) are = refl
+three (a ∷ b ∷ c ∷ d ∷ numbers) are = absurd (omega (arith, are.as_many))
+
 -- four numbers one by one
 pub four : {text : List ℕ} (numbers : List ℕ) → AreNumbers 4 text numbers → numbers ≡ get_or numbers 0 0 ∷ get_or numbers 1 0 ∷ get_or numbers 2 0 ∷ get_or numbers 3 0 ∷ []
 four [] are = absurd (omega (arith, are.as_many))
@@ -76,6 +91,18 @@ four (a ∷ b ∷ []) are = absurd (omega (arith, are.as_many))
 four (a ∷ b ∷ c ∷ []) are = absurd (omega (arith, are.as_many))
 four (a ∷ b ∷ c ∷ d ∷ []) are = refl
 four (a ∷ b ∷ c ∷ d ∷ e ∷ numbers) are = absurd (omega (arith, are.as_many))
+
+-- seven numbers one by one
+pub seven : {text : List ℕ} (numbers : List ℕ) → AreNumbers 7 text numbers → numbers ≡ get_or numbers 0 0 ∷ get_or numbers 1 0 ∷ get_or numbers 2 0 ∷ get_or numbers 3 0 ∷ get_or numbers 4 0 ∷ get_or numbers 5 0 ∷ get_or numbers 6 0 ∷ []
+seven [] are = absurd (omega (arith, are.as_many))
+seven (a ∷ []) are = absurd (omega (arith, are.as_many))
+seven (a ∷ b ∷ []) are = absurd (omega (arith, are.as_many))
+seven (a ∷ b ∷ c ∷ []) are = absurd (omega (arith, are.as_many))
+seven (a ∷ b ∷ c ∷ d ∷ []) are = absurd (omega (arith, are.as_many))
+seven (a ∷ b ∷ c ∷ d ∷ e ∷ []) are = absurd (omega (arith, are.as_many))
+seven (a ∷ b ∷ c ∷ d ∷ e ∷ f ∷ []) are = absurd (omega (arith, are.as_many))
+seven (a ∷ b ∷ c ∷ d ∷ e ∷ f ∷ g ∷ []) are = refl
+seven (a ∷ b ∷ c ∷ d ∷ e ∷ f ∷ g ∷ h ∷ numbers) are = absurd (omega (arith, are.as_many))
 
 -- ---- rows
 
@@ -117,3 +144,113 @@ write_read {rest} {numbers} {sub} {ino} are of =
       spelled = ap (λ (xs : List ℕ). codes "write" ++ xs) behind ∙ sym (write_text _ _ _ _);
       in_grammar = and_from _ _ (and_from _ _ of.0 (word_at 2 are (lit< tt))) (word_at 3 are (lit< tt));
     })
+
+-- ---- the other commands of files, each in the same way
+
+pub clone_text : (sub ino off len to_sub to_ino to_off : ℕ)
+    → command_text (Clone sub ino off len to_sub to_ino to_off) ≡ codes "clone" ++ flat_map then_number (sub ∷ ino ∷ off ∷ len ∷ to_sub ∷ to_ino ∷ to_off ∷ [])
+unfolding command_text
+clone_text sub ino off len to_sub to_ino to_off = simp (append_assoc, append-nil)
+
+pub only_clone : (P : Command → Type 0) (rest : List ℕ)
+    → ((sub ino off len to_sub to_ino to_off : ℕ) → is_file sub ino → is_file to_sub to_ino
+    → AreNumbers 7 rest (sub ∷ ino ∷ off ∷ len ∷ to_sub ∷ to_ino ∷ to_off ∷ []) → P (Clone sub ino off len to_sub to_ino to_off))
+    → (command : Command) → IsTextOf (codes "clone" ++ rest) command → P command
+unfolding command_text is_in_grammar
+only_clone P rest clone (Clone sub ino off len to_sub to_ino to_off) is =
+    let last = and_parts (is_sub_word sub && is_ino_word ino && is_word off && is_word len && is_sub_word to_sub && is_ino_word to_ino) (is_word to_off) is.in_grammar in
+    let sixth = and_parts (is_sub_word sub && is_ino_word ino && is_word off && is_word len && is_sub_word to_sub) (is_ino_word to_ino) last.0 in
+    let fifth = and_parts (is_sub_word sub && is_ino_word ino && is_word off && is_word len) (is_sub_word to_sub) sixth.0 in
+    let fourth = and_parts (is_sub_word sub && is_ino_word ino && is_word off) (is_word len) fifth.0 in
+    let file = and_parts (is_sub_word sub && is_ino_word ino) (is_word off) fourth.0 in
+    let to_file : is_file to_sub to_ino = and_from (is_sub_word to_sub) (is_ino_word to_ino) fifth.1 sixth.1 in
+    let fit =
+    file_fits sub ino (off ∷ len ∷ to_sub ∷ to_ino ∷ to_off ∷ []) file.0
+    (word_fits off (len ∷ to_sub ∷ to_ino ∷ to_off ∷ []) file.1
+    (word_fits len (to_sub ∷ to_ino ∷ to_off ∷ []) fourth.1 (file_fits to_sub to_ino (to_off ∷ []) to_file (word_fits to_off [] last.1 none_fit)))) in
+    clone sub ino off len to_sub to_ino to_off file.0 to_file (numbers_of (codes "clone") (is.spelled ∙ clone_text sub ino off len to_sub to_ino to_off) fit)
+only_clone P rest clone command is = let first = ap mark is.spelled in absurd (omega (arith, first))
+
+pub clone_read : {rest numbers : List ℕ} {sub ino to_sub to_ino : ℕ} → AreNumbers 7 rest numbers
+    → IsReadAs sub ino (get_or numbers 0 0) (get_or numbers 1 0) → IsReadAs to_sub to_ino (get_or numbers 4 0) (get_or numbers 5 0)
+    → IsTextOf (codes "clone" ++ rest) (Clone sub ino (get_or numbers 2 0) (get_or numbers 3 0) to_sub to_ino (get_or numbers 6 0))
+unfolding is_in_grammar
+clone_read {rest} {numbers} {sub} {ino} {to_sub} {to_ino} are of to =
+    let is_sub : sub ≡ get_or numbers 0 0 = ap (λ (pair : ℕ × ℕ). pair.0) of.1 in
+    let is_ino : ino ≡ get_or numbers 1 0 = ap (λ (pair : ℕ × ℕ). pair.1) of.1 in
+    let is_to_sub : to_sub ≡ get_or numbers 4 0 = ap (λ (pair : ℕ × ℕ). pair.0) to.1 in
+    let is_to_ino : to_ino ≡ get_or numbers 5 0 = ap (λ (pair : ℕ × ℕ). pair.1) to.1 in
+    let behind = are.whole ∙ ap (flat_map then_number) (seven numbers are) in
+    let parts = and_parts (is_sub_word (get_or numbers 4 0)) (is_ino_word (get_or numbers 5 0)) to.0 in
+    rw (is_sub, is_ino, is_to_sub, is_to_ino) (record {
+      spelled = ap (λ (xs : List ℕ). codes "clone" ++ xs) behind ∙ sym (clone_text _ _ _ _ _ _ _);
+      in_grammar =
+          and_from _ _ (and_from _ _ (and_from _ _ (and_from _ _ (and_from _ _ of.0 (word_at 2 are (lit< tt))) (word_at 3 are (lit< tt))) parts.0) parts.1)
+          (word_at 6 are (lit< tt));
+    })
+
+pub truncate_text : (sub ino size : ℕ) → command_text (Truncate sub ino size) ≡ codes "truncate" ++ flat_map then_number (sub ∷ ino ∷ size ∷ [])
+unfolding command_text
+truncate_text sub ino size = simp (append_assoc, append-nil)
+
+pub only_truncate : (P : Command → Type 0) (rest : List ℕ)
+    → ((sub ino size : ℕ) → is_file sub ino → AreNumbers 3 rest (sub ∷ ino ∷ size ∷ []) → P (Truncate sub ino size))
+    → (command : Command) → IsTextOf (codes "truncate" ++ rest) command → P command
+unfolding command_text is_in_grammar
+only_truncate P rest truncate (Truncate sub ino size) is =
+    let file = and_parts (is_sub_word sub && is_ino_word ino) (is_word size) is.in_grammar in
+    let fit = file_fits sub ino (size ∷ []) file.0 (word_fits size [] file.1 none_fit) in
+    truncate sub ino size file.0 (numbers_of (codes "truncate") (is.spelled ∙ truncate_text sub ino size) fit)
+only_truncate P rest truncate command is = let first = ap mark is.spelled in absurd (omega (arith, first))
+
+pub truncate_read : {rest numbers : List ℕ} {sub ino : ℕ} → AreNumbers 3 rest numbers → IsReadAs sub ino (get_or numbers 0 0) (get_or numbers 1 0)
+    → IsTextOf (codes "truncate" ++ rest) (Truncate sub ino (get_or numbers 2 0))
+unfolding is_in_grammar
+truncate_read {rest} {numbers} {sub} {ino} are of =
+    let is_sub : sub ≡ get_or numbers 0 0 = ap (λ (pair : ℕ × ℕ). pair.0) of.1 in
+    let is_ino : ino ≡ get_or numbers 1 0 = ap (λ (pair : ℕ × ℕ). pair.1) of.1 in
+    let behind = are.whole ∙ ap (flat_map then_number) (three numbers are) in
+    rw (is_sub, is_ino) (record {
+      spelled = ap (λ (xs : List ℕ). codes "truncate" ++ xs) behind ∙ sym (truncate_text _ _ _);
+      in_grammar = and_from _ _ of.0 (word_at 2 are (lit< tt));
+    })
+
+pub unlink_text : (sub ino : ℕ) → command_text (Unlink sub ino) ≡ codes "unlink" ++ flat_map then_number (sub ∷ ino ∷ [])
+unfolding command_text
+unlink_text sub ino = simp (append_assoc, append-nil)
+
+pub only_unlink : (P : Command → Type 0) (rest : List ℕ) → ((sub ino : ℕ) → is_file sub ino → AreNumbers 2 rest (sub ∷ ino ∷ []) → P (Unlink sub ino))
+    → (command : Command) → IsTextOf (codes "unlink" ++ rest) command → P command
+unfolding command_text is_in_grammar
+only_unlink P rest unlink (Unlink sub ino) is =
+    unlink sub ino is.in_grammar (numbers_of (codes "unlink") (is.spelled ∙ unlink_text sub ino) (file_fits sub ino [] is.in_grammar none_fit))
+only_unlink P rest unlink command is = let first = ap mark is.spelled in absurd (omega (arith, first))
+
+pub unlink_read : {rest numbers : List ℕ} {sub ino : ℕ} → AreNumbers 2 rest numbers → IsReadAs sub ino (get_or numbers 0 0) (get_or numbers 1 0)
+    → IsTextOf (codes "unlink" ++ rest) (Unlink sub ino)
+unfolding is_in_grammar
+unlink_read {rest} {numbers} {sub} {ino} are of =
+    let is_sub : sub ≡ get_or numbers 0 0 = ap (λ (pair : ℕ × ℕ). pair.0) of.1 in
+    let is_ino : ino ≡ get_or numbers 1 0 = ap (λ (pair : ℕ × ℕ). pair.1) of.1 in
+    let behind = are.whole ∙ ap (flat_map then_number) (two numbers are) in
+    rw (is_sub, is_ino) (record { spelled = ap (λ (xs : List ℕ). codes "unlink" ++ xs) behind ∙ sym (unlink_text _ _); in_grammar = of.0 })
+
+pub ls_text : (sub ino : ℕ) → command_text (Ls sub ino) ≡ codes "ls" ++ flat_map then_number (sub ∷ ino ∷ [])
+unfolding command_text
+ls_text sub ino = simp (append_assoc, append-nil)
+
+pub only_ls : (P : Command → Type 0) (rest : List ℕ) → ((sub ino : ℕ) → is_file sub ino → AreNumbers 2 rest (sub ∷ ino ∷ []) → P (Ls sub ino))
+    → (command : Command) → IsTextOf (codes "ls" ++ rest) command → P command
+unfolding command_text is_in_grammar
+only_ls P rest ls (Ls sub ino) is =
+    ls sub ino is.in_grammar (numbers_of (codes "ls") (is.spelled ∙ ls_text sub ino) (file_fits sub ino [] is.in_grammar none_fit))
+only_ls P rest ls command is = let first = ap mark is.spelled in absurd (omega (arith, first))
+
+pub ls_read : {rest numbers : List ℕ} {sub ino : ℕ} → AreNumbers 2 rest numbers → IsReadAs sub ino (get_or numbers 0 0) (get_or numbers 1 0)
+    → IsTextOf (codes "ls" ++ rest) (Ls sub ino)
+unfolding is_in_grammar
+ls_read {rest} {numbers} {sub} {ino} are of =
+    let is_sub : sub ≡ get_or numbers 0 0 = ap (λ (pair : ℕ × ℕ). pair.0) of.1 in
+    let is_ino : ino ≡ get_or numbers 1 0 = ap (λ (pair : ℕ × ℕ). pair.1) of.1 in
+    let behind = are.whole ∙ ap (flat_map then_number) (two numbers are) in
+    rw (is_sub, is_ino) (record { spelled = ap (λ (xs : List ℕ). codes "ls" ++ xs) behind ∙ sym (ls_text _ _); in_grammar = of.0 })

@@ -21,6 +21,51 @@ fn read_write(rest: &[u8]) -> Option<Command>
     Some(Command::Write { sub, ino, off, len })
 }
 
+// The command of `clone` and what is behind it.
+fn read_clone(rest: &[u8]) -> Option<Command>
+    ensures { Reads (codes "clone" ++ rest.now) result }
+{
+    let [sub, ino, off, len, to_sub, to_ino, to_off] = numbers::<7>(rest)?;
+    let (sub, ino) = file_of(sub, ino)?;
+    let (to_sub, to_ino) = file_of(to_sub, to_ino)?;
+    Some(Command::Clone {
+        sub,
+        ino,
+        off,
+        len,
+        to_sub,
+        to_ino,
+        to_off,
+    })
+}
+
+// The command of `truncate` and what is behind it.
+fn read_truncate(rest: &[u8]) -> Option<Command>
+    ensures { Reads (codes "truncate" ++ rest.now) result }
+{
+    let [sub, ino, size] = numbers::<3>(rest)?;
+    let (sub, ino) = file_of(sub, ino)?;
+    Some(Command::Truncate { sub, ino, size })
+}
+
+// The command of `unlink` and what is behind it.
+fn read_unlink(rest: &[u8]) -> Option<Command>
+    ensures { Reads (codes "unlink" ++ rest.now) result }
+{
+    let [sub, ino] = numbers::<2>(rest)?;
+    let (sub, ino) = file_of(sub, ino)?;
+    Some(Command::Unlink { sub, ino })
+}
+
+// The command of `ls` and what is behind it.
+fn read_ls(rest: &[u8]) -> Option<Command>
+    ensures { Reads (codes "ls" ++ rest.now) result }
+{
+    let [sub, ino] = numbers::<2>(rest)?;
+    let (sub, ino) = file_of(sub, ino)?;
+    Some(Command::Ls { sub, ino })
+}
+
 // The command of a text, if it is served.
 fn command_of(text: &[u8]) -> Option<Command>
     ensures served { IfSome result (λ command. IsTrue (is_served command)) }
@@ -36,6 +81,14 @@ fn command_of(text: &[u8]) -> Option<Command>
     let (word, rest) = first_word(text);
     if word == b"write".as_slice() {
         read_write(rest)
+    } else if word == b"clone".as_slice() {
+        read_clone(rest)
+    } else if word == b"truncate".as_slice() {
+        read_truncate(rest)
+    } else if word == b"unlink".as_slice() {
+        read_unlink(rest)
+    } else if word == b"ls".as_slice() {
+        read_ls(rest)
     } else {
         None
     }

@@ -5,9 +5,11 @@ use crate::{
 };
 use qg_edge::MemSource;
 use qg_num::{
-    Address, Answer, Command, Counters, Generation, GroupId, OwnerList, Piece, Pieces, Refusal,
-    RootId, Row, Rows, Rule, Which,
+    Address, Answer, Command, Counters, Generation, GroupId, NoMemory, OwnerList, Piece, Pieces,
+    Refusal, RootId, Row, Rows, Rule, Which,
 };
+use std::alloc::Global;
+use std::process::Abort;
 use std::test::Fail;
 
 // Whether a line was read, and is this one.
@@ -70,14 +72,43 @@ fn a_fault_in_a_line_loses_no_byte(rt: HostRuntime) -> Result<(), Fail> {
     Ok(())
 }
 
-// Whether a command writes by these numbers.
-fn is_write(command: &Command, numbers: [u64; 4]) -> bool {
+// Whether a command has the word that its line begins with, and these numbers.
+fn is_command(command: &Command, word: &[u8], numbers: &[u64]) -> bool {
     match command {
         Command::Write { sub, ino, off, len } => {
-            sub.value() == numbers[0]
-                && ino.value() == numbers[1]
-                && *off == numbers[2]
-                && *len == numbers[3]
+            word == b"write".as_slice()
+                && numbers == [sub.value(), ino.value(), *off, *len].as_slice()
+        }
+        Command::Truncate { sub, ino, size } => {
+            word == b"truncate".as_slice()
+                && numbers == [sub.value(), ino.value(), *size].as_slice()
+        }
+        Command::Unlink { sub, ino } => {
+            word == b"unlink".as_slice() && numbers == [sub.value(), ino.value()].as_slice()
+        }
+        Command::Ls { sub, ino } => {
+            word == b"ls".as_slice() && numbers == [sub.value(), ino.value()].as_slice()
+        }
+        Command::Commit => word == b"commit".as_slice() && numbers.is_empty(),
+        Command::Show => word == b"show".as_slice() && numbers.is_empty(),
+        _ => false,
+    }
+}
+
+// Whether a command clones by these numbers.
+fn is_clone(command: &Command, from: &[u64], to: &[u64]) -> bool {
+    match command {
+        Command::Clone {
+            sub,
+            ino,
+            off,
+            len,
+            to_sub,
+            to_ino,
+            to_off,
+        } => {
+            from == [sub.value(), ino.value(), *off, *len].as_slice()
+                && to == [to_sub.value(), to_ino.value(), *to_off].as_slice()
         }
         _ => false,
     }
@@ -86,30 +117,57 @@ fn is_write(command: &Command, numbers: [u64; 4]) -> bool {
 #[test]
 fn lines_have_their_commands(rt: HostRuntime) {
     let alloc = rt.alloc();
-    let show = parse_line(alloc, b"show").ok().flatten();
-    assert!(rt; matches!(&show, Some(Command::Show)), "{show:?}");
-    let commit = parse_line(alloc, b"commit").ok().flatten();
-    assert!(rt; matches!(&commit, Some(Command::Commit)), "{commit:?}");
-    let writes: [(&[u8], [u64; 4]); 3] = [
-        (b"write 5 257 4096 8192", [5, 257, 4096, 8192]),
-        (b"write 0 257 0 0", [0, 257, 0, 0]),
+    let lines: [(&[u8], &[u8], &[u64]); 8] = [
+        (b"show", b"show", &[]),
+        (b"commit", b"commit", &[]),
+        (b"write 5 257 4096 8192", b"write", &[5, 257, 4096, 8192]),
+        (b"write 0 257 0 0", b"write", &[0, 257, 0, 0]),
         (
             b"write 281474976710655 281474976710655 18446744073709551615 1",
-            [281474976710655, 281474976710655, 18446744073709551615, 1],
+            b"write",
+            &[281474976710655, 281474976710655, 18446744073709551615, 1],
         ),
+        (b"truncate 5 257 5000", b"truncate", &[5, 257, 5000]),
+        (b"unlink 5 257", b"unlink", &[5, 257]),
+        (b"ls 256 300", b"ls", &[256, 300]),
     ];
-    for (line, numbers) in writes {
+    for (line, word, numbers) in lines {
         match parse_line(alloc, line) {
-            Ok(Some(command)) => assert!(rt; is_write(&command, numbers), "{line:?}: {command:?}"),
+            Ok(Some(command)) => {
+                assert!(rt;
+                    is_command(&command, word, numbers),
+                    "{line:?}: {command:?}"
+                );
+            }
             found => panic!(rt; "{line:?}: {found:?}"),
         }
     }
 }
 
 #[test]
-fn other_lines_have_none(rt: HostRuntime) {
-    let alloc = rt.alloc();
-    let lines: [&[u8]; 34] = [
+fn a_clone_has_seven_numbers(rt: HostRuntime) {
+    match parse_line(rt.alloc(), b"clone 5 257 1 2 256 258 3") {
+        Ok(Some(command)) => {
+            assert!(rt;
+                is_clone(&command, &[5, 257, 1, 2], &[256, 258, 3]),
+                "{command:?}"
+            );
+        }
+        found => panic!(rt; "{found:?}"),
+    }
+}
+
+// No command has any of these lines.
+fn none_is_a_command(rt: &impl Abort, alloc: Global, lines: &[&[u8]]) {
+    for line in lines {
+        let found = parse_line(alloc, line).ok().flatten();
+        assert!(rt; found.is_none(), "{line:?}: {found:?}");
+    }
+}
+
+#[test]
+fn words_stand_as_the_grammar_has_them(rt: HostRuntime) {
+    let lines: [&[u8]; 24] = [
         b"",
         b" ",
         b" show",
@@ -124,37 +182,49 @@ fn other_lines_have_none(rt: HostRuntime) {
         b"write",
         b"write ",
         b"write5 257 0 8192",
-        b"write 5 257 0",
-        b"write 5 257 0 8192 1",
         b"write 5 257 0 8192 ",
         b"write  5 257 0 8192",
         b"write 5  257 0 8192",
         b" write 5 257 0 8192",
         b"Write 5 257 0 8192",
         b"write 5 257 0 8192\r",
+        b"write 5 257 0 8192\0",
         b"write 5\t257 0 8192",
+        b"snap 5",
+        &[b'a'; 257],
+    ];
+    none_is_a_command(&rt, rt.alloc(), &lines);
+}
+
+#[test]
+fn numbers_are_as_many_and_as_large_as_the_grammar_has_them(rt: HostRuntime) {
+    let lines: [&[u8]; 20] = [
+        b"write 5 257 0",
+        b"write 5 257 0 8192 1",
         b"write 05 257 0 8192",
         b"write 5 257 +0 8192",
         b"write 5 257 0 -1",
         b"write 5 257 0 0x10",
         b"write 5 257 0 \xff",
         b"write 5 257 0 18446744073709551616",
+        b"write 5 257 0 100000000000000000000",
         b"write 5 256 0 8192",
         b"write 5 281474976710656 0 8192",
         b"write 281474976710656 257 0 8192",
-        b"snap 5",
-        &[b'a'; 257],
+        b"clone 5 257 1 2 256 258",
+        b"clone 5 257 1 2 256 256 3",
+        b"truncate 5 257",
+        b"truncate 5 257 00",
+        b"unlink 5 257 0",
+        b"unlink 281474976710656 257",
+        b"ls 5",
+        b"ls 5 257 ",
     ];
-    for line in lines {
-        let found = parse_line(alloc, line).ok().flatten();
-        assert!(rt; found.is_none(), "{line:?}: {found:?}");
-    }
+    none_is_a_command(&rt, rt.alloc(), &lines);
 }
 
-#[test]
-fn answers_have_their_replies(rt: HostRuntime) -> Result<(), Fail> {
-    let alloc = rt.alloc();
-    let group = GroupId::from_number(281474976710663);
+// Rows of two groups.
+fn two_rows(alloc: Global) -> Result<Rows, NoMemory> {
     let mut rows = Rows::new(alloc);
     rows.push(Row {
         group: GroupId::from_number(5),
@@ -166,7 +236,7 @@ fn answers_have_their_replies(rt: HostRuntime) -> Result<(), Fail> {
         max_excl: Some(18446744073709551615),
     })?;
     rows.push(Row {
-        group,
+        group: GroupId::from_number(281474976710663),
         counters: Counters {
             rfer: 40960,
             excl: 24576,
@@ -174,6 +244,11 @@ fn answers_have_their_replies(rt: HostRuntime) -> Result<(), Fail> {
         max_rfer: Some(50000),
         max_excl: None,
     })?;
+    Ok(rows)
+}
+
+// The last sector but one of an extent of four.
+fn one_piece(alloc: Global) -> Result<Pieces, NoMemory> {
     let mut pieces = Pieces::new(alloc);
     pieces.push(Piece {
         position: 0,
@@ -183,53 +258,69 @@ fn answers_have_their_replies(rt: HostRuntime) -> Result<(), Fail> {
         stamp: Generation::new(2),
         extent_bytes: 16384,
     })?;
-    let mut owners = OwnerList::new(alloc);
-    owners.push(RootId::new(5))?;
-    owners.push(RootId::new(256))?;
+    Ok(pieces)
+}
+
+// Each answer has this reply.
+fn each_replies(rt: &impl Abort, alloc: Global, replies: &[(Answer, &[u8])]) {
+    let mut text = Text::new(alloc);
+    for (answer, bytes) in replies {
+        assert_eq!(rt; write_reply(answer, &mut text), Ok(()));
+        assert_eq!(rt; text.as_slice(), *bytes);
+        text.clear();
+    }
+}
+
+#[test]
+fn what_was_done_is_told(rt: HostRuntime) -> Result<(), Fail> {
+    let alloc = rt.alloc();
     let nodes = Refusal::NoNodes {
         free: 60,
         need: 228,
     };
     let quota = Refusal::Quota {
-        group,
+        group: GroupId::from_number(281474976710663),
         which: Which::Excl,
     };
-    let replies: [(Answer, &[u8]); 13] = [
+    let extent = Answer::Extent(Address::new(67174400));
+    let replies: [(Answer, &[u8]); 7] = [
         (Answer::Done, b"ok\n"),
         (Answer::Commit(Generation::new(2)), b"ok commit 2\n"),
         (Answer::Sub(RootId::new(256)), b"ok sub 256\n"),
-        (
-            Answer::Extent(Address::new(67174400)),
-            b"ok extent 67174400\n",
-        ),
-        (
-            Answer::Shown(rows),
-            b"0/5 16384 0 none 18446744073709551615\n1/7 40960 24576 50000 none\nok\n",
-        ),
-        (Answer::Shown(Rows::new(alloc)), b"ok\n"),
-        (
-            Answer::File { size: 5000, pieces },
-            b"0 4096 67174400 8192\nok file 5000\n",
-        ),
-        (
-            Answer::File {
-                size: 0,
-                pieces: Pieces::new(alloc),
-            },
-            b"ok file 0\n",
-        ),
-        (Answer::Owners(owners), b"ok owners 5 256\n"),
-        (Answer::Owners(OwnerList::new(alloc)), b"ok owners\n"),
+        (extent, b"ok extent 67174400\n"),
         (Answer::Refused(Refusal::NoQuota), b"no off\n"),
         (Answer::Refused(nodes), b"no nodes 60 228\n"),
         (Answer::Refused(quota), b"no quota 1/7 excl\n"),
     ];
-    let mut text = Text::new(alloc);
-    for (answer, bytes) in &replies {
-        assert_eq!(rt; write_reply(answer, &mut text), Ok(()));
-        assert_eq!(rt; text.as_slice(), *bytes);
-        text.clear();
-    }
+    each_replies(&rt, alloc, &replies);
+    Ok(())
+}
+
+#[test]
+fn lists_have_a_line_for_each(rt: HostRuntime) -> Result<(), Fail> {
+    let alloc = rt.alloc();
+    let shown =
+        b"0/5 16384 0 none 18446744073709551615\n1/7 40960 24576 50000 none\nok\n".as_slice();
+    let file = Answer::File {
+        size: 5000,
+        pieces: one_piece(alloc)?,
+    };
+    let empty = Answer::File {
+        size: 0,
+        pieces: Pieces::new(alloc),
+    };
+    let mut owners = OwnerList::new(alloc);
+    owners.push(RootId::new(5))?;
+    owners.push(RootId::new(256))?;
+    let replies: [(Answer, &[u8]); 6] = [
+        (Answer::Shown(two_rows(alloc)?), shown),
+        (Answer::Shown(Rows::new(alloc)), b"ok\n"),
+        (file, b"0 4096 67174400 8192\nok file 5000\n"),
+        (empty, b"ok file 0\n"),
+        (Answer::Owners(owners), b"ok owners 5 256\n"),
+        (Answer::Owners(OwnerList::new(alloc)), b"ok owners\n"),
+    ];
+    each_replies(&rt, alloc, &replies);
     Ok(())
 }
 

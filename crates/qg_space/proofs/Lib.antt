@@ -12,3 +12,4 @@ pub mod Fronts
 pub mod Firsts
 pub mod Counted
 pub mod Listed
+pub mod Both

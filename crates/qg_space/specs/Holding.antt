@@ -1,6 +1,6 @@
 -- What the present state and the last commit hold of an image, and what is free of it (this project's own). Addresses and lengths are
 -- in bytes.
-use Rattle.std.specs.Prelude.{ℕ, Bool, ◌&&◌, not, List, [], ◌∷◌, ◌++◌, map, Option, ◌==◌, nat_le, if◌then◌else◌}
+use Rattle.std.specs.Prelude.{ℕ, ◌+◌, ◌≤◌, Bool, IsTrue, ◌&&◌, not, List, [], ◌∷◌, ◌++◌, map, Option, ◌==◌, nat_le, if◌then◌else◌}
 use Rattle.std.specs.List.{list_any, filter, count_by, range_with_len}
 use Rattle.std.specs.Option.{option_map}
 use Rattle.qg_super.specs.declared.sizes.Sizes.{Sizes}
@@ -45,6 +45,11 @@ is_that_run address bytes extent = (extent.address == address) && (extent.bytes 
 -- the present state holds a run, whole
 abbrev pub has_run : Holding → ℕ → ℕ → Bool
 has_run holding address bytes = list_any (is_that_run address bytes) holding.runs
+
+-- from an address on runs of whole sectors ascend, each ended where the next one begins or before
+abbrev pub AscendApart : Sizes → ℕ → List Element → Type 0
+AscendApart sizes from [] = Unit {0}
+AscendApart sizes from (run ∷ later) = IsTrue (is_run sizes run.address run.bytes) × (from ≤ run.address) × AscendApart sizes (run.address + run.bytes) later
 
 -- ascending runs, with this one
 abbrev pub with_run : Element → List Element → List Element

@@ -25,6 +25,10 @@ held_of runs = extents_of (filter (λ run. run.held) runs)
 abbrev pub with_held : Run → Run
 with_held run = record run { held = true }
 
+-- the run of an extent that both hold
+abbrev pub run_of_both : Element → Run
+run_of_both extent = record { extent = extent; present = true; held = true }
+
 -- where an extent ends
 abbrev pub end_of : Element → ℕ
 end_of extent = extent.address + extent.bytes

@@ -5,12 +5,12 @@ ghost use Rattle.qg_super.specs.declared.sizes.Sizes.{Sizes};
 ghost use Rattle.qg_super.specs.Places.{is_served, data_begin, sector};
 ghost use Rattle.qg_space.specs.declared.runs.Run.{Run};
 ghost use Rattle.qg_space.specs.Holding.{is_clear, first_clear, is_that_run, with_run, without_run};
-ghost use Rattle.qg_space.specs.Lying.{LieApart, extents_of, present_of, held_of, with_held, end_of_last, IsFront, SameBefore};
+ghost use Rattle.qg_space.specs.Lying.{LieApart, extents_of, present_of, held_of, with_held, run_of_both, end_of_last, IsFront, SameBefore};
 
 use qg_num::Address;
 use qg_state::Element;
 use qg_super::{DATA_BEGIN, Sizes};
-use std::alloc::AllocError;
+use std::alloc::{AllocError, Global};
 
 /// A run of whole sectors, and what holds it.
 #[derive(Clone, Copy, Debug)]
@@ -21,6 +21,21 @@ pub(crate) struct Run {
     pub present: bool,
     /// Whether the last commit holds it.
     pub held: bool,
+}
+
+/// The runs of extents, each held by the present state and by the last commit.
+pub(crate) fn runs_of_both(alloc: Global, extents: &[Element]) -> Result<Vec<Run>, AllocError>
+    ensures { IfOk result (λ runs. runs.items ≡ map run_of_both extents.now) }
+{
+    let mut runs = Vec::with_capacity(alloc, extents.len())?;
+    for extent in extents {
+        runs.push(Run {
+            extent: *extent,
+            present: true,
+            held: true,
+        })?;
+    }
+    Ok(runs)
 }
 
 /// How many runs begin before an address.

@@ -1,11 +1,13 @@
 // What is free of an image.
 ghost use Rattle.std.specs.Prelude.{◌≡◌, ◌*◌, ◌<◌, ◌==◌, min, take, length, IfOk, IfSome, IfNone, IsOk, OnOk, OnErr, IsTrue};
 ghost use Rattle.std.specs.List.{IsDistinct, list_all};
-ghost use Rattle.qg_super.specs.Places.{is_served, sector, slot_at};
+ghost use Rattle.qg_super.specs.Places.{data_begin, is_served, sector, slot_at};
 ghost use Rattle.qg_image.specs.Table.{with_number};
-ghost use Rattle.qg_space.specs.Holding.{nothing_held, is_free_run, first_run, has_run, with_run, without_run, is_free_slot, first_slot, free_list, free_slots, has_slot, without_slot};
+ghost use Rattle.qg_space.specs.Holding.{nothing_held, AscendApart, is_free_run, first_run, has_run, with_run, without_run, is_free_slot, first_slot, free_list, free_slots, has_slot, without_slot};
 
-use crate::runs::{Run, commit_runs, first_gap, has_run, packed_runs, put_run, take_out_run};
+use crate::runs::{
+    Run, commit_runs, first_gap, has_run, packed_runs, put_run, runs_of_both, take_out_run,
+};
 use crate::slots::{
     Slot, address_of, commit_slots, count_unused, first_unused, first_unused_slots, is_slot,
     number_of, unused_slots,
@@ -85,6 +87,18 @@ impl Space {
         };
         let place = put_run(&sizes, &mut self.runs, extent)?;
         self.packed = packed_runs(&sizes, &self.runs, self.packed.min(place));
+        Ok(())
+    }
+
+    /// The present state and the last commit hold these runs, and no others.
+    pub fn hold_runs(&mut self, extents: &[Element]) -> Result<(), NoMemory>
+        requires { AscendApart self.old.sizes data_begin extents.now }
+        ensures ok { OnOk result (self.new ≡ record self.old { runs = extents.now; held_runs = extents.now }) }
+        ensures err { OnErr result (self.new ≡ self.old) }
+    {
+        let runs = runs_of_both(*self.runs.allocator(), extents)?;
+        self.packed = packed_runs(&self.sizes, &runs, 0);
+        self.runs = runs;
         Ok(())
     }
 

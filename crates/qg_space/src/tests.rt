@@ -1,11 +1,16 @@
+ghost use Rattle.std.specs.Prelude.{◌≡◌, IfOk};
+
 use crate::Space;
 use qg_num::{Address, NoMemory};
+use qg_state::Element;
 use std::alloc::Global;
 use std::test::Fail;
 
 // An image of 64 node slots of 4096 bytes and of 16 data sectors, of which nothing is held yet.
 #[tactic(auto, unfolding(qg_super::specs::Places::is_served))]
-fn fresh(alloc: Global) -> Result<Space, NoMemory> {
+fn fresh(alloc: Global) -> Result<Space, NoMemory>
+    ensures { IfOk result (λ space. space.sizes ≡ record { nodesize = 4096; slots = 64; sectors = 16 }) }
+{
     Space::new(alloc, 64, 4096, 16)
 }
 
@@ -52,6 +57,23 @@ fn four_runs(alloc: Global) -> Result<Space, NoMemory> {
         take(&mut space, sectors)?;
     }
     space.committed();
+    Ok(space)
+}
+
+// Both the present state and the last commit hold the first sector, and the third and fourth.
+#[tactic(auto, unfolding(qg_super::specs::Places::is_run))]
+fn held_by_both(alloc: Global) -> Result<Space, NoMemory> {
+    let mut space = fresh(alloc)?;
+    space.hold_runs(&[
+        Element {
+            address: Address::new(67174400),
+            bytes: 4096,
+        },
+        Element {
+            address: Address::new(67182592),
+            bytes: 8192,
+        },
+    ])?;
     Ok(space)
 }
 
@@ -186,5 +208,18 @@ fn taken_at(alloc: Global) -> Result<Option<Address>, NoMemory> {
 #[test]
 fn a_slot_is_taken_at_its_address(rt: HostRuntime) -> Result<(), Fail> {
     assert_eq!(rt; taken_at(rt.alloc())?, Some(Address::new(1056768)));
+    Ok(())
+}
+
+#[test]
+fn runs_of_both_are_free_at_the_next_commit(rt: HostRuntime) -> Result<(), Fail> {
+    let mut space = held_by_both(rt.alloc())?;
+    assert_eq!(rt; space.first_run(1), Some(sector(1)));
+    assert_eq!(rt; space.first_run(2), Some(sector(4)));
+    assert!(rt; give(&mut space, 2, 2));
+    assert_eq!(rt; space.first_run(3), Some(sector(4)));
+    space.committed();
+    assert_eq!(rt; space.first_run(3), Some(sector(1)));
+    assert!(rt; give(&mut space, 0, 1));
     Ok(())
 }

@@ -2,24 +2,20 @@
 use Rattle.std.proofs.Common.{◌≡◌, ℕ, ◌+◌, ◌<◌, ◌≤◌, List, [], ◌∷◌, ◌++◌, length, get_or, take, drop, map, Option, None, Some, true, refl, sym, ap, subst, ◌∙◌, arith, inl, inr}
 use Rattle.std.specs.Prelude.{if◌then◌else◌}
 use Rattle.std.specs.List.{Contains, count_by, sum_by}
-use Rattle.std.specs.List.Sorted.{IsStrictlyIncreasing}
 use Rattle.std.proofs.lemmas.Bool.{cases_Bool, cond-false, cond-true}
 use Rattle.std.proofs.lemmas.List.{map-append, take-append-drop, take_more}
 use Rattle.std.proofs.lemmas.List.Sums.{sum_by-append, sum_by-cons}
 use Rattle.qg_num.specs.declared.piece.Piece.{Piece}
 use Rattle.qg_image.specs.declared.file.File.{File}
-use Rattle.qg_image.specs.Table.{keys_of, value_at, with_value}
 use Rattle.qg_state.specs.declared.element.Element.{Element}
 use Rattle.qg_state.specs.Reach.{extent_of}
 use Rattle.qg_verdict.specs.Verdict.{same_extent}
 use Rattle.qg_reach.proofs.Members.{none_contained, contains_cases, contains_here, contains_later}
 use Rattle.qg_reach.proofs.Order.{same_extent_is, same_itself}
-use Rattle.qg_machine.specs.FileChange.{file_or_new, new_piece, pieces_or_none, with_pieces, with_range}
+use Rattle.qg_machine.specs.FileChange.{file_or_new, pieces_or_none, with_range}
 use Rattle.qg_files.specs.Split.{IsSplit}
-use Rattle.qg_subvol.proofs.Ascending.{Ascends-increasing}
 use Rattle.qg_store.specs.Keeping.{extents_named}
-use Rattle.qg_store.specs.Writing.{files_written}
-use Rattle.qg_store.proofs.Exchanged.{amount_told, exchanged}
+use Rattle.qg_store.proofs.Exchanged.{amount_told}
 
 -- one where two extents are the same
 abbrev pub one : Element → Element → ℕ
@@ -34,7 +30,7 @@ one_most extent other = elim (cases_Bool (same_extent extent other)) [
 pub listed_first : (extent other : Element) (extents : List Element) → count_by (same_extent extent) (other ∷ extents) ≡ one extent other + count_by (same_extent extent) extents
 listed_first extent other extents = sum_by-cons (one extent) other extents
 
-listed_both : (extent : Element) (front back : List Element) → count_by (same_extent extent) (front ++ back) ≡ count_by (same_extent extent) front + count_by (same_extent extent) back
+pub listed_both : (extent : Element) (front back : List Element) → count_by (same_extent extent) (front ++ back) ≡ count_by (same_extent extent) front + count_by (same_extent extent) back
 listed_both extent front back = sum_by-append (one extent) front back
 
 -- an extent that is there is listed once at least, and the other way round
@@ -63,7 +59,7 @@ abbrev pub named_by : Element → List Piece → ℕ
 named_by extent pieces = count_by (same_extent extent) (map extent_of pieces)
 
 -- those of joined lists
-named_both : (extent : Element) (front back : List Piece) → named_by extent (front ++ back) ≡ named_by extent front + named_by extent back
+pub named_both : (extent : Element) (front back : List Piece) → named_by extent (front ++ back) ≡ named_by extent front + named_by extent back
 named_both extent front back = ap (count_by (same_extent extent)) (map-append extent_of front back) ∙ listed_both extent (map extent_of front) (map extent_of back)
 
 -- one piece more
@@ -84,7 +80,7 @@ named_next pieces i piece short is =
     omega (arith, named_more extent pieces i piece short is, here, all, named_both extent (take (i + 1) pieces) (drop (i + 1) pieces))
 
 -- with given pieces in a range
-named_split : (extent : Element) (from to : ℕ) (given pieces gone rests : List Piece) → IsSplit from to pieces gone rests
+pub named_split : (extent : Element) (from to : ℕ) (given pieces gone rests : List Piece) → IsSplit from to pieces gone rests
     → named_by extent (with_range from to given pieces) + named_by extent gone ≡ named_by extent pieces + named_by extent given + named_by extent rests
 named_split extent from to given pieces gone rests split =
     let count : List Piece → ℕ = named_by extent in
@@ -104,44 +100,20 @@ named_split extent from to given pieces gone rests split =
 
 -- ---- by files
 
-abbrev named_in : Element → ℕ × File → ℕ
+abbrev pub named_in : Element → ℕ × File → ℕ
 named_in extent file = named_by extent file.1.pieces
 
-listed_named : (extent : Element) (files : List (ℕ × File)) → count_by (same_extent extent) (extents_named files) ≡ sum_by (named_in extent) files
+pub listed_named : (extent : Element) (files : List (ℕ × File)) → count_by (same_extent extent) (extents_named files) ≡ sum_by (named_in extent) files
 listed_named extent [] = refl
 listed_named extent (file ∷ files) =
     listed_both extent (map extent_of file.1.pieces) (extents_named files)
     ∙ ap (λ n. named_in extent file + n) (listed_named extent files)
     ∙ sym (sum_by-cons (named_in extent) file files)
 
-told_pieces : (extent : Element) (ino : ℕ) (found : Option File) → amount_told (named_in extent) ino found ≡ named_by extent (pieces_or_none found)
+pub told_pieces : (extent : Element) (ino : ℕ) (found : Option File) → amount_told (named_in extent) ino found ≡ named_by extent (pieces_or_none found)
 told_pieces extent ino None = refl
 told_pieces extent ino (Some file) = refl
 
 pub new_pieces : (generation : ℕ) (found : Option File) → (file_or_new generation found).pieces ≡ pieces_or_none found
 new_pieces generation None = refl
 new_pieces generation (Some file) = refl
-
--- after a write its extent and what the rests name come in the place of what the pieces that go name
-pub listed_written : (generation ino off len run : ℕ) (files : List (ℕ × File)) (gone rests : List Piece) (extent : Element) → IsStrictlyIncreasing (keys_of files)
-    → IsSplit off (off + len) (pieces_or_none (value_at ino files)) gone rests
-    → count_by (same_extent extent) (extents_named (files_written generation ino off len run files)) + count_by (same_extent extent) (map extent_of gone)
-    ≡ count_by (same_extent extent) (extents_named files) + count_by (same_extent extent) (record { address = run; bytes = len } ∷ map extent_of rests)
-listed_written generation ino off len run files gone rests extent up split =
-    let found = value_at ino files in
-    let to = off + len in
-    let given = new_piece generation off len run ∷ [] in
-    let file : File = with_pieces generation off to given (file_or_new generation found) in
-    let pieces : named_in extent (ino, file) ≡ named_by extent (with_range off to given (pieces_or_none found)) =
-    ap (λ old. named_by extent (with_range off to given old)) (new_pieces generation found)
-    in
-    omega (
-      arith,
-      listed_named extent (with_value ino file files),
-      listed_named extent files,
-      exchanged (named_in extent) 0 ino file files (Ascends-increasing files up),
-      told_pieces extent ino found,
-      pieces,
-      named_split extent off to given (pieces_or_none found) gone rests split,
-      named_both extent given rests,
-    )

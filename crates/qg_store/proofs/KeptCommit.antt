@@ -25,7 +25,8 @@ use Rattle.qg_space.specs.Agreement.{IsHoldingOf}
 use Rattle.qg_space.specs.Holding.{Holding, is_free_slot}
 use Rattle.qg_space.proofs.Agreements.{is_free_slot-state}
 use Rattle.qg_laid.specs.declared.laying.Laid.{Laid}
-use Rattle.qg_laid.specs.Anew.{extents_held, one_group}
+use Rattle.qg_check.specs.IsImage.{extents_in}
+use Rattle.qg_laid.specs.Anew.{one_group}
 use Rattle.qg_laid.specs.Trees.{AreFor, AreTreesLaid, IsCommitOf, IsLaidState, nodes_laid, stamp_after}
 use Rattle.qg_commit.specs.Calls.{with_commit}
 use Rattle.qg_store.specs.declared.kept.Kept.{Kept}
@@ -47,7 +48,7 @@ pub record MayTake (kept : Kept) (slots : List ℕ) : Type 0 where
   pub free : list_all (is_free_slot kept.space) slots ≡ true
 
 pub laid_for : (kept : Kept) (state : State) (slots : List ℕ) → IsKept kept → IsKeptOf kept state → MayTake kept slots
-    → AreFor state (subvolume_of kept) kept.group kept.superblock kept.root kept.files (extents_held kept.files) kept.group.counters kept.group.stamp slots
+    → AreFor state (subvolume_of kept) kept.group kept.superblock kept.root kept.files (extents_in kept.files) kept.group.counters kept.group.stamp slots
 laid_for kept state slots fits keeps may = record {
   one = record { alone = keeps.subvolumes; counted = keeps.quota; no_max_rfer = fits.no_max_rfer; no_max_excl = fits.no_max_excl };
   super = fits.superblock;
@@ -84,7 +85,7 @@ extents_of_one state subvolume alone =
     ap (λ (subvolumes : List (ℕ × Subvolume)). present_extents (record state { subvolumes = subvolumes })) alone ∙ append-nil (extents_named subvolume.files)
 
 module _ (old new : Kept) (laid : Laid) (slots : List ℕ)
-    (trees : AreTreesLaid old.superblock old.root old.files (extents_held old.files) old.group.counters old.group.stamp slots laid) (commits : KeepsCommit old laid new) where
+    (trees : AreTreesLaid old.superblock old.root old.files (extents_in old.files) old.group.counters old.group.stamp slots laid) (commits : KeepsCommit old laid new) where
   -- the superblock of what is kept
   super_now : new.superblock ≡ record old.superblock { generation = old.superblock.generation + 1; root = laid.roots.root }
   super_now = commits.superblock ∙ trees.leads

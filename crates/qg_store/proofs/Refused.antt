@@ -11,21 +11,41 @@ use Rattle.qg_image.specs.ItemMeaning.{first_some}
 use Rattle.qg_state.specs.State.{State}
 use Rattle.qg_state.specs.Space.{first_run, free_slots}
 use Rattle.qg_verdict.specs.Verdict.{longest_extent}
-use Rattle.qg_machine.specs.FileChange.{file_change, write_change}
-use Rattle.qg_machine.specs.Refusals.{change_need, no_align, no_far, no_nodes, no_nodes_for, no_sub, over_limit, refusal, refuse, too_many_pending}
+use Rattle.qg_machine.specs.FileChange.{FileChange, file_change, write_change}
+use Rattle.qg_machine.specs.Refusals.{change_need, no_align, no_far, no_nodes_for, no_sub, over_limit, refusal, refuse, too_many_pending}
 use Rattle.qg_store.specs.Writing.{range_refusal}
 
 -- ---- the first of several
 
-first_early : {A : Type 0} (x : A) (front back : List (Option A)) → first_some front ≡ Some x → first_some (front ++ back) ≡ Some x
+pub first_early : {A : Type 0} (x : A) (front back : List (Option A)) → first_some front ≡ Some x → first_some (front ++ back) ≡ Some x
 first_early x [] back is = absurd (none-some x is)
 first_early x (None ∷ front) back is = first_early x front back is
 first_early x (Some y ∷ front) back is = is
 
-first_late : {A : Type 0} (front back : List (Option A)) → first_some front ≡ None → first_some (front ++ back) ≡ first_some back
+pub first_late : {A : Type 0} (front back : List (Option A)) → first_some front ≡ None → first_some (front ++ back) ≡ first_some back
 first_late [] back none = refl
 first_late (None ∷ front) back none = first_late front back none
 first_late (Some y ∷ front) back none = absurd (none-some y (sym none))
+
+-- ---- slots
+
+-- too few are free for the change that a command makes
+pub lacking : (state : State) (found : Option FileChange) (change : FileChange) (free need : ℕ) → found ≡ Some change → free_slots state ≡ free → change_need state change ≡ need
+    → free < need → first_some (no_nodes_for state found ∷ []) ≡ Some (why.NoNodes free need)
+lacking state found change free need is free_is need_is few =
+    ap (λ change. first_some (no_nodes_for state change ∷ [])) is
+    ∙ ap (λ slots. first_some (refuse (nat_lt slots (change_need state change)) (why.NoNodes slots (change_need state change)) ∷ [])) free_is
+    ∙ ap (λ slots. first_some (refuse (nat_lt free slots) (why.NoNodes free slots) ∷ [])) need_is
+    ∙ ap (λ test. first_some (refuse test (why.NoNodes free need) ∷ [])) (lt-ltb free need few)
+
+-- enough are
+pub sufficing : (state : State) (found : Option FileChange) (change : FileChange) (free need : ℕ) → found ≡ Some change → free_slots state ≡ free → change_need state change ≡ need
+    → need ≤ free → first_some (no_nodes_for state found ∷ []) ≡ None
+sufficing state found change free need is free_is need_is enough =
+    ap (λ change. first_some (no_nodes_for state change ∷ [])) is
+    ∙ ap (λ slots. first_some (refuse (nat_lt slots (change_need state change)) (why.NoNodes slots (change_need state change)) ∷ [])) free_is
+    ∙ ap (λ slots. first_some (refuse (nat_lt free slots) (why.NoNodes free slots) ∷ [])) need_is
+    ∙ ap (λ test. first_some (refuse test (why.NoNodes free need) ∷ [])) (le-ltb free need enough)
 
 -- ---- a write
 
@@ -68,11 +88,10 @@ unfolding file_change
 file_change-found state sub ino off len run found = ap (option_map (write_change state sub ino off len)) found
 
 late_found : (state : State) (sub ino off len run : ℕ) → MayGoOn state sub off len → first_run state len ≡ Some run
-    → refusal state (Write sub ino off len) ≡ first_some (no_nodes state (change_need state (write_change state sub ino off len run)) ∷ [])
+    → refusal state (Write sub ino off len) ≡ first_some (no_nodes_for state (file_change state (Write sub ino off len)) ∷ [])
 late_found state sub ino off len run may found =
     late state sub ino off len may
     ∙ ap (λ run. first_some (refuse (is_none run) why.NoRun ∷ no_nodes_for state (file_change state (Write sub ino off len)) ∷ [])) found
-    ∙ ap (λ change. first_some (no_nodes_for state change ∷ [])) (file_change-found state sub ino off len run found)
 
 -- too few slots are free
 pub refused_nodes : (state : State) (sub ino off len run free need : ℕ) → MayGoOn state sub off len → first_run state len ≡ Some run
@@ -80,9 +99,7 @@ pub refused_nodes : (state : State) (sub ino off len run free need : ℕ) → Ma
     → refusal state (Write sub ino off len) ≡ Some (why.NoNodes free need)
 refused_nodes state sub ino off len run free need may found free_is need_is few =
     late_found state sub ino off len run may found
-    ∙ ap (λ slots. first_some (refuse (nat_lt slots (change_need state (write_change state sub ino off len run))) (why.NoNodes slots (change_need state (write_change state sub ino off len run))) ∷ [])) free_is
-    ∙ ap (λ slots. first_some (refuse (nat_lt free slots) (why.NoNodes free slots) ∷ [])) need_is
-    ∙ ap (λ test. first_some (refuse test (why.NoNodes free need) ∷ [])) (lt-ltb free need few)
+    ∙ lacking state (file_change state (Write sub ino off len)) (write_change state sub ino off len run) free need (file_change-found state sub ino off len run found) free_is need_is few
 
 -- enough are
 pub refused_nothing : (state : State) (sub ino off len run free need : ℕ) → MayGoOn state sub off len → first_run state len ≡ Some run
@@ -90,6 +107,4 @@ pub refused_nothing : (state : State) (sub ino off len run free need : ℕ) → 
     → refusal state (Write sub ino off len) ≡ None
 refused_nothing state sub ino off len run free need may found free_is need_is enough =
     late_found state sub ino off len run may found
-    ∙ ap (λ slots. first_some (refuse (nat_lt slots (change_need state (write_change state sub ino off len run))) (why.NoNodes slots (change_need state (write_change state sub ino off len run))) ∷ [])) free_is
-    ∙ ap (λ slots. first_some (refuse (nat_lt free slots) (why.NoNodes free slots) ∷ [])) need_is
-    ∙ ap (λ test. first_some (refuse test (why.NoNodes free need) ∷ [])) (le-ltb free need enough)
+    ∙ sufficing state (file_change state (Write sub ino off len)) (write_change state sub ino off len run) free need (file_change-found state sub ino off len run found) free_is need_is enough

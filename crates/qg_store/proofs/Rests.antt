@@ -8,7 +8,7 @@ use Rattle.qg_num.specs.declared.piece.Piece.{Piece}
 use Rattle.qg_image.specs.FilesOf.{piece_end}
 use Rattle.qg_state.specs.declared.element.Element.{Element}
 use Rattle.qg_state.specs.Reach.{extent_of}
-use Rattle.qg_machine.specs.FileChange.{part_before, part_after, before, after, with_range}
+use Rattle.qg_machine.specs.FileChange.{part_before, part_after, before, after, with_range, within}
 use Rattle.qg_files.specs.Split.{IsSplit}
 use Rattle.qg_reach.proofs.Members.{contains_map, one_mapped}
 
@@ -26,6 +26,9 @@ all_before : (P : Piece → Type 0) (to : ℕ) (pieces : List Piece) → Lasts P
 unfolding before
 all_before P to [] lasts all = tt
 all_before P to (piece ∷ pieces) lasts all = before_one P to piece (before to pieces) lasts all.0 (all_before P to pieces lasts all.1)
+
+pub all-before : (P : Piece → Type 0) (to : ℕ) (pieces : List Piece) → Lasts P → All P pieces → All P (before to pieces)
+all-before P to pieces lasts all = All-from_recursion P (before to pieces) (all_before P to pieces lasts (recursion_from_All P pieces all))
 
 after_one : (P : Piece → Type 0) (from : ℕ) (piece : Piece) (rest : List Piece) → Lasts P → P piece → AllByRecursion P rest → AllByRecursion P (cons_option (part_after from piece) rest)
 after_one P from piece rest lasts here later = cases (nat_lt from (piece_end piece)) where
@@ -75,3 +78,17 @@ rest_named from to pieces gone rests extent split has =
     let left = all-with_range (IsNamedBy pieces) from to [] pieces (λ piece position len offset named. named) (All-nil (IsNamedBy pieces)) all in
     subst (λ (e : Element). Contains (map extent_of pieces) e) found.2
     (All-contains (IsNamedBy pieces) (with_range from to [] pieces) found.0 left (rest_within from to pieces gone rests found.0 split found.1))
+
+-- ---- in a range
+
+-- what is said of pieces so is said of their parts there
+pub all-within : (P : Piece → Type 0) (from to : ℕ) (pieces : List Piece) → Lasts P → All P pieces → All P (within from to pieces)
+all-within P from to pieces lasts all = All-from_recursion P (within from to pieces) (all_before P to (after from pieces) lasts (all_after P from pieces lasts (recursion_from_All P pieces all)))
+
+-- a part names an extent that the pieces name
+pub within_named : (from to : ℕ) (pieces : List Piece) (extent : Element) → Contains (map extent_of (within from to pieces)) extent → Contains (map extent_of pieces) extent
+within_named from to pieces extent has =
+    let found = one_mapped extent_of (within from to pieces) extent has in
+    let all : All (IsNamedBy pieces) pieces = All-weaker (Contains pieces) (IsNamedBy pieces) (λ piece there. contains_map extent_of pieces piece there) pieces (All-contains_itself pieces) in
+    let parts = all-within (IsNamedBy pieces) from to pieces (λ piece position len offset named. named) all in
+    subst (λ (e : Element). Contains (map extent_of pieces) e) found.2 (All-contains (IsNamedBy pieces) (within from to pieces) found.0 parts found.1)

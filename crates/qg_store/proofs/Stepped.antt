@@ -1,9 +1,10 @@
--- What the machine does at a write, told by what is kept. Positions and lengths are in bytes.
-use Rattle.std.proofs.Common.{◌≡◌, ℕ, ◌+◌, [], ◌∷◌, None, Some, refl, sym, ap, subst, ◌∙◌, arith}
+-- What the machine does where files are edited, told by what is kept. Positions and lengths are in bytes.
+use Rattle.std.proofs.Common.{◌≡◌, ℕ, List, [], ◌∷◌, None, Some, refl, sym, ap, subst, ◌∙◌, arith}
 use Rattle.std.specs.Prelude.{◌↔◌, MatchOption}
 use Rattle.std.specs.List.{Contains}
 use Rattle.std.specs.Option.{option_map}
 use Rattle.std.proofs.lemmas.List.{append-nil}
+use Rattle.qg_num.specs.declared.answer.Answer.{Answer}
 use Rattle.qg_num.specs.declared.answer.Answer.TheVariants.{Extent, Refused}
 use Rattle.qg_num.specs.declared.command.Command.{Command}
 use Rattle.qg_num.specs.declared.command.Command.TheVariants.{Write}
@@ -12,10 +13,11 @@ use Rattle.qg_items.specs.declared.tree.TheConstants.{TOP_LEVEL}
 use Rattle.qg_items.specs.declared.root.RootItem.{RootItem}
 use Rattle.qg_super.specs.declared.superblock.Super.{Super}
 use Rattle.qg_super.specs.SuperText.{sizes_of}
+use Rattle.qg_image.specs.declared.file.File.{File}
 use Rattle.qg_image.specs.Table.{keys_of}
 use Rattle.qg_state.specs.State.{State, Accepted}
 use Rattle.qg_state.specs.Space.{first_run, present_extents}
-use Rattle.qg_machine.specs.FileChange.{write_change}
+use Rattle.qg_machine.specs.FileChange.{FileChange, file_change, write_change}
 use Rattle.qg_machine.specs.Refusals.{refusal}
 use Rattle.qg_machine.specs.Step.{ChangesFiles, Step, accepted, file_answer}
 use Rattle.qg_machine.specs.Step as machine
@@ -23,8 +25,9 @@ use Rattle.qg_space.specs.Agreement.{IsHoldingOf}
 use Rattle.qg_laid.specs.Anew.{one_group}
 use Rattle.qg_store.specs.declared.kept.Kept.{Kept}
 use Rattle.qg_store.specs.Answering.{Does}
+use Rattle.qg_store.specs.Editing.{IsEdited}
 use Rattle.qg_store.specs.Keeping.{IsKept, IsKeptOf, extents_named}
-use Rattle.qg_store.specs.Writing.{IsWritten, files_written}
+use Rattle.qg_store.specs.Writing.{IsWritten}
 use Rattle.qg_store.proofs.Alone.{is_told, subvolume_of, told_by}
 use Rattle.qg_store.proofs.Refused.{file_change-found}
 
@@ -38,74 +41,93 @@ does_nothing kept state command why keeps refused = record {
   keeps = keeps;
 }
 
--- ---- what is written
+-- ---- what is edited
+
+-- the change of the files of the top-level subvolume
+abbrev pub change_to : List (ℕ × File) → ℕ → ℕ → FileChange
+change_to files amount pieces = record { sub = TOP_LEVEL; files = files; amount = amount; pieces = pieces }
 
 -- the change, as it is pending
-pending_now : (kept : Kept) (state : State) (ino off len run : ℕ) → Accepted
-pending_now kept state ino off len run = accepted (told_by kept state) (Write TOP_LEVEL ino off len) (write_change (told_by kept state) TOP_LEVEL ino off len run) 0
+pending_now : (kept : Kept) (state : State) (command : Command) (change : FileChange) → Accepted
+pending_now kept state command change = accepted (told_by kept state) command change 0
 
 -- the state with other files and one command more
-after_write : (kept : Kept) (state : State) (ino off len run : ℕ) → State
-after_write kept state ino off len run = record (told_by kept state) {
-  subvolumes = (TOP_LEVEL, record (subvolume_of kept) { files = files_written (kept.superblock.generation + 1) ino off len run kept.files }) ∷ [];
-  pending = pending_now kept state ino off len run ∷ state.pending;
+pub after_edit : (kept : Kept) (state : State) (command : Command) (change : FileChange) → State
+after_edit kept state command change = record (told_by kept state) {
+  subvolumes = (TOP_LEVEL, record (subvolume_of kept) { files = change.files }) ∷ [];
+  pending = pending_now kept state command change ∷ state.pending;
 }
 
-steps : (kept : Kept) (state : State) (ino off len run : ℕ) → refusal (told_by kept state) (Write TOP_LEVEL ino off len) ≡ None
-    → first_run (told_by kept state) len ≡ Some run → Step (told_by kept state) (Write TOP_LEVEL ino off len) (Extent run) [] (after_write kept state ino off len run)
-unfolding after_write pending_now
-steps kept state ino off len run passes found =
+-- what the machine's step asks of a command that changes files, and what it says of each such command
+abbrev pub Edits : (kept : Kept) (state : State) (command : Command) (reply : Answer) (change : FileChange) → Type 0
+Edits kept state command reply change =
+    MatchOption (file_change (told_by kept state) command) ⊥ (machine.DoesChange (told_by kept state) command reply [] (after_edit kept state command change))
+    → machine.Does (told_by kept state) command reply [] (after_edit kept state command change)
+
+steps : (kept : Kept) (state : State) (command : Command) (reply : Answer) (files : List (ℕ × File)) (amount pieces : ℕ) → refusal (told_by kept state) command ≡ None
+    → file_change (told_by kept state) command ≡ Some (change_to files amount pieces) → file_answer (told_by kept state) command ≡ Some reply
+    → Edits kept state command reply (change_to files amount pieces) → Step (told_by kept state) command reply [] (after_edit kept state command (change_to files amount pieces))
+unfolding after_edit pending_now
+steps kept state command reply files amount pieces passes found answers does =
     let old = told_by kept state in
-    let command = Write TOP_LEVEL ino off len in
-    let change = write_change old TOP_LEVEL ino off len run in
-    let new = after_write kept state ino off len run in
+    let change = change_to files amount pieces in
+    let new = after_edit kept state command change in
     let changes : ChangesFiles old command change new = record { root = kept.root.bytenr; layout = state.layout; touched = 0; changed = refl; laid_out = (refl, refl) } in
-    let answers : file_answer old command ≡ Some (Extent run) = ap (option_map (λ extent. Extent extent)) found in
-    let does : machine.Does old command (Extent run) [] new =
-    subst (λ change'. MatchOption change' ⊥ (machine.DoesChange old command (Extent run) [] new)) (sym (file_change-found old TOP_LEVEL ino off len run found)) (answers, refl, changes)
-    in
-    subst (λ refused. MatchOption refused (machine.Does old command (Extent run) [] new) (λ why. (Extent run ≡ Refused why) × machine.Stays old [] new)) (sym passes) does
+    let done = does (subst (λ change'. MatchOption change' ⊥ (machine.DoesChange old command reply [] new)) (sym found) (answers, refl, changes)) in
+    subst (λ refused. MatchOption refused (machine.Does old command reply [] new) (λ why. (reply ≡ Refused why) × machine.Stays old [] new)) (sym passes) done
 
-extents_of_one : (kept : Kept) (state : State) (ino off len run : ℕ)
-    → present_extents (after_write kept state ino off len run) ≡ extents_named (files_written (kept.superblock.generation + 1) ino off len run kept.files)
-unfolding after_write present_extents
-extents_of_one kept state ino off len run = append-nil (extents_named (files_written (kept.superblock.generation + 1) ino off len run kept.files))
+extents_of_one : (kept : Kept) (state : State) (command : Command) (change : FileChange) → present_extents (after_edit kept state command change) ≡ extents_named change.files
+unfolding after_edit present_extents
+extents_of_one kept state command change = append-nil (extents_named change.files)
 
-holds : (old new : Kept) (state : State) (ino off len run : ℕ) → IsKeptOf old state → IsWritten old ino off len run new → IsKept new → IsHoldingOf new.space (after_write old state ino off len run)
-unfolding after_write
-holds old new state ino off len run keeps written fits = record {
-  sizes = fits.sizes ∙ ap sizes_of written.superblock;
-  runs = λ extent. subst (λ named. Contains new.space.runs extent ↔ Contains named extent) (ap extents_named written.files ∙ sym (extents_of_one old state ino off len run)) (fits.runs extent);
-  held_runs = λ extent. subst (λ runs. Contains runs extent ↔ Contains state.held.extents extent) (sym written.held_runs) (keeps.holding.held_runs extent);
-  slots = λ slot. subst (λ slots. Contains slots slot ↔ Contains (keys_of state.layout) slot) (sym written.slots) (keeps.holding.slots slot);
-  held_slots = λ slot. subst (λ slots. Contains slots slot ↔ Contains state.held.nodes slot) (sym written.held_slots) (keeps.holding.held_slots slot);
+holds : (old new : Kept) (state : State) (command : Command) (change : FileChange) → IsKeptOf old state → IsEdited old change.files new → IsKept new
+    → IsHoldingOf new.space (after_edit old state command change)
+unfolding after_edit
+holds old new state command change keeps edited fits = record {
+  sizes = fits.sizes ∙ ap sizes_of edited.superblock;
+  runs = λ extent. subst (λ named. Contains new.space.runs extent ↔ Contains named extent) (ap extents_named edited.files ∙ sym (extents_of_one old state command change)) (fits.runs extent);
+  held_runs = λ extent. subst (λ runs. Contains runs extent ↔ Contains state.held.extents extent) (sym edited.held_runs) (keeps.holding.held_runs extent);
+  slots = λ slot. subst (λ slots. Contains slots slot ↔ Contains (keys_of state.layout) slot) (sym edited.slots) (keeps.holding.slots slot);
+  held_slots = λ slot. subst (λ slots. Contains slots slot ↔ Contains state.held.nodes slot) (sym edited.held_slots) (keeps.holding.held_slots slot);
 }
 
-keeps_written : (old new : Kept) (state : State) (ino off len run : ℕ) → IsKeptOf old state → IsWritten old ino off len run new → IsKept new
-    → IsKeptOf new (after_write old state ino off len run)
-unfolding after_write
-keeps_written old new state ino off len run keeps written fits = record {
-  sizes = ap sizes_of written.superblock;
-  generation = ap (λ (super : Super). super.generation) written.superblock;
+keeps_edited : (old new : Kept) (state : State) (command : Command) (change : FileChange) → IsKeptOf old state → IsEdited old change.files new → IsKept new
+    → IsKeptOf new (after_edit old state command change)
+unfolding after_edit
+keeps_edited old new state command change keeps edited fits = record {
+  sizes = ap sizes_of edited.superblock;
+  generation = ap (λ (super : Super). super.generation) edited.superblock;
   subvolumes =
-      ap (λ files. (TOP_LEVEL, record (subvolume_of old) { files = files }) ∷ []) (sym written.files)
-      ∙ ap (λ (root : RootItem). (TOP_LEVEL, record { files = new.files; root = root.bytenr; last_snapshot = root.last_snapshot }) ∷ []) (sym written.root);
-  quota = ap (λ group. Some (one_group group)) (sym written.group);
-  pending = omega (arith, keeps.pending, written.pending);
-  holding = holds old new state ino off len run keeps written fits;
+      ap (λ files. (TOP_LEVEL, record (subvolume_of old) { files = files }) ∷ []) (sym edited.files)
+      ∙ ap (λ (root : RootItem). (TOP_LEVEL, record { files = new.files; root = root.bytenr; last_snapshot = root.last_snapshot }) ∷ []) (sym edited.root);
+  quota = ap (λ group. Some (one_group group)) (sym edited.group);
+  pending = omega (arith, keeps.pending, edited.pending);
+  holding = holds old new state command change keeps edited fits;
 }
+
+-- a command that changes files and is not refused
+pub does_edit : (old new : Kept) (state : State) (command : Command) (reply : Answer) (files : List (ℕ × File)) (amount pieces : ℕ) → IsKeptOf old state
+    → refusal (told_by old state) command ≡ None → file_change (told_by old state) command ≡ Some (change_to files amount pieces) → file_answer (told_by old state) command ≡ Some reply
+    → Edits old state command reply (change_to files amount pieces) → IsEdited old files new → IsKept new → Does state command reply new
+does_edit old new state command reply files amount pieces keeps passes found answers does edited fits =
+    let change = change_to files amount pieces in
+    record {
+      new = after_edit old state command change;
+      step = subst (λ state'. Step state' command reply [] (after_edit old state command change)) (is_told old state keeps)
+          (steps old state command reply files amount pieces passes found answers does);
+      keeps = keeps_edited old new state command change keeps edited fits;
+    }
 
 -- a write that is not refused
 pub does_write : (old new : Kept) (state : State) (sub ino off len run : ℕ) → IsKeptOf old state → sub ≡ TOP_LEVEL → refusal state (Write sub ino off len) ≡ None → first_run state len ≡ Some run
     → IsWritten old ino off len run new → IsKept new → Does state (Write sub ino off len) (Extent run) new
 does_write old new state sub ino off len run keeps top passes found written fits =
     let is = is_told old state keeps in
-    let passes' : refusal (told_by old state) (Write TOP_LEVEL ino off len) ≡ None = ap (λ state. refusal state (Write TOP_LEVEL ino off len)) is ∙ ap (λ sub. refusal state (Write sub ino off len)) (sym top) ∙ passes in
-    let found' : first_run (told_by old state) len ≡ Some run = ap (λ state. first_run state len) is ∙ found in
-    let step = steps old state ino off len run passes' found' in
-    record {
-      new = after_write old state ino off len run;
-      step = subst (λ sub. Step state (Write sub ino off len) (Extent run) [] (after_write old state ino off len run)) (sym top)
-          (subst (λ state'. Step state' (Write TOP_LEVEL ino off len) (Extent run) [] (after_write old state ino off len run)) is step);
-      keeps = keeps_written old new state ino off len run keeps written fits;
-    }
+    let told = told_by old state in
+    let change = write_change told TOP_LEVEL ino off len run in
+    let passes' : refusal told (Write TOP_LEVEL ino off len) ≡ None = ap (λ state. refusal state (Write TOP_LEVEL ino off len)) is ∙ ap (λ sub. refusal state (Write sub ino off len)) (sym top) ∙ passes in
+    let found' : first_run told len ≡ Some run = ap (λ state. first_run state len) is ∙ found in
+    let answers : file_answer told (Write TOP_LEVEL ino off len) ≡ Some (Extent run) = ap (option_map (λ extent. Extent extent)) found' in
+    subst (λ sub. Does state (Write sub ino off len) (Extent run) new) (sym top)
+    (does_edit old new state (Write TOP_LEVEL ino off len) (Extent run) change.files change.amount change.pieces keeps passes' (file_change-found told TOP_LEVEL ino off len run found') answers
+    (λ done. done) written fits)

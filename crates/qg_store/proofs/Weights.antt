@@ -1,29 +1,26 @@
--- What the items of files take of leaves once a range of one of them is written. All in bytes.
-use Rattle.std.proofs.Common.{◌≡◌, ℕ, ◌+◌, ◌*◌, ◌^◌, ◌<◌, ◌≤◌, List, [], ◌∷◌, length, length-append, None, Some, refl, sym, ap, ◌∙◌, arith, inl, inr}
+-- What the items of files take of leaves, and what a range takes out of one of them. All in bytes.
+use Rattle.std.proofs.Common.{◌≡◌, ℕ, ◌+◌, ◌*◌, ◌^◌, ◌<◌, ◌≤◌, List, [], ◌∷◌, length, length-append, Some, refl, sym, ap, ◌∙◌, arith, inl, inr}
 use Rattle.std.specs.Prelude.{◌==◌}
-use Rattle.std.specs.List.Sorted.{IsStrictlyIncreasing}
 use Rattle.std.proofs.lemmas.Bool.{cases_eq, cond-true, cond-false, eq-eqb, ne_eqb}
 use Rattle.std.proofs.lemmas.List.Elements.{All-nil, All-weaker}
 use Rattle.std.proofs.lemmas.List.Sums.{sum_by-cons}
 use Rattle.qg_num.specs.declared.piece.Piece.{Piece}
 use Rattle.qg_image.specs.declared.file.File.{File}
 use Rattle.qg_image.specs.FilesOf.{piece_end}
-use Rattle.qg_image.specs.Table.{keys_of, value_at, with_value}
+use Rattle.qg_image.specs.Table.{value_at}
 use Rattle.qg_state.specs.Need.{file_bytes}
-use Rattle.qg_machine.specs.FileChange.{after, before, file_or_new, new_piece, with_pieces, with_range}
+use Rattle.qg_machine.specs.FileChange.{after, before}
 use Rattle.qg_rules.specs.Writable.{AreWritableFiles, IsPlaced, IsWritableFile}
 use Rattle.qg_files.specs.Apart.{AreApart}
 use Rattle.qg_files.specs.Split.{IsSplit}
 use Rattle.qg_files.proofs.Kept.{AreApart-is_file}
-use Rattle.qg_subvol.proofs.Ascending.{Ascends-increasing}
 use Rattle.qg_store.specs.Keeping.{files_weight}
-use Rattle.qg_store.specs.Writing.{files_written}
-use Rattle.qg_store.proofs.Exchanged.{amount_told, exchanged, file_found}
+use Rattle.qg_store.proofs.Exchanged.{file_found}
 
 -- ---- one file is another
 
 -- what the items of a file take
-abbrev weight_in : ℕ × File → ℕ
+abbrev pub weight_in : ℕ × File → ℕ
 weight_in entry = file_bytes entry.1
 
 weight_of_first : (entry : ℕ × File) (files : List (ℕ × File)) → files_weight (entry ∷ files) ≡ file_bytes entry.1 + files_weight files
@@ -36,7 +33,7 @@ pieces_apart n file files is writable =
     AreApart-is_file file (All-weaker IsPlaced (λ piece. piece.extent_bytes < 2 ^ 64) (λ piece placed. placed.bytes) file.pieces here.placed) here.sound
 
 -- a file's items take no more than those of all files
-file_light : (n : ℕ) (file : File) (files : List (ℕ × File)) → value_at n files ≡ Some file → file_bytes file ≤ files_weight files
+pub file_light : (n : ℕ) (file : File) (files : List (ℕ × File)) → value_at n files ≡ Some file → file_bytes file ≤ files_weight files
 file_light n file [] is = cc
 file_light n file (entry ∷ files) is = elim (cases_eq entry.0 n) [
   | inl same ↦
@@ -69,41 +66,6 @@ split_none from to = record {
 gone_few : (from to : ℕ) (pieces gone rests : List Piece) → IsSplit from to pieces gone rests → length gone ≤ length pieces
 gone_few from to pieces gone rests split =
     omega (arith, ap length split.old, length-append {A = Piece})
-
--- how many there are with one in the range
-pieces_counted : (from to : ℕ) (piece : Piece) (pieces gone rests : List Piece) → IsSplit from to pieces gone rests
-    → length (with_range from to (piece ∷ []) pieces) + length gone ≡ length pieces + length rests + 1
-pieces_counted from to piece pieces gone rests split =
-    omega (arith, ap length split.old, ap length split.rest, ap length (split.new (piece ∷ [])), length-append {A = Piece})
-
--- ---- a range is written
-
--- in a file that is made
-pub weight_made : (generation ino off len run : ℕ) (files : List (ℕ × File)) → IsStrictlyIncreasing (keys_of files) → value_at ino files ≡ None
-    → files_weight files + 185 + 78 ≡ files_weight (files_written generation ino off len run files)
-weight_made generation ino off len run files up none =
-    let to = off + len in
-    let piece = new_piece generation off len run in
-    let file : File = with_pieces generation off to (piece ∷ []) (file_or_new generation None) in
-    let put : files_written generation ino off len run files ≡ with_value ino file files =
-    ap (λ found. with_value ino (with_pieces generation off to (piece ∷ []) (file_or_new generation found)) files) none
-    in
-    let few = pieces_counted off to piece [] [] [] (split_none off to) in
-    omega (arith, ap files_weight put, exchanged weight_in 0 ino file files (Ascends-increasing files up), ap (amount_told weight_in ino) none, few)
-
--- in a file that is there
-pub weight_changed : (generation ino off len run : ℕ) (files : List (ℕ × File)) (old : File) (gone rests : List Piece) → IsStrictlyIncreasing (keys_of files)
-    → value_at ino files ≡ Some old → IsSplit off (off + len) old.pieces gone rests
-    → files_weight (files_written generation ino off len run files) + 78 * length gone ≡ files_weight files + 78 * (length rests + 1)
-weight_changed generation ino off len run files old gone rests up there split =
-    let to = off + len in
-    let piece = new_piece generation off len run in
-    let file : File = with_pieces generation off to (piece ∷ []) old in
-    let put : files_written generation ino off len run files ≡ with_value ino file files =
-    ap (λ found. with_value ino (with_pieces generation off to (piece ∷ []) (file_or_new generation found)) files) there
-    in
-    let few = pieces_counted off to piece old.pieces gone rests split in
-    omega (arith, ap files_weight put, exchanged weight_in 0 ino file files (Ascends-increasing files up), ap (amount_told weight_in ino) there, few)
 
 -- what goes was counted
 pub gone_light : (ino from to : ℕ) (files : List (ℕ × File)) (old : File) (gone rests : List Piece) → value_at ino files ≡ Some old → IsSplit from to old.pieces gone rests

@@ -4,6 +4,7 @@ use Rattle.qg_device.specs.History.{Event}
 use Rattle.qg_num.specs.declared.answer.Answer.{Answer}
 use Rattle.qg_num.specs.declared.answer.Answer.TheVariants as answer
 use Rattle.qg_num.specs.declared.command.Command.{Command}
+use Rattle.qg_num.specs.declared.command.Command.TheVariants.{Commit}
 use Rattle.qg_state.specs.State.{State}
 use Rattle.qg_machine.specs.Step.{Step}
 use Rattle.qg_store.specs.declared.kept.Kept.{Kept}
@@ -30,7 +31,13 @@ pub record Commands (old : State) (command : Command) (answer : Answer) (kept : 
 abbrev pub is_unchanging : Answer → Bool
 is_unchanging (answer.Refused why) = true
 is_unchanging (answer.Shown rows) = true
+is_unchanging (answer.File size pieces) = true
 is_unchanging _ = false
+
+-- a command that comes to the disk
+abbrev pub comes_to_disk : Command → Bool
+comes_to_disk Commit = true
+comes_to_disk _ = false
 
 -- an answer to a commit
 abbrev pub is_commit : Answer → Bool

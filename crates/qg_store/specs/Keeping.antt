@@ -10,7 +10,8 @@ use Rattle.qg_state.specs.Reach.{extent_of}
 use Rattle.qg_state.specs.State.{State}
 use Rattle.qg_verdict.specs.Verdict.{space_failure}
 use Rattle.qg_rules.specs.Writable.{AreWritableFiles, IsFileBy}
-use Rattle.qg_laid.specs.Anew.{extents_held, one_group}
+use Rattle.qg_check.specs.IsImage.{extents_in}
+use Rattle.qg_laid.specs.Anew.{one_group}
 use Rattle.qg_named.specs.Named.{AreNamed}
 use Rattle.qg_space.specs.Agreement.{IsHoldingOf}
 use Rattle.qg_space.specs.Holding.{free_slots}
@@ -46,7 +47,7 @@ pub record IsKept (kept : Kept) : Type 0 where
   pub no_max_excl : kept.group.max_excl ≡ None
   pub files : AreWritableFiles kept.files
   pub by : All (IsFileBy (kept.superblock.generation + 1)) kept.files
-  pub apart : space_failure (sizes_of kept.superblock) (extents_held kept.files) ≡ None
+  pub apart : space_failure (sizes_of kept.superblock) (extents_in kept.files) ≡ None
   pub named : AreNamed kept.named (extents_named kept.files)
   pub weight : kept.weight ≡ files_weight kept.files
   pub light : kept.weight ≤ 2 ^ 62

@@ -2,7 +2,9 @@ pub mod Keeping
 pub mod Stored
 pub mod Making
 pub mod Answering
+pub mod Editing
 pub mod Writing
 pub mod Slots
 pub mod Held
 pub mod Committing
+pub mod Cloning

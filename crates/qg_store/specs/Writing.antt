@@ -5,12 +5,12 @@ use Rattle.qg_num.specs.declared.refusal.Refusal.TheVariants as why
 use Rattle.qg_image.specs.declared.file.File.{File}
 use Rattle.qg_image.specs.FilesOf.{inodes_end, is_aligned, largest_size, least_inode}
 use Rattle.qg_image.specs.ItemMeaning.{first_some}
-use Rattle.qg_image.specs.Table.{value_at, with_value}
 use Rattle.qg_state.specs.State.{State}
 use Rattle.qg_verdict.specs.Verdict.{longest_extent}
-use Rattle.qg_machine.specs.FileChange.{file_or_new, new_piece, with_pieces}
+use Rattle.qg_machine.specs.FileChange.{new_piece}
 use Rattle.qg_machine.specs.Refusals.{no_align, no_far, no_sub, refuse, too_many_pending}
 use Rattle.qg_store.specs.declared.kept.Kept.{Kept}
+use Rattle.qg_store.specs.Editing.{IsEdited, files_with}
 
 -- a range that may be written
 pub record IsWritable (ino off len : ℕ) : Type 0 where
@@ -29,18 +29,8 @@ range_refusal state sub off len = first_some
 
 -- files after a write in a generation: one piece for the whole of the new extent in the range
 abbrev pub files_written : ℕ → ℕ → ℕ → ℕ → ℕ → List (ℕ × File) → List (ℕ × File)
-files_written generation ino off len run files =
-    with_value ino (with_pieces generation off (off + len) (new_piece generation off len run ∷ []) (file_or_new generation (value_at ino files))) files
+files_written generation ino off len run files = files_with generation ino off (off + len) (new_piece generation off len run ∷ []) files
 
--- a range was written: the files and what they hold of the image are others, one command more is pending, and all else stays
-pub record IsWritten (old : Kept) (ino off len run : ℕ) (new : Kept) : Type 0 where
-  pub superblock : new.superblock ≡ old.superblock
-  pub root : new.root ≡ old.root
-  pub group : new.group ≡ old.group
-  pub nodes : new.nodes ≡ old.nodes
-  pub files : new.files ≡ files_written (old.superblock.generation + 1) ino off len run old.files
-  pub pending : new.pending ≡ old.pending + 1
-  pub sizes : new.space.sizes ≡ old.space.sizes
-  pub held_runs : new.space.held_runs ≡ old.space.held_runs
-  pub slots : new.space.slots ≡ old.space.slots
-  pub held_slots : new.space.held_slots ≡ old.space.held_slots
+-- a range was written
+abbrev pub IsWritten : Kept → ℕ → ℕ → ℕ → ℕ → Kept → Type 0
+IsWritten old ino off len run new = IsEdited old (files_written (old.superblock.generation + 1) ino off len run old.files) new

@@ -9,7 +9,7 @@ ghost use Rattle.qg_super.specs.SuperText.{is_super, sizes_of};
 ghost use Rattle.qg_state.specs.Need.{nodes_filled};
 ghost use Rattle.qg_state.specs.State.{State};
 ghost use Rattle.qg_space.specs.Holding.{is_free_slot};
-ghost use Rattle.qg_laid.specs.Anew.{extents_held};
+ghost use Rattle.qg_check.specs.IsImage.{extents_in};
 ghost use Rattle.qg_laid.specs.Trees.{AreEnough, AreTreesLaid, IsCommitOf, nodes_laid};
 ghost use Rattle.qg_commit.specs.Calls.{GoesOn, with_commit};
 ghost use Rattle.qg_store.specs.Answering.{Commands, is_commit, is_unchanging};
@@ -74,7 +74,7 @@ fn write_trees<D: Disk>(kept: &Kept, disk: &mut D, slots: &[Address]) -> Result<
     requires free { IsTrue (list_all (is_free_slot kept.now.space) slots.now) }
     requires long { total_bytes (sizes_of kept.now.superblock) ≤ D.size disk.old }
     ensures superblock { IfOk result (λ laid. IsTrue (is_super laid.superblock)) }
-    ensures trees { IfOk result (λ laid. AreTreesLaid kept.now.superblock kept.now.root kept.now.files (extents_held kept.now.files)
+    ensures trees { IfOk result (λ laid. AreTreesLaid kept.now.superblock kept.now.root kept.now.files (extents_in kept.now.files)
         kept.now.group.counters kept.now.group.stamp slots.now laid) }
     ensures calls { (events : List Event) → D.history disk.old ≡ Some events
         → IfOk result (λ laid. D.history disk.new ≡ Some (with_commit laid.superblock (nodes_laid laid) events)) }
@@ -104,7 +104,7 @@ fn keep_commit(kept: &mut Kept, laid: Laid, mut slots: Sequence<Address>)
     requires kept { IsKept kept.old }
     requires apart { IsDistinct (λ a b. a == b) slots }
     requires free { IsTrue (list_all (is_free_slot kept.old.space) slots) }
-    requires trees { AreTreesLaid kept.old.superblock kept.old.root kept.old.files (extents_held kept.old.files)
+    requires trees { AreTreesLaid kept.old.superblock kept.old.root kept.old.files (extents_in kept.old.files)
         kept.old.group.counters kept.old.group.stamp slots laid }
     ensures { KeepsCommit kept.old laid kept.new }
 {

@@ -1,5 +1,5 @@
 // What an image that was just opened holds. Addresses and lengths are in bytes.
-ghost use Rattle.std.specs.Prelude.{◌≡◌, ◌++◌, ◌↔◌, ℕ, [], None, not, IfOk, IsTrue};
+ghost use Rattle.std.specs.Prelude.{◌≡◌, ◌++◌, ◌↔◌, ℕ, None, not, IfOk, IsTrue};
 ghost use Rattle.std.specs.List.{Contains, filter, list_all};
 ghost use Rattle.qg_super.specs.Places.{is_served, is_slot};
 ghost use Rattle.qg_super.specs.SuperText.{sizes_of};
@@ -10,7 +10,7 @@ use crate::slots::{give_slots, take_slots};
 use qg_num::{Address, NoMemory, Sequence};
 use qg_space::Space;
 use qg_state::Element;
-use qg_super::{SECTOR, Super};
+use qg_super::Super;
 use std::alloc::Global;
 
 /// What an image with this superblock holds: the present state the subvolume's nodes and extents, the last commit the other trees' nodes too.
@@ -32,31 +32,18 @@ pub(crate) fn space_of(
     ensures held_slots { IfOk result (λ space. (slot : ℕ)
         → Contains space.held_slots slot ↔ Contains (others.now ++ nodes.now) slot) }
 {
-    let space = Space::new(
+    let mut space = Space::new(
         alloc,
         superblock.slots,
         superblock.nodesize,
         superblock.sectors,
     )?;
-    let mut space = with_runs(space, extents)?;
     take_slots(&mut space, nodes)?;
     let elsewhere = slots_not_in(alloc, &space, others)?;
     take_slots(&mut space, elsewhere.as_slice())?;
     space.committed();
     give_slots(&mut space, elsewhere.as_slice());
-    Ok(space)
-}
-
-/// The present state, which has no run yet, takes extents.
-fn with_runs(mut space: Space, extents: &[Element]) -> Result<Space, NoMemory>
-    requires apart { space_failure space.sizes extents.now ≡ None }
-    requires no_runs { space.runs ≡ [] }
-    requires no_held_runs { space.held_runs ≡ [] }
-    ensures { IfOk result (λ taken. taken ≡ record space { runs = extents.now }) }
-{
-    for extent in extents {
-        space.take_run(extent.address, extent.bytes / SECTOR)?;
-    }
+    space.hold_runs(extents)?;
     Ok(space)
 }
 

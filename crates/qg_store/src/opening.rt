@@ -9,7 +9,7 @@ use crate::holding::space_of;
 use crate::kept::Kept;
 use crate::weight::weight_of;
 use qg_check::Image;
-use qg_named::named_by;
+use qg_named::named_of;
 use qg_num::NoMemory;
 use std::alloc::Global;
 
@@ -23,7 +23,6 @@ pub(crate) fn kept_of(alloc: Global, image: Image) -> Result<Kept, NoMemory>
     ensures superblock { IfOk result (λ kept. kept.superblock ≡ image.superblock) }
     ensures idle { IfOk result (λ kept. kept.pending ≡ 0) }
 {
-    let named = named_by(alloc, image.files.as_slice())?;
     let weight = weight_of(image.files.as_slice())?;
     let space = space_of(
         alloc,
@@ -32,6 +31,8 @@ pub(crate) fn kept_of(alloc: Global, image: Image) -> Result<Kept, NoMemory>
         image.nodes.as_slice(),
         image.extents.as_slice(),
     )?;
+    let extents = image.extents;
+    let named = named_of(alloc, image.files.as_slice(), extents)?;
     let group = image.quota.groups.as_slice()[0].1;
     Ok(Kept {
         alloc,

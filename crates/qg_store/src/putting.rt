@@ -1,5 +1,5 @@
 // A range is written, and what is held and counted follows.
-ghost use Rattle.std.specs.Prelude.{◌≡◌, ◌+◌, ◌-◌, ◌%◌, ◌^◌, ◌<◌, ◌≤◌, ◌∷◌, length, map, OnOk, IsTrue};
+ghost use Rattle.std.specs.Prelude.{◌≡◌, ◌+◌, ◌%◌, ◌^◌, ◌<◌, ◌≤◌, length, map, OnOk, IsTrue};
 ghost use Rattle.std.specs.List.{All, count_by};
 ghost use Rattle.qg_super.specs.Places.{sector};
 ghost use Rattle.qg_image.specs.Table.{value_at};
@@ -52,19 +52,19 @@ pub(crate) fn put_extent(
         bytes: len,
     };
     // What a rest names is added first, so that no piece that goes is the last one to name it.
-    add_names(&mut kept.named, &extent, split.rests.as_slice())?;
+    kept.named.add(&extent)?;
+    add_names(&mut kept.named, split.rests.as_slice())?;
     drop_names(&mut kept.named, &mut kept.space, split.gone.as_slice());
     kept.weight = weight;
     kept.pending += 1;
     Ok(())
 }
 
-/// One piece more names an extent, and each of some pieces the extent that it names.
-fn add_names(named: &mut Named, extent: &Element, pieces: &[Piece]) -> Result<(), NoMemory>
-    requires { (other : Element) → named_count named.old other + length pieces.now < 2 ^ 64 - 1 }
-    ensures { OnOk result (HasMore named.old named.new (extent.now ∷ map extent_of pieces.now)) }
+/// Each of some pieces more names its extent.
+pub(crate) fn add_names(named: &mut Named, pieces: &[Piece]) -> Result<(), NoMemory>
+    requires { (other : Element) → named_count named.old other + length pieces.now < 2 ^ 64 }
+    ensures { OnOk result (HasMore named.old named.new (map extent_of pieces.now)) }
 {
-    named.add(extent)?;
     for piece in pieces {
         named.add(&Element {
             address: piece.extent,
@@ -75,7 +75,7 @@ fn add_names(named: &mut Named, extent: &Element, pieces: &[Piece]) -> Result<()
 }
 
 /// Each of some pieces names its extent no more. Where none does any more, the present state gives the run back.
-fn drop_names(named: &mut Named, space: &mut Space, pieces: &[Piece])
+pub(crate) fn drop_names(named: &mut Named, space: &mut Space, pieces: &[Piece])
     requires named { (extent : Element) → count_by (same_extent extent) (map extent_of pieces.now) ≤ named_count named.old extent }
     requires held { HoldsNamed space.old named.old }
     requires whole { All (λ piece. piece.extent_bytes % sector ≡ 0) pieces.now }

@@ -15,14 +15,18 @@ ghost use Rattle.qg_verdict.specs.Verdict.{verdict};
 ghost use Rattle.qg_commit.specs.Calls.{GoesOn};
 ghost use Rattle.qg_commit.specs.Opened.{IsOpened};
 ghost use Rattle.qg_commit.specs.Opening.{IsRefusal, IsUntouched};
-ghost use Rattle.qg_store.specs.Answering.{Commands, is_commit, is_unchanging};
+ghost use Rattle.qg_store.specs.Answering.{Commands, comes_to_disk, is_commit, is_unchanging};
 ghost use Rattle.qg_store.specs.Keeping.{IsKept, IsKeptOf};
 ghost use Rattle.qg_store.specs.Stored.{IsStoreOf, Stops, sizes_stored};
 
+use crate::cloning::clone;
 use crate::committing::commit;
 use crate::kept::Kept;
+use crate::listing::list;
 use crate::opening::kept_of;
+use crate::resizing::truncate;
 use crate::showing::show;
+use crate::unlinking::unlink;
 use crate::writing::write;
 use qg_commit::{OpenFault, open};
 use qg_disk::Disk;
@@ -81,7 +85,9 @@ impl Store {
         }
     }
 
-    /// Does a command or refuses it (this project's own). After a `Stop` the store does nothing more, and the image is to be opened again.
+    /// Does a command or refuses it, by one step of the machine (this project's own). Served are `write`, `clone`, `truncate`, `unlink`,
+    /// `commit`, `show` and `ls`. A file command that is done changes the files, and stays pending until a commit brings it to the disk; what
+    /// is refused or asked changes nothing. After a `Stop` the store does nothing more, and the image is to be opened again.
     ///
     /// No step is counted so far.
     pub fn apply<D: Disk, L: Ledger, M: Ledger>(
@@ -104,6 +110,7 @@ impl Store {
         ensures running { IfOk result (λ answer. (self.old.stopped ≡ None) × (self.new.stopped ≡ None)) }
         ensures unchanged { IfOk result (λ answer. IsTrue (is_unchanging answer) → self.new ≡ self.old) }
         ensures untouched { IfOk result (λ answer. is_commit answer ≡ false → disk.new ≡ disk.old) }
+        ensures apart { comes_to_disk command.now ≡ false → disk.new ≡ disk.old }
 
         // After a stop nothing is done any more.
         ensures stops { IfErr result (λ stop. Stops stop self.old self.new) }
@@ -163,6 +170,7 @@ fn answer<D: Disk>(kept: &mut Kept, disk: &mut D, command: &Command) -> Result<A
     ensures later { (events : List Event) → D.history disk.old ≡ Some events → GoesOn events (D.history disk.new) }
     ensures unchanged { IfOk result (λ answer. IsTrue (is_unchanging answer) → kept.new ≡ kept.old) }
     ensures untouched { IfOk result (λ answer. is_commit answer ≡ false → disk.new ≡ disk.old) }
+    ensures apart { comes_to_disk command.now ≡ false → disk.new ≡ disk.old }
     ensures no_image { IfErr result (λ fault. (fault ≡ BlockFault.Disk) ⊎ (fault ≡ BlockFault.NoMemory)) }
     ensures sizes { sizes_of kept.new.superblock ≡ sizes_of kept.old.superblock }
     ensures no_less { D.size disk.old ≤ D.size disk.new }
@@ -170,8 +178,20 @@ fn answer<D: Disk>(kept: &mut Kept, disk: &mut D, command: &Command) -> Result<A
 {
     match command {
         Command::Write { sub, ino, off, len } => Ok(write(kept, *sub, *ino, *off, *len)?),
+        Command::Clone {
+            sub,
+            ino,
+            off,
+            len,
+            to_sub,
+            to_ino,
+            to_off,
+        } => Ok(clone(kept, *sub, *ino, *off, *len, *to_sub, *to_ino, *to_off)?),
+        Command::Truncate { sub, ino, size } => Ok(truncate(kept, *sub, *ino, *size)?),
+        Command::Unlink { sub, ino } => Ok(unlink(kept, *sub, *ino)),
         Command::Commit => commit(kept, disk),
         Command::Show => Ok(show(kept.alloc, &kept.group)?),
+        Command::Ls { sub, ino } => Ok(list(kept, *sub, *ino)?),
         _ => unreachable!(),
     }
 }

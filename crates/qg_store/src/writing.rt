@@ -1,33 +1,29 @@
 // A range of a file is written.
-ghost use Rattle.std.specs.Prelude.{◌≡◌, ◌+◌, ◌^◌, ◌≤◌, ◌<◌, ◌&&◌, ℕ, IfNone, IfOk, IsTrue, nat_le, nat_lt};
+ghost use Rattle.std.specs.Prelude.{◌≡◌, ◌+◌, ◌≤◌, ◌<◌, ◌&&◌, ℕ, IfNone, IfOk, IsTrue, nat_le, nat_lt};
 ghost use Rattle.qg_num.specs.declared.command.Command.TheVariants.{Write};
 ghost use Rattle.qg_image.specs.FilesOf.{inodes_end, is_aligned, largest_size, least_inode};
-ghost use Rattle.qg_image.specs.Table.{value_at};
 ghost use Rattle.qg_state.specs.State.{State};
 ghost use Rattle.qg_verdict.specs.Verdict.{longest_extent};
-ghost use Rattle.qg_machine.specs.FileChange.{pieces_or_none};
-ghost use Rattle.qg_files.specs.Split.{IsSplit};
 ghost use Rattle.qg_store.specs.Answering.{Does, is_unchanging};
-ghost use Rattle.qg_store.specs.Keeping.{IsKept, IsKeptOf, files_weight};
-ghost use Rattle.qg_store.specs.Writing.{IsWritable, files_written, range_refusal};
+ghost use Rattle.qg_store.specs.Keeping.{IsKept, IsKeptOf};
+ghost use Rattle.qg_store.specs.Writing.{IsWritable, range_refusal};
 
+use crate::cutting::cut_for;
 use crate::kept::Kept;
 use crate::putting::put_extent;
-use crate::weight::{INODE_BYTES, PIECE_BYTES, need_of};
-use qg_files::{Split, split_range};
+use crate::weight::need_of;
 use qg_items::tree::TOP_LEVEL;
-use qg_num::{Answer, Ino, NoMemory, Pieces, Refusal, RootId};
-use qg_subvol::pieces;
+use qg_num::{Answer, Ino, NoMemory, Refusal, RootId};
 use qg_super::SECTOR;
 
 /// The largest size of a file, in bytes.
-const LARGEST_SIZE: u64 = 1 << 40;
+pub(crate) const LARGEST_SIZE: u64 = 1 << 40;
 
 /// The longest data extent, in bytes.
 const LONGEST_EXTENT: u64 = 134217728;
 
 /// The most file commands that may be pending.
-const MOST_PENDING: u64 = 65536;
+pub(crate) const MOST_PENDING: u64 = 65536;
 
 /// Writes a range of a file, in bytes, or refuses to.
 pub(crate) fn write(
@@ -51,7 +47,7 @@ pub(crate) fn write(
     let Some(run) = kept.space.first_run(len / SECTOR) else {
         return Ok(Answer::Refused(Refusal::NoRun));
     };
-    let cut = cut_of(kept, ino, off, len)?;
+    let cut = cut_for(kept, ino, off, len, 1)?;
     let need = need_of(kept.superblock.nodesize, cut.weight);
     let free = kept.space.free_slots();
     if free < need {
@@ -93,38 +89,4 @@ fn is_near(off: u64, len: u64) -> bool
     ensures { result ≡ (nat_le (off + len) largest_size && nat_le len longest_extent) }
 {
     len <= LONGEST_EXTENT && off <= LARGEST_SIZE - len
-}
-
-// What a range takes out of a file, and what the items of all files take, in bytes, once one piece stands there.
-#[derive(Drop)]
-struct Cut {
-    split: Split,
-    weight: u64,
-}
-
-// What a write of a range takes out of a file, which may not be there yet.
-fn cut_of(kept: &Kept, ino: Ino, off: u64, len: u64) -> Result<Cut, NoMemory>
-    requires kept { IsKept kept.now }
-    requires range { IsWritable ino off len }
-    ensures split { IfOk result (λ cut.
-        IsSplit off (off + len) (pieces_or_none (value_at ino kept.now.files)) cut.split.gone cut.split.rests) }
-    ensures weight { (run : ℕ) → IfOk result (λ cut.
-        cut.weight ≡ files_weight (files_written (kept.now.superblock.generation + 1) ino off len run kept.now.files)) }
-    ensures light { IfOk result (λ cut. cut.weight ≤ 2 ^ 63) }
-{
-    match pieces(&kept.files, ino) {
-        None => Ok(Cut {
-            split: Split {
-                gone: Pieces::new(kept.alloc),
-                rests: Pieces::new(kept.alloc),
-            },
-            weight: kept.weight + INODE_BYTES + PIECE_BYTES,
-        }),
-        Some(file) => {
-            let split = split_range(kept.alloc, &file.pieces, off, off + len)?;
-            let less = kept.weight - PIECE_BYTES * split.gone.len() as u64;
-            let weight = less + PIECE_BYTES * (split.rests.len() as u64 + 1);
-            Ok(Cut { split, weight })
-        }
-    }
 }

@@ -288,102 +288,109 @@ fn sound_trees(rt: HostRuntime) -> Result<(), Fail> {
     Ok(())
 }
 
-#[test]
-fn first_rule_that_is_broken(rt: HostRuntime) -> Result<(), Fail> {
-    let table = [
-        (
-            Rule::Slot,
-            SECOND + 1,
-            Plan {
-                child: SECOND + 1,
-                ..SOUND
-            },
-        ),
-        (
-            Rule::Csum,
-            SECOND,
-            Plan {
-                is_changed: true,
-                ..SOUND
-            },
-        ),
-        (
-            Rule::Depth,
-            ROOT,
-            Plan {
-                level: Some(2),
-                ..SOUND
-            },
-        ),
-        (Rule::Owner, SECOND, Plan { owner: 5, ..SOUND }),
-        (
-            Rule::Gen,
-            SECOND,
-            Plan {
-                generation: 7,
-                ..SOUND
-            },
-        ),
-        (
-            Rule::Gen,
-            SECOND,
-            Plan {
-                told: 0,
-                generation: 0,
-                ..SOUND
-            },
-        ),
-        (
-            Rule::Gen,
-            SECOND,
-            Plan {
-                told: 10,
-                generation: 10,
-                ..SOUND
-            },
-        ),
-        (Rule::Range, SECOND, Plan { key: 255, ..SOUND }),
-        (
-            Rule::Range,
-            FIRST,
-            Plan {
-                first: [2, 5, 256],
-                ..SOUND
-            },
-        ),
-        // Two items of 464 bytes are less than a quarter of 3995.
-        (Rule::Shape, SECOND, Plan { count: 2, ..SOUND }),
-        (
-            Rule::Shape,
-            ROOT,
-            Plan {
-                pointers: 1,
-                ..SOUND
-            },
-        ),
-        (Rule::Item, SECOND, Plan { stamp: 10, ..SOUND }),
-        // The first leaf is walked before the second one.
-        (
-            Rule::Range,
-            FIRST,
-            Plan {
-                first: [2, 5, 256],
-                owner: 5,
-                ..SOUND
-            },
-        ),
-    ];
-    for (rule, place, plan) in table {
-        let mut disk = disk_of(&rt, rt.alloc(), &plan)?;
-        let walked = walk_held(&rt, &mut disk, rt.alloc(), plan.level, ROOT);
-        let failure = Failure::Broken {
-            rule,
-            address: Address::new(place),
-        };
+// The first rule that the tree breaks which a plan makes, and its address.
+fn first_broken(rt: &impl Abort, alloc: Global, plan: &Plan) -> Result<Option<Failure>, Fail> {
+    let mut disk = disk_of(rt, alloc, plan)?;
+    match walk_held(rt, &mut disk, alloc, plan.level, ROOT) {
+        Err(WalkFault::Unsound(failure)) => Ok(Some(failure)),
+        _ => Ok(None),
+    }
+}
+
+// Each plan breaks this rule at this address.
+fn each_breaks(
+    rt: &impl Abort,
+    alloc: Global,
+    rule: Rule,
+    address: u64,
+    plans: &[Plan],
+) -> Result<(), Fail> {
+    let address = Address::new(address);
+    for plan in plans {
+        let failure = first_broken(rt, alloc, plan)?;
         assert!(rt;
-            walked.err() == Some(WalkFault::Unsound(failure)),
-            "of {rule:?}"
+            failure == Some(Failure::Broken { rule, address }),
+            "{rule:?}"
         );
     }
     Ok(())
+}
+
+#[test]
+fn nodes_are_where_and_what_is_told(rt: HostRuntime) -> Result<(), Fail> {
+    let alloc = rt.alloc();
+    let child = SECOND + 1;
+    each_breaks(&rt, alloc, Rule::Slot, child, &[Plan { child, ..SOUND }])?;
+    let is_changed = true;
+    each_breaks(
+        &rt,
+        alloc,
+        Rule::Csum,
+        SECOND,
+        &[Plan {
+            is_changed,
+            ..SOUND
+        }],
+    )?;
+    let level = Some(2);
+    each_breaks(&rt, alloc, Rule::Depth, ROOT, &[Plan { level, ..SOUND }])?;
+    let owner = 5;
+    each_breaks(&rt, alloc, Rule::Owner, SECOND, &[Plan { owner, ..SOUND }])?;
+    let plans = [
+        Plan {
+            generation: 7,
+            ..SOUND
+        },
+        Plan {
+            told: 0,
+            generation: 0,
+            ..SOUND
+        },
+        Plan {
+            told: 10,
+            generation: 10,
+            ..SOUND
+        },
+    ];
+    each_breaks(&rt, alloc, Rule::Gen, SECOND, &plans)
+}
+
+#[test]
+fn keys_and_items_fit_their_node(rt: HostRuntime) -> Result<(), Fail> {
+    let alloc = rt.alloc();
+    each_breaks(
+        &rt,
+        alloc,
+        Rule::Range,
+        SECOND,
+        &[Plan { key: 255, ..SOUND }],
+    )?;
+    let first = [2, 5, 256];
+    let plans = [
+        Plan { first, ..SOUND },
+        // The first leaf is walked before the second one.
+        Plan {
+            first,
+            owner: 5,
+            ..SOUND
+        },
+    ];
+    each_breaks(&rt, alloc, Rule::Range, FIRST, &plans)?;
+    // Two items of 464 bytes are less than a quarter of 3995.
+    each_breaks(
+        &rt,
+        alloc,
+        Rule::Shape,
+        SECOND,
+        &[Plan { count: 2, ..SOUND }],
+    )?;
+    let pointers = 1;
+    each_breaks(&rt, alloc, Rule::Shape, ROOT, &[Plan { pointers, ..SOUND }])?;
+    each_breaks(
+        &rt,
+        alloc,
+        Rule::Item,
+        SECOND,
+        &[Plan { stamp: 10, ..SOUND }],
+    )
 }

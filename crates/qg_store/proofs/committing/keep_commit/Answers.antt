@@ -3,7 +3,7 @@ use Rattle.std.specs.Prelude.{◌==◌, ◌↔◌, List}
 use Rattle.std.specs.List.{Contains, IsDistinct, list_all}
 use Rattle.qg_super.specs.Places.{is_slot}
 use Rattle.qg_tree.specs.Row.{address_of}
-use Rattle.qg_laid.specs.Anew.{extents_held}
+use Rattle.qg_check.specs.IsImage.{extents_in}
 use Rattle.qg_laid.specs.Trees.{nodes_laid}
 use Rattle.qg_laid.proofs.LaidAnew.{passes-take}
 use Rattle.qg_store.proofs.FreeSlots.{free_are_slots, free_unheld}
@@ -15,7 +15,7 @@ split_at-requires c =
     let kept = c.args.kept.now in
     omega (
       arith,
-      within kept.superblock kept.root kept.files (extents_held kept.files) kept.group.counters kept.group.stamp c.args.slots c.args.laid c.requires.trees,
+      within kept.superblock kept.root kept.files (extents_in kept.files) kept.group.counters kept.group.stamp c.args.slots c.args.laid c.requires.trees,
       ap length c.as_slice.ensures,
       c.len-files.ensures,
       c.len.ensures,
@@ -51,7 +51,7 @@ returns c =
     let laid = c.args.laid in
     let slots = c.args.slots in
     let new = c.hold_commit.new.space in
-    let extents = extents_held kept.files in
+    let extents = extents_in kept.files in
     let front = front_told laid slots _ _ _ _ _ _ c.split_at.ensures.front c.as_slice.ensures c.len-files.ensures c.len.ensures c.len-2.ensures c.len-3.ensures in
     let addresses = map address_of laid.files.nodes in
     let own : take c.len-files.result c.split_at.result.0.now ≡ addresses =

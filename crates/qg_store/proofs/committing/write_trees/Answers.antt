@@ -5,7 +5,7 @@ use Rattle.qg_device.specs.History.{content}
 use Rattle.qg_image.specs.declared.file.File.{File}
 use Rattle.qg_state.specs.declared.element.Element.{Element}
 use Rattle.qg_commit.specs.Calls.{with_commit}
-use Rattle.qg_laid.specs.Anew.{extents_held}
+use Rattle.qg_check.specs.IsImage.{extents_in}
 use Rattle.qg_laid.specs.Trees.{AreFor, AreTreesLaid, IsCommitOf, nodes_laid}
 use Rattle.qg_store.proofs.Alone.{subvolume_of}
 use Rattle.qg_store.proofs.FreeSlots.{each_slot}
@@ -18,15 +18,15 @@ commit-requires-clause-slots g c = each_slot c.args.kept.now.space _ c.args.slot
 pub returns-clause-trees : goal.returns-clause-trees
 returns-clause-trees g c =
     let kept = c.args.kept.now in
-    let extents : c.as_slice-3.result.now ≡ extents_held kept.files = c.as_slice-3.ensures ∙ c.in_ok-extents.ensures ∙ ap extents_held c.as_slice.ensures in
-    subst (λ (files : List (ℕ × File)). IfOk c.commit.result (λ laid. AreTreesLaid kept.superblock kept.root files (extents_held kept.files) kept.group.counters kept.group.stamp c.args.slots.now laid)) c.as_slice-2.ensures
+    let extents : c.as_slice-3.result.now ≡ extents_in kept.files = c.as_slice-3.ensures ∙ c.in_ok-extents.ensures ∙ ap extents_in c.as_slice.ensures in
+    subst (λ (files : List (ℕ × File)). IfOk c.commit.result (λ laid. AreTreesLaid kept.superblock kept.root files (extents_in kept.files) kept.group.counters kept.group.stamp c.args.slots.now laid)) c.as_slice-2.ensures
     (subst (λ (extents : List Element). IfOk c.commit.result (λ laid. AreTreesLaid kept.superblock kept.root c.as_slice-2.result.now extents kept.group.counters kept.group.stamp c.args.slots.now laid)) extents
     c.commit.ensures.trees)
 
 pub returns-clause-committed : goal.returns-clause-committed
 returns-clause-committed g c = λ events state told keeps.
     let kept = c.args.kept.now in
-    let extents : c.as_slice-3.result.now ≡ extents_held kept.files = c.as_slice-3.ensures ∙ c.in_ok-extents.ensures ∙ ap extents_held c.as_slice.ensures in
+    let extents : c.as_slice-3.result.now ≡ extents_in kept.files = c.as_slice-3.ensures ∙ c.in_ok-extents.ensures ∙ ap extents_in c.as_slice.ensures in
     let For : List (ℕ × File) → List Element → Type 0 =
     λ files extents. AreFor state (subvolume_of kept) kept.group kept.superblock kept.root files extents kept.group.counters kept.group.stamp c.args.slots.now
     in

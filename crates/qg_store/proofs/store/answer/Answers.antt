@@ -1,7 +1,7 @@
 use Rattle.std.proofs.Common.{◌≡◌, true, subst, sym}
 use Rattle.qg_grammar.specs.ScriptText.{is_in_grammar}
 use Rattle.qg_store.specs.Answering.{Commands}
-use Rattle.qg_store.proofs.Served.{inode_told}
+use Rattle.qg_store.proofs.Served.{inode_told, target_told}
 use Rattle.qg_store.proofs.Shown.{does_show}
 use Rattle.qg_store.proofs.store.answer.Goals as goal
 
@@ -12,6 +12,16 @@ write-requires-clause-least g c =
 pub write-requires-clause-below : goal.write-requires-clause-below
 write-requires-clause-below g c =
     (inode_told c.in-Write.sub c.in-Write.ino c.in-Write.off c.in-Write.len (subst (λ command. is_in_grammar command ≡ true) c.in-Write.is c.requires.numbers)).1
+
+pub clone-requires-clause-least : goal.clone-requires-clause-least
+clone-requires-clause-least g c =
+    let at = c.in-Clone in
+    (target_told at.sub at.ino at.off at.len at.to_sub at.to_ino at.to_off (subst (λ command. is_in_grammar command ≡ true) at.is c.requires.numbers)).0
+
+pub clone-requires-clause-below : goal.clone-requires-clause-below
+clone-requires-clause-below g c =
+    let at = c.in-Clone in
+    (target_told at.sub at.ino at.off at.len at.to_sub at.to_ino at.to_off (subst (λ command. is_in_grammar command ≡ true) at.is c.requires.numbers)).1
 
 pub returns-in_ok-show-in-Show-clause-step : goal.returns-in_ok-show-in-Show-clause-step
 returns-in_ok-show-in-Show-clause-step g c = λ state events keeps told.

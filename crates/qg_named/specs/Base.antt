@@ -1,0 +1,19 @@
+-- Extents that some piece names, once at least, and how many more pieces name some of them (this project's own).
+use Rattle.std.specs.Prelude.{ℕ, ◌+◌, ◌^◌, ◌<◌, List, IsTrue}
+use Rattle.std.specs.List.{AllPairs, count_by}
+use Rattle.qg_state.specs.declared.element.Element.{Element}
+use Rattle.qg_verdict.specs.Verdict.{is_before, same_extent}
+use Rattle.qg_named.specs.Named.{named_count}
+
+-- extents ascend, each once
+abbrev pub AscendOnce : List Element → Type 0
+AscendOnce extents = AllPairs (λ extent later. IsTrue (is_before extent later)) extents
+
+-- an extent with the count of one piece
+abbrev pub named_once : Element → Element × ℕ
+named_once extent = (extent, 1)
+
+-- the extents ascend, and one more than what is counted of each fits 64 bits
+pub record IsBase (extents : List Element) (more : List (Element × ℕ)) : Type 0 where
+  pub ascend : AscendOnce extents
+  pub few : (extent : Element) → 0 < count_by (same_extent extent) extents → named_count more extent + 1 < 2 ^ 64
