@@ -1,3 +1,4 @@
+pub mod AreBytes
 pub mod Zeros
 pub mod Numbers
 pub mod Standing

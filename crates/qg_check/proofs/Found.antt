@@ -29,6 +29,7 @@ use Rattle.qg_image.specs.ItemMeaning.{when}
 use Rattle.qg_image.specs.declared.part.ExtentPart.{ExtentPart}
 use Rattle.qg_state.specs.State.{State, node_at}
 use Rattle.qg_state.specs.Reach.{level_of}
+use Rattle.qg_state.proofs.Contained.{none_contained, contains_here, contains_cases}
 use Rattle.qg_verdict.specs.declared.failure.Failure.{Failure}
 use Rattle.qg_verdict.specs.declared.tree.Tree.{Tree}
 use Rattle.qg_verdict.specs.declared.tree.Tree.TheVariants.{Files}
@@ -36,7 +37,6 @@ use Rattle.qg_verdict.specs.declared.expected.Expected.{Expected}
 use Rattle.qg_verdict.specs.Walk.{in_slot, node_found}
 use Rattle.qg_verdict.specs.ItemsUnder.{is_way, items_under, nodes_of, nodes_under}
 use Rattle.qg_verdict.specs.StateOf.{level_in}
-use Rattle.qg_reach.proofs.Members.{none_contained, contains_here, contains_cases}
 use Rattle.qg_reach.proofs.Reached.{address_of, FindsEach, LieWhereFound, nodes_below_found}
 use Rattle.qg_reach.proofs.Layouts.{AgreeByAddress, LieWhereFound-layout, layout_of, node_at-layout}
 use Rattle.qg_reach.proofs.Counting.{HasNodes}

@@ -1,9 +1,8 @@
 -- The trees that a root tree names.
-use Rattle.std.proofs.Common.{◌≡◌, subst, ℕ, Bool, true, false, cond, List, [], ◌∷◌, map, refl, sym, ap, ◌∙◌}
+use Rattle.std.proofs.Common.{◌≡◌, subst, ℕ, Bool, true, false, cond, List, [], ◌∷◌, map, refl, ◌∙◌}
 use Rattle.std.specs.Prelude.{not, ◌&&◌, ◌||◌, ◌==◌, Option, Some, None, is_some}
 use Rattle.std.specs.List.{list_all, filter, AllByRecursion}
 use Rattle.std.proofs.lemmas.Bool.{and_parts, eqb-true}
-use Rattle.qg_num.specs.declared.key.Key.{Key}
 use Rattle.qg_node.specs.Nodes.{is_ascending}
 use Rattle.qg_items.specs.declared.root.RootItem.{RootItem}
 use Rattle.qg_image.specs.Table.{value_at, has_key}

@@ -1,5 +1,5 @@
 -- What items say, where each says something.
-use Rattle.std.proofs.Common.{◌≡◌, ℕ, List, [], ◌∷◌, map, refl, ap, ◌∙◌, subst}
+use Rattle.std.proofs.Common.{◌≡◌, ℕ, List, [], ◌∷◌, map, refl, ap, subst}
 use Rattle.std.specs.Prelude.{Option, Some, None, Result, Ok, Err, IfOk}
 use Rattle.std.specs.List.{filter_map}
 use Rattle.qg_node.specs.declared.item.Item.{Item}
@@ -12,7 +12,6 @@ use Rattle.qg_verdict.specs.declared.tree.Tree.TheVariants.{Roots, Quotas}
 use Rattle.qg_verdict.specs.Walk.{root_expected, root_told}
 use Rattle.qg_verdict.specs.StateOf.{roots_in, tree_items, items_of_root, quota_parts}
 use Rattle.qg_num.specs.declared.fault.NoMemory.{NoMemory}
-use Rattle.qg_walk.specs.declared.fault.WalkFault.{WalkFault}
 use Rattle.qg_walk.specs.IsWalk.{IsWalk}
 use Rattle.qg_check.specs.Stages.{given_of}
 

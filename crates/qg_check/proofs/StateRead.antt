@@ -1,7 +1,6 @@
 -- The state of an image whose trees were read.
-use Rattle.std.proofs.Common.{◌≡◌, ℕ, ◌+◌, ◌*◌, true, List, [], ◌∷◌, ◌++◌, map, length, Option, Some, None, refl, sym, ap, ◌∙◌, subst}
-use Rattle.std.specs.Prelude.{IsTrue}
-use Rattle.std.specs.List.{AllByRecursion, Contains, flat_map, filter_map}
+use Rattle.std.proofs.Common.{◌≡◌, ℕ, ◌+◌, ◌*◌, List, [], ◌∷◌, ◌++◌, map, length, Some, refl, sym, ap, ◌∙◌, subst}
+use Rattle.std.specs.List.{AllByRecursion, flat_map}
 use Rattle.std.specs.List.Sorted.{IsStrictlyIncreasing}
 use Rattle.std.proofs.lemmas.List.{append-nil}
 use Rattle.qg_node.specs.declared.node.Node.{Node}
@@ -9,29 +8,27 @@ use Rattle.qg_node.specs.Nodes.{header_of}
 use Rattle.qg_items.specs.declared.root.RootItem.{RootItem}
 use Rattle.qg_super.specs.declared.sizes.Sizes.{Sizes}
 use Rattle.qg_super.specs.declared.superblock.Super.{Super}
-use Rattle.qg_super.specs.Places.{is_served}
 use Rattle.qg_super.specs.SuperText.{sizes_of}
 use Rattle.qg_image.specs.declared.file.File.{File}
-use Rattle.qg_image.specs.ItemMeaning.{quota_part}
-use Rattle.qg_image.specs.Table.{keys_of, value_at}
+use Rattle.qg_image.specs.Table.{keys_of}
 use Rattle.qg_state.specs.declared.element.Element.{Element}
 use Rattle.qg_state.specs.declared.quota.Group.{Group}
 use Rattle.qg_state.specs.declared.quota.Quota.{Quota}
-use Rattle.qg_state.specs.State.{State, Subvolume, Placed, node_at}
+use Rattle.qg_state.specs.State.{State, Subvolume}
 use Rattle.qg_state.specs.Reach.{extent_of}
 use Rattle.qg_state.specs.Counts.{bytes_of, referenced, exclusive}
 use Rattle.qg_state.specs.Space.{present_extents}
 use Rattle.qg_verdict.specs.declared.tree.Tree.TheVariants.{Extents, Quotas, Files}
-use Rattle.qg_verdict.specs.Walk.{node_found, root_told}
-use Rattle.qg_verdict.specs.StateOf.{state_in, subvolumes_in, quota_in, layout_in, other_nodes, extent_root, quota_root, roots_in, subvolume_roots, extent_parts, quota_parts, quota_told, nodes_of_root, items_of_root, root_nodes, of_tree, level_in}
+use Rattle.qg_verdict.specs.Walk.{root_told}
+use Rattle.qg_verdict.specs.StateOf.{state_in, subvolumes_in, quota_in, other_nodes, extent_parts, quota_parts, nodes_of_root, items_of_root, root_nodes}
 use Rattle.qg_verdict.specs.Verdict.{extent_set}
 use Rattle.qg_reach.specs.Sets.{HaveSame}
 use Rattle.qg_reach.proofs.Layouts.{layout_of, layout_in-nodes}
-use Rattle.qg_reach.proofs.Counting.{IsSingle, HasNodes, KeepSpace, AreTold, AreTold-space, exclusive_single, referenced_told}
+use Rattle.qg_reach.proofs.Counting.{IsSingle, KeepSpace, AreTold-space, exclusive_single, referenced_told}
 use Rattle.qg_check.specs.declared.image.Image.{Image}
 use Rattle.qg_check.specs.IsImage.{IsKept}
 use Rattle.qg_check.specs.declared.judge.Read.{Read}
-use Rattle.qg_check.specs.Trees.{AreTrees, IsQuotaTree, IsFileTree, AreRead, addresses_of}
+use Rattle.qg_check.specs.Trees.{AreRead, addresses_of}
 use Rattle.qg_check.specs.Counted.{CountsAs, CountAll}
 use Rattle.qg_check.proofs.Found.{HasNodes-image}
 use Rattle.qg_check.proofs.Pieces.{extents_told}

@@ -1,9 +1,8 @@
 -- The superblock at a place of an image.
-use Rattle.std.proofs.Common.{◌≡◌, ◌≢◌, ℕ, ◌+◌, ◌-◌, ◌<◌, List, length, take, drop, None, Option, refl, ap, ◌∙◌, arith, length-drop}
+use Rattle.std.proofs.Common.{◌≡◌, ◌≢◌, ℕ, ◌+◌, ◌-◌, ◌<◌, List, length, drop, None, refl, ap, ◌∙◌, arith, length-drop}
 use Rattle.std.specs.Prelude.{slice_range}
 use Rattle.std.proofs.lemmas.List.{length-take}
 use Rattle.qg_device.specs.History.{range}
-use Rattle.qg_super.specs.declared.superblock.Super.{Super}
 use Rattle.qg_super.specs.SuperText.{super_read}
 use Rattle.qg_super.proofs.SuperTexts.{super_read-no_length}
 use Rattle.qg_verdict.specs.StateOf.{super_in}

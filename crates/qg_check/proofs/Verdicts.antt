@@ -16,7 +16,7 @@ use Rattle.qg_verdict.specs.Walk.{root_expected, tree_failure}
 use Rattle.qg_verdict.specs.StateOf.{super_in, super_of, state_in, roots_in, subvolume_roots}
 use Rattle.qg_verdict.specs.Verdict.{verdict, image_failure, are_mirrored, are_roots, most_subvolumes, root_failure, quota_failure, subvolume_failure, space_failure, counts_failure, extent_set}
 use Rattle.qg_check.specs.declared.trees.Trees.{Trees}
-use Rattle.qg_check.specs.Stages.{places_failure, roots_failure, extents_failure, together_failure, trees_failure}
+use Rattle.qg_check.specs.Stages.{places_failure, roots_failure, extents_failure, trees_failure}
 use Rattle.qg_check.specs.Trees.{AreTrees}
 
 -- ---- several failures

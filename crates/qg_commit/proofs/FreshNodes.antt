@@ -1,11 +1,9 @@
 -- The nodes and the superblock of a fresh image can be written, and the bodies of its items are read again.
-use Rattle.std.proofs.Common.{◌≡◌, ℕ, zero, suc, ◌+◌, ◌^◌, ◌≤◌, ◌<◌, true, List, [], ◌∷◌, map, ◌++◌, refl, arith, lit<}
+use Rattle.std.proofs.Common.{◌≡◌, ℕ, ◌+◌, ◌^◌, ◌≤◌, ◌<◌, true, List, [], map, refl, arith, lit<}
 use Rattle.std.specs.Prelude.{nat_lt}
 use Rattle.std.specs.List.{AllByRecursion}
 use Rattle.std.proofs.lemmas.Bool.Decides.{nat_tests}
 use Rattle.std.proofs.lemmas.List.Elements.{All-from_recursion}
-use Rattle.qg_bytes.specs.Fields.{IsBytes, zeros, u32_bytes, u64_bytes}
-use Rattle.qg_bytes.proofs.Numbers.{IsBytes-append, IsBytes-zeros, IsBytes-u64_bytes, IsBytes-u32_bytes}
 use Rattle.qg_node.specs.Fits.{ItemFits, NodeFits}
 use Rattle.qg_items.specs.declared.quota.QgroupStatus.{QgroupStatus}
 use Rattle.qg_items.specs.declared.quota.QgroupInfo.{QgroupInfo}
@@ -20,10 +18,12 @@ use Rattle.qg_items.proofs.QuotaBodies.{length-status_text, length-info_text, le
 use Rattle.qg_super.specs.declared.sizes.Sizes.{Sizes}
 use Rattle.qg_super.specs.Places.{is_served, slot_at}
 use Rattle.qg_super.specs.SuperText.{is_super}
+use Rattle.qg_super.proofs.Served.{SizesFit-is_served}
+use Rattle.qg_contents.proofs.Bodies.{item-fits, root_text-AreBytes, status_text-AreBytes, info_text-AreBytes, limit_text-AreBytes}
 use Rattle.qg_commit.specs.Fresh.{fresh_leaf_of, fresh_root, root_item, root_items, quota_items, fresh_super, fresh_nodes}
 use Rattle.qg_commit.specs.Calls.{IsWritable}
 use Rattle.qg_commit.proofs.FreshImage.{ReadsBack}
-use Rattle.qg_commit.proofs.Slots.{SizesServed-is_served, node_size_bounds}
+use Rattle.qg_commit.proofs.Slots.{node_size_bounds}
 
 -- ---- the superblock
 
@@ -78,13 +78,13 @@ empty_leaf-IsNode n owner address size =
 -- and each can be written into its slot
 pub fresh-writable : (sizes : Sizes) → is_served sizes ≡ true → AllByRecursion (IsWritable sizes.nodesize) (fresh_nodes sizes)
 fresh-writable sizes served =
-    let fit = SizesServed-is_served sizes served in
-    let bounds = node_size_bounds sizes.nodesize fit.nodesize in
+    let fit = SizesFit-is_served sizes served in
+    let bounds = node_size_bounds sizes.nodesize fit.node_size in
     let n = sizes.nodesize in
-    let root = root_leaf-IsNode n (slot_at sizes 0) (slot_at sizes 1) (slot_at sizes 2) (slot_at sizes 3) fit.nodesize in
-    let extents = empty_leaf-IsNode n 2 (slot_at sizes 1) fit.nodesize in
-    let files = empty_leaf-IsNode n 5 (slot_at sizes 2) fit.nodesize in
-    let quotas = quota_leaf-IsNode n (slot_at sizes 3) fit.nodesize in
+    let root = root_leaf-IsNode n (slot_at sizes 0) (slot_at sizes 1) (slot_at sizes 2) (slot_at sizes 3) fit.node_size in
+    let extents = empty_leaf-IsNode n 2 (slot_at sizes 1) fit.node_size in
+    let files = empty_leaf-IsNode n 5 (slot_at sizes 2) fit.node_size in
+    let quotas = quota_leaf-IsNode n (slot_at sizes 3) fit.node_size in
     let root_writable : IsWritable n (fresh_leaf_of 1 (slot_at sizes 0) (root_items (slot_at sizes 1) (slot_at sizes 2) (slot_at sizes 3))) =
     record { node_of_format = root; ends = omega arith } in
     let extents_writable : IsWritable n (fresh_leaf_of 2 (slot_at sizes 1) []) = record { node_of_format = extents; ends = omega arith } in
@@ -94,55 +94,6 @@ fresh-writable sizes served =
 
 -- ---- what is read again
 
--- bodies are bytes
-record AreBytes (bytes : List ℕ) : Type 0 where
-  are : IsBytes bytes
-
-AreBytes-append : {front back : List ℕ} → AreBytes front → AreBytes back → AreBytes (front ++ back)
-AreBytes-append {front} {back} first second = record { are = IsBytes-append front back first.are second.are }
-
-IsBytes-byte : (byte : ℕ) → byte < 256 → IsBytes (byte ∷ [])
-IsBytes-byte byte small zero = small
-IsBytes-byte byte small (suc i) = lit< tt
-
-AreBytes-byte : (byte : ℕ) → byte < 256 → AreBytes (byte ∷ [])
-AreBytes-byte byte small = record { are = IsBytes-byte byte small }
-
-AreBytes-zeros : (n : ℕ) → AreBytes (zeros n)
-AreBytes-zeros n = record { are = IsBytes-zeros n }
-
-AreBytes-u64 : (n : ℕ) → AreBytes (u64_bytes n)
-AreBytes-u64 n = record { are = IsBytes-u64_bytes n }
-
-AreBytes-u32 : (n : ℕ) → AreBytes (u32_bytes n)
-AreBytes-u32 n = record { are = IsBytes-u32_bytes n }
-
-root_text-AreBytes : (address : ℕ) → AreBytes (root_text (fresh_root address))
-unfolding root_text
-root_text-AreBytes address =
-    let generation = AreBytes-append (AreBytes-zeros 160) (AreBytes-u64 1) in
-    let bytenr = AreBytes-append (AreBytes-append generation (AreBytes-zeros 8)) (AreBytes-u64 address) in
-    let last_snapshot = AreBytes-append (AreBytes-append bytenr (AreBytes-zeros 16)) (AreBytes-u64 0) in
-    let refs = AreBytes-append (AreBytes-append last_snapshot (AreBytes-zeros 8)) (AreBytes-u32 1) in
-    let level = AreBytes-append (AreBytes-append refs (AreBytes-zeros 18)) (AreBytes-byte 0 (lit< tt)) in
-    AreBytes-append level (AreBytes-zeros 200)
-
-status_text-AreBytes : (status : QgroupStatus) → AreBytes (status_text status)
-unfolding status_text
-status_text-AreBytes status =
-    AreBytes-append (AreBytes-append (AreBytes-append (AreBytes-u64 1) (AreBytes-u64 status.generation)) (AreBytes-u64 status.flags)) (AreBytes-u64 status.cursor)
-
-info_text-AreBytes : (info : QgroupInfo) → AreBytes (info_text info)
-unfolding info_text
-info_text-AreBytes info =
-    let rfer = AreBytes-append (AreBytes-append (AreBytes-u64 info.generation) (AreBytes-u64 info.rfer)) (AreBytes-u64 info.rfer_cmpr) in
-    AreBytes-append (AreBytes-append rfer (AreBytes-u64 info.excl)) (AreBytes-u64 info.excl_cmpr)
-
-limit_text-AreBytes : (limit : QgroupLimit) → AreBytes (limit_text limit)
-unfolding limit_text
-limit_text-AreBytes limit =
-    AreBytes-append (AreBytes-append (AreBytes-append (AreBytes-u64 limit.flags) (AreBytes-u64 limit.max_rfer)) (AreBytes-u64 limit.max_excl)) (AreBytes-zeros 16)
-
 -- the numbers of a leaf and of its items fit
 leaf-NodeFits : (owner address : ℕ) (items : List Item) → owner < 2 ^ 64 → address < 2 ^ 64 → AllByRecursion ItemFits items
     → NodeFits (fresh_leaf_of owner address items)
@@ -150,28 +101,23 @@ leaf-NodeFits owner address items owned placed items_fit =
     (record { address = placed; generation = lit< tt; owner = owned; level = lit< tt }, All-from_recursion ItemFits items items_fit)
 
 root_item-ItemFits : (tree address : ℕ) → tree < 2 ^ 64 → ItemFits (root_item tree address)
-root_item-ItemFits tree address fits = record { key = record { objectid = fits; kind = lit< tt; offset = lit< tt }; body = (root_text-AreBytes address).are }
-
-quota_item-ItemFits : (kind group : ℕ) (bytes : List ℕ) → kind < 256 → group < 2 ^ 64 → AreBytes bytes
-    → ItemFits (record { key = record { objectid = 0; kind = kind; offset = group }; body = bytes })
-quota_item-ItemFits kind group bytes kind_fits group_fits bytes_are =
-    record { key = record { objectid = lit< tt; kind = kind_fits; offset = group_fits }; body = bytes_are.are }
+root_item-ItemFits tree address fits = item-fits tree 132 0 (root_text (fresh_root address)) fits (lit< tt) (lit< tt) (root_text-AreBytes (fresh_root address) (lit< tt))
 
 quota_items-fit : (n : ℕ) → AllByRecursion ItemFits (quota_items n)
 quota_items-fit n =
     let status : QgroupStatus = record { generation = 1; flags = 1; cursor = 0 } in
     let info : QgroupInfo = record { generation = 1; rfer = n; rfer_cmpr = n; excl = n; excl_cmpr = n } in
     let limit : QgroupLimit = record { flags = 0; max_rfer = 0; max_excl = 0 } in
-    let status_item = quota_item-ItemFits 240 0 (status_text status) (lit< tt) (lit< tt) (status_text-AreBytes status) in
-    let info_item = quota_item-ItemFits 242 5 (info_text info) (lit< tt) (lit< tt) (info_text-AreBytes info) in
-    let limit_item = quota_item-ItemFits 244 5 (limit_text limit) (lit< tt) (lit< tt) (limit_text-AreBytes limit) in
+    let status_item = item-fits 0 240 0 (status_text status) (lit< tt) (lit< tt) (lit< tt) (status_text-AreBytes status) in
+    let info_item = item-fits 0 242 5 (info_text info) (lit< tt) (lit< tt) (lit< tt) (info_text-AreBytes info) in
+    let limit_item = item-fits 0 244 5 (limit_text limit) (lit< tt) (lit< tt) (lit< tt) (limit_text-AreBytes limit) in
     (status_item, (info_item, (limit_item, tt)))
 
 -- the four leaves' numbers fit
 pub fresh-fit : (sizes : Sizes) → is_served sizes ≡ true → AllByRecursion NodeFits (fresh_nodes sizes)
 fresh-fit sizes served =
-    let fit = SizesServed-is_served sizes served in
-    let bounds = node_size_bounds sizes.nodesize fit.nodesize in
+    let fit = SizesFit-is_served sizes served in
+    let bounds = node_size_bounds sizes.nodesize fit.node_size in
     let n = sizes.nodesize in
     let roots = root_items (slot_at sizes 1) (slot_at sizes 2) (slot_at sizes 3) in
     let extents_item = root_item-ItemFits 2 (slot_at sizes 1) (lit< tt) in
@@ -186,8 +132,8 @@ fresh-fit sizes served =
 -- bodies are read again
 pub fresh-ReadsBack : (sizes : Sizes) → is_served sizes ≡ true → ReadsBack sizes (slot_at sizes 1) (slot_at sizes 2) (slot_at sizes 3)
 fresh-ReadsBack sizes served =
-    let fit = SizesServed-is_served sizes served in
-    let bounds = node_size_bounds sizes.nodesize fit.nodesize in
+    let fit = SizesFit-is_served sizes served in
+    let bounds = node_size_bounds sizes.nodesize fit.node_size in
     let extents_fit : RootFits (fresh_root (slot_at sizes 1)) =
     record { generation = lit< tt; bytenr = omega arith; last_snapshot = lit< tt; refs = lit< tt; level = lit< tt } in
     let files_fit : RootFits (fresh_root (slot_at sizes 2)) =

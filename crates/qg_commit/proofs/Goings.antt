@@ -25,6 +25,10 @@ pub goes-sync : (events : List Event) (old new : Option (List Event)) (result : 
 goes-sync events old new (Ok done) goes is = goes-event events Synced old new goes is
 goes-sync events old new (Err fault) goes is = goes-kept events old new goes is
 
+-- a call that makes sure of what was done, and then one that writes
+pub goes-sync-write : (events : List Event) (old synced new : Option (List Event)) (sync write : Result Unit DiskFault) (at : ℕ) (bytes : List ℕ) → GoesOn events old → Syncs old synced sync → Writes synced new write at bytes → GoesOn events new
+goes-sync-write events old synced new sync write at bytes goes is is' = goes-write events synced new write at bytes (goes-sync events old synced sync goes is) is'
+
 -- what was done after what was done
 pub goes-on : (events : List Event) (old new : Option (List Event)) → GoesOn events old → ((between : List Event) → old ≡ Some between → GoesOn between new) → GoesOn events new
 goes-on events old new goes later =

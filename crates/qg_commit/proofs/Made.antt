@@ -13,32 +13,34 @@ use Rattle.qg_node.specs.Nodes.{header_of}
 use Rattle.qg_node.proofs.Again.{text_again}
 use Rattle.qg_super.specs.declared.sizes.Sizes.{Sizes}
 use Rattle.qg_super.specs.Places.{is_served, is_slot, slot_at, sector, total_bytes}
+use Rattle.qg_super.proofs.Served.{SizesFit, SizesFit-is_served}
+use Rattle.qg_super.proofs.Slots.{is_slot-slot_at}
 use Rattle.qg_verdict.specs.Walk.{node_found}
 use Rattle.qg_verdict.specs.IsFresh.{fresh_state}
 use Rattle.qg_commit.specs.Fresh.{fresh_super, fresh_nodes}
 use Rattle.qg_commit.specs.Calls.{IsReadBack, IsWritable, with_image}
 use Rattle.qg_laid.specs.Holds.{HasCommit}
 use Rattle.qg_commit.specs.Mkfs.{HoldsFreshImage}
-use Rattle.qg_commit.proofs.Slots.{SizesServed, SizesServed-is_served, node_size_bounds, slot_at-is_slot}
+use Rattle.qg_commit.proofs.Slots.{node_size_bounds}
 use Rattle.qg_commit.proofs.FreshImage.{HasFresh, fresh-sound, fresh-StateOf}
 use Rattle.qg_commit.proofs.FreshNodes.{fresh-is_super, fresh-writable, fresh-fit, fresh-ReadsBack}
 use Rattle.qg_commit.proofs.Written.{AreCommittable, with_commit-HasCommit}
 
 -- each of the first slots is one
-first_slot-is_slot : (sizes : Sizes) (k : ℕ) → SizesServed sizes → k < 4 → is_slot sizes (slot_at sizes k) ≡ true
+first_slot-is_slot : (sizes : Sizes) (k : ℕ) → SizesFit sizes → k < 4 → is_slot sizes (slot_at sizes k) ≡ true
 first_slot-is_slot sizes k fit below =
-    let slots : 64 ≤ sizes.slots = fit.slots in
-    let bounds = node_size_bounds sizes.nodesize fit.nodesize in
+    let slots : 64 ≤ sizes.slots = fit.some_slots in
+    let bounds = node_size_bounds sizes.nodesize fit.node_size in
     let some : 0 < sizes.nodesize = omega arith in
     let within : k < sizes.slots = omega arith in
-    slot_at-is_slot sizes k some within
+    is_slot-slot_at sizes k some within
 
 -- the first four slots are at different addresses
-first_slots-IsDistinct : (sizes : Sizes) → SizesServed sizes
+first_slots-IsDistinct : (sizes : Sizes) → SizesFit sizes
     → IsDistinct (λ a b. a == b) (slot_at sizes 0 ∷ slot_at sizes 1 ∷ slot_at sizes 2 ∷ slot_at sizes 3 ∷ [])
 unfolding IsDistinct
 first_slots-IsDistinct sizes fit =
-    let bounds = node_size_bounds sizes.nodesize fit.nodesize in
+    let bounds = node_size_bounds sizes.nodesize fit.node_size in
     let differ : (j k : ℕ) → slot_at sizes j + sizes.nodesize ≤ slot_at sizes k → (slot_at sizes j == slot_at sizes k) ≡ false =
     λ j k before. ne_eqb (slot_at sizes j) (slot_at sizes k) (λ same. omega arith) in (
       (differ 0 1 (omega arith), (differ 0 2 (omega arith), (differ 0 3 (omega arith), tt))),
@@ -48,7 +50,7 @@ first_slots-IsDistinct sizes fit =
 -- the four leaves can be written, each into a slot of its own
 fresh-AreCommittable : (sizes : Sizes) → is_served sizes ≡ true → AreCommittable (fresh_super sizes (slot_at sizes 0)) (fresh_nodes sizes)
 fresh-AreCommittable sizes served =
-    let fit = SizesServed-is_served sizes served in
+    let fit = SizesFit-is_served sizes served in
     let slot = λ (k : ℕ) (below : k < 4). first_slot-is_slot sizes k fit below in
     record {
       writable = fresh-writable sizes served;
@@ -60,7 +62,7 @@ fresh-AreCommittable sizes served =
 -- each is read from its text
 fresh-IsReadBack : (sizes : Sizes) → is_served sizes ≡ true → All (IsReadBack sizes.nodesize) (fresh_nodes sizes)
 fresh-IsReadBack sizes served =
-    let bounds = node_size_bounds sizes.nodesize (SizesServed-is_served sizes served).nodesize in
+    let bounds = node_size_bounds sizes.nodesize (SizesFit-is_served sizes served).node_size in
     let fits = All-from_recursion NodeFits (fresh_nodes sizes) (fresh-fit sizes served) in
     let writable = All-from_recursion (IsWritable sizes.nodesize) (fresh_nodes sizes) (fresh-writable sizes served) in
     λ k d below. text_again sizes.nodesize (get_or (fresh_nodes sizes) k d) (omega arith) (fits k d below) (writable k d below).node_of_format
@@ -77,7 +79,7 @@ pub made-HoldsFreshImage : (sizes : Sizes) (before : List Event) → is_served s
 made-HoldsFreshImage sizes before served =
     let super = fresh_super sizes (slot_at sizes 0) in
     let nodes = fresh_nodes sizes in
-    let fit = SizesServed-is_served sizes served in
+    let fit = SizesFit-is_served sizes served in
     let emptied = Wrote (total_bytes sizes - sector) (zeros sector) ∷ Cut 0 ∷ before in
     let image = content (with_image super nodes before) in
     let commit : HasCommit super nodes image =

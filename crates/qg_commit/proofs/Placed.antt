@@ -15,9 +15,10 @@ use Rattle.qg_node.specs.NodeText.{IsNode}
 use Rattle.qg_super.specs.declared.superblock.Super.{Super}
 use Rattle.qg_super.specs.Places.{is_slot}
 use Rattle.qg_super.specs.SuperText.{is_super, sizes_of}
+use Rattle.qg_super.proofs.Served.{SizesFit, SizesFit-is_served, SuperFits-is_super}
 use Rattle.qg_commit.specs.Calls.{IsWritable}
-use Rattle.qg_commit.proofs.Slots.{SizesServed, SizesServed-is_served, is_slot-IsBetween}
-use Rattle.qg_commit.proofs.Written.{address_of, AreCommittable, is_super-is_served}
+use Rattle.qg_commit.proofs.Slots.{is_slot-IsBetween}
+use Rattle.qg_commit.proofs.Written.{address_of, AreCommittable}
 
 -- ---- where the nodes lie
 
@@ -50,7 +51,7 @@ All-unmap P f (x ∷ xs) all =
 -- ---- what a commit asks of them
 
 -- a node of the format in a slot has a text and ends there
-slot-IsWritable : (super : Super) (node : Node) → SizesServed (sizes_of super) → IsNode super.nodesize node
+slot-IsWritable : (super : Super) (node : Node) → SizesFit (sizes_of super) → IsNode super.nodesize node
     → is_slot (sizes_of super) (address_of node) ≡ true → IsWritable super.nodesize node
 slot-IsWritable super node served is slot =
     let between = is_slot-IsBetween (sizes_of super) (address_of node) served slot in
@@ -62,7 +63,7 @@ pub placed-AreCommittable : (super : Super) (slots : List ℕ) (nodes : List Nod
     → map (λ node. (header_of node).address) nodes ≡ take (length nodes) slots → All (IsNode super.nodesize) nodes
     → AreCommittable super nodes
 placed-AreCommittable super slots nodes is are_slots distinct placed are =
-    let served = SizesServed-is_served (sizes_of super) (is_super-is_served super is) in
+    let served = SizesFit-is_served (sizes_of super) (SuperFits-is_super super is).served in
     let IsSlot = λ (slot : ℕ). IsTrue (is_slot (sizes_of super) slot) in
     let firsts = All-take IsSlot (length nodes) slots are_slots in
     let in_slots = All-unmap IsSlot address_of nodes (subst (All IsSlot) (sym placed) firsts) in

@@ -1,8 +1,8 @@
 -- What stands in an image after a commit: both superblocks, and each node in its slot.
 use Rattle.std.proofs.Common.{◌≡◌, ℕ, ◌+◌, ◌≤◌, ◌⊎◌, inl, inr, true, false, List, [], ◌∷◌, map, length, get_or, Some, Ok, refl, ap, ◌∙◌, arith}
-use Rattle.std.specs.Prelude.{◌-◌, ◌^◌, ◌==◌, ◌&&◌, nat_le, nat_lt, IsTrue, All}
+use Rattle.std.specs.Prelude.{◌==◌, IsTrue, All}
 use Rattle.std.specs.List.{AllByRecursion, IsDistinct}
-use Rattle.std.proofs.lemmas.Bool.{and_parts, eqb-false}
+use Rattle.std.proofs.lemmas.Bool.{eqb-false}
 use Rattle.std.proofs.lemmas.List.Elements.{All-from_recursion, recursion_from_All}
 use Rattle.std.proofs.lemmas.Map.Keys.{IsDistinct-head, IsDistinct-tail}
 use Rattle.qg_device.specs.History.{Event, Wrote, overlay, content}
@@ -13,14 +13,15 @@ use Rattle.qg_node.specs.NodeText.{node_text}
 use Rattle.qg_node.specs.Reading.{node_read}
 use Rattle.qg_node.proofs.Texts.{length-node_text}
 use Rattle.qg_super.specs.declared.superblock.Super.{Super}
-use Rattle.qg_super.specs.Places.{first_place, second_place, slots_begin, sector, is_slot, is_served, total_bytes}
+use Rattle.qg_super.specs.Places.{first_place, second_place, slots_begin, sector, is_slot, total_bytes}
 use Rattle.qg_super.specs.SuperText.{super_text, super_read, is_super, sizes_of}
 use Rattle.qg_super.proofs.SuperTexts.{length-super_text, super_read-super_text}
+use Rattle.qg_super.proofs.Served.{SizesFit, SizesFit-is_served, SuperFits-is_super}
 use Rattle.qg_verdict.specs.Walk.{node_found}
 use Rattle.qg_verdict.specs.StateOf.{super_in}
 use Rattle.qg_commit.specs.Calls.{IsReadBack, IsWritable, with_nodes, with_commit}
 use Rattle.qg_laid.specs.Holds.{HasCommit}
-use Rattle.qg_commit.proofs.Slots.{SizesServed, SizesServed-is_served, is_slot-IsBetween, slots-apart}
+use Rattle.qg_commit.proofs.Slots.{is_slot-IsBetween, slots-apart}
 use Rattle.qg_commit.proofs.Ranges.{HasRange, written-HasRange, kept-HasRange, range-slice_range}
 
 -- where a node lies, in bytes
@@ -158,7 +159,7 @@ node_found-HasRange super image node is has =
     rw is.slot (rw bytes (rw is.again refl))
 
 -- each node is found after both superblocks were written over what holds the nodes
-nodes-found : (super : Super) (old : List ℕ) (nodes : List Node) → SizesServed (sizes_of super) → AllByRecursion (IsPlaced super) nodes
+nodes-found : (super : Super) (old : List ℕ) (nodes : List Node) → SizesFit (sizes_of super) → AllByRecursion (IsPlaced super) nodes
     → AllByRecursion (λ node. HasRange old (address_of node) (node_text super.nodesize node)) nodes
     → AllByRecursion (λ node. node_found super (with_supers super old) (address_of node) ≡ Ok node) nodes
 nodes-found super old [] served are stand = tt
@@ -171,20 +172,12 @@ nodes-found super old (node ∷ nodes) served are stand =
 
 -- ---- the commit
 
--- the sizes of a superblock are served
-pub is_super-is_served : (super : Super) → is_super super ≡ true → is_served (sizes_of super) ≡ true
-unfolding is_super
-is_super-is_served super is =
-    let fields = nat_le 1 super.generation && nat_lt super.generation (2 ^ 64 - 1) && nat_lt super.root (2 ^ 64) in
-    let served = is_served (sizes_of super) in
-    (and_parts fields served (and_parts (fields && served) (super.format == 1) is).0).1
-
 -- after a commit an image that was long enough has both superblocks, and each node where it lies, if each is read from its text
 pub with_commit-HasCommit : (super : Super) (nodes : List Node) (events : List Event) → is_super super ≡ true
     → total_bytes (sizes_of super) ≤ length (content events) → AreCommittable super nodes → All (IsReadBack super.nodesize) nodes
     → HasCommit super nodes (content (with_commit super nodes events))
 with_commit-HasCommit super nodes events is long are read =
-    let served = SizesServed-is_served (sizes_of super) (is_super-is_served super is) in
+    let served = SizesFit-is_served (sizes_of super) (SuperFits-is_super super is).served in
     let placed = all-IsPlaced super nodes are read in
     let image = content (with_commit super nodes events) in
     let written = content (with_nodes super.nodesize nodes events) in

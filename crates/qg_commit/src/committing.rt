@@ -1,6 +1,6 @@
 // A commit.
-ghost use Rattle.std.specs.Prelude.{◌≡◌, ◌⊎◌, ◌≤◌, ◌+◌, ◌*◌, ◌^◌, List, ℕ, Some, None, length, map, All, OnOk, IfOk, IfErr, IsTrue};
-ghost use Rattle.std.specs.List.{AllByRecursion, Contains, sum_by};
+ghost use Rattle.std.specs.Prelude.{◌≡◌, ◌⊎◌, ◌≤◌, List, ℕ, Some, length, map, All, OnOk, IfOk, IfErr, IsTrue};
+ghost use Rattle.std.specs.List.{AllByRecursion, Contains};
 ghost use Rattle.std.specs.Option.{option_map};
 ghost use Rattle.qg_device.specs.Cause.{HasCause};
 ghost use Rattle.qg_device.specs.History.{Event, content};
@@ -9,52 +9,32 @@ ghost use Rattle.qg_node.specs.NodeText.{IsNodeSize};
 ghost use Rattle.qg_super.specs.Places.{is_slot, total_bytes};
 ghost use Rattle.qg_super.specs.SuperText.{is_super, sizes_of};
 ghost use Rattle.qg_state.specs.declared.quota.Group.{Group};
-ghost use Rattle.qg_state.specs.Need.{file_bytes, nodes_filled};
 ghost use Rattle.qg_state.specs.State.{State, Subvolume};
-ghost use Rattle.qg_verdict.specs.Verdict.{space_failure};
-ghost use Rattle.qg_rules.specs.Writable.{AreWritableFiles, IsFileBy};
-ghost use Rattle.qg_laid.specs.Trees.{AreEnough, AreFor, AreTreesLaid, IsCommitOf, nodes_laid};
+ghost use Rattle.qg_laid.specs.Trees.{ArePartsOf, AreTreesOf, CanBeLaid, IsCommitOf, nodes_laid};
 ghost use Rattle.qg_commit.specs.Calls.{GoesOn, IsReadBack, IsWritable, with_commit};
 
 use crate::write::{write_nodes, write_superblocks};
 use qg_disk::{Disk, DiskFault};
-use qg_image::File;
-use qg_items::RootItem;
-use qg_laid::{Laid, lay_out};
-use qg_num::{Address, BlockFault, Counters, Generation, Ino};
-use qg_state::Element;
-use qg_super::Super;
+use qg_laid::{Laid, Parts, lay_out};
+use qg_num::{Address, BlockFault};
 use std::alloc::Global;
 
 /// Builds all trees anew in free slots and writes them, then the superblocks (this project's own).
 ///
-/// The only subvolume is the top-level one, which has these files and names these extents; its ROOT_ITEM and its group's counters and stamp
-/// are those of the last commit, whose superblock `committed` is. `slots` are addresses of free slots, in bytes.
+/// The only subvolume is the top-level one, and the commit starts from `parts` of it. `slots` are addresses of free slots, in bytes.
 pub fn commit<D: Disk>(
     alloc: Global,
     disk: &mut D,
-    committed: &Super,
-    root: &RootItem,
-    files: &[(Ino, File)],
-    extents: &[Element],
-    counters: &Counters,
-    stamp: Generation,
+    parts: &Parts<'_>,
     slots: &[Address],
 ) -> Result<Laid, BlockFault>
-    requires superblock { IsTrue (is_super committed.now) }
-    requires generation { committed.now.generation ≤ 2 ^ 63 }
-    requires copied { root.now.last_snapshot ≤ committed.now.generation }
-    requires stamp { stamp ≤ committed.now.generation }
-    requires files { AreWritableFiles files.now }
-    requires by { All (IsFileBy (committed.now.generation + 1)) files.now }
-    requires space { space_failure (sizes_of committed.now) extents.now ≡ None }
-    requires room { AreEnough (5 * nodes_filled committed.now.nodesize (sum_by (λ file. file_bytes file.1) files.now) + 14) slots.now }
-    requires slots { All (λ slot. IsTrue (is_slot (sizes_of committed.now) slot)) slots.now }
-    requires long { total_bytes (sizes_of committed.now) ≤ D.size disk.old }
+    requires parts { CanBeLaid parts.now slots.now }
+    requires slots { All (λ slot. IsTrue (is_slot (sizes_of parts.now.superblock.now) slot)) slots.now }
+    requires long { total_bytes (sizes_of parts.now.superblock.now) ≤ D.size disk.old }
 
     // What was built, whatever the disk tells.
     ensures superblock { IfOk result (λ laid. IsTrue (is_super laid.superblock)) }
-    ensures trees { IfOk result (λ laid. AreTreesLaid committed.now root.now files.now extents.now counters.now stamp slots.now laid) }
+    ensures trees { IfOk result (λ laid. AreTreesOf parts.now slots.now laid) }
     ensures placed { IfOk result (λ laid. (slot : ℕ)
         → Contains (map (λ node. (header_of node).address) (nodes_laid laid)) slot → Contains slots.now slot) }
 
@@ -62,8 +42,8 @@ pub fn commit<D: Disk>(
     ensures calls { (events : List Event) → D.history disk.old ≡ Some events
         → IfOk result (λ laid. D.history disk.new ≡ Some (with_commit laid.superblock (nodes_laid laid) events)) }
     ensures committed { (events : List Event) (old : State) (before : Subvolume) (group : Group) → D.history disk.old ≡ Some events
-        → IfOk result (λ laid. AreFor old before group committed.now root.now files.now extents.now counters.now stamp slots.now
-        → IsCommitOf old laid files.now (content (with_commit laid.superblock (nodes_laid laid) events))) }
+        → IfOk result (λ laid. ArePartsOf old before group parts.now slots.now
+        → IsCommitOf old laid parts.now.files.now (content (with_commit laid.superblock (nodes_laid laid) events))) }
 
     // Whatever it answers, nothing of what was done before is lost.
     ensures later { (events : List Event) → D.history disk.old ≡ Some events → GoesOn events (D.history disk.new) }
@@ -73,10 +53,8 @@ pub fn commit<D: Disk>(
     ensures no_image { IfErr result (λ fault. (fault ≡ BlockFault.Disk) ⊎ (fault ≡ BlockFault.NoMemory)) }
     ensures cause { HasCause BlockFault.Disk (D.faults disk.old) (D.faults disk.new) result }
 {
-    let laid = lay_out(
-        alloc, committed, root, files, extents, counters, stamp, slots,
-    )?;
-    let mut buffer = vec![in alloc; 0; committed.nodesize as usize]?;
+    let laid = lay_out(alloc, parts, slots)?;
+    let mut buffer = vec![in alloc; 0; parts.superblock.nodesize as usize]?;
     match write_laid(disk, &laid, &mut buffer) {
         Ok(()) => Ok(laid),
         Err(DiskFault::Failed) => Err(BlockFault::Disk),

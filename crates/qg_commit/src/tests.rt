@@ -11,7 +11,7 @@ use qg_check::Image;
 use qg_disk::{Call, Disk, DiskFault, MemDisk, Request};
 use qg_image::File;
 use qg_items::RootItem;
-use qg_laid::Laid;
+use qg_laid::{Laid, Parts};
 use qg_num::{Address, BlockFault, Counters, Generation, Ino, NoMemory, Pieces, Rule};
 use qg_state::Element;
 use qg_super::{Sizes, Super};
@@ -426,20 +426,17 @@ fn commit_one<D: Disk>(alloc: Global, disk: &mut D) -> Result<Laid, BlockFault>
         excl: 4096,
     };
     let slots = free_slots(alloc)?;
-    let committed = least_super();
+    let superblock = least_super();
     let root = least_root();
-    let stamp = Generation::new(1);
-    commit(
-        alloc,
-        disk,
-        &committed,
-        &root,
-        &files,
-        &extents,
-        &counters,
-        stamp,
-        slots.as_slice(),
-    )
+    let parts = Parts {
+        superblock: &superblock,
+        root: &root,
+        files: &files,
+        extents: &extents,
+        counters: &counters,
+        stamp: Generation::new(1),
+    };
+    commit(alloc, disk, &parts, slots.as_slice())
 }
 
 // Makes a fresh image, and commits the file to it.

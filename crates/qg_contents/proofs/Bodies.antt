@@ -1,8 +1,6 @@
 -- The texts of bodies are bytes.
-use Rattle.std.proofs.Common.{ℕ, zero, suc, ◌<◌, ◌^◌, List, [], ◌∷◌, ◌++◌, lit<}
-use Rattle.qg_bytes.specs.Fields.{IsBytes, zeros, u16_bytes, u32_bytes, u64_bytes}
-use Rattle.qg_bytes.proofs.Numbers.{IsBytes-append, IsBytes-zeros, IsBytes-u64_bytes, IsBytes-u32_bytes, IsBytes-u16_bytes}
-use Rattle.qg_num.specs.Key.{IsKey}
+use Rattle.std.proofs.Common.{ℕ, ◌<◌, ◌^◌, List, lit<}
+use Rattle.qg_bytes.proofs.AreBytes.{AreBytes, append, of_byte, of_zeros, of_u16, of_u32, of_u64}
 use Rattle.qg_node.specs.Fits.{ItemFits}
 use Rattle.qg_items.specs.declared.file.InodeItem.{InodeItem}
 use Rattle.qg_items.specs.declared.file.ExtentData.{ExtentData}
@@ -12,32 +10,6 @@ use Rattle.qg_items.specs.declared.quota.QgroupInfo.{QgroupInfo}
 use Rattle.qg_items.specs.declared.quota.QgroupLimit.{QgroupLimit}
 use Rattle.qg_items.specs.ItemText.{inode_text, extent_data_text, root_text, status_text, info_text, limit_text}
 use Rattle.qg_contents.specs.Written.{item_under}
-
--- a record, so that lists are found from the facts
-pub record AreBytes (bytes : List ℕ) : Type 0 where
-  pub are : IsBytes bytes
-
-append : {front back : List ℕ} → AreBytes front → AreBytes back → AreBytes (front ++ back)
-append {front} {back} first second = record { are = IsBytes-append front back first.are second.are }
-
-one_byte : (byte : ℕ) → byte < 256 → IsBytes (byte ∷ [])
-one_byte byte small zero = small
-one_byte byte small (suc i) = lit< tt
-
-of_byte : (byte : ℕ) → byte < 256 → AreBytes (byte ∷ [])
-of_byte byte small = record { are = one_byte byte small }
-
-of_zeros : (n : ℕ) → AreBytes (zeros n)
-of_zeros n = record { are = IsBytes-zeros n }
-
-of_u64 : (n : ℕ) → AreBytes (u64_bytes n)
-of_u64 n = record { are = IsBytes-u64_bytes n }
-
-of_u32 : (n : ℕ) → AreBytes (u32_bytes n)
-of_u32 n = record { are = IsBytes-u32_bytes n }
-
-of_u16 : (n : ℕ) → AreBytes (u16_bytes n)
-of_u16 n = record { are = IsBytes-u16_bytes n }
 
 -- ---- each body
 

@@ -1,13 +1,13 @@
 -- The numbers of files that can be written fit their fields.
 use Rattle.std.proofs.Common.{◌≡◌, ℕ, ◌+◌, ◌≤◌, ◌<◌, ◌^◌, true, List, [], ◌∷◌, arith}
-use Rattle.std.specs.Prelude.{All, ◌&&◌, ◌==◌, nat_le, nat_lt}
 use Rattle.std.specs.List.{AllByRecursion}
-use Rattle.std.proofs.lemmas.Bool.{and_parts, leb-true, ltb-true}
+use Rattle.std.proofs.lemmas.Bool.{leb-true}
 use Rattle.std.proofs.lemmas.List.Elements.{recursion_from_All}
 use Rattle.qg_num.specs.declared.piece.Piece.{Piece}
 use Rattle.qg_items.specs.Laws.{InodeFits, ExtentDataFits}
 use Rattle.qg_image.specs.declared.file.File.{File}
-use Rattle.qg_image.specs.FilesOf.{are_pieces, is_aligned, is_file, is_piece, largest_size, piece_end}
+use Rattle.qg_image.specs.FilesOf.{are_pieces, is_file, piece_end}
+use Rattle.qg_image.proofs.Pieces.{WholePiece-is_piece, FirstPiece-are_pieces, WholeFile-is_file}
 use Rattle.qg_rules.proofs.Pieces.{file_small}
 use Rattle.qg_rules.specs.Writable.{IsPlaced, IsWritableFile, IsFileBy}
 use Rattle.qg_contents.specs.Written.{inode_of, extent_data_of}
@@ -23,27 +23,15 @@ record AreWithin (from size : ℕ) (pieces : List Piece) : Type 0 where
   above : from ≤ size
   each : AllByRecursion (IsWithin size) pieces
 
-pub piece_inside : (piece : Piece) → is_piece piece ≡ true → (0 < piece.len) × (piece.offset + piece.len ≤ piece.extent_bytes)
-unfolding is_piece
-piece_inside piece h =
-    let five = and_parts (is_aligned piece.position && is_aligned piece.len && nat_lt 0 piece.len && is_aligned piece.offset && is_aligned piece.extent_bytes)
-    (nat_le (piece.offset + piece.len) piece.extent_bytes) h in
-    let four = and_parts (is_aligned piece.position && is_aligned piece.len && nat_lt 0 piece.len && is_aligned piece.offset) (is_aligned piece.extent_bytes) five.0 in
-    let three = and_parts (is_aligned piece.position && is_aligned piece.len && nat_lt 0 piece.len) (is_aligned piece.offset) four.0 in
-    let two = and_parts (is_aligned piece.position && is_aligned piece.len) (nat_lt 0 piece.len) three.0 in
-    (ltb-true 0 piece.len two.1, leb-true (piece.offset + piece.len) piece.extent_bytes five.1)
-
 within : (from size : ℕ) (pieces : List Piece) → are_pieces from size pieces ≡ true → AreWithin from size pieces
 unfolding are_pieces
 within from size [] h = record { above = leb-true from size h; each = tt }
 within from size (piece ∷ pieces) h =
-    let all = and_parts (nat_le from piece.position && is_piece piece) (are_pieces (piece_end piece) size pieces) h in
-    let here = and_parts (nat_le from piece.position) (is_piece piece) all.0 in
-    let begins = leb-true from piece.position here.0 in
-    let inside = piece_inside piece here.1 in
-    let later = within (piece_end piece) size pieces all.1 in
+    let first = FirstPiece-are_pieces from size piece pieces h in
+    let whole = WholePiece-is_piece piece first.is in
+    let later = within (piece_end piece) size pieces first.rest in
     let above : piece.position + piece.len ≤ size = later.above in
-    record { above = omega arith; each = (record { ends = above; some = inside.0; inside = inside.1 }, later.each) }
+    record { above = omega (arith, first.begins); each = (record { ends = above; some = whole.some; inside = whole.in_extent }, later.each) }
 
 -- the parts of a sound file
 pub record IsSoundFile (file : File) : Type 0 where
@@ -52,11 +40,9 @@ pub record IsSoundFile (file : File) : Type 0 where
   pub each : AllByRecursion (IsWithin file.size) file.pieces
 
 pub sound_file : (file : File) → is_file file ≡ true → IsSoundFile file
-unfolding is_file
 sound_file file h =
-    let all = and_parts (is_aligned file.size && nat_le file.size largest_size) (are_pieces 0 file.size file.pieces) h in
-    let most = leb-true file.size largest_size (and_parts (is_aligned file.size) (nat_le file.size largest_size) all.0).1 in
-    record { small = most; pieces = all.1; each = (within 0 file.size file.pieces all.1).each }
+    let whole = WholeFile-is_file file h in
+    record { small = whole.least; pieces = whole.pieces; each = (within 0 file.size file.pieces whole.pieces).each }
 
 -- ---- fields
 

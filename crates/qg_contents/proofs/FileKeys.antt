@@ -1,13 +1,11 @@
 -- The keys of files' items ascend.
-use Rattle.std.proofs.Common.{◌≡◌, ℕ, zero, suc, ◌+◌, ◌≤◌, ◌<◌, Bool, true, List, [], ◌∷◌, ◌++◌, map, length, refl, sym, ap, ◌∙◌, arith, subst}
-use Rattle.std.specs.Prelude.{◌&&◌, ◌==◌, nat_le, nat_lt, slice_index}
+use Rattle.std.proofs.Common.{◌≡◌, ℕ, suc, ◌+◌, ◌≤◌, ◌<◌, Bool, true, List, [], ◌∷◌, ◌++◌, map, refl, sym, ap, ◌∙◌, arith, subst}
+use Rattle.std.specs.Prelude.{◌&&◌, slice_index}
 use Rattle.std.specs.List.{AllByRecursion, flat_map}
 use Rattle.std.specs.List.Sorted.{IsStrictlyIncreasing}
-use Rattle.std.specs.Ordering.{is_lt, nat_cmp, ordering_then}
+use Rattle.std.specs.Ordering.{is_lt, nat_cmp}
 use Rattle.std.specs.Cmp.{nat_cmp_is}
 use Rattle.std.specs.declared.cmp.Ordering.TheVariants.{Less, Equal}
-use Rattle.std.proofs.lemmas.Bool.{and_parts, leb-true}
-use Rattle.std.proofs.lemmas.List.{map-append}
 use Rattle.qg_num.specs.Key.{key_cmp}
 use Rattle.qg_num.specs.declared.key.Key.{Key}
 use Rattle.qg_num.specs.declared.piece.Piece.{Piece}
@@ -15,12 +13,13 @@ use Rattle.qg_node.specs.declared.item.Item.{Item}
 use Rattle.qg_node.specs.Nodes.{ascends_from, is_ascending}
 use Rattle.qg_image.specs.declared.file.File.{File}
 use Rattle.qg_image.specs.declared.part.FilePart.{FilePart}
-use Rattle.qg_image.specs.declared.part.FilePart.TheVariants.{Inode, PieceOf}
-use Rattle.qg_image.specs.FilesOf.{are_pieces, is_file, is_piece, piece_end}
+use Rattle.qg_image.specs.declared.part.FilePart.TheVariants.{PieceOf}
+use Rattle.qg_image.specs.FilesOf.{are_pieces, piece_end}
 use Rattle.qg_image.specs.Table.{keys_of}
+use Rattle.qg_image.proofs.Pieces.{WholePiece-is_piece, FirstPiece-are_pieces}
 use Rattle.qg_parts.specs.Keys.{file_key, key_with}
-use Rattle.qg_contents.specs.Written.{items_of_file, inode_of}
-use Rattle.qg_contents.proofs.FileBounds.{IsSoundFile, piece_inside}
+use Rattle.qg_contents.specs.Written.{items_of_file}
+use Rattle.qg_contents.proofs.FileBounds.{IsSoundFile}
 use Rattle.qg_contents.proofs.FileParts.{parts_of_file, files_keyed}
 
 -- ---- two keys
@@ -52,9 +51,6 @@ record Follow (ino : ℕ) (rest : List FilePart) : Type 0 where
 both : (a b : Bool) → a ≡ true → b ≡ true → (a && b) ≡ true
 both a b first second = rw (first, second) refl
 
-piece_some : (piece : Piece) → is_piece piece ≡ true → 0 < piece.len
-piece_some piece h = (piece_inside piece h).0
-
 pieces_ascend : (ino kind offset from size : ℕ) (pieces : List Piece) (rest : List FilePart)
     → ((position : ℕ) → from ≤ position → is_lt (key_cmp (key_with ino kind offset) (key_with ino 108 position)) ≡ true)
     → are_pieces from size pieces ≡ true → Follow ino rest
@@ -62,14 +58,13 @@ pieces_ascend : (ino kind offset from size : ℕ) (pieces : List Piece) (rest : 
 unfolding ascends_from are_pieces
 pieces_ascend ino kind offset from size [] rest before h follow = follow.after kind offset
 pieces_ascend ino kind offset from size (piece ∷ pieces) rest before h follow =
-    let all = and_parts (nat_le from piece.position && is_piece piece) (are_pieces (piece_end piece) size pieces) h in
-    let here = and_parts (nat_le from piece.position) (is_piece piece) all.0 in
-    let some : 0 < piece.len = piece_some piece here.1 in
+    let first = FirstPiece-are_pieces from size piece pieces h in
+    let some : 0 < piece.len = (WholePiece-is_piece piece first.is).some in
     both (is_lt (key_cmp (key_with ino kind offset) (key_with ino 108 piece.position)))
     (ascends_from (key_with ino 108 piece.position) (map file_key (map (PieceOf ino) pieces ++ rest)))
-    (before piece.position (leb-true from piece.position here.0))
+    (before piece.position first.begins)
     (pieces_ascend ino 108 piece.position (piece_end piece) size pieces rest
-    (λ position above. before_piece ino piece.position position (omega arith)) all.1 follow)
+    (λ position above. before_piece ino piece.position position (omega arith)) first.rest follow)
 
 -- ---- all files
 

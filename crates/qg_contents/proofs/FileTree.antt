@@ -1,11 +1,11 @@
 -- The items of files, all together.
-use Rattle.std.proofs.Common.{◌≡◌, ℕ, ◌+◌, ◌*◌, ◌≤◌, ◌<◌, ◌^◌, true, List, [], ◌∷◌, ◌++◌, map, length, refl, sym, ap, ◌∙◌, subst, arith, lit<}
-use Rattle.std.specs.Prelude.{Some, All, ◌&&◌, ◌==◌, nat_le, nat_lt}
+use Rattle.std.proofs.Common.{◌≡◌, ℕ, ◌+◌, ◌*◌, ◌≤◌, ◌<◌, ◌^◌, true, List, [], ◌∷◌, ◌++◌, map, length, refl, sym, ◌∙◌, subst, arith, lit<}
+use Rattle.std.specs.Prelude.{Some, All}
 use Rattle.std.specs.Bool.{then_some}
 use Rattle.std.specs.List.{AllByRecursion, flat_map, list_all, sum_by}
 use Rattle.std.proofs.lemmas.Bool.{eq-eqb, le-leb, lt-ltb}
 use Rattle.std.proofs.lemmas.List.{append_assoc, append-nil}
-use Rattle.std.proofs.lemmas.List.Elements.{All-append, All-cons, All-nil, recursion_from_All, All-map}
+use Rattle.std.proofs.lemmas.List.Elements.{All-append, All-cons, All-nil, recursion_from_All}
 use Rattle.std.proofs.lemmas.List.Sums.{sum_by-append, sum_by-cons}
 use Rattle.qg_num.specs.declared.piece.Piece.{Piece}
 use Rattle.qg_node.specs.declared.item.Item.{Item}
@@ -15,12 +15,10 @@ use Rattle.qg_items.specs.ItemText.{inode_text, extent_data_text}
 use Rattle.qg_items.proofs.FileBodies.{length-inode_text, length-extent_data_text}
 use Rattle.qg_image.specs.declared.file.File.{File}
 use Rattle.qg_image.specs.declared.part.FilePart.{FilePart}
-use Rattle.qg_image.specs.declared.part.FilePart.TheVariants.{Inode, PieceOf}
-use Rattle.qg_image.specs.FilesOf.{are_files, file_parts, files_in, files_of, is_file, is_file_item, least_inode, inodes_end, pieces_bytes}
-use Rattle.qg_image.specs.Table.{keys_of}
+use Rattle.qg_image.specs.FilesOf.{are_files, files_in, files_of, is_file_item, pieces_bytes}
 use Rattle.qg_parts.specs.Keys.{file_key}
 use Rattle.qg_rules.specs.declared.parts.FileItems.{FileItems}
-use Rattle.qg_rules.specs.Files.{file_told, is_file_of}
+use Rattle.qg_rules.specs.Files.{is_file_of}
 use Rattle.qg_rules.proofs.Pieces.{file_small}
 use Rattle.qg_rules.proofs.Standing.{StartsOther}
 use Rattle.qg_rules.proofs.Reading.{IsNext, IsReading, IsReading-none, IsReading-more, IsReading-all, file_told-judged}

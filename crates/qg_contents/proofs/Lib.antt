@@ -1,4 +1,4 @@
-mod Bodies
+pub mod Bodies
 mod RootTree
 mod QuotaTree
 mod FileBounds

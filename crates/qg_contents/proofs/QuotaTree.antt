@@ -1,5 +1,5 @@
 -- The items of the quota tree.
-use Rattle.std.proofs.Common.{◌≡◌, ℕ, ◌≤◌, ◌<◌, ◌^◌, true, List, [], ◌∷◌, map, length, refl, arith, lit<}
+use Rattle.std.proofs.Common.{◌≡◌, ℕ, ◌≤◌, ◌<◌, ◌^◌, true, [], ◌∷◌, map, length, refl, arith, lit<}
 use Rattle.std.specs.Prelude.{Some, All}
 use Rattle.std.specs.List.{filter_map, list_all}
 use Rattle.std.proofs.lemmas.Bool.{eq-eqb, le-leb}

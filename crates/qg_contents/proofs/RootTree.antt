@@ -1,7 +1,7 @@
 -- The items of the root tree.
-use Rattle.std.proofs.Common.{◌≡◌, ℕ, ◌≤◌, ◌<◌, ◌^◌, true, List, [], ◌∷◌, map, length, refl, arith, lit<}
+use Rattle.std.proofs.Common.{◌≡◌, ℕ, ◌≤◌, ◌<◌, ◌^◌, true, [], ◌∷◌, map, length, refl, arith, lit<}
 use Rattle.std.specs.Prelude.{Some, All, ◌==◌, ◌||◌}
-use Rattle.std.specs.List.{filter_map, list_all, AllByRecursion}
+use Rattle.std.specs.List.{filter_map, list_all}
 use Rattle.std.proofs.lemmas.Bool.{eq-eqb, le-leb}
 use Rattle.std.proofs.lemmas.List.Elements.{All-from_recursion}
 use Rattle.qg_node.specs.declared.item.Item.{Item}

@@ -1,10 +1,10 @@
 -- What an edit at indices leaves, as what pieces have beside a range. Positions and lengths are in bytes.
-use Rattle.std.proofs.Common.{◌≡◌, ℕ, ◌+◌, ◌-◌, ◌<◌, ◌≤◌, inl, inr, Bool, false, List, [], ◌∷◌, ◌++◌, length, get_or, take, drop, set, Option, Some, None, refl, sym, ap, subst, ◌∙◌, arith, append_assoc}
+use Rattle.std.proofs.Common.{◌≡◌, ℕ, ◌+◌, ◌-◌, ◌<◌, ◌≤◌, inl, inr, Bool, false, List, [], ◌∷◌, ◌++◌, length, get_or, take, drop, Option, Some, None, refl, sym, ap, subst, ◌∙◌, arith, append_assoc}
 use Rattle.std.specs.Prelude.{nat_lt, ◌&&◌, count_by, cond}
 use Rattle.std.specs.List.{All, AllByRecursion, cons_option, filter_map}
 use Rattle.std.specs.Option.{option_to_list, option_and_then}
 use Rattle.std.proofs.lemmas.Bool.{cases_lt, cases_Bool, and_cases, cond-true, ltb-false, lt-ltb, true≢false}
-use Rattle.std.proofs.lemmas.List.{take-append-drop, take_more, append-nil, get_or-take, get_or-drop, length-take-le, length-drop, set_at, take_all, drop-drop}
+use Rattle.std.proofs.lemmas.List.{take-append-drop, take_more, append-nil, get_or-take, get_or-drop, length-take-le, length-drop, take_all, drop-drop}
 use Rattle.std.proofs.lemmas.List.Elements.{recursion_from_All, All-from_recursion, All-weaker, All-drop, filter_map-append}
 use Rattle.std.proofs.lemmas.List.Sums.{sum_by-cons}
 use Rattle.qg_num.specs.declared.piece.Piece.{Piece}
@@ -13,6 +13,7 @@ use Rattle.qg_machine.specs.FileChange.{part_before, part_after, before, after, 
 use Rattle.qg_files.specs.Apart.{IsWithinSizes, AreApart}
 use Rattle.qg_files.specs.Meeting.{IsFirstPast, IsFirstFrom, AreMeeting}
 use Rattle.qg_files.proofs.Order.{all_within_sizes, apart-take, apart-drop}
+use Rattle.qg_files.proofs.Splices.{beside_middle}
 use Rattle.qg_files.proofs.Ranges.{cons_none, before_nothing, after_all, after_nothing, before-append, after-append, before_at, after_at, before_split, after_split}
 
 -- ---- indices
@@ -20,6 +21,15 @@ use Rattle.qg_files.proofs.Ranges.{cons_none, before_nothing, after_all, after_n
 -- a piece of the list is within the sizes
 pub sizes_at : (xs : List Piece) (i : ℕ) (x : Piece) → AreApart xs → i < length xs → x ≡ get_or xs i x → IsWithinSizes x
 sizes_at xs i x apart short is = subst IsWithinSizes (sym is) (All-from_recursion IsWithinSizes xs (all_within_sizes 0 xs apart) i x short)
+
+-- a piece that is read of a list that is the same
+pub read_is : (xs items : List Piece) (i : ℕ) (x : Piece) → items ≡ xs → x ≡ get_or items i x → x ≡ get_or xs i x
+read_is xs items i x same is = is ∙ ap (λ zs. get_or zs i x) same
+
+-- and so is the last one that a range meets
+pub last_sizes : (from to : ℕ) (xs items : List Piece) (first end : ℕ) (y : Piece) → AreApart xs → AreMeeting from to xs first end → first < end → items ≡ xs → y ≡ get_or items (end - 1) y → IsWithinSizes y
+last_sizes from to xs items first end y apart meeting some same is =
+    sizes_at xs (end - 1) y apart (omega (arith, meeting.finish.bound)) (read_is xs items (end - 1) y same is)
 
 -- the first piece of the rest of a list
 pub at_drop : {A : Type 0} (P : A → Type 0) (xs : List A) (i : ℕ) (d : A) → i < length xs → All P (drop i xs) → P (get_or xs i d)
@@ -74,16 +84,27 @@ after_meeting from to xs first end y apart meeting some is =
     after_at to xs (end - 1) y apart behind (omega (arith, meeting.finish.bound)) is begun ∙ ap (λ k. option_to_list (part_after to y) ++ drop k xs) last
 
 -- so both stand in the place of those that the range meets
-pub cut_meeting : (from to : ℕ) (xs : List Piece) (first end : ℕ) (x y : Piece) → AreApart xs → AreMeeting from to xs first end → first < end
-    → x ≡ get_or xs first x → y ≡ get_or xs (end - 1) y
+pub cut_meeting : (from to : ℕ) (xs items : List Piece) (first end : ℕ) (x y : Piece) → AreApart xs → AreMeeting from to xs first end → first < end
+    → items ≡ xs → x ≡ get_or items first x → y ≡ get_or items (end - 1) y
     → with_range from to [] xs ≡ take first xs ++ option_to_list (part_before from x) ++ option_to_list (part_after to y) ++ drop end xs
-cut_meeting from to xs first end x y apart meeting some first_is last_is =
+cut_meeting from to xs items first end x y apart meeting some same first_is last_is =
     let front = take first xs ++ option_to_list (part_before from x) in
     let back = option_to_list (part_after to y) in
-    ap (λ zs. before from xs ++ [] ++ zs) (after_meeting from to xs first end y apart meeting some last_is)
-    ∙ ap (λ zs. zs ++ [] ++ (back ++ drop end xs)) (before_meeting from to xs first end x apart meeting some first_is)
+    ap (λ zs. before from xs ++ [] ++ zs) (after_meeting from to xs first end y apart meeting some (read_is xs items (end - 1) y same last_is))
+    ∙ ap (λ zs. zs ++ [] ++ (back ++ drop end xs)) (before_meeting from to xs first end x apart meeting some (read_is xs items first x same first_is))
     ∙ ap (λ zs. zs ++ (back ++ drop end xs)) (append-nil front)
     ∙ sym (append_assoc front back (drop end xs))
+
+-- and given pieces stand between both
+pub put_meeting : (from to : ℕ) (given xs items : List Piece) (first end : ℕ) (x y : Piece) → AreApart xs → AreMeeting from to xs first end → first < end
+    → items ≡ xs → x ≡ get_or items first x → y ≡ get_or items (end - 1) y
+    → with_range from to given xs ≡ take first xs ++ (option_to_list (part_before from x) ++ given ++ option_to_list (part_after to y)) ++ drop end xs
+put_meeting from to given xs items first end x y apart meeting some same first_is last_is =
+    let front = option_to_list (part_before from x) in
+    let rest = option_to_list (part_after to y) in
+    ap (λ zs. before from xs ++ given ++ zs) (after_meeting from to xs first end y apart meeting some (read_is xs items (end - 1) y same last_is))
+    ∙ ap (λ zs. zs ++ given ++ (rest ++ drop end xs)) (before_meeting from to xs first end x apart meeting some (read_is xs items first x same first_is))
+    ∙ sym (beside_middle (take first xs) front given rest (drop end xs))
 
 -- where no piece meets the range, given pieces stand between those in front of it and those behind
 pub put_between : (from to : ℕ) (given xs : List Piece) (i : ℕ) → AreApart xs → from ≤ to → All (λ z. piece_end z ≤ from) (take i xs) → All (λ z. to ≤ z.position) (drop i xs)
@@ -187,12 +208,3 @@ put_hole piece xs i apart size none begin =
 
     all : All (λ x. meets x ≡ false) xs
     all = All-from_recursion (λ x. meets x ≡ false) xs (none_pass meets xs none)
-
--- ---- writes at an index
-
--- the item behind a front of a list, written over
-pub set_behind : {A : Type 0} (xs ys : List A) (i : ℕ) (x : A) → i < length xs → set (take (i + 1) xs ++ ys) i x ≡ take i xs ++ x ∷ ys
-set_behind xs ys i x short =
-    ap (λ zs. set (zs ++ ys) i x) (take_more xs i x short)
-    ∙ ap (λ zs. set zs i x) (append_assoc (take i xs) (get_or xs i x ∷ []) ys)
-    ∙ set_at (take i xs) (get_or xs i x) ys x i (length-take-le i xs (omega arith))

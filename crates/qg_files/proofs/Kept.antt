@@ -1,14 +1,15 @@
 -- Pieces of whole sectors stay such pieces, for the crates above. Positions, lengths and sizes are in bytes.
 use Rattle.std.proofs.Common.{◌≡◌, ℕ, ◌+◌, ◌-◌, ◌%◌, ◌^◌, ◌<◌, ◌≤◌, Bool, true, false, min, max, List, [], ◌∷◌, ◌++◌, map, refl, subst, arith}
-use Rattle.std.specs.Prelude.{nat_lt, nat_le, ◌&&◌}
+use Rattle.std.specs.Prelude.{nat_lt}
 use Rattle.std.specs.Bool.{then_some}
 use Rattle.std.specs.List.{All, AllByRecursion, cons_option}
-use Rattle.std.proofs.lemmas.Bool.{and_parts, and_from, leb-true, le-leb, ltb-true, lt-ltb, ltb-false, eqb-true, eq-eqb}
+use Rattle.std.proofs.lemmas.Bool.{leb-true, le-leb, ltb-true, ltb-false, eqb-true, eq-eqb}
 use Rattle.std.proofs.lemmas.List.Elements.{All-from_recursion, recursion_from_All}
 use Rattle.qg_num.specs.declared.piece.Piece.{Piece}
 use Rattle.qg_super.specs.Places.{sector}
 use Rattle.qg_image.specs.declared.file.File.{File}
-use Rattle.qg_image.specs.FilesOf.{piece_end, largest_size, is_aligned, is_piece, are_pieces, is_file}
+use Rattle.qg_image.specs.FilesOf.{piece_end, largest_size, is_aligned, are_pieces, is_file}
+use Rattle.qg_image.proofs.Pieces.{WholePiece, WholePiece-is_piece, is_piece-WholePiece, FirstPiece-are_pieces, are_pieces-FirstPiece, WholeFile-is_file, is_file-WholeFile}
 use Rattle.qg_machine.specs.FileChange.{part_before, part_after, before, after, within, with_range, moved, new_piece, with_pieces, with_size}
 use Rattle.qg_files.specs.Apart.{AreApartFrom, AreApart}
 use Rattle.qg_files.proofs.KeptApart.{ends-before}
@@ -16,66 +17,23 @@ use Rattle.qg_files.proofs.Sectors.{sectors-add, sectors-sub, sectors-min, secto
 
 -- ---- what the tests say
 
--- a piece of whole sectors that lies in its extent
-record IsWhole (piece : Piece) : Type 0 where
-  position : piece.position % sector ≡ 0
-  len : piece.len % sector ≡ 0
-  some : 0 < piece.len
-  offset : piece.offset % sector ≡ 0
-  extent : piece.extent_bytes % sector ≡ 0
-  in_extent : piece.offset + piece.len ≤ piece.extent_bytes
-
-IsWhole-is_piece : (piece : Piece) → is_piece piece ≡ true → IsWhole piece
-unfolding is_piece
-IsWhole-is_piece piece is =
-    let position = is_aligned piece.position in
-    let len = is_aligned piece.len in
-    let some = nat_lt 0 piece.len in
-    let offset = is_aligned piece.offset in
-    let extent = is_aligned piece.extent_bytes in
-    let to_in = and_parts (position && len && some && offset && extent) (nat_le (piece.offset + piece.len) piece.extent_bytes) is in
-    let to_extent = and_parts (position && len && some && offset) extent to_in.0 in
-    let to_offset = and_parts (position && len && some) offset to_extent.0 in
-    let to_some = and_parts (position && len) some to_offset.0 in
-    let to_len = and_parts position len to_some.0 in
-    record {
-      position = eqb-true (piece.position % sector) 0 to_len.0;
-      len = eqb-true (piece.len % sector) 0 to_len.1;
-      some = ltb-true 0 piece.len to_some.1;
-      offset = eqb-true (piece.offset % sector) 0 to_offset.1;
-      extent = eqb-true (piece.extent_bytes % sector) 0 to_extent.1;
-      in_extent = leb-true (piece.offset + piece.len) piece.extent_bytes to_in.1;
-    }
-
-is_piece-IsWhole : (piece : Piece) → IsWhole piece → is_piece piece ≡ true
-unfolding is_piece
-is_piece-IsWhole piece whole =
-    let to_len = and_from (is_aligned piece.position) (is_aligned piece.len) (eq-eqb (piece.position % sector) 0 whole.position) (eq-eqb (piece.len % sector) 0 whole.len) in
-    let to_some = and_from _ (nat_lt 0 piece.len) to_len (lt-ltb 0 piece.len whole.some) in
-    let to_offset = and_from _ (is_aligned piece.offset) to_some (eq-eqb (piece.offset % sector) 0 whole.offset) in
-    let to_extent = and_from _ (is_aligned piece.extent_bytes) to_offset (eq-eqb (piece.extent_bytes % sector) 0 whole.extent) in
-    and_from _ (nat_le (piece.offset + piece.len) piece.extent_bytes) to_extent (le-leb (piece.offset + piece.len) piece.extent_bytes whole.in_extent)
-
 -- such pieces that ascend from a position on, overlap nowhere and end by the size
 AreWhole : ℕ → ℕ → List Piece → Type 0
 AreWhole from size [] = from ≤ size
-AreWhole from size (piece ∷ pieces) = (from ≤ piece.position) × IsWhole piece × AreWhole (piece_end piece) size pieces
+AreWhole from size (piece ∷ pieces) = (from ≤ piece.position) × WholePiece piece × AreWhole (piece_end piece) size pieces
 
 AreWhole-are_pieces : (from size : ℕ) (xs : List Piece) → are_pieces from size xs ≡ true → AreWhole from size xs
 unfolding AreWhole are_pieces
 AreWhole-are_pieces from size [] are = leb-true from size are
 AreWhole-are_pieces from size (x ∷ xs) are =
-    let to_rest = and_parts (nat_le from x.position && is_piece x) (are_pieces (piece_end x) size xs) are in
-    let to_piece = and_parts (nat_le from x.position) (is_piece x) to_rest.0 in
-    (leb-true from x.position to_piece.0, IsWhole-is_piece x to_piece.1, AreWhole-are_pieces (piece_end x) size xs to_rest.1)
+    let first = FirstPiece-are_pieces from size x xs are in
+    (first.begins, WholePiece-is_piece x first.is, AreWhole-are_pieces (piece_end x) size xs first.rest)
 
 are_pieces-AreWhole : (from size : ℕ) (xs : List Piece) → AreWhole from size xs → are_pieces from size xs ≡ true
 unfolding AreWhole are_pieces
 are_pieces-AreWhole from size [] whole = le-leb from size whole
 are_pieces-AreWhole from size (x ∷ xs) whole =
-    and_from (nat_le from x.position && is_piece x) (are_pieces (piece_end x) size xs)
-    (and_from (nat_le from x.position) (is_piece x) (le-leb from x.position whole.0) (is_piece-IsWhole x whole.1))
-    (are_pieces-AreWhole (piece_end x) size xs whole.2)
+    are_pieces-FirstPiece from size x xs (record { begins = whole.0; is = is_piece-WholePiece x whole.1; rest = are_pieces-AreWhole (piece_end x) size xs whole.2 })
 
 -- ---- from an earlier position, up to another size, behind one another
 
@@ -96,7 +54,7 @@ whole-append a b size (x ∷ xs) ys front back = (front.0, front.1, whole-append
 
 -- ---- in front of a position
 
-before_one : (a size to : ℕ) (x : Piece) (ys : List Piece) → to % sector ≡ 0 → a ≤ x.position → IsWhole x → AreWhole (piece_end x) size ys → AreWhole a size (cons_option (part_before to x) ys)
+before_one : (a size to : ℕ) (x : Piece) (ys : List Piece) → to % sector ≡ 0 → a ≤ x.position → WholePiece x → AreWhole (piece_end x) size ys → AreWhole a size (cons_option (part_before to x) ys)
 unfolding AreWhole
 before_one a size to x ys aligned begins whole rest = cases (nat_lt x.position to) refl where
   cases : (b : Bool) → nat_lt x.position to ≡ b → AreWhole a size (cons_option (then_some b (record x { len = min x.len (to - x.position) })) ys)
@@ -124,7 +82,7 @@ whole-before a size to (x ∷ xs) aligned whole = before_one a size to x (before
 
 -- ---- from a position on
 
-after_one : (a size from : ℕ) (x : Piece) (ys : List Piece) → from % sector ≡ 0 → a ≤ x.position → IsWhole x → AreWhole (max (piece_end x) from) size ys → AreWhole (max a from) size (cons_option (part_after from x) ys)
+after_one : (a size from : ℕ) (x : Piece) (ys : List Piece) → from % sector ≡ 0 → a ≤ x.position → WholePiece x → AreWhole (max (piece_end x) from) size ys → AreWhole (max a from) size (cons_option (part_after from x) ys)
 unfolding AreWhole
 after_one a size from x ys aligned begins whole rest = cases (nat_lt from (piece_end x)) refl where
   cases : (b : Bool) → nat_lt from (piece_end x) ≡ b
@@ -254,28 +212,10 @@ are_pieces-new_piece generation position len extent aligned aligned_len some = a
 
 -- ---- of whole files
 
-record IsWholeFile (file : File) : Type 0 where
-  size : is_aligned file.size ≡ true
-  least : file.size ≤ largest_size
-  pieces : are_pieces 0 file.size file.pieces ≡ true
-
-IsWholeFile-is_file : (file : File) → is_file file ≡ true → IsWholeFile file
-unfolding is_file
-IsWholeFile-is_file file is =
-    let to_pieces = and_parts (is_aligned file.size && nat_le file.size largest_size) (are_pieces 0 file.size file.pieces) is in
-    let to_least = and_parts (is_aligned file.size) (nat_le file.size largest_size) to_pieces.0 in
-    record { size = to_least.0; least = leb-true file.size largest_size to_least.1; pieces = to_pieces.1 }
-
-is_file-IsWholeFile : (file : File) → IsWholeFile file → is_file file ≡ true
-unfolding is_file
-is_file-IsWholeFile file whole =
-    and_from (is_aligned file.size && nat_le file.size largest_size) (are_pieces 0 file.size file.pieces)
-    (and_from (is_aligned file.size) (nat_le file.size largest_size) whole.size (le-leb file.size largest_size whole.least)) whole.pieces
-
 -- the pieces of a file are apart
 pub AreApart-is_file : (file : File) → All (λ piece. piece.extent_bytes < 2 ^ 64) file.pieces → is_file file ≡ true → AreApart file.pieces
 AreApart-is_file file extents is =
-    let whole = IsWholeFile-is_file file is in
+    let whole = WholeFile-is_file file is in
     AreApart-are_pieces file.size file.pieces whole.least extents whole.pieces
 
 -- and end by its size
@@ -286,16 +226,16 @@ ends_by_size a size (x ∷ xs) whole = (end_by (piece_end x) size xs whole.2, en
 
 pub ends-is_file : (file : File) → is_file file ≡ true → All (λ piece. piece_end piece ≤ file.size) file.pieces
 ends-is_file file is =
-    let whole = AreWhole-are_pieces 0 file.size file.pieces (IsWholeFile-is_file file is).pieces in
+    let whole = AreWhole-are_pieces 0 file.size file.pieces (WholeFile-is_file file is).pieces in
     All-from_recursion (λ piece. piece_end piece ≤ file.size) file.pieces (ends_by_size 0 file.size file.pieces whole)
 
 -- a file with given pieces in a range
 pub is_file-with_pieces : (generation from to : ℕ) (given : List Piece) (file : File) → is_aligned from ≡ true → is_aligned to ≡ true → to ≤ largest_size → are_pieces from to given ≡ true → is_file file ≡ true
     → is_file (with_pieces generation from to given file) ≡ true
 is_file-with_pieces generation from to given file aligned_from aligned_to least given_are is =
-    let whole = IsWholeFile-is_file file is in
+    let whole = WholeFile-is_file file is in
     let most = whole.least in
-    is_file-IsWholeFile (with_pieces generation from to given file) (record {
+    is_file-WholeFile (with_pieces generation from to given file) (record {
       size = eq-eqb (max file.size to % sector) 0 (sectors-max file.size to (aligned_is file.size whole.size) (aligned_is to aligned_to));
       least = omega arith;
       pieces = are_pieces-with_range file.size from to given file.pieces aligned_from aligned_to given_are whole.pieces;
@@ -304,5 +244,5 @@ is_file-with_pieces generation from to given file aligned_from aligned_to least 
 -- a file cut to a size, or grown to it
 pub is_file-with_size : (generation size : ℕ) (file : File) → is_aligned size ≡ true → size ≤ largest_size → is_file file ≡ true → is_file (with_size generation size file) ≡ true
 is_file-with_size generation size file aligned least is =
-    let whole = IsWholeFile-is_file file is in
-    is_file-IsWholeFile (with_size generation size file) (record { size = aligned; least = least; pieces = are_pieces-before file.size size file.pieces aligned whole.pieces })
+    let whole = WholeFile-is_file file is in
+    is_file-WholeFile (with_size generation size file) (record { size = aligned; least = least; pieces = are_pieces-before file.size size file.pieces aligned whole.pieces })

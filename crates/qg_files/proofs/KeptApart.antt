@@ -1,12 +1,12 @@
 -- What is left of apart pieces is apart. Positions and lengths are in bytes.
-use Rattle.std.proofs.Common.{◌≡◌, ℕ, ◌+◌, ◌-◌, ◌≤◌, Bool, true, false, min, max, List, [], ◌∷◌, ◌++◌, map, refl, sym, subst, arith, append_assoc}
+use Rattle.std.proofs.Common.{◌≡◌, ℕ, ◌+◌, ◌-◌, ◌≤◌, Bool, true, false, min, max, List, [], ◌∷◌, ◌++◌, refl, sym, subst, arith, append_assoc}
 use Rattle.std.specs.Prelude.{nat_lt}
 use Rattle.std.specs.Bool.{then_some}
 use Rattle.std.specs.List.{AllByRecursion, cons_option}
 use Rattle.std.proofs.lemmas.Bool.{ltb-true, ltb-false}
 use Rattle.qg_num.specs.declared.piece.Piece.{Piece}
-use Rattle.qg_image.specs.FilesOf.{piece_end, largest_size}
-use Rattle.qg_machine.specs.FileChange.{part_before, part_after, before, after, within, with_range, moved}
+use Rattle.qg_image.specs.FilesOf.{piece_end}
+use Rattle.qg_machine.specs.FileChange.{part_before, part_after, before, after, within, with_range}
 use Rattle.qg_files.specs.Apart.{IsWithinSizes, AreApartFrom, AreApart}
 use Rattle.qg_files.proofs.Order.{apart_from_earlier, apart-append}
 
@@ -92,23 +92,3 @@ apart-cut from to xs apart order = apart-with_range from to [] xs apart order tt
 pub apart-put : (piece : Piece) (xs : List Piece) → AreApart xs → IsWithinSizes piece → AreApart (with_range piece.position (piece_end piece) (piece ∷ []) xs)
 unfolding AreApartFrom
 apart-put piece xs apart size = apart-with_range piece.position (piece_end piece) (piece ∷ []) xs apart (omega arith) (omega arith, size, tt) (omega arith, tt)
-
--- ---- moved from one place to another
-
-pub apart-moved : (a by from at : ℕ) (xs : List Piece) → from ≤ a → by - from + at ≤ largest_size → AllByRecursion (λ x. piece_end x ≤ by) xs → AreApartFrom a xs
-    → AreApartFrom (a - from + at) (map (moved from at) xs)
-unfolding AreApartFrom
-apart-moved a by from at [] begins least ends apart = tt
-apart-moved a by from at (x ∷ xs) begins least ends apart =
-    let rest = apart-moved (piece_end x) by from at xs (omega (arith, apart.0)) least ends.1 apart.2 in (
-      omega (arith, apart.0),
-      record { some = apart.1.some; within = omega (arith, apart.0, ends.0); in_extent = apart.1.in_extent },
-      apart_from_earlier (piece_end x - from + at) (x.position - from + at + x.len) (map (moved from at) xs) (omega (arith, apart.0)) rest,
-    )
-
-pub ends-moved : (a by from at : ℕ) (xs : List Piece) → from ≤ a → AreApartFrom a xs → AllByRecursion (λ x. piece_end x ≤ by) xs
-    → AllByRecursion (λ x. piece_end x ≤ by - from + at) (map (moved from at) xs)
-unfolding AreApartFrom
-ends-moved a by from at [] begins apart ends = tt
-ends-moved a by from at (x ∷ xs) begins apart ends =
-    (omega (arith, apart.0, ends.0), ends-moved (piece_end x) by from at xs (omega (arith, apart.0)) apart.2 ends.1)

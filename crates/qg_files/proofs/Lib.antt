@@ -2,6 +2,7 @@ pub mod Order
 pub mod Parts
 pub mod Points
 pub mod Ranges
+pub mod Splices
 pub mod Edits
 pub mod KeptApart
 pub mod Outcome

@@ -1,17 +1,15 @@
--- Pieces that are put into a range one behind the other, once it was cut out, for the crates above. Positions are in bytes.
-use Rattle.std.proofs.Common.{◌≡◌, ℕ, ◌≤◌, Bool, false, List, [], ◌∷◌, ◌++◌, refl, ap, ◌∙◌, arith, append_assoc}
+-- No piece meets what is left of a range behind those that were put in it. Positions are in bytes.
+use Rattle.std.proofs.Common.{◌≡◌, ℕ, ◌≤◌, Bool, false, List, [], ◌∷◌, ◌++◌, refl, arith}
 use Rattle.std.specs.Prelude.{nat_lt, ◌&&◌, count_by, cond}
 use Rattle.std.specs.List.{AllByRecursion}
 use Rattle.std.proofs.lemmas.Bool.{and_left, and_right, cond-false, le-ltb}
-use Rattle.std.proofs.lemmas.List.{append-nil}
 use Rattle.std.proofs.lemmas.List.Sums.{sum_by-cons}
 use Rattle.qg_num.specs.declared.piece.Piece.{Piece}
 use Rattle.qg_image.specs.FilesOf.{piece_end}
 use Rattle.qg_machine.specs.FileChange.{before, after, with_range, pieces_meeting}
-use Rattle.qg_files.specs.Apart.{IsWithinSizes, AreApartFrom, AreApart}
-use Rattle.qg_files.proofs.Order.{all_begin_from, all_within_sizes}
-use Rattle.qg_files.proofs.KeptApart.{apart-before, ends-before, apart-after}
-use Rattle.qg_files.proofs.Ranges.{before_all, before_nothing, after_all, after_nothing, before-append, after-append}
+use Rattle.qg_files.specs.Apart.{AreApart}
+use Rattle.qg_files.proofs.Order.{all_begin_from}
+use Rattle.qg_files.proofs.KeptApart.{ends-before, apart-after}
 
 both : {A : Type 0} (P : A → Type 0) (xs ys : List A) → AllByRecursion P xs → AllByRecursion P ys → AllByRecursion P (xs ++ ys)
 both P [] ys front back = back
@@ -50,38 +48,3 @@ hole_behind from to start end done xs apart begins within ends = none_counted me
   all = both (λ z. meets z ≡ false) (before from xs ++ done) (after to xs)
       (weaker (λ z. piece_end z ≤ start) (λ z. meets z ≡ false) (before from xs ++ done) (λ z h. and_right (nat_lt z.position end) (nat_lt start (piece_end z)) (le-ltb start (piece_end z) h)) (front_ends from start done xs begins ends))
       (weaker (λ z. end ≤ z.position) (λ z. meets z ≡ false) (after to xs) (λ z h. and_left (nat_lt z.position end) (nat_lt start (piece_end z)) (le-ltb z.position end h)) (back_begins to end xs within apart))
-
--- one more piece in the range, behind those that were put so far
-pub put_behind : (from to : ℕ) (done xs : List Piece) (piece : Piece) → AreApart xs → AreApartFrom from done → from ≤ piece.position → piece_end piece ≤ to → AllByRecursion (λ z. piece_end z ≤ piece.position) done
-    → with_range piece.position (piece_end piece) (piece ∷ []) (with_range from to done xs) ≡ with_range from to (done ++ piece ∷ []) xs
-put_behind from to done xs piece apart done_apart begins within ends =
-    ap (λ zs. zs ++ piece ∷ [] ++ after end (front ++ back)) (before-append start front back ∙ ap (λ zs. zs ++ before start back) whole ∙ ap (λ zs. front ++ zs) none ∙ append-nil front)
-    ∙ ap (λ zs. front ++ piece ∷ [] ++ zs) (after-append end front back ∙ ap (λ zs. zs ++ after end back) over ∙ rest)
-    ∙ ap (λ zs. zs ++ back) (append_assoc (before from xs) done (piece ∷ []))
-  where
-    start : ℕ
-    start = piece.position
-
-    end : ℕ
-    end = piece_end piece
-
-    front : List Piece
-    front = before from xs ++ done
-
-    back : List Piece
-    back = after to xs
-
-    sizes : AllByRecursion IsWithinSizes front
-    sizes = both IsWithinSizes (before from xs) done (all_within_sizes 0 (before from xs) (apart-before 0 from xs apart)) (all_within_sizes from done done_apart)
-
-    whole : before start front ≡ front
-    whole = before_all start front sizes (front_ends from start done xs begins ends)
-
-    none : before start back ≡ []
-    none = before_nothing start back (weaker (λ z. end ≤ z.position) (λ z. start ≤ z.position) back (λ z h. omega arith) (back_begins to end xs within apart))
-
-    over : after end front ≡ []
-    over = after_nothing end front (weaker (λ z. piece_end z ≤ start) (λ z. piece_end z ≤ end) front (λ z h. omega arith) (front_ends from start done xs begins ends))
-
-    rest : after end back ≡ back
-    rest = after_all end back (all_within_sizes to back (apart-after to xs apart)) (back_begins to end xs within apart)

@@ -10,7 +10,7 @@ use Rattle.qg_machine.specs.FileChange.{part_before, part_after, before, after, 
 use Rattle.qg_files.specs.Apart.{AreApart}
 use Rattle.qg_files.specs.Meeting.{AreMeeting}
 use Rattle.qg_files.specs.Split.{IsSplit}
-use Rattle.qg_files.proofs.Edits.{in_three, before_meeting, after_meeting, put_between}
+use Rattle.qg_files.proofs.Edits.{in_three, read_is, before_meeting, after_meeting, put_between}
 use Rattle.qg_files.proofs.Ranges.{after_nothing}
 
 -- an item between two indices stands before the one and not before the other
@@ -52,10 +52,10 @@ in_two : {A : Type 0} (xs : List A) (first end : ℕ) → first ≤ end → xs �
 in_two xs first end order = in_three xs first end order ∙ sym (append_assoc (take first xs) (take (end - first) (drop first xs)) (drop end xs))
 
 -- where it meets some, the first and the last of them leave rests
-pub split_meeting : (from to : ℕ) (xs : List Piece) (first end : ℕ) (x y : Piece) → AreApart xs → AreMeeting from to xs first end → first < end
-    → x ≡ get_or xs first x → y ≡ get_or xs (end - 1) y
+pub split_meeting : (from to : ℕ) (xs items : List Piece) (first end : ℕ) (x y : Piece) → AreApart xs → AreMeeting from to xs first end → first < end
+    → items ≡ xs → x ≡ get_or items first x → y ≡ get_or items (end - 1) y
     → IsSplit from to xs (middle xs first end) (option_to_list (part_before from x) ++ option_to_list (part_after to y))
-split_meeting from to xs first end x y apart meeting some first_is last_is = record {
+split_meeting from to xs items first end x y apart meeting some same first_is last_is = record {
   front = take first xs;
   back = drop end xs;
   before_rest = option_to_list (part_before from x);
@@ -65,8 +65,8 @@ split_meeting from to xs first end x y apart meeting some first_is last_is = rec
   few = at_most_two (part_before from x) (part_after to y);
   met = met_between from to xs first end meeting;
   new = λ given.
-      ap (λ zs. zs ++ given ++ after to xs) (before_meeting from to xs first end x apart meeting some first_is)
-      ∙ ap (λ zs. (take first xs ++ option_to_list (part_before from x)) ++ given ++ zs) (after_meeting from to xs first end y apart meeting some last_is);
+      ap (λ zs. zs ++ given ++ after to xs) (before_meeting from to xs first end x apart meeting some (read_is xs items first x same first_is))
+      ∙ ap (λ zs. (take first xs ++ option_to_list (part_before from x)) ++ given ++ zs) (after_meeting from to xs first end y apart meeting some (read_is xs items (end - 1) y same last_is));
 }
 
 -- where it meets none, nothing goes

@@ -6,6 +6,7 @@ ghost use Rattle.qg_files.specs.Apart.{AreApart};
 
 use crate::part::{part_after, part_before};
 use crate::search::{first_past, meeting};
+use crate::splice::splice;
 use qg_num::{NoMemory, Piece, Pieces};
 
 /// Takes out what a file has in a range of bytes (this project's own). Rests keep naming their whole extents.
@@ -61,33 +62,10 @@ fn replace(
         < length (take first pieces.old ++ option_to_list front ++ option_to_list rest ++ drop end pieces.old)) }
 {
     match (front, rest) {
-        (Some(front), Some(rest)) => return replace_by_two(pieces, first, end, front, rest),
+        (Some(front), Some(rest)) => return splice(pieces, first, end, &[front, rest]),
         (part, None) => replace_by(pieces, first, end, part),
         (None, part) => replace_by(pieces, first, end, part),
     }
-    Ok(())
-}
-
-/// Puts two pieces in the place of those of a range of indices.
-fn replace_by_two(
-    pieces: &mut Pieces,
-    first: usize,
-    end: usize,
-    front: Piece,
-    rest: Piece,
-) -> Result<(), NoMemory>
-    requires some { first < end }
-    requires bound { end ≤ length pieces.old }
-    ensures ok { OnOk result (pieces.new ≡ take first pieces.old ++ front ∷ rest ∷ drop end pieces.old) }
-    ensures err { OnErr result (pieces.new ≡ pieces.old) }
-    ensures grows { OnErr result (end ≡ first + 1) }
-{
-    if end == first + 1 {
-        pieces.insert(end, rest)?;
-    } else {
-        replace_by(pieces, first + 1, end, Some(rest));
-    }
-    pieces.set(first, front);
     Ok(())
 }
 

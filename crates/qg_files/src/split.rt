@@ -48,7 +48,7 @@ fn copied(alloc: Global, pieces: &[Piece]) -> Result<Pieces, NoMemory>
 }
 
 /// Puts a part at the end of a list, if there is one.
-fn push_part(parts: &mut Pieces, part: Option<Piece>) -> Result<(), NoMemory>
+pub(crate) fn push_part(parts: &mut Pieces, part: Option<Piece>) -> Result<(), NoMemory>
     ensures ok { OnOk result (parts.new ≡ parts.old ++ option_to_list part) }
     ensures err { OnErr result (parts.new ≡ parts.old) }
 {

@@ -1,7 +1,9 @@
 ghost use Rattle.std.specs.Prelude.{◌≡◌, ◌≤◌, ◌∷◌, [], IfOk};
+ghost use Rattle.std.specs.List.{All};
+ghost use Rattle.qg_image.specs.FilesOf.{piece_end};
 ghost use Rattle.qg_files.specs.Apart.{AreApart, AreApartFrom};
 
-use crate::{cut_range, put_piece, split_range, take_range, truncate};
+use crate::{cut_range, put_piece, replace_range, split_range, take_range, truncate};
 use qg_num::{Address, Generation, NoMemory, Piece, Pieces};
 use std::alloc::Global;
 use std::test::Fail;
@@ -63,6 +65,23 @@ fn parts(
     let pieces = three_pieces(alloc)?;
     let split = split_range(alloc, &pieces, from, to)?;
     Ok(split.gone.as_slice() == gone && split.rests.as_slice() == rests)
+}
+
+// Whether that is what the three pieces become where others are put in the place of a range.
+fn becomes(
+    alloc: Global,
+    from: u64,
+    to: u64,
+    given: &[Piece],
+    put: &[Piece],
+) -> Result<bool, NoMemory>
+    requires order { from ≤ to }
+    requires given { AreApartFrom from given.now }
+    requires ends { All (λ piece. piece_end piece ≤ to) given.now }
+{
+    let mut pieces = three_pieces(alloc)?;
+    replace_range(&mut pieces, from, to, given)?;
+    Ok(pieces.as_slice() == put)
 }
 
 // Whether that is what the three pieces have left before a size.
@@ -139,6 +158,77 @@ fn cuts_of_several_pieces_or_none(rt: HostRuntime) -> Result<(), Fail> {
     assert!(rt; leaves(alloc, 0, 28672, &[])?);
     assert!(rt; leaves(alloc, 12288, 16384, &[first, second, third])?);
     assert!(rt; leaves(alloc, 28672, 40960, &[first, second, third])?);
+    Ok(())
+}
+
+// No piece is met, where a new one fills the hole.
+#[tactic(auto, unfolding(crate::specs::Apart::AreApartFrom))]
+fn fills_the_hole(alloc: Global) -> Result<bool, NoMemory> {
+    let given = [piece(12288, 4096, 8192)];
+    let put = [
+        piece(0, 8192, 4096),
+        piece(8192, 4096, 0),
+        piece(12288, 4096, 8192),
+        piece(16384, 12288, 40960),
+    ];
+    becomes(alloc, 12288, 16384, &given, &put)
+}
+
+// The third piece is met in its midst.
+#[tactic(auto, unfolding(crate::specs::Apart::AreApartFrom))]
+fn parts_a_piece(alloc: Global) -> Result<bool, NoMemory> {
+    let given = [piece(20480, 4096, 8192)];
+    let put = [
+        piece(0, 8192, 4096),
+        piece(8192, 4096, 0),
+        piece(16384, 4096, 40960),
+        piece(20480, 4096, 8192),
+        piece(24576, 4096, 49152),
+    ];
+    becomes(alloc, 20480, 24576, &given, &put)
+}
+
+// All three are met, and as many stand there then.
+#[tactic(auto, unfolding(crate::specs::Apart::AreApartFrom))]
+fn spans_all(alloc: Global) -> Result<bool, NoMemory> {
+    let given = [piece(4096, 16384, 0)];
+    let put = [
+        piece(0, 4096, 4096),
+        piece(4096, 16384, 0),
+        piece(20480, 8192, 45056),
+    ];
+    becomes(alloc, 4096, 20480, &given, &put)
+}
+
+// The second piece goes for two.
+#[tactic(auto, unfolding(crate::specs::Apart::AreApartFrom))]
+fn puts_more(alloc: Global) -> Result<bool, NoMemory> {
+    let given = [piece(8192, 1024, 16384), piece(10240, 2048, 32768)];
+    let put = [
+        piece(0, 8192, 4096),
+        piece(8192, 1024, 16384),
+        piece(10240, 2048, 32768),
+        piece(16384, 12288, 40960),
+    ];
+    becomes(alloc, 8192, 12288, &given, &put)
+}
+
+// The second and the third piece go for one that does not fill the range.
+#[tactic(auto, unfolding(crate::specs::Apart::AreApartFrom))]
+fn puts_fewer(alloc: Global) -> Result<bool, NoMemory> {
+    let given = [piece(12288, 4096, 8192)];
+    let put = [piece(0, 8192, 4096), piece(12288, 4096, 8192)];
+    becomes(alloc, 8192, 28672, &given, &put)
+}
+
+#[test]
+fn pieces_put_in_the_place_of_a_range(rt: HostRuntime) -> Result<(), Fail> {
+    let alloc = rt.alloc();
+    assert!(rt; fills_the_hole(alloc)?);
+    assert!(rt; parts_a_piece(alloc)?);
+    assert!(rt; spans_all(alloc)?);
+    assert!(rt; puts_more(alloc)?);
+    assert!(rt; puts_fewer(alloc)?);
     Ok(())
 }
 

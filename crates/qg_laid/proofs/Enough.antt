@@ -1,15 +1,13 @@
 -- Slots that are enough for several trees, one behind the other.
 use Rattle.std.proofs.Common.{◌≡◌, ℕ, ◌+◌, ◌-◌, ◌≤◌, ◌<◌, inl, inr, true, List, [], ◌∷◌, ◌++◌, map, length, take, drop, refl, sym, ap, subst, ◌∙◌, arith}
-use Rattle.std.specs.Prelude.{◌^◌, ◌==◌, ◌&&◌, ◌||◌, nat_le, nat_lt, None}
+use Rattle.std.specs.Prelude.{◌^◌, ◌==◌, nat_le, nat_lt, None}
 use Rattle.std.specs.List.{IsDistinct}
-use Rattle.std.proofs.lemmas.Bool.{and_parts, eqb-true, or_cases}
 use Rattle.std.proofs.lemmas.Bool.Decides.{nat_tests}
 use Rattle.std.proofs.lemmas.List.{append_assoc, length-drop, map-append, take-append-drop}
 use Rattle.std.proofs.lemmas.Map.Keys.{IsDistinct-tail}
 use Rattle.qg_node.specs.declared.node.Node.{Node}
 use Rattle.qg_node.specs.NodeText.{IsNodeSize}
 use Rattle.qg_super.specs.declared.superblock.Super.{Super}
-use Rattle.qg_super.specs.Places.{is_served}
 use Rattle.qg_super.specs.SuperText.{is_super, sizes_of}
 use Rattle.qg_super.proofs.Served.{SizesFit-is_served, SuperFits-is_super}
 use Rattle.qg_state.specs.declared.element.Element.{Element}
@@ -70,18 +68,7 @@ LieFirst-more nodes more slots left rest first behind =
 -- ---- the size of a node
 
 pub node_size : (super : Super) → is_super super ≡ true → IsNodeSize super.nodesize
-unfolding is_served
-node_size super is =
-    let sizes = sizes_of super in
-    let small = (sizes.nodesize == 4096) && nat_le sizes.slots 16128 in
-    let large = (sizes.nodesize == 16384) && nat_le sizes.slots 4032 in
-    let served = (SuperFits-is_super super is).served in
-    let to_few = (and_parts ((small || large) && nat_le 64 sizes.slots && nat_le 16 sizes.sectors) (nat_le sizes.sectors 16777216) served).0 in
-    let to_slots = (and_parts ((small || large) && nat_le 64 sizes.slots) (nat_le 16 sizes.sectors) to_few).0 in
-    elim (or_cases small large (and_parts (small || large) (nat_le 64 sizes.slots) to_slots).0) [
-      | inl one ↦ inl (eqb-true sizes.nodesize 4096 (and_parts (sizes.nodesize == 4096) (nat_le sizes.slots 16128) one).0)
-      | inr one ↦ inr (eqb-true sizes.nodesize 16384 (and_parts (sizes.nodesize == 16384) (nat_le sizes.slots 4032) one).0)
-    ]
+node_size super is = (SizesFit-is_served (sizes_of super) (SuperFits-is_super super is).served).node_size
 
 -- what bounds the bytes that extents take
 pub few_bytes : (super : Super) (extents : List Element) → is_super super ≡ true → space_failure (sizes_of super) extents ≡ None → bytes_of extents < 2 ^ 63

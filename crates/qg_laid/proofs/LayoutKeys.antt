@@ -10,10 +10,11 @@ use Rattle.qg_node.specs.declared.node.Node.{Node}
 use Rattle.qg_image.specs.Table.{keys_of, with_value}
 use Rattle.qg_image.specs.declared.part.ExtentPart.{ExtentPart}
 use Rattle.qg_state.specs.State.{Placed}
+use Rattle.qg_state.proofs.Contained.{none_contained, contains_here, contains_later, contains_cases}
 use Rattle.qg_verdict.specs.StateOf.{placed}
 use Rattle.qg_reach.specs.Sets.{HaveSame}
 use Rattle.qg_reach.proofs.Layouts.{layout_of, with_nodes}
-use Rattle.qg_reach.proofs.Members.{contains_cases, contains_here, contains_later, none_contained, same_moved, same_on}
+use Rattle.qg_reach.proofs.Members.{same_moved, same_on}
 use Rattle.qg_tree.specs.Row.{address_of}
 
 -- ---- a table with one more value

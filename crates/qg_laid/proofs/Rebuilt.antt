@@ -18,12 +18,13 @@ use Rattle.qg_state.specs.declared.element.Element.{Element}
 use Rattle.qg_state.specs.State.{State, Subvolume, Placed, node_at, next_generation}
 use Rattle.qg_state.specs.Reach.{is_among, is_reached, reach, reach_of, reaches}
 use Rattle.qg_state.specs.Space.{is_free_slot}
+use Rattle.qg_state.proofs.Contained.{none_contained, contains_here, contains_later, contains_cases}
 use Rattle.qg_verdict.specs.declared.tree.Tree.TheVariants.{Files}
 use Rattle.qg_verdict.specs.StateOf.{placed}
 use Rattle.qg_machine.specs.Layout.{super_to_come, is_rebuilt_node, IsReached, IsTreeOf, IsWhole}
 use Rattle.qg_reach.proofs.Counting.{HasNodes, reach_of_root_nodes}
 use Rattle.qg_reach.proofs.Layouts.{AgreeByAddress, layout_of, node_at-layout, with_nodes, LieWhereFound-layout}
-use Rattle.qg_reach.proofs.Members.{none_contained, contains_cases, contains_flat_map, contains_here, contains_later, contains_map}
+use Rattle.qg_reach.proofs.Members.{contains_flat_map, contains_map}
 use Rattle.qg_reach.proofs.Reached.{elements_of, extents_named, LieWhereFound}
 use Rattle.qg_tree.specs.Build.{node_among, IsMadeFor}
 use Rattle.qg_tree.specs.Row.{address_of}

@@ -18,11 +18,12 @@ use Rattle.qg_node.specs.declared.node.Node.{Node}
 use Rattle.qg_super.specs.declared.superblock.Super.{Super}
 use Rattle.qg_super.specs.Places.{is_slot}
 use Rattle.qg_super.specs.SuperText.{sizes_of}
+use Rattle.qg_state.proofs.Contained.{contains_here, contains_later}
 use Rattle.qg_verdict.specs.declared.failure.Failure.{Failure}
 use Rattle.qg_verdict.specs.ItemsUnder.{nodes_of}
 use Rattle.qg_verdict.specs.Walk.{in_slot, node_found}
 use Rattle.qg_reach.specs.Sets.{HaveSame}
-use Rattle.qg_reach.proofs.Members.{contains_here, contains_later, same_back, same_moved}
+use Rattle.qg_reach.proofs.Members.{same_back, same_moved}
 use Rattle.qg_reach.proofs.Reached.{FindsEach}
 use Rattle.qg_tree.specs.Row.{address_of}
 use Rattle.qg_tree.proofs.Frame.{AllByRecursion-weaker, IsDistinct-front}

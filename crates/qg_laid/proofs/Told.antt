@@ -1,6 +1,6 @@
 -- What the trees of a commit say, each for itself.
 use Rattle.std.proofs.Common.{◌≡◌, ℕ, Bool, true, false, List, [], ◌∷◌, map, refl, sym, ap, subst, ◌∙◌}
-use Rattle.std.specs.Prelude.{◌&&◌, ◌==◌, bytes_eq, nat_le, nat_lt, ◌^◌, ◌-◌, Option, Some, None}
+use Rattle.std.specs.Prelude.{◌&&◌, nat_le, Option, Some, None}
 use Rattle.std.specs.Bool.{then_some}
 use Rattle.std.specs.List.{cons_option, filter_map, flat_map, list_all}
 use Rattle.std.proofs.lemmas.Bool.{and_parts, eq-eqb}
@@ -11,7 +11,9 @@ use Rattle.qg_node.specs.Nodes.{own_items}
 use Rattle.qg_items.specs.declared.root.RootItem.{RootItem}
 use Rattle.qg_super.specs.declared.superblock.Super.{Super}
 use Rattle.qg_super.specs.Places.{is_served}
-use Rattle.qg_super.specs.SuperText.{fields_at, is_super, sizes_of, super_read, super_text}
+use Rattle.qg_super.specs.SuperText.{sizes_of, super_read}
+use Rattle.qg_super.proofs.Served.{SuperFits-is_super}
+use Rattle.qg_super.proofs.SuperTexts.{super_writes_back}
 use Rattle.qg_image.specs.declared.file.File.{File}
 use Rattle.qg_image.specs.declared.part.FilePart.{FilePart}
 use Rattle.qg_image.specs.FilesOf.{are_files, file_parts, files_in, files_of, is_file_item}
@@ -34,14 +36,7 @@ then_told false x y h = absurd cc
 
 -- one that is read has sizes that are served
 pub read_served : (place : ℕ) (bytes : List ℕ) (super : Super) → super_read place bytes ≡ Some super → is_served (sizes_of super) ≡ true
-unfolding super_read is_super
-read_served place bytes super h =
-    let fields = fields_at bytes in
-    let told = then_told (is_super fields && bytes_eq bytes (super_text place fields)) fields super h in
-    let is = (and_parts (is_super fields) (bytes_eq bytes (super_text place fields)) told.0).0 in
-    let front = nat_le 1 fields.generation && nat_lt fields.generation (2 ^ 64 - 1) && nat_lt fields.root (2 ^ 64) in
-    let served = and_parts front (is_served (sizes_of fields)) (and_parts (front && is_served (sizes_of fields)) (fields.format == 1) is).0 in
-    subst (λ (s : Super). is_served (sizes_of s) ≡ true) told.1 served.1
+read_served place bytes super read = (SuperFits-is_super super (super_writes_back place bytes super read).served).served
 
 -- ---- the root tree
 

@@ -1,6 +1,6 @@
 -- Trees that are built anew for a commit, as long as there is one subvolume and its group alone (this project's own). Sizes are in bytes.
-use Rattle.std.specs.Prelude.{◌≡◌, ℕ, ◌+◌, ◌*◌, ◌&&◌, ◌==◌, List, [], ◌∷◌, ◌++◌, map, length, Some, None, if◌then◌else◌, IsTrue}
-use Rattle.std.specs.List.{Contains, IsDistinct, filter_map, flat_map, list_all}
+use Rattle.std.specs.Prelude.{◌≡◌, ℕ, ◌+◌, ◌*◌, ◌&&◌, ◌==◌, List, [], ◌∷◌, ◌++◌, length, Some, None, if◌then◌else◌, IsTrue}
+use Rattle.std.specs.List.{Contains, IsDistinct, filter_map, list_all}
 use Rattle.qg_node.specs.declared.item.Item.{Item}
 use Rattle.qg_node.specs.declared.node.Node.{Node}
 use Rattle.qg_items.specs.declared.root.RootItem.{RootItem}
@@ -8,17 +8,14 @@ use Rattle.qg_items.specs.declared.tree.TheConstants.{ROOT_TREE, EXTENT_TREE, TO
 use Rattle.qg_super.specs.declared.superblock.Super.{Super}
 use Rattle.qg_super.specs.Places.{is_served}
 use Rattle.qg_super.specs.SuperText.{sizes_of}
-use Rattle.qg_image.specs.declared.file.File.{File}
 use Rattle.qg_image.specs.declared.part.QuotaPart.{QuotaPart}
 use Rattle.qg_image.specs.declared.part.QuotaPart.TheVariants.{Status, Info, Limits}
 use Rattle.qg_image.specs.FilesOf.{files_of}
 use Rattle.qg_image.specs.ItemMeaning.{quota_part, root_part}
-use Rattle.qg_state.specs.declared.element.Element.{Element}
 use Rattle.qg_state.specs.declared.quota.Group.{Group}
 use Rattle.qg_state.specs.declared.quota.Quota.{Quota}
 use Rattle.qg_state.specs.State.{State, Subvolume, next_generation}
 use Rattle.qg_state.specs.Counts.{bytes_of}
-use Rattle.qg_state.specs.Reach.{extent_of}
 use Rattle.qg_state.specs.Space.{is_free_slot}
 use Rattle.qg_verdict.specs.declared.tree.Tree.{Tree}
 use Rattle.qg_verdict.specs.declared.tree.Tree.TheVariants.{Extents, Quotas, Roots}

@@ -1,6 +1,6 @@
 -- The four trees that a commit builds, one behind the other in free slots (this project's own).
-use Rattle.std.specs.Prelude.{◌≡◌, ◌↔◌, ℕ, ◌+◌, ◌*◌, ◌≤◌, true, None, List, Some, [], ◌∷◌, ◌++◌, map, length, drop, ◌==◌, if◌then◌else◌, IsTrue}
-use Rattle.std.specs.List.{Contains, IsDistinct, filter_map, list_all}
+use Rattle.std.specs.Prelude.{◌≡◌, ◌↔◌, ℕ, ◌+◌, ◌*◌, ◌^◌, ◌≤◌, true, None, List, Some, [], ◌∷◌, ◌++◌, map, length, drop, ◌==◌, if◌then◌else◌, IsTrue}
+use Rattle.std.specs.List.{All, Contains, IsDistinct, filter_map, list_all, sum_by}
 use Rattle.qg_num.specs.declared.counters.Counters.{Counters}
 use Rattle.qg_node.specs.declared.item.Item.{Item}
 use Rattle.qg_node.specs.declared.node.Node.{Node}
@@ -16,10 +16,12 @@ use Rattle.qg_image.specs.Table.{keys_of}
 use Rattle.qg_super.specs.SuperText.{is_super, sizes_of}
 use Rattle.qg_state.specs.declared.element.Element.{Element}
 use Rattle.qg_state.specs.declared.quota.Group.{Group}
+use Rattle.qg_state.specs.Need.{file_bytes, nodes_filled}
 use Rattle.qg_state.specs.State.{State, Subvolume}
 use Rattle.qg_state.specs.Space.{is_free_slot, present_extents}
 use Rattle.qg_verdict.specs.StateOf.{StateOf}
 use Rattle.qg_verdict.specs.Verdict.{IsSound, space_failure}
+use Rattle.qg_rules.specs.Writable.{AreWritableFiles, IsFileBy}
 use Rattle.qg_check.specs.IsImage.{extents_in}
 use Rattle.qg_laid.specs.Anew.{IsOne, one_group}
 use Rattle.qg_state.specs.Counts.{bytes_of}
@@ -32,12 +34,32 @@ use Rattle.qg_tree.specs.declared.building.Built.{Built}
 use Rattle.qg_tree.specs.Build.{IsBuilt}
 use Rattle.qg_contents.specs.Written.{info_of, no_limit, status_at}
 use Rattle.qg_laid.specs.declared.laying.Laid.{Laid}
+use Rattle.qg_laid.specs.declared.laying.Parts.{Parts}
 
 -- so many free slots at least, all different, and no more than an image can have
 pub record AreEnough (count : ℕ) (slots : List ℕ) : Type 0 where
   pub apart : IsDistinct (λ a b. a == b) slots
   pub few : length slots ≤ 16128
   pub enough : count ≤ length slots
+
+-- a commit that starts from these parts can be laid out in these slots
+pub record CanBeLaid (parts : Parts) (slots : List ℕ) : Type 0 where
+  -- the superblock's fields are in their ranges
+  pub superblock : IsTrue (is_super parts.superblock.now)
+  -- there is a generation to come
+  pub generation : parts.superblock.now.generation ≤ 2 ^ 63
+  -- the last snapshot is no later than the last commit
+  pub copied : parts.root.now.last_snapshot ≤ parts.superblock.now.generation
+  -- nor is the last change of the counters
+  pub stamp : parts.stamp ≤ parts.superblock.now.generation
+  -- the files can be written as items
+  pub files : AreWritableFiles parts.files.now
+  -- they tell no generation past the one to come
+  pub by : All (IsFileBy (parts.superblock.now.generation + 1)) parts.files.now
+  -- the extents keep the rule `space`
+  pub space : space_failure (sizes_of parts.superblock.now) parts.extents.now ≡ None
+  -- the slots are enough for the four trees
+  pub room : AreEnough (5 * nodes_filled parts.superblock.now.nodesize (sum_by (λ file. file_bytes file.1) parts.files.now) + 14) slots
 
 -- in the first of the slots stands a tree of one generation, of items that it may hold and that tell this
 pub record IsTreeOfItems (tree : Tree) (owner nodesize generation : ℕ) (Tell : List Item → Type 0) (slots : List ℕ) (built : Built) : Type 0 where
@@ -91,6 +113,10 @@ pub record AreTreesLaid (committed : Super) (root : RootItem) (files : List (ℕ
       ≡ record { rfer = committed.nodesize * length laid.files.nodes + bytes_of extents; excl = committed.nodesize * length laid.files.nodes + bytes_of extents }
   pub stamped : laid.stamp ≡ stamp_after counters laid.counters stamp (committed.generation + 1)
 
+-- the trees of a commit that starts from these parts
+abbrev pub AreTreesOf : Parts → List ℕ → Laid → Type 0
+AreTreesOf parts slots laid = AreTreesLaid parts.superblock.now parts.root.now parts.files.now parts.extents.now parts.counters.now parts.stamp slots laid
+
 -- what is laid out is for the machine's state: the superblock and what it keeps are those of its last commit, and the slots are free
 pub record AreFor (old : State) (before : Subvolume) (group : Group) (committed : Super) (root : RootItem) (files : List (ℕ × File)) (extents : List Element) (counters : Counters) (stamp : ℕ) (slots : List ℕ) : Type 0 where
   pub one : IsOne old before group
@@ -105,6 +131,11 @@ pub record AreFor (old : State) (before : Subvolume) (group : Group) (committed 
   pub space : space_failure (sizes_of committed) extents ≡ None
   pub apart : IsDistinct (λ a b. a == b) slots
   pub free : IsTrue (list_all (is_free_slot old) slots)
+
+-- these parts are those of the machine's state, and the slots are free in it
+abbrev pub ArePartsOf : State → Subvolume → Group → Parts → List ℕ → Type 0
+ArePartsOf old before group parts slots =
+    AreFor old before group parts.superblock.now parts.root.now parts.files.now parts.extents.now parts.counters.now parts.stamp slots
 
 -- the state after a commit: its only subvolume has these files, its group these counters, and its trees lie where they were laid
 pub record IsLaidState (laid : Laid) (files : List (ℕ × File)) (state : State) : Type 0 where

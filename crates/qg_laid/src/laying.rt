@@ -1,18 +1,11 @@
 // The trees of a commit together.
-ghost use Rattle.std.specs.Prelude.{◌≡◌, ◌<◌, ◌≤◌, ◌+◌, ◌-◌, ◌*◌, ◌^◌, ◌++◌, List, ℕ, None, length, map, All, IfOk, IsTrue};
-ghost use Rattle.std.specs.List.{flat_map, sum_by};
-ghost use Rattle.qg_node.specs.Nodes.{header_of};
-ghost use Rattle.qg_super.specs.Places.{is_slot};
-ghost use Rattle.qg_super.specs.SuperText.{is_super, sizes_of};
+ghost use Rattle.std.specs.Prelude.{◌≡◌, ◌<◌, ◌≤◌, ◌+◌, ◌-◌, ◌*◌, ◌^◌, List, ℕ, IfOk, IsTrue};
+ghost use Rattle.qg_super.specs.SuperText.{is_super};
 ghost use Rattle.qg_state.specs.Counts.{bytes_of};
-ghost use Rattle.qg_state.specs.Need.{file_bytes, nodes_filled};
-ghost use Rattle.qg_state.specs.Reach.{extent_of};
-ghost use Rattle.qg_verdict.specs.Verdict.{extent_set, space_failure};
-ghost use Rattle.qg_rules.specs.Writable.{AreWritableFiles, IsFileBy};
 ghost use Rattle.qg_state.specs.State.{State, Subvolume};
 ghost use Rattle.qg_state.specs.declared.quota.Group.{Group};
 ghost use Rattle.qg_laid.specs.Holds.{HasCommit};
-ghost use Rattle.qg_laid.specs.Trees.{AreFor, AreEnough, AreTreesLaid, IsCommitOf, nodes_laid, stamp_after};
+ghost use Rattle.qg_laid.specs.Trees.{ArePartsOf, AreTreesOf, CanBeLaid, IsCommitOf, nodes_laid, stamp_after};
 
 use crate::trees::{NamedRoots, extent_tree, file_tree, quota_tree, root_of, root_tree};
 use qg_image::File;
@@ -44,86 +37,68 @@ pub struct Laid {
     pub roots: Built,
 }
 
-/// The trees of a commit to an image of this superblock whose only subvolume is the top-level one, which has these files and names these
-/// extents; its ROOT_ITEM and its group's counters and stamp are those of the last commit (this project's own).
+/// What a commit starts from: the only subvolume, which is the top-level one, as it is now and as the last commit left it (this project's own).
+#[derive(Clone, Copy)]
+pub struct Parts<'a> {
+    /// The superblock of the last commit.
+    pub superblock: &'a Super,
+    /// The subvolume's ROOT_ITEM, as that commit left it.
+    pub root: &'a RootItem,
+    /// The present files, ascending by number.
+    pub files: &'a [(Ino, File)],
+    /// The extents that these name.
+    pub extents: &'a [Element],
+    /// The counters of the subvolume's group, as the last commit left them, in bytes.
+    pub counters: &'a Counters,
+    /// The generation of the commit that last changed them.
+    pub stamp: Generation,
+}
+
+/// The trees of a commit that starts from these parts.
 ///
 /// The trees lie in the first of `slots`, which are addresses of free slots, in bytes.
-pub fn lay_out(
-    alloc: Global,
-    committed: &Super,
-    root: &RootItem,
-    files: &[(Ino, File)],
-    extents: &[Element],
-    counters: &Counters,
-    stamp: Generation,
-    slots: &[Address],
-) -> Result<Laid, NoMemory>
-    requires superblock { IsTrue (is_super committed.now) }
-    requires generation { committed.now.generation ≤ 2 ^ 63 }
-    requires copied { root.now.last_snapshot ≤ committed.now.generation }
-    requires stamp { stamp ≤ committed.now.generation }
-    requires files { AreWritableFiles files.now }
-    requires by { All (IsFileBy (committed.now.generation + 1)) files.now }
-    requires space { space_failure (sizes_of committed.now) extents.now ≡ None }
-    requires room { AreEnough (5 * nodes_filled committed.now.nodesize (sum_by (λ file. file_bytes file.1) files.now) + 14) slots.now }
+pub fn lay_out(alloc: Global, parts: &Parts<'_>, slots: &[Address]) -> Result<Laid, NoMemory>
+    requires { CanBeLaid parts.now slots.now }
     ensures superblock { IfOk result (λ laid. IsTrue (is_super laid.superblock)) }
-    ensures trees { IfOk result (λ laid. AreTreesLaid committed.now root.now files.now extents.now counters.now stamp slots.now laid) }
+    ensures trees { IfOk result (λ laid. AreTreesOf parts.now slots.now laid) }
 
     // What an image stands for that holds them.
     ensures committed { IfOk result (λ laid. (old : State) (before : Subvolume) (group : Group) (image : List ℕ)
-        → AreFor old before group committed.now root.now files.now extents.now counters.now stamp slots.now
-        → HasCommit laid.superblock (nodes_laid laid) image → IsCommitOf old laid files.now image) }
+        → ArePartsOf old before group parts.now slots.now
+        → HasCommit laid.superblock (nodes_laid laid) image → IsCommitOf old laid parts.now.files.now image) }
 {
-    let laid = lay_trees(
-        alloc, committed, root, files, extents, counters, stamp, slots,
-    )?;
+    let laid = lay_trees(alloc, parts, slots)?;
     Ok(laid)
 }
 
 // The four trees, one behind the other.
-fn lay_trees(
-    alloc: Global,
-    committed: &Super,
-    root: &RootItem,
-    files: &[(Ino, File)],
-    extents: &[Element],
-    counters: &Counters,
-    stamp: Generation,
-    slots: &[Address],
-) -> Result<Laid, NoMemory>
-    requires superblock { IsTrue (is_super committed.now) }
-    requires generation { committed.now.generation ≤ 2 ^ 63 }
-    requires copied { root.now.last_snapshot ≤ committed.now.generation }
-    requires stamp { stamp ≤ committed.now.generation }
-    requires files { AreWritableFiles files.now }
-    requires by { All (IsFileBy (committed.now.generation + 1)) files.now }
-    requires space { space_failure (sizes_of committed.now) extents.now ≡ None }
-    requires room { AreEnough (5 * nodes_filled committed.now.nodesize (sum_by (λ file. file_bytes file.1) files.now) + 14) slots.now }
+fn lay_trees(alloc: Global, parts: &Parts<'_>, slots: &[Address]) -> Result<Laid, NoMemory>
+    requires { CanBeLaid parts.now slots.now }
     ensures superblock { IfOk result (λ laid. IsTrue (is_super laid.superblock)) }
-    ensures trees { IfOk result (λ laid. AreTreesLaid committed.now root.now files.now extents.now counters.now stamp slots.now laid) }
+    ensures trees { IfOk result (λ laid. AreTreesOf parts.now slots.now laid) }
 {
-    let nodesize = committed.nodesize;
-    let next = Generation::new(committed.generation.value() + 1);
-    let own = file_tree(alloc, nodesize, next, files, slots)?;
+    let nodesize = parts.superblock.nodesize;
+    let next = Generation::new(parts.superblock.generation.value() + 1);
+    let own = file_tree(alloc, nodesize, next, parts.files, slots)?;
     let (_, slots) = slots.split_at(own.nodes.len());
     let empty = extent_tree(alloc, nodesize, next, slots)?;
     let (_, slots) = slots.split_at(empty.nodes.len());
-    let bytes = reached(nodesize, own.nodes.len(), extents);
+    let bytes = reached(nodesize, own.nodes.len(), parts.extents);
     let counted = Counters {
         rfer: bytes,
         excl: bytes,
     };
-    let stamp = stamp_after(counters, &counted, stamp, next);
+    let stamp = stamp_after(parts.counters, &counted, parts.stamp, next);
     let quotas = quota_tree(alloc, nodesize, next, &counted, stamp, slots)?;
     let (_, slots) = slots.split_at(quotas.nodes.len());
     let roots = NamedRoots {
         extents: root_of(&empty, next, Generation::new(0)),
-        files: root_of(&own, next, root.last_snapshot),
+        files: root_of(&own, next, parts.root.last_snapshot),
         quotas: root_of(&quotas, next, Generation::new(0)),
     };
     let tree = root_tree(alloc, nodesize, next, &roots, slots)?;
     Ok(Laid {
-        superblock: superblock_of(committed, next, tree.root),
+        superblock: superblock_of(parts.superblock, next, tree.root),
         root: roots.files,
         counters: counted,
         stamp,

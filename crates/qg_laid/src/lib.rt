@@ -4,4 +4,4 @@
 mod laying;
 mod trees;
 
-pub use laying::{Laid, lay_out};
+pub use laying::{Laid, Parts, lay_out};

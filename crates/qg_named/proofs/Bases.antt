@@ -1,16 +1,18 @@
--- Extents that some piece names, once at least, and how many more pieces name some of them.
-use Rattle.std.proofs.Common.{◌≡◌, ℕ, zero, suc, ◌+◌, ◌<◌, ◌-◌, ◌^◌, true, false, List, [], ◌∷◌, ◌++◌, length, get_or, take, drop, map, refl, ap, subst, arith, ◌⊎◌, inl, inr, ltb}
-use Rattle.std.specs.List.{count_by, sum_by}
+-- Extents that some piece names, once at least; which of them still have that name; and how many more pieces name some extents.
+use Rattle.std.proofs.Common.{◌≡◌, ℕ, zero, suc, ◌+◌, ◌<◌, ◌≤◌, ◌-◌, ◌^◌, Bool, true, false, List, [], ◌∷◌, ◌++◌, length, get_or, set, map, refl, sym, ap, subst, ◌∙◌, arith, ◌⊎◌, inl, inr, ltb}
+use Rattle.std.specs.Prelude.{replicate}
+use Rattle.std.specs.List.{count_by, items_where_true, sum_by}
 use Rattle.std.specs.List.Sorted.{IsPartitionedBy, IsPartitionPoint}
-use Rattle.std.proofs.lemmas.Bool.{cases_Bool, cond-true, cond-false, ltb-true, ltb-false}
-use Rattle.std.proofs.lemmas.List.Quantifiers.{all_pairs_remove}
-use Rattle.std.proofs.lemmas.List.Sums.{sum_by-append, sum_by-cons, sum_by-remove}
+use Rattle.std.proofs.lemmas.Bool.{cases_Bool, cond-true, cond-false, ltb-true, ltb-false, true≢false}
+use Rattle.std.proofs.lemmas.Bool.Decides.{nat_tests}
+use Rattle.std.proofs.Math.ListN.{length-set}
+use Rattle.std.proofs.lemmas.List.Sums.{sum_by-append, sum_by-cons}
 use Rattle.qg_state.specs.declared.element.Element.{Element}
 use Rattle.qg_verdict.specs.Verdict.{is_before, same_extent}
 use Rattle.qg_reach.proofs.Order.{before_chain, not_same, same_extent_is, same_itself}
 use Rattle.qg_named.specs.Base.{AscendOnce, IsBase, named_once}
 use Rattle.qg_named.specs.Named.{named_count, HasOneMore}
-use Rattle.qg_named.proofs.Entries.{after_if_not, before_differs, counted}
+use Rattle.qg_named.proofs.Entries.{counted}
 use Rattle.qg_named.proofs.Names.{listed_first, one}
 
 -- ---- what both count
@@ -27,19 +29,14 @@ both_count extents more x = omega (arith, sum_by-append (counted x) (map named_o
 pub more_counted : (extents : List Element) (old new : List (Element × ℕ)) (x : Element) → HasOneMore old new x → HasOneMore (map named_once extents ++ old) (map named_once extents ++ new) x
 more_counted extents old new x more other = omega (arith, both_count extents old other, both_count extents new other, more other)
 
--- one piece less, by an extent taken out
-taken_out : (extents : List Element) (i : ℕ) (x other : Element) → i < length extents → ((d : Element) → get_or extents i d ≡ x)
-    → count_by (same_extent other) extents ≡ count_by (same_extent other) (take i extents ++ drop (i + 1) extents) + one other x
-taken_out extents i x other inside each =
-    let next : suc i ≡ i + 1 = omega arith in
-    let sums = sum_by-remove (one other) extents i x inside in
-    let was : one other (get_or extents i x) ≡ one other x = ap (one other) (each x) in
-    subst (λ (k : ℕ). sum_by (one other) extents ≡ sum_by (one other) (take i extents ++ drop k extents) + one other x) next (omega (arith, sums, was))
+-- ---- order
 
-pub less_counted : (extents : List Element) (more : List (Element × ℕ)) (i : ℕ) (x : Element) → i < length extents → ((d : Element) → get_or extents i d ≡ x)
-    → HasOneMore (map named_once (take i extents ++ drop (i + 1) extents) ++ more) (map named_once extents ++ more) x
-less_counted extents more i x inside each other =
-    omega (arith, both_count extents more other, both_count (take i extents ++ drop (i + 1) extents) more other, taken_out extents i x other inside each)
+before_differs : (a b : Element) → is_before a b ≡ true → same_extent a b ≡ false
+before_differs a b h = grind (arith, nat_tests)
+
+-- of two that differ, one that does not come before the other comes after it
+after_if_not : (a b : Element) → is_before b a ≡ false → same_extent b a ≡ false → is_before a b ≡ true
+after_if_not a b h k = grind (arith, nat_tests)
 
 -- ---- where an extent is
 
@@ -89,30 +86,110 @@ parted_by xs x up i j d le h before = cases (cases_Bool (ltb i j)) where
       let same : j ≡ i = omega (arith, ltb-false i j above, le) in
       subst (λ (k : ℕ). is_before (get_or xs k d) x ≡ true) same before
 
--- ---- what stays
+-- ---- those that stay
 
-pub base_more : (extents : List Element) (old new : List (Element × ℕ)) (x : Element) → IsBase extents old → HasOneMore old new x → named_count (map named_once extents ++ old) x < 2 ^ 64 - 1
-    → IsBase extents new
-base_more extents old new x base more room = record {
+-- they are listed no more often
+few_stay : (x : Element) (stays : List Bool) (xs : List Element) → count_by (same_extent x) (items_where_true stays xs) ≤ count_by (same_extent x) xs
+few_stay x [] xs = omega arith
+few_stay x (b ∷ stays) [] = omega arith
+few_stay x (true ∷ stays) (y ∷ xs) = omega (arith, few_stay x stays xs, listed_first x y (items_where_true stays xs), listed_first x y xs)
+few_stay x (false ∷ stays) (y ∷ xs) = omega (arith, few_stay x stays xs, listed_first x y xs)
+
+-- one goes
+one_goes : (x other : Element) (stays : List Bool) (xs : List Element) (i : ℕ) → i < length xs → i < length stays → ((d : Element) → get_or xs i d ≡ x) → ((d : Bool) → get_or stays i d ≡ true)
+    → count_by (same_extent other) (items_where_true stays xs) ≡ count_by (same_extent other) (items_where_true (set stays i false) xs) + one other x
+one_goes x other [] xs i inside flagged each stay = absurd (omega (arith, flagged))
+one_goes x other (b ∷ stays) [] i inside flagged each stay = absurd (omega (arith, inside))
+one_goes x other (true ∷ stays) (y ∷ xs) zero inside flagged each stay =
+    let is : one other y ≡ one other x = ap (one other) (each y) in
+    omega (arith, listed_first other y (items_where_true stays xs), is)
+one_goes x other (false ∷ stays) (y ∷ xs) zero inside flagged each stay = absurd (true≢false (sym (stay true)))
+one_goes x other (true ∷ stays) (y ∷ xs) (suc i) inside flagged each stay =
+    let rest = one_goes x other stays xs i (omega (arith, inside)) (omega (arith, flagged)) each stay in
+    omega (arith, rest, listed_first other y (items_where_true stays xs), listed_first other y (items_where_true (set stays i false) xs))
+one_goes x other (false ∷ stays) (y ∷ xs) (suc i) inside flagged each stay = one_goes x other stays xs i (omega (arith, inside)) (omega (arith, flagged)) each stay
+
+-- one is gone
+one_gone : (x : Element) (stays : List Bool) (xs : List Element) (i : ℕ) → i < length xs → i < length stays → ((d : Element) → get_or xs i d ≡ x) → ((d : Bool) → get_or stays i d ≡ false)
+    → count_by (same_extent x) (items_where_true stays xs) + 1 ≤ count_by (same_extent x) xs
+one_gone x [] xs i inside flagged each gone = absurd (omega (arith, flagged))
+one_gone x (b ∷ stays) [] i inside flagged each gone = absurd (omega (arith, inside))
+one_gone x (true ∷ stays) (y ∷ xs) zero inside flagged each gone = absurd (true≢false (gone true))
+one_gone x (false ∷ stays) (y ∷ xs) zero inside flagged each gone =
+    let here : one x y ≡ 1 = cond-true _ _ _ (subst (λ w. same_extent w y ≡ true) (each y) (same_itself y)) in
+    omega (arith, few_stay x stays xs, listed_first x y xs, here)
+one_gone x (true ∷ stays) (y ∷ xs) (suc i) inside flagged each gone =
+    omega (arith, one_gone x stays xs i (omega (arith, inside)) (omega (arith, flagged)) each gone, listed_first x y (items_where_true stays xs), listed_first x y xs)
+one_gone x (false ∷ stays) (y ∷ xs) (suc i) inside flagged each gone =
+    omega (arith, one_gone x stays xs i (omega (arith, inside)) (omega (arith, flagged)) each gone, listed_first x y xs)
+
+-- one that stays is listed once
+pub stays_once : (x : Element) (stays : List Bool) (xs : List Element) (i : ℕ) → count_by (same_extent x) xs ≡ 1 → i < length xs → i < length stays → ((d : Element) → get_or xs i d ≡ x)
+    → ((d : Bool) → get_or stays i d ≡ true) → count_by (same_extent x) (items_where_true stays xs) ≡ 1
+stays_once x stays xs i once inside flagged each stay =
+    let here : one x x ≡ 1 = cond-true _ _ _ (same_itself x) in
+    omega (arith, once, few_stay x stays xs, one_goes x x stays xs i inside flagged each stay, here)
+
+-- one that is gone is not
+pub gone_none : (x : Element) (stays : List Bool) (xs : List Element) (i : ℕ) → count_by (same_extent x) xs ≡ 1 → i < length xs → i < length stays → ((d : Element) → get_or xs i d ≡ x)
+    → ((d : Bool) → get_or stays i d ≡ false) → count_by (same_extent x) (items_where_true stays xs) ≡ 0
+gone_none x stays xs i once inside flagged each gone = omega (arith, once, one_gone x stays xs i inside flagged each gone)
+
+-- nor one that was never there
+pub none_stay : (x : Element) (stays : List Bool) (xs : List Element) → count_by (same_extent x) xs ≡ 0 → count_by (same_extent x) (items_where_true stays xs) ≡ 0
+none_stay x stays xs none = omega (arith, none, few_stay x stays xs)
+
+-- of the same extents, with the same flags, as many stay
+pub same_stay : (x : Element) (xs xs' : List Element) (stays stays' : List Bool) → xs' ≡ xs → stays' ≡ stays
+    → count_by (same_extent x) (items_where_true stays' xs') ≡ count_by (same_extent x) (items_where_true stays xs)
+same_stay x xs xs' stays stays' is flags =
+    ap (λ (ys : List Element). count_by (same_extent x) (items_where_true stays' ys)) is ∙ ap (λ (bs : List Bool). count_by (same_extent x) (items_where_true bs xs)) flags
+
+-- where none is gone all stay
+pub all_stay : (xs : List Element) → items_where_true (replicate (length xs) true) xs ≡ xs
+all_stay [] = refl
+all_stay (x ∷ xs) = ap (λ (ys : List Element). x ∷ ys) (all_stay xs)
+
+-- ---- what is kept
+
+pub base_more : (extents : List Element) (stays : List Bool) (old new : List (Element × ℕ)) (x : Element) → IsBase extents stays old → HasOneMore old new x
+    → named_count (map named_once (items_where_true stays extents) ++ old) x < 2 ^ 64 - 1 → IsBase extents stays new
+base_more extents stays old new x base more room = record {
   ascend = base.ascend;
+  each = base.each;
   few = λ y some. elim (cases_Bool (same_extent y x)) [
     | inl same ↦
         let here : one y x ≡ 1 = cond-true _ _ _ same in
         let is : y ≡ x = same_extent_is y x same in
-        let some' : 0 < count_by (same_extent x) extents = subst (λ w. 0 < count_by (same_extent w) extents) is some in
+        let some' : 0 < count_by (same_extent x) (items_where_true stays extents) = subst (λ w. 0 < count_by (same_extent w) (items_where_true stays extents)) is some in
         let counts : named_count old y ≡ named_count old x = ap (named_count old) is in
-        omega (arith, more y, here, counts, some', both_count extents old x, room)
+        omega (arith, more y, here, counts, some', both_count (items_where_true stays extents) old x, room)
     | inr differs ↦
         let here : one y x ≡ 0 = cond-false _ _ _ differs in
         omega (arith, more y, here, base.few y some)
   ];
 }
 
-pub base_less : (extents : List Element) (more : List (Element × ℕ)) (i : ℕ) (x : Element) → IsBase extents more → i < length extents → ((d : Element) → get_or extents i d ≡ x)
-    → IsBase (take i extents ++ drop (i + 1) extents) more
-base_less extents more i x base inside each = record {
-  ascend =
-      let next : suc i ≡ i + 1 = omega arith in
-      subst (λ (k : ℕ). AscendOnce (take i extents ++ drop k extents)) next (all_pairs_remove (λ extent later. is_before extent later ≡ true) extents i inside base.ascend);
-  few = λ y some. base.few y (omega (arith, some, taken_out extents i x y inside each));
-}
+-- an extent loses the name that it stays for
+pub record IsLess (extents : List Element) (stays : List Bool) (more : List (Element × ℕ)) (i : ℕ) (x : Element) : Type 0 where
+  pub base : IsBase extents (set stays i false) more
+  pub less : HasOneMore (map named_once (items_where_true (set stays i false) extents) ++ more) (map named_once (items_where_true stays extents) ++ more) x
+
+pub base_less : (extents : List Element) (stays : List Bool) (more : List (Element × ℕ)) (i : ℕ) (x : Element) → IsBase extents stays more → i < length extents → ((d : Element) → get_or extents i d ≡ x)
+    → ((d : Bool) → get_or stays i d ≡ true) → IsLess extents stays more i x
+base_less extents stays more i x base inside each stay =
+    let flagged : i < length stays = omega (arith, inside, base.each) in
+    record {
+      base = record {
+        ascend = base.ascend;
+        each = length-set stays i false ∙ base.each;
+        few = λ y some. base.few y (omega (arith, some, one_goes x y stays extents i inside flagged each stay));
+      };
+      less = λ other.
+          omega (
+            arith,
+            both_count (items_where_true stays extents) more other,
+            both_count (items_where_true (set stays i false) extents) more other,
+            one_goes x other stays extents i inside flagged each stay,
+          );
+    }

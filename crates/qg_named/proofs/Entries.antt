@@ -1,213 +1,155 @@
--- Entries that ascend by extent.
-use Rattle.std.proofs.Common.{◌≡◌, ℕ, zero, suc, ◌+◌, ◌-◌, ◌<◌, ◌≤◌, Bool, true, false, List, [], ◌∷◌, ◌++◌, length, get_or, set, take, drop, refl, sym, ap, subst, ◌∙◌, arith, ◌⊎◌, inl, inr, eqb, ltb}
-use Rattle.std.specs.Prelude.{if◌then◌else◌}
-use Rattle.std.specs.List.{All, AllPairs, AllWithin, insert, sum_by}
-use Rattle.std.specs.List.Sorted.{IsPartitionedBy, IsPartitionPoint}
-use Rattle.std.proofs.lemmas.Bool.{cases_Bool, cond-true, cond-false, ltb-true, ltb-false}
-use Rattle.std.proofs.lemmas.List.{get_or_default}
-use Rattle.std.proofs.lemmas.List.Elements.{All-cons}
-use Rattle.std.proofs.lemmas.List.Kept.{AllPairs-cons}
-use Rattle.std.proofs.lemmas.List.Sorted.{All-permutation, IsPermutation-insert}
-use Rattle.std.proofs.lemmas.List.Sums.{sum_by-append, sum_by-cons, sum_by-insert, sum_by-remove, sum_by-set}
+-- Counts by extent, in a map whose keys say where each extent lies and how long it is.
+use Rattle.std.proofs.Common.{◌≡◌, ℕ, ◌+◌, ◌<◌, Bool, true, false, ◌&&◌, List, [], ◌∷◌, Option, Some, None, map, refl, sym, ap, subst, ◌∙◌, arith, inl, inr, unwrap_or, cond}
+use Rattle.std.specs.Prelude.{if◌then◌else◌, ◌==◌}
+use Rattle.std.specs.BTreeMap.{BTreeMap, IsOrdered, Updates, get, insert_entry, is_at}
+use Rattle.std.specs.Cmp.{IsTotalOrder}
+use Rattle.std.specs.List.{All, sum_by}
+use Rattle.std.specs.List.Sorted.{IsStrictlySortedBy}
+use Rattle.std.specs.Map.{keys_of, lookup, remove_entry, values_of}
+use Rattle.std.specs.Ordering.{is_eq, nat_cmp, ordering_then}
+use Rattle.std.specs.declared.cmp.Ordering.{Ordering}
+use Rattle.std.specs.declared.cmp.Ordering.TheVariants.{Less, Equal, Greater}
+use Rattle.std.proofs.lemmas.Bool.{cases_Bool, cond-true, cond-false}
 use Rattle.std.proofs.lemmas.Bool.Decides.{nat_tests}
+use Rattle.std.proofs.lemmas.Cmp.{eq_by_cmp_equiv, nat_cmp_total, on_total, then_total}
+use Rattle.std.proofs.lemmas.List.Sums.{sum_by-cons}
+use Rattle.std.proofs.lemmas.Map.{NonePasses}
+use Rattle.std.proofs.lemmas.Map.Entries.{lookup_head, lookup_tail, none_past_head}
+use Rattle.std.proofs.lemmas.Map.Keys.{IsDistinct-from_sorted, sorted_tail}
+use Rattle.std.proofs.lemmas.Map.Views.{All-map-remove_entry, All-values-insert_entry}
 use Rattle.qg_state.specs.declared.element.Element.{Element}
-use Rattle.qg_verdict.specs.Verdict.{is_before, same_extent}
-use Rattle.qg_reach.proofs.Order.{before_chain, before_not_itself, not_same, same_itself}
-use Rattle.qg_named.specs.Named.{named_count, HasOneMore}
-use Rattle.qg_named.specs.Tally.{IsTally}
+use Rattle.qg_verdict.specs.Verdict.{same_extent}
+use Rattle.qg_reach.proofs.Order.{same_extent_is, same_itself}
+use Rattle.qg_named.specs.Named.{named_count, HasOneMore, HasSoManyMore}
+use Rattle.qg_named.specs.Tally.{IsTally, entry_of, key_cmp, key_of}
+use Rattle.qg_named.proofs.Names.{one}
 
-abbrev Ascend : List (Element × ℕ) → Type 0
-Ascend entries = AllPairs (λ entry later. is_before entry.0 later.0 ≡ true) entries
+-- ---- keys
 
-later_ascend : (x : Element × ℕ) (xs : List (Element × ℕ)) → Ascend (x ∷ xs) → Ascend xs
-later_ascend x xs up = λ i j d h k. up (suc i) (suc j) d (omega arith) (omega arith)
+pub key_order : IsTotalOrder key_cmp
+key_order = then_total (on_total (λ (key : ℕ × ℕ). key.0) nat_cmp_total) (on_total (λ (key : ℕ × ℕ). key.1) nat_cmp_total)
 
-pub before_differs : (a b : Element) → is_before a b ≡ true → same_extent a b ≡ false
-before_differs a b h = grind (arith, nat_tests)
+equal_numbers : (a b : ℕ) → is_eq (nat_cmp a b) ≡ (a == b)
+equal_numbers a b = grind (arith, nat_tests)
 
--- of two that differ, one that does not come before the other comes after it
-pub after_if_not : (a b : Element) → is_before b a ≡ false → same_extent b a ≡ false → is_before a b ≡ true
-after_if_not a b h k = grind (arith, nat_tests)
+equal_then : (first second : Ordering) → is_eq (ordering_then first second) ≡ (is_eq first && is_eq second)
+equal_then Less second = refl
+equal_then Equal second = refl
+equal_then Greater second = refl
+
+-- a key is that of an extent exactly if its extent is the same
+same_key : (x : Element) (key : ℕ × ℕ) → same_extent x (entry_of (key, 0)).0 ≡ is_at (key_cmp (key_of x)) key
+same_key x key =
+    sym (equal_then (nat_cmp x.address key.0) (nat_cmp x.bytes key.1)
+    ∙ ap (λ (b : Bool). b && is_eq (nat_cmp x.bytes key.1)) (equal_numbers x.address key.0)
+    ∙ ap (λ (b : Bool). (x.address == key.0) && b) (equal_numbers x.bytes key.1))
+
+same_either_way : (x y : Element) → same_extent x y ≡ same_extent y x
+same_either_way x y = grind (arith, nat_tests)
 
 -- ---- counts
 
 abbrev pub counted : Element → Element × ℕ → ℕ
 counted extent entry = if same_extent extent entry.0 then entry.1 else 0
 
-none_counted : (extent : Element) (xs : List (Element × ℕ)) → ((k : ℕ) (d : Element × ℕ) → k < length xs → same_extent extent (get_or xs k d).0 ≡ false) → sum_by (counted extent) xs ≡ 0
-none_counted extent [] each = refl
-none_counted extent (x ∷ xs) each =
-    let here : counted extent x ≡ 0 = cond-false _ _ _ (each 0 x (omega arith)) in
-    let rest = none_counted extent xs (λ k d h. each (suc k) d (omega arith)) in
-    omega (arith, sum_by-cons (counted extent) x xs, here, rest)
+none_in : (x : Element) (entries : List ((ℕ × ℕ) × ℕ)) → NonePasses (is_at (key_cmp (key_of x))) entries → sum_by (counted x) (map entry_of entries) ≡ 0
+none_in x [] none = refl
+none_in x (e ∷ entries) none =
+    let here : counted x (entry_of e) ≡ 0 = cond-false _ _ _ (same_key x e.0 ∙ none.0) in
+    omega (arith, sum_by-cons (counted x) (entry_of e) (map entry_of entries), here, none_in x entries none.1)
 
-one_counted : (extent : Element) (xs : List (Element × ℕ)) (i : ℕ) (d : Element × ℕ) → Ascend xs → i < length xs → (get_or xs i d).0 ≡ extent → sum_by (counted extent) xs ≡ (get_or xs i d).1
-one_counted extent [] i d up inside is = absurd (omega (arith, inside))
-one_counted extent (x ∷ xs) zero d up inside is =
-    let here : counted extent x ≡ x.1 = cond-true _ _ _ (subst (λ w. same_extent w x.0 ≡ true) is (same_itself x.0)) in
-    let rest : sum_by (counted extent) xs ≡ 0 = none_counted extent xs (λ k d' h. before_differs extent (get_or xs k d').0 (subst (λ w. is_before w (get_or xs k d').0 ≡ true) is (up 0 (suc k) d' (omega arith) (omega arith)))) in
-    omega (arith, sum_by-cons (counted extent) x xs, here, rest)
-one_counted extent (x ∷ xs) (suc i) d up inside is =
-    let here : counted extent x ≡ 0 = cond-false _ _ _ (not_same extent x.0 (subst (λ w. is_before x.0 w ≡ true) is (up 0 (suc i) d (omega arith) inside))) in
-    let rest = one_counted extent xs i d (later_ascend x xs up) (omega (arith, inside)) is in
-    omega (arith, sum_by-cons (counted extent) x xs, here, rest)
+-- the entries count what a search for the extent's key finds
+count_in : (x : Element) (entries : List ((ℕ × ℕ) × ℕ)) → IsStrictlySortedBy key_cmp (keys_of entries) → sum_by (counted x) (map entry_of entries) ≡ unwrap_or (lookup (is_at (key_cmp (key_of x))) entries) 0
+count_in x [] up = refl
+count_in x (e ∷ entries) up = elim (cases_Bool (is_at (key_cmp (key_of x)) e.0)) [
+  | inl at ↦
+      let here : counted x (entry_of e) ≡ e.1 = cond-true _ _ _ (same_key x e.0 ∙ at) in
+      let none = none_past_head (eq_by_cmp_equiv key_order) (key_of x) e entries (IsDistinct-from_sorted key_cmp (keys_of (e ∷ entries)) up) at in
+      let rest : sum_by (counted x) (map entry_of entries) ≡ 0 = none_in x entries none in
+      let found : unwrap_or (lookup (is_at (key_cmp (key_of x))) (e ∷ entries)) 0 ≡ e.1 = ap (λ (o : Option ℕ). unwrap_or o 0) (lookup_head (is_at (key_cmp (key_of x))) e entries at) in
+      omega (arith, sum_by-cons (counted x) (entry_of e) (map entry_of entries), here, rest, found)
+  | inr apart ↦
+      let here : counted x (entry_of e) ≡ 0 = cond-false _ _ _ (same_key x e.0 ∙ apart) in
+      let found : unwrap_or (lookup (is_at (key_cmp (key_of x))) (e ∷ entries)) 0 ≡ unwrap_or (lookup (is_at (key_cmp (key_of x))) entries) 0 =
+      ap (λ (o : Option ℕ). unwrap_or o 0) (lookup_tail (is_at (key_cmp (key_of x))) e entries apart) in
+      omega (arith, sum_by-cons (counted x) (entry_of e) (map entry_of entries), here, found, count_in x entries (sorted_tail key_cmp e.0 (keys_of entries) up))
+]
 
--- the entry of an extent counts all that name it
-pub entry_counts : (xs : List (Element × ℕ)) (extent : Element) (i : ℕ) (d : Element × ℕ) → IsTally xs → i < length xs → (get_or xs i d).0 ≡ extent → get_or xs i d ≡ (extent, named_count xs extent)
+pub count_is : (counts : BTreeMap (ℕ × ℕ) ℕ) (x : Element) → IsOrdered key_cmp counts → named_count (map entry_of counts.entries) x ≡ unwrap_or (get key_cmp counts (key_of x)) 0
 unfolding named_count
-entry_counts xs extent i d tally inside is =
-    let count = one_counted extent xs i d tally.ascend inside is in
-    λ k. (is k, sym count k)
+count_is counts x up = count_in x counts.entries up
 
--- an extent between two entries is named by none
-pub between_counts : (xs : List (Element × ℕ)) (extent : Element) (i : ℕ) → IsPartitionPoint (λ entry. is_before entry.0 extent ≡ true) (λ entry. is_before extent entry.0 ≡ true) xs i → named_count xs extent ≡ 0
-unfolding named_count
-between_counts xs extent i point = none_counted extent xs (λ k d h. cases k d h (cases_Bool (ltb k i))) where
-  cases : (k : ℕ) (d : Element × ℕ) → k < length xs → (ltb k i ≡ true) ⊎ (ltb k i ≡ false) → same_extent extent (get_or xs k d).0 ≡ false
-  cases k d h (inl below) = not_same extent (get_or xs k d).0 (point.0 k d (omega arith) (ltb-true k i below))
-  cases k d h (inr above) = before_differs extent (get_or xs k d).0 (point.1 k d (ltb-false k i above) h)
+-- ---- updates
 
--- ---- places
+chosen : (b : Bool) (w o : Option ℕ) → unwrap_or (cond b w o) 0 ≡ (if b then unwrap_or w 0 else unwrap_or o 0)
+chosen true w o = refl
+chosen false w o = refl
 
--- the last entry of some
-pub last_entry : (n : ℕ) → eqb n 0 ≡ false → n - 1 + 1 ≡ n
-last_entry n some = grind (arith, nat_tests)
+-- what is put at the key of an extent, or taken out there, counts for that extent alone
+updated : (old new : BTreeMap (ℕ × ℕ) ℕ) (x : Element) (w : Option ℕ) → IsOrdered key_cmp old → IsOrdered key_cmp new → Updates key_cmp old new (key_of x) w
+    → (other : Element) → named_count (map entry_of new.entries) other ≡ (if same_extent other x then unwrap_or w 0 else named_count (map entry_of old.entries) other)
+updated old new x w up up' sets other =
+    let key = key_of other in
+    let same : is_at (key_cmp (key_of x)) key ≡ same_extent other x = sym (same_key x key) ∙ same_either_way x other in
+    count_is new other up' ∙ ap (λ (o : Option ℕ). unwrap_or o 0) (sets.0 key) ∙ chosen (is_at (key_cmp (key_of x)) key) w (get key_cmp old key)
+    ∙ ap (λ (b : Bool). if b then unwrap_or w 0 else unwrap_or (get key_cmp old key) 0) same
+    ∙ ap (λ (n : ℕ). if same_extent other x then unwrap_or w 0 else n) (sym (count_is old other up))
 
-pub partitioned : (xs : List (Element × ℕ)) (extent : Element) → IsTally xs → IsPartitionedBy (λ entry. is_before entry.0 extent) xs
-partitioned xs extent tally i j d le h before = cases (cases_Bool (ltb i j)) where
-  cases : (ltb i j ≡ true) ⊎ (ltb i j ≡ false) → is_before (get_or xs i d).0 extent ≡ true
-  cases (inl below) = before_chain (get_or xs i d).0 (get_or xs j d).0 extent (tally.ascend i j d (ltb-true i j below) h) before
-  cases (inr above) =
-      let same : j ≡ i = omega (arith, ltb-false i j above, le) in
-      subst (λ (k : ℕ). is_before (get_or xs k d).0 extent ≡ true) same before
+-- the count of an extent rises by so many
+pub more_by_update : (old new : BTreeMap (ℕ × ℕ) ℕ) (x : Element) (n : ℕ) (w : Option ℕ) → IsOrdered key_cmp old → IsOrdered key_cmp new → Updates key_cmp old new (key_of x) w
+    → unwrap_or w 0 ≡ named_count (map entry_of old.entries) x + n → HasSoManyMore (map entry_of old.entries) (map entry_of new.entries) x n
+more_by_update old new x n w up up' sets more other = elim (cases_Bool (same_extent other x)) [
+  | inl same ↦
+      let is : named_count (map entry_of old.entries) other ≡ named_count (map entry_of old.entries) x = ap (named_count (map entry_of old.entries)) (same_extent_is other x same) in
+      let now : named_count (map entry_of new.entries) other ≡ unwrap_or w 0 = updated old new x w up up' sets other ∙ cond-true _ _ _ same in
+      let all : (if same_extent other x then n else 0) ≡ n = cond-true _ _ _ same in
+      omega (arith, is, now, all, more)
+  | inr differs ↦
+      let now : named_count (map entry_of new.entries) other ≡ named_count (map entry_of old.entries) other = updated old new x w up up' sets other ∙ cond-false _ _ _ differs in
+      let none : (if same_extent other x then n else 0) ≡ 0 = cond-false _ _ _ differs in
+      omega (arith, now, none)
+]
 
--- past the last entry
-pub past_last : (xs : List (Element × ℕ)) (extent : Element) (last : ℕ) (d : Element × ℕ) → IsTally xs → last + 1 ≡ length xs → is_before (get_or xs last d).0 extent ≡ true
-    → IsPartitionPoint (λ entry. is_before entry.0 extent ≡ true) (λ entry. is_before entry.0 extent ≡ false) xs (last + 1)
-past_last xs extent last d tally end before = (front, back) where
-  front : AllWithin (λ entry. is_before entry.0 extent ≡ true) xs 0 (last + 1)
-  front k e low h =
-      let here = subst (λ (entry : Element × ℕ). is_before entry.0 extent ≡ true) (get_or_default xs last d e (omega arith)) before in
-      partitioned xs extent tally k last e (omega arith) (omega arith) here
+-- the count of an extent falls by one
+pub less_by_update : (old new : BTreeMap (ℕ × ℕ) ℕ) (x : Element) (w : Option ℕ) → IsOrdered key_cmp old → IsOrdered key_cmp new → Updates key_cmp old new (key_of x) w
+    → unwrap_or w 0 + 1 ≡ named_count (map entry_of old.entries) x → HasOneMore (map entry_of new.entries) (map entry_of old.entries) x
+less_by_update old new x w up up' sets less other = elim (cases_Bool (same_extent other x)) [
+  | inl same ↦
+      let is : named_count (map entry_of old.entries) other ≡ named_count (map entry_of old.entries) x = ap (named_count (map entry_of old.entries)) (same_extent_is other x same) in
+      let now : named_count (map entry_of new.entries) other ≡ unwrap_or w 0 = updated old new x w up up' sets other ∙ cond-true _ _ _ same in
+      let single : one other x ≡ 1 = cond-true _ _ _ same in
+      omega (arith, is, now, single, less)
+  | inr differs ↦
+      let now : named_count (map entry_of new.entries) other ≡ named_count (map entry_of old.entries) other = updated old new x w up up' sets other ∙ cond-false _ _ _ differs in
+      let none : one other x ≡ 0 = cond-false _ _ _ differs in
+      omega (arith, now, none)
+]
 
-  back : AllWithin (λ entry. is_before entry.0 extent ≡ false) xs (last + 1) (length xs)
-  back k e low h = absurd (omega arith)
+-- ---- what a tally is seen as
 
--- the last entry is of the extent
-pub at_last : (xs : List (Element × ℕ)) (extent : Element) (last : ℕ) (d : Element × ℕ) → IsTally xs → last + 1 ≡ length xs → (get_or xs last d).0 ≡ extent
-    → IsPartitionPoint (λ entry. is_before entry.0 extent ≡ true) (λ entry. is_before entry.0 extent ≡ false) xs last
-at_last xs extent last d tally end is = (front, back) where
-  at : (e : Element × ℕ) → (get_or xs last e).0 ≡ extent
-  at e = ap (λ (entry : Element × ℕ). entry.0) (get_or_default xs last e d (omega arith)) ∙ is
+-- an extent counts what is found at its key
+pub count_got : (counts : BTreeMap (ℕ × ℕ) ℕ) (now : List (Element × ℕ)) (x : Element) (key : ℕ × ℕ) → map entry_of counts.entries ≡ now → key ≡ key_of x → IsOrdered key_cmp counts
+    → named_count now x ≡ unwrap_or (get key_cmp counts key) 0
+count_got counts now x key is at up =
+    ap (λ (named : List (Element × ℕ)). named_count named x) (sym is) ∙ count_is counts x up ∙ ap (λ (k : ℕ × ℕ). unwrap_or (get key_cmp counts k) 0) (sym at)
 
-  front : AllWithin (λ entry. is_before entry.0 extent ≡ true) xs 0 last
-  front k e low h = subst (λ w. is_before (get_or xs k e).0 w ≡ true) (at e) (tally.ascend k last e h (omega arith))
+-- none where nothing is found there
+pub count_none : (counts : BTreeMap (ℕ × ℕ) ℕ) (now : List (Element × ℕ)) (x : Element) (key : ℕ × ℕ) → map entry_of counts.entries ≡ now → key ≡ key_of x → IsOrdered key_cmp counts
+    → get key_cmp counts key ≡ None → named_count now x ≡ 0
+count_none counts now x key is at up none = count_got counts now x key is at up ∙ ap (λ (o : Option ℕ). unwrap_or o 0) none
 
-  back : AllWithin (λ entry. is_before entry.0 extent ≡ false) xs last (length xs)
-  back k e low h =
-      let same : last ≡ k = omega arith in
-      subst (λ (m : ℕ). is_before (get_or xs m e).0 extent ≡ false) same (subst (λ w. is_before w extent ≡ false) (sym (at e)) (before_not_itself extent))
+pub more_by_set : (old new : BTreeMap (ℕ × ℕ) ℕ) (now : List (Element × ℕ)) (x : Element) (key : ℕ × ℕ) (before n : ℕ) → map entry_of old.entries ≡ now → key ≡ key_of x → before ≡ named_count now x
+    → IsOrdered key_cmp old → IsOrdered key_cmp new → Updates key_cmp old new key (Some (before + n)) → HasSoManyMore now (map entry_of new.entries) x n
+more_by_set old new now x key before n is at counts up up' sets =
+    subst (λ (named : List (Element × ℕ)). HasSoManyMore named (map entry_of new.entries) x n) is
+    (more_by_update old new x n (Some (before + n)) up up' (subst (λ (k : ℕ × ℕ). Updates key_cmp old new k (Some (before + n))) at sets)
+    (ap (λ (m : ℕ). m + n) (counts ∙ ap (λ (named : List (Element × ℕ)). named_count named x) (sym is))))
 
--- where the entry at the place is of another extent, the extent lies between two
-pub between : (xs : List (Element × ℕ)) (extent : Element) (i : ℕ) → IsTally xs
-    → IsPartitionPoint (λ entry. is_before entry.0 extent ≡ true) (λ entry. is_before entry.0 extent ≡ false) xs i
-    → ((d : Element × ℕ) → i < length xs → same_extent (get_or xs i d).0 extent ≡ false)
-    → IsPartitionPoint (λ entry. is_before entry.0 extent ≡ true) (λ entry. is_before extent entry.0 ≡ true) xs i
-between xs extent i tally point other = (point.0, back) where
-  here : (d : Element × ℕ) → i < length xs → is_before extent (get_or xs i d).0 ≡ true
-  here d h = after_if_not extent (get_or xs i d).0 (point.1 i d (omega arith) h) (other d h)
-
-  back : AllWithin (λ entry. is_before extent entry.0 ≡ true) xs i (length xs)
-  back k d low h = cases (cases_Bool (ltb i k)) where
-    cases : (ltb i k ≡ true) ⊎ (ltb i k ≡ false) → is_before extent (get_or xs k d).0 ≡ true
-    cases (inl below) = before_chain extent (get_or xs i d).0 (get_or xs k d).0 (here d (omega arith)) (tally.ascend i k d (ltb-true i k below) h)
-    cases (inr above) =
-        let same : i ≡ k = omega (arith, ltb-false i k above, low) in
-        subst (λ (m : ℕ). is_before extent (get_or xs m d).0 ≡ true) same (here d (omega arith))
-
--- ---- edits
-
-pairs_insert : (xs : List (Element × ℕ)) (i : ℕ) (y : Element × ℕ) → Ascend xs → i ≤ length xs
-    → ((k : ℕ) (d : Element × ℕ) → k < i → is_before (get_or xs k d).0 y.0 ≡ true)
-    → ((k : ℕ) (d : Element × ℕ) → i ≤ k → k < length xs → is_before y.0 (get_or xs k d).0 ≡ true)
-    → Ascend (insert xs i y)
-pairs_insert xs zero y up le before after =
-    AllPairs-cons (λ entry later. is_before entry.0 later.0 ≡ true) y xs (λ k d h. after k d (omega arith) h) up
-pairs_insert [] (suc i) y up le before after = absurd (omega (arith, le))
-pairs_insert (x ∷ xs) (suc i) y up le before after =
-    let all : All (λ later. is_before x.0 later.0 ≡ true) xs = λ k d h. up 0 (suc k) d (omega arith) (omega arith) in
-    AllPairs-cons (λ entry later. is_before entry.0 later.0 ≡ true) x (insert xs i y)
-    (All-permutation (λ later. is_before x.0 later.0 ≡ true) (y ∷ xs) (insert xs i y) (IsPermutation-insert xs i y) (All-cons (λ later. is_before x.0 later.0 ≡ true) y xs (before 0 x (omega arith)) all))
-    (pairs_insert xs i y (later_ascend x xs up) (omega arith) (λ k d h. before (suc k) d (omega arith)) (λ k d low h. after (suc k) d (omega arith) (omega arith)))
-
--- with one entry more
-pub tally_insert : (xs : List (Element × ℕ)) (i : ℕ) (extent : Element) (n : ℕ) → IsTally xs → i ≤ length xs → 0 < n
-    → IsPartitionPoint (λ entry. is_before entry.0 extent ≡ true) (λ entry. is_before extent entry.0 ≡ true) xs i
-    → IsTally (insert xs i (extent, n))
-tally_insert xs i extent n tally le some point = record {
-  ascend = pairs_insert xs i (extent, n) tally.ascend le (λ k d h. point.0 k d (omega arith) h) point.1;
-  named = All-permutation (λ entry. 0 < entry.1) ((extent, n) ∷ xs) (insert xs i (extent, n)) (IsPermutation-insert xs i (extent, n)) (All-cons (λ entry. 0 < entry.1) (extent, n) xs some tally.named);
-}
-
--- ---- what an edit leaves of the counts
-
--- what is read of an entry is the count that the search found
-pub found_entry : (old seen read : List (Element × ℕ)) (extent : Element) (i n : ℕ) (x : Element × ℕ) → seen ≡ old → read ≡ old
-    → ((d : Element × ℕ) → get_or seen i d ≡ (extent, n)) → (d : Element × ℕ) → get_or old i d ≡ (extent, (get_or read i x).1)
-found_entry old seen read extent i n x seen_is read_is each d =
-    let here : get_or old i d ≡ (extent, n) = subst (λ (xs : List (Element × ℕ)). get_or xs i d ≡ (extent, n)) seen_is (each d) in
-    let whole : get_or read i x ≡ (extent, n) = ap (λ (xs : List (Element × ℕ)). get_or xs i x) (read_is ∙ sym seen_is) ∙ each x in
-    here ∙ ap (λ (m : ℕ). (extent, m)) (sym (ap (λ (entry : Element × ℕ). entry.1) whole))
-
--- and that is how many name the extent
-pub found_count : (old seen read now : List (Element × ℕ)) (extent : Element) (i : ℕ) (x : Element × ℕ) → seen ≡ old → read ≡ old → old ≡ now
-    → ((d : Element × ℕ) → get_or seen i d ≡ (extent, named_count seen extent)) → (get_or read i x).1 ≡ named_count now extent
-found_count old seen read now extent i x seen_is read_is now_is each =
-    let whole : get_or read i x ≡ (extent, named_count seen extent) = ap (λ (xs : List (Element × ℕ)). get_or xs i x) (read_is ∙ sym seen_is) ∙ each x in
-    ap (λ (entry : Element × ℕ). entry.1) whole ∙ ap (λ (xs : List (Element × ℕ)). named_count xs extent) (seen_is ∙ now_is)
-
-one_if_more : (b : Bool) (n : ℕ) → (if b then n + 1 else 0) ≡ (if b then n else 0) + (if b then 1 else 0)
-one_if_more true n = refl
-one_if_more false n = refl
-
-one_if_less : (b : Bool) (n : ℕ) → 0 < n → (if b then n else 0) ≡ (if b then n - 1 else 0) + (if b then 1 else 0)
-one_if_less true n some = omega arith
-one_if_less false n some = refl
-
-pub more_by_set : (xs : List (Element × ℕ)) (i : ℕ) (extent : Element) (n : ℕ) → i < length xs → ((d : Element × ℕ) → get_or xs i d ≡ (extent, n)) → HasOneMore xs (set xs i (extent, n + 1)) extent
-unfolding named_count
-more_by_set xs i extent n inside each other =
-    let y : Element × ℕ = (extent, n + 1) in
-    let sums = sum_by-set (counted other) xs i y y inside in
-    let was : counted other (get_or xs i y) ≡ counted other (extent, n) = ap (counted other) (each y) in
-    let more : counted other (extent, n + 1) ≡ counted other (extent, n) + (if same_extent other extent then 1 else 0) = one_if_more (same_extent other extent) n in
-    omega (arith, sums, was, more)
-
-pub less_by_set : (xs : List (Element × ℕ)) (i : ℕ) (extent : Element) (n : ℕ) → i < length xs → ((d : Element × ℕ) → get_or xs i d ≡ (extent, n)) → 0 < n → HasOneMore (set xs i (extent, n - 1)) xs extent
-unfolding named_count
-less_by_set xs i extent n inside each some other =
-    let y : Element × ℕ = (extent, n - 1) in
-    let sums = sum_by-set (counted other) xs i y y inside in
-    let was : counted other (get_or xs i y) ≡ counted other (extent, n) = ap (counted other) (each y) in
-    let less : counted other (extent, n) ≡ counted other (extent, n - 1) + (if same_extent other extent then 1 else 0) = one_if_less (same_extent other extent) n some in
-    omega (arith, sums, was, less)
-
-pub more_by_insert : (xs : List (Element × ℕ)) (i : ℕ) (extent : Element) → HasOneMore xs (insert xs i (extent, 1)) extent
-unfolding named_count
-more_by_insert xs i extent other = sum_by-insert (counted other) xs i (extent, 1)
-
-pub more_by_push : (xs : List (Element × ℕ)) (extent : Element) → HasOneMore xs (xs ++ (extent, 1) ∷ []) extent
-unfolding named_count
-more_by_push xs extent other =
-    omega (arith, sum_by-append (counted other) xs ((extent, 1) ∷ []), sum_by-cons (counted other) (extent, 1) [])
-
-pub less_by_remove : (xs : List (Element × ℕ)) (i : ℕ) (extent : Element) → i < length xs → ((d : Element × ℕ) → get_or xs i d ≡ (extent, 1)) → HasOneMore (take i xs ++ drop (i + 1) xs) xs extent
-unfolding named_count
-less_by_remove xs i extent inside each other =
-    let next : suc i ≡ i + 1 = omega arith in
-    let sums = sum_by-remove (counted other) xs i (extent, 1) inside in
-    let was : counted other (get_or xs i (extent, 1)) ≡ (if same_extent other extent then 1 else 0) = ap (counted other) (each (extent, 1)) in
-    subst (λ (k : ℕ). sum_by (counted other) xs ≡ sum_by (counted other) (take i xs ++ drop k xs) + (if same_extent other extent then 1 else 0)) next (omega (arith, sums, was))
+pub less_by_set : (old new : BTreeMap (ℕ × ℕ) ℕ) (now : List (Element × ℕ)) (x : Element) (key : ℕ × ℕ) (w : Option ℕ) → map entry_of old.entries ≡ now → key ≡ key_of x
+    → unwrap_or w 0 + 1 ≡ named_count now x → IsOrdered key_cmp old → IsOrdered key_cmp new → Updates key_cmp old new key w → HasOneMore (map entry_of new.entries) now x
+less_by_set old new now x key w is at counts up up' sets =
+    subst (λ (named : List (Element × ℕ)). HasOneMore (map entry_of new.entries) named x) is
+    (less_by_update old new x w up up' (subst (λ (k : ℕ × ℕ). Updates key_cmp old new k w) at sets) (counts ∙ ap (λ (named : List (Element × ℕ)). named_count named x) (sym is)))
 
 -- one less of the extent itself
 pub one_left : (new old : List (Element × ℕ)) (extent : Element) → HasOneMore new old extent → named_count old extent ≡ named_count new extent + 1
@@ -215,10 +157,18 @@ one_left new old extent more =
     let here : counted extent (extent, 1) ≡ 1 = cond-true _ _ _ (same_itself extent) in
     omega (arith, more extent, here)
 
--- the last one goes
-pub none_left : (new old : List (Element × ℕ)) (extent : Element) → HasOneMore new old extent → 1 ≡ named_count old extent → named_count new extent ≡ 0
-none_left new old extent more was = omega (arith, one_left new old extent more, was)
+-- ---- what stays a tally
 
--- one of several goes
-pub some_left : (new old : List (Element × ℕ)) (extent : Element) (n : ℕ) → HasOneMore new old extent → n ≡ named_count old extent → 1 < n → named_count new extent ≡ 0 → ⊥
-some_left new old extent n more was several none = omega (arith, one_left new old extent more, was, several, none)
+pub tally_set : (old new : BTreeMap (ℕ × ℕ) ℕ) (key : ℕ × ℕ) (n : ℕ) → IsTally old → 0 < n → IsOrdered key_cmp new → new.entries ≡ insert_entry key_cmp old.entries key n → IsTally new
+tally_set old new key n tally some up is = record {
+  ascend = up;
+  named = subst (λ (entries : List ((ℕ × ℕ) × ℕ)). All (λ count. 0 < count) (values_of entries)) (sym is) (All-values-insert_entry key_cmp key n (λ count. 0 < count) old.entries tally.named some);
+}
+
+pub tally_without : (old new : BTreeMap (ℕ × ℕ) ℕ) (key : ℕ × ℕ) → IsTally old → IsOrdered key_cmp new → new.entries ≡ remove_entry (is_at (key_cmp key)) old.entries → IsTally new
+tally_without old new key tally up is = record {
+  ascend = up;
+  named =
+      subst (λ (entries : List ((ℕ × ℕ) × ℕ)). All (λ count. 0 < count) (values_of entries)) (sym is)
+      (All-map-remove_entry (is_at (key_cmp key)) (λ (entry : (ℕ × ℕ) × ℕ). entry.1) (λ count. 0 < count) old.entries tally.named);
+}

@@ -1,11 +1,11 @@
 -- A set of as many extents as are listed.
-use Rattle.std.proofs.Common.{◌≡◌, ℕ, ◌+◌, ◌<◌, ◌≤◌, true, false, List, [], ◌∷◌, ◌++◌, length, get_or, take, drop, map, refl, sym, ap, subst, ◌∙◌, arith, ◌⊎◌, inl, inr}
-use Rattle.std.specs.Prelude.{◌==◌}
-use Rattle.std.specs.List.{All, count_by, flat_map, fold}
+use Rattle.std.proofs.Common.{◌≡◌, ℕ, ◌+◌, ◌<◌, ◌≤◌, Bool, true, false, List, [], ◌∷◌, ◌++◌, length, get_or, take, drop, map, refl, sym, ap, subst, ◌∙◌, arith, ◌⊎◌, inl, inr}
+use Rattle.std.specs.Prelude.{◌==◌, replicate}
+use Rattle.std.specs.List.{All, count_by, flat_map, fold, items_where_true}
 use Rattle.std.proofs.lemmas.Bool.{cases_Bool, cond-true, cond-false}
 use Rattle.std.proofs.lemmas.Bool.Decides.{nat_tests}
 use Rattle.std.proofs.lemmas.Grind.{flat_map-append}
-use Rattle.std.proofs.lemmas.List.{drop_more, get_or_default, length-append, length-map, take-append-drop}
+use Rattle.std.proofs.lemmas.List.{drop_more, get_or_default, length-append, length-map, length-replicate, take-append-drop}
 use Rattle.std.proofs.lemmas.List.Kept.{AllPairs-cons}
 use Rattle.qg_image.specs.declared.file.File.{File}
 use Rattle.qg_state.specs.Reach.{extent_of}
@@ -14,7 +14,7 @@ use Rattle.qg_verdict.specs.Verdict.{extent_set, is_before, same_extent, with_ex
 use Rattle.qg_reach.proofs.ExtentSets.{Ascends, extent_set_ascends}
 use Rattle.qg_named.specs.Base.{AscendOnce, IsBase, named_once}
 use Rattle.qg_named.specs.Named.{named_count, AreNamed}
-use Rattle.qg_named.proofs.Bases.{both_count}
+use Rattle.qg_named.proofs.Bases.{all_stay, both_count}
 use Rattle.qg_named.proofs.Names.{listed_first, one}
 
 -- ---- one extent more
@@ -78,21 +78,24 @@ set_counts : (other : Element) (xs : List Element) → length (extent_set xs) �
 set_counts other xs long = omega (arith, as_often other xs [] (omega (arith, long)))
 
 -- of as many each is named once
-pub named_each : (extents names : List Element) (more : List (Element × ℕ)) → extents ≡ extent_set names → length names ≡ length extents → ((x : Element) → named_count more x ≡ 0)
-    → AreNamed (map named_once extents ++ more) names
-named_each extents names more are long none x =
+pub named_each : (extents names : List Element) (stays : List Bool) (more : List (Element × ℕ)) → extents ≡ extent_set names → length names ≡ length extents → stays ≡ replicate (length extents) true
+    → ((x : Element) → named_count more x ≡ 0) → AreNamed (map named_once (items_where_true stays extents) ++ more) names
+named_each extents names stays more are long stay none x =
     let long' : length (extent_set names) ≡ length names = sym (ap length are) ∙ sym long in
-    omega (arith, both_count extents more x, none x, ap (count_by (same_extent x)) are, set_counts x names long')
+    let all : items_where_true stays extents ≡ extents = ap (λ (flags : List Bool). items_where_true flags extents) stay ∙ all_stay extents in
+    omega (arith, both_count (items_where_true stays extents) more x, none x, ap (count_by (same_extent x)) (all ∙ are), set_counts x names long')
 
-pub base_each : (extents names : List Element) (more : List (Element × ℕ)) → extents ≡ extent_set names → ((x : Element) → named_count more x ≡ 0) → IsBase extents more
-base_each extents names more are none = record {
+pub base_each : (extents names : List Element) (stays : List Bool) (more : List (Element × ℕ)) → extents ≡ extent_set names → stays ≡ replicate (length extents) true → ((x : Element) → named_count more x ≡ 0)
+    → IsBase extents stays more
+base_each extents names stays more are stay none = record {
   ascend = ascend_pairs extents (subst Ascends (sym are) (extent_set_ascends names));
+  each = ap length stay ∙ length-replicate (length extents) true;
   few = λ x some. omega (arith, none x);
 }
 
 -- nothing is named by extents of which there are none
-pub base_none : (more : List (Element × ℕ)) → IsBase [] more
-base_none more = record { ascend = λ i j d h k. absurd (omega (arith, k)); few = λ x some. absurd (omega (arith, some)) }
+pub base_none : (more : List (Element × ℕ)) → IsBase [] [] more
+base_none more = record { ascend = λ i j d h k. absurd (omega (arith, k)); each = refl; few = λ x some. absurd (omega (arith, some)) }
 
 -- ---- how many pieces files have
 

@@ -8,8 +8,8 @@ use Rattle.std.specs.List.Sorted.{IsPermutation}
 use Rattle.std.proofs.lemmas.List.Sorted.{sum_by-IsPermutation}
 use Rattle.std.proofs.lemmas.List.Sums.{count_by-le-length, sum_by-append, sum_by-cons}
 use Rattle.qg_state.specs.declared.element.Element.{Element}
+use Rattle.qg_state.proofs.Contained.{none_contained, contains_here, contains_later, contains_cases}
 use Rattle.qg_verdict.specs.Verdict.{same_extent}
-use Rattle.qg_reach.proofs.Members.{none_contained, contains_cases, contains_here, contains_later}
 use Rattle.qg_reach.proofs.Order.{same_itself, same_extent_is}
 use Rattle.qg_named.specs.Named.{named_count, HasOneMore, AreNamed}
 

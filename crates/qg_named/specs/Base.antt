@@ -1,6 +1,6 @@
--- Extents that some piece names, once at least, and how many more pieces name some of them (this project's own).
-use Rattle.std.specs.Prelude.{ℕ, ◌+◌, ◌^◌, ◌<◌, List, IsTrue}
-use Rattle.std.specs.List.{AllPairs, count_by}
+-- Extents that some piece names, once at least; which of them still have that name; and how many more pieces name some extents (this project's own).
+use Rattle.std.specs.Prelude.{◌≡◌, ℕ, ◌+◌, ◌^◌, ◌<◌, Bool, List, length, IsTrue}
+use Rattle.std.specs.List.{AllPairs, count_by, items_where_true}
 use Rattle.qg_state.specs.declared.element.Element.{Element}
 use Rattle.qg_verdict.specs.Verdict.{is_before, same_extent}
 use Rattle.qg_named.specs.Named.{named_count}
@@ -13,7 +13,8 @@ AscendOnce extents = AllPairs (λ extent later. IsTrue (is_before extent later))
 abbrev pub named_once : Element → Element × ℕ
 named_once extent = (extent, 1)
 
--- the extents ascend, and one more than what is counted of each fits 64 bits
-pub record IsBase (extents : List Element) (more : List (Element × ℕ)) : Type 0 where
+-- the extents ascend, a flag says of each whether it stays, and one more than what is counted of one that stays fits 64 bits
+pub record IsBase (extents : List Element) (stays : List Bool) (more : List (Element × ℕ)) : Type 0 where
   pub ascend : AscendOnce extents
-  pub few : (extent : Element) → 0 < count_by (same_extent extent) extents → named_count more extent + 1 < 2 ^ 64
+  pub each : length stays ≡ length extents
+  pub few : (extent : Element) → 0 < count_by (same_extent extent) (items_where_true stays extents) → named_count more extent + 1 < 2 ^ 64

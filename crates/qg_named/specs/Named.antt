@@ -8,9 +8,13 @@ use Rattle.qg_verdict.specs.Verdict.{same_extent}
 unfoldable pub named_count : List (Element × ℕ) → Element → ℕ
 named_count named extent = sum_by (λ entry. if same_extent extent entry.0 then entry.1 else 0) named
 
--- one piece more names an extent, and as many as before name each other
+-- so many pieces more name an extent, and as many as before name each other
+abbrev pub HasSoManyMore : List (Element × ℕ) → List (Element × ℕ) → Element → ℕ → Type 0
+HasSoManyMore old new extent count = (other : Element) → named_count new other ≡ named_count old other + (if same_extent other extent then count else 0)
+
+-- one piece more
 abbrev pub HasOneMore : List (Element × ℕ) → List (Element × ℕ) → Element → Type 0
-HasOneMore old new extent = (other : Element) → named_count new other ≡ named_count old other + (if same_extent other extent then 1 else 0)
+HasOneMore old new extent = HasSoManyMore old new extent 1
 
 -- each extent is named as often as it is listed
 abbrev pub AreNamed : List (Element × ℕ) → List Element → Type 0

@@ -3,7 +3,6 @@
 
 mod base;
 mod named;
-mod search;
 mod tally;
 
 pub use named::{Named, named_by, named_of};

@@ -6,7 +6,7 @@ ghost use Rattle.qg_state.specs.Reach.{extent_of};
 ghost use Rattle.qg_verdict.specs.Verdict.{extent_set};
 ghost use Rattle.qg_named.specs.Named.{named_count, HasOneMore, AreNamed};
 
-use crate::base::index_of;
+use crate::base::place_of;
 use crate::tally::{Tally, tally_by};
 use qg_image::File;
 use qg_num::{Ino, NoMemory, Sequence};
@@ -18,21 +18,24 @@ use std::marker::Model;
 /// counts, and asks for the count of one.
 #[derive(Drop)]
 pub struct Named {
-    // Each is named by one piece more than `more` counts.
+    // As they were read: none is put in or taken out, so that none behind it moves. Each that stays
+    // is named by one piece more than `more` counts.
     extents: Sequence<Element>,
+    stays: Vec<bool>,
     more: Tally,
 }
 
 impl Model for Named {
     ghost use Rattle.std.specs.Prelude.{List, ℕ, ◌++◌, map};
+    ghost use Rattle.std.specs.List.{items_where_true};
     ghost use Rattle.qg_state.specs.declared.element.Element.{Element};
     ghost use Rattle.qg_named.specs.Base.{IsBase, named_once};
 
     ghost Value = { List (Element × ℕ) };
 
-    ghost view = { λ n. map named_once n.extents ++ n.more };
+    ghost view = { λ n. map named_once (items_where_true n.stays.items n.extents) ++ n.more };
 
-    ghost invariant = { λ n. IsBase n.extents n.more };
+    ghost invariant = { λ n. IsBase n.extents n.stays.items n.more };
 }
 
 impl Named {
@@ -42,6 +45,7 @@ impl Named {
     {
         Named {
             extents: Sequence::new(alloc),
+            stays: Vec::new(alloc),
             more: Tally::new(alloc),
         }
     }
@@ -51,7 +55,7 @@ impl Named {
         ensures { result ≡ named_count self.now extent.now }
     {
         let more = self.more.count(extent);
-        match index_of(self.extents.as_slice(), extent) {
+        match place_of(self.extents.as_slice(), self.stays.as_slice(), extent) {
             Some(_) => more + 1,
             None => more,
         }
@@ -86,8 +90,8 @@ impl Named {
             self.more.drop_one(extent);
             return;
         }
-        match index_of(self.extents.as_slice(), extent) {
-            Some(index) => self.extents.remove_range(index, index + 1),
+        match place_of(self.extents.as_slice(), self.stays.as_slice(), extent) {
+            Some(index) => self.stays[index] = false,
             None => unreachable!(),
         }
     }
@@ -99,6 +103,7 @@ pub fn named_by(alloc: Global, files: &[(Ino, File)]) -> Result<Named, NoMemory>
 {
     Ok(Named {
         extents: Sequence::new(alloc),
+        stays: Vec::new(alloc),
         more: tally_by(alloc, files)?,
     })
 }
@@ -114,8 +119,10 @@ pub fn named_of(
 {
     // Of as many extents as pieces each is named once.
     if have_pieces(files, extents.len()) {
+        let stays = vec![in alloc; true; extents.len()]?;
         return Ok(Named {
             extents,
+            stays,
             more: Tally::new(alloc),
         });
     }

@@ -1,33 +1,35 @@
 // Data extents with their counts, how many pieces name each.
-ghost use Rattle.std.specs.Prelude.{◌≡◌, ◌-◌, ◌^◌, ◌<◌, ◌↔◌, ◌++◌, map, IfOk, OnOk, OnErr, IsTrue};
+ghost use Rattle.std.specs.Prelude.{◌≡◌, ◌+◌, ◌-◌, ◌^◌, ◌<◌, ◌≤◌, ◌↔◌, ◌++◌, length, map, slice_index_or, IfOk, OnOk, OnErr, IsTrue};
 ghost use Rattle.std.specs.List.{flat_map};
 ghost use Rattle.qg_state.specs.declared.element.Element.{Element};
 ghost use Rattle.qg_state.specs.Reach.{extent_of};
-ghost use Rattle.qg_named.specs.Named.{named_count, HasOneMore, AreNamed};
+ghost use Rattle.qg_named.specs.Named.{named_count, HasOneMore, HasSoManyMore, AreNamed};
+ghost use Rattle.qg_named.specs.Tally.{key_of, IsRow};
 
-use crate::search::entry_of;
 use qg_image::File;
-use qg_num::{Ino, NoMemory, Piece, Sequence};
+use qg_num::{Ino, NoMemory, Piece};
 use qg_state::Element;
 use std::alloc::Global;
+use std::collections::BTreeMap;
 use std::marker::Model;
 
 /// Data extents that pieces name, ascending, each with how many do (this project's own).
 #[derive(Drop)]
 pub(crate) struct Tally {
-    entries: Sequence<(Element, u64)>,
+    // By address and length.
+    counts: BTreeMap<(u64, u64), u64>,
 }
 
 impl Model for Tally {
-    ghost use Rattle.std.specs.Prelude.{List, ℕ};
+    ghost use Rattle.std.specs.Prelude.{List, ℕ, map};
     ghost use Rattle.qg_state.specs.declared.element.Element.{Element};
-    ghost use Rattle.qg_named.specs.Tally.{IsTally};
+    ghost use Rattle.qg_named.specs.Tally.{IsTally, entry_of};
 
     ghost Value = { List (Element × ℕ) };
 
-    ghost view = { λ n. n.entries };
+    ghost view = { λ n. map entry_of n.counts.entries };
 
-    ghost invariant = { λ n. IsTally n.entries };
+    ghost invariant = { λ n. IsTally n.counts };
 }
 
 impl Tally {
@@ -36,7 +38,7 @@ impl Tally {
         ensures { (extent : Element) → named_count result extent ≡ 0 }
     {
         Tally {
-            entries: Sequence::new(alloc),
+            counts: BTreeMap::new(alloc),
         }
     }
 
@@ -44,11 +46,8 @@ impl Tally {
     pub(crate) fn count(&self, extent: &Element) -> u64
         ensures { result ≡ named_count self.now extent.now }
     {
-        let entries = self.entries.as_slice();
-        match entry_of(entries, extent) {
-            Ok(index) => entries[index].1,
-            Err(_) => 0,
-        }
+        let key = key_of(extent);
+        self.counts.get(&key).copied().unwrap_or(0)
     }
 
     /// One piece more names an extent.
@@ -57,13 +56,18 @@ impl Tally {
         ensures ok { OnOk result (HasOneMore self.old self.new extent.now) }
         ensures err { OnErr result (self.new ≡ self.old) }
     {
-        match entry_of(self.entries.as_slice(), extent) {
-            Ok(index) => {
-                let count = self.entries.as_slice()[index].1;
-                self.entries.set(index, (*extent, count + 1));
-            }
-            Err(index) => self.entries.insert(index, (*extent, 1))?,
-        }
+        self.add_many(extent, 1)
+    }
+
+    /// So many pieces more name an extent, one at least.
+    fn add_many(&mut self, extent: &Element, more: u64) -> Result<(), NoMemory>
+        requires some { 0 < more }
+        requires room { named_count self.old extent.now + more < 2 ^ 64 }
+        ensures ok { OnOk result (HasSoManyMore self.old self.new extent.now more) }
+        ensures err { OnErr result (self.new ≡ self.old) }
+    {
+        let count = self.count(extent);
+        self.counts.insert(key_of(extent), count + more)?;
         Ok(())
     }
 
@@ -73,19 +77,24 @@ impl Tally {
         ensures less { HasOneMore self.new self.old extent.now }
         ensures last { IsTrue result ↔ (named_count self.new extent.now ≡ 0) }
     {
-        match entry_of(self.entries.as_slice(), extent) {
-            Ok(index) => {
-                let count = self.entries.as_slice()[index].1;
-                if count == 1 {
-                    self.entries.remove_range(index, index + 1);
-                    return true;
-                }
-                self.entries.set(index, (*extent, count - 1));
-                false
-            }
+        let count = self.count(extent);
+        let key = key_of(extent);
+        if count == 1 {
+            self.counts.remove(&key);
+            return true;
+        }
+        match self.counts.insert(key, count - 1) {
+            Ok(_) => false,
             Err(_) => unreachable!(),
         }
     }
+}
+
+/// What an extent is found by: its address, and its length in bytes.
+fn key_of(extent: &Element) -> (u64, u64)
+    ensures { result ≡ key_of extent.now }
+{
+    (extent.address.value(), extent.bytes)
 }
 
 /// How many pieces of some files name each extent.
@@ -96,7 +105,7 @@ pub(crate) fn tally_by(alloc: Global, files: &[(Ino, File)]) -> Result<Tally, No
     for file in files {
         put_extents(&mut extents, file.1.pieces.as_slice())?;
     }
-    // Where addresses ascend, each extent is mostly counted without a search.
+    // Where addresses ascend, the map is filled from one end to the other.
     extents.sort_unstable_by_key(|extent| extent.address);
     count_all(alloc, extents.as_slice())
 }
@@ -121,13 +130,31 @@ fn put_extents(extents: &mut Vec<Element>, pieces: &[Piece]) -> Result<(), NoMem
     Ok(())
 }
 
-/// How often each extent is listed.
+/// How often each extent is listed. Where one is listed several times in a row, the map is asked once.
 fn count_all(alloc: Global, extents: &[Element]) -> Result<Tally, NoMemory>
     ensures { IfOk result (λ named. AreNamed named extents.now) }
 {
     let mut named = Tally::new(alloc);
-    for extent in extents {
-        named.add(extent)?;
+    let mut from = 0;
+    while from < extents.len() {
+        let to = end_of_row(extents, from);
+        named.add_many(&extents[from], (to - from) as u64)?;
+        from = to;
     }
     Ok(named)
+}
+
+/// Where the extents end that are the one at an index, from there on.
+fn end_of_row(extents: &[Element], from: usize) -> usize
+    requires { from < length extents.now }
+    ensures some { from < result }
+    ensures bound { result ≤ length extents.now }
+    ensures row { (extent : Element) → IsRow extents.now from result (slice_index_or extents.now from extent) }
+{
+    for to in from + 1..extents.len() {
+        if extents[to] != extents[from] {
+            return to;
+        }
+    }
+    extents.len()
 }

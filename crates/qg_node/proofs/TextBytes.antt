@@ -1,10 +1,11 @@
 -- The text of a node whose numbers fit their fields is bytes.
-use Rattle.std.proofs.Common.{ℕ, zero, suc, ◌-◌, ◌*◌, ◌<◌, List, [], ◌∷◌, ◌++◌, length, arith}
+use Rattle.std.proofs.Common.{ℕ, ◌-◌, ◌*◌, List, [], ◌∷◌, ◌++◌, length, arith}
 use Rattle.std.specs.Prelude.{All}
 use Rattle.std.specs.List.{flat_map}
 use Rattle.std.proofs.lemmas.List.Concat.{flat_map-cons}
 use Rattle.std.proofs.lemmas.List.Elements.{All-head, All-tail}
 use Rattle.qg_bytes.specs.Fields.{IsBytes, u32_bytes, u64_bytes, zeros}
+use Rattle.qg_bytes.proofs.AreBytes.{append, of_byte, of_u32, of_u64, of_zeros}
 use Rattle.qg_bytes.proofs.Numbers.{IsBytes-append, IsBytes-u32_bytes, IsBytes-u64_bytes, IsBytes-zeros}
 use Rattle.qg_crc32c.specs.Crc32c.{crc32c_of}
 use Rattle.qg_num.specs.Key.{key_bytes}
@@ -18,28 +19,16 @@ use Rattle.qg_node.specs.Fits.{HeaderFits, ItemFits, NodeFits, PointerFits}
 use Rattle.qg_node.specs.Nodes.{items_bytes}
 use Rattle.qg_node.specs.NodeText.{bodies, covered_text, header_text, inner_text, item_header, item_headers, leaf_text, node_text, pointer_text}
 
-IsBytes-cons : (byte : ℕ) (bytes : List ℕ) → byte < 256 → IsBytes bytes → IsBytes (byte ∷ bytes)
-IsBytes-cons byte bytes small are zero = small
-IsBytes-cons byte bytes small are (suc i) = are i
-
 IsBytes-nil : IsBytes []
 IsBytes-nil i = omega arith
 
 IsBytes-header_text : (header : Header) (count : ℕ) → HeaderFits header → IsBytes (header_text header count)
 unfolding header_text
 IsBytes-header_text header count fits =
-    let fsid = zeros 16 in
-    let address = fsid ++ u64_bytes header.address in
-    let flags = address ++ zeros 24 in
-    let generation = flags ++ u64_bytes header.generation in
-    let owner = generation ++ u64_bytes header.owner in
-    let counted = owner ++ u32_bytes count in
-    let to_address = IsBytes-append fsid (u64_bytes header.address) (IsBytes-zeros 16) (IsBytes-u64_bytes header.address) in
-    let to_flags = IsBytes-append address (zeros 24) to_address (IsBytes-zeros 24) in
-    let to_generation = IsBytes-append flags (u64_bytes header.generation) to_flags (IsBytes-u64_bytes header.generation) in
-    let to_owner = IsBytes-append generation (u64_bytes header.owner) to_generation (IsBytes-u64_bytes header.owner) in
-    let to_count = IsBytes-append owner (u32_bytes count) to_owner (IsBytes-u32_bytes count) in
-    IsBytes-append counted (header.level ∷ []) to_count (IsBytes-cons header.level [] fits.level IsBytes-nil)
+    let address = append (of_zeros 16) (of_u64 header.address) in
+    let generation = append (append address (of_zeros 24)) (of_u64 header.generation) in
+    let counted = append (append generation (of_u64 header.owner)) (of_u32 count) in
+    (append counted (of_byte header.level fits.level)).are
 
 IsBytes-item_headers : (end : ℕ) (items : List Item) → All ItemFits items → IsBytes (item_headers end items)
 unfolding item_headers

@@ -5,12 +5,15 @@ ghost use Rattle.qg_node.specs.Nodes.{ascends_from, is_ascending};
 use crate::{Item, Pointer};
 use qg_num::Key;
 
-/// What has a key.
-pub(crate) trait Keyed {
+/// What has a key: an item, or a pointer.
+pub trait Keyed {
+    ghost use Rattle.std.specs.Prelude.{◌≡◌};
     ghost use Rattle.qg_num.specs.declared.key.Key.{Key};
 
+    /// Its key.
     ghost key_of: { Self → Key };
 
+    /// Its key.
     fn key(&self) -> Key
         ensures { result ≡ key_of self.now };
 }

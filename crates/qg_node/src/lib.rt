@@ -11,7 +11,8 @@ mod reading;
 mod writing;
 
 pub use fault::{NodeFault, ReadFault};
-pub use item::{Body, Item, Items};
+pub use item::{Body, Item, Items, copy_items};
+pub use keyed::Keyed;
 pub use laws::round_trips;
 pub use node::{Header, Node};
 pub use pointer::{Pointer, Pointers};

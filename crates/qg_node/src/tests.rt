@@ -510,14 +510,6 @@ fn reads_an_empty_root(rt: HostRuntime) -> Result<(), Fail> {
     Ok(())
 }
 
-/// An item whose body is longer than what lies in the value itself.
-fn item(alloc: Global, objectid: u64) -> Result<Item, AllocError> {
-    Ok(Item {
-        key: key(objectid, 1, 0),
-        body: Body::from_slice(alloc, &[9; 160])?,
-    })
-}
-
 fn pointer(objectid: u64) -> Pointer {
     Pointer {
         key: key(objectid, 1, 0),
@@ -526,68 +518,23 @@ fn pointer(objectid: u64) -> Pointer {
     }
 }
 
-/// The objects of the items' keys.
-fn objects(alloc: Global, items: &Items) -> Result<Vec<u64>, AllocError> {
-    items
-        .as_slice()
-        .iter()
-        .map(|item| item.key.objectid)
-        .collect(alloc)
-}
-
+// A body of 56 bytes lies in the item itself, one of 57 does not.
 #[test]
-fn edits_items(rt: HostRuntime) -> Result<(), Fail> {
+fn items_are_copied_with_their_bodies(rt: HostRuntime) -> Result<(), Fail> {
     let alloc = rt.alloc();
     let mut items = Items::new(alloc);
-    assert!(rt; items.is_empty());
-    items.push(item(alloc, 1)?)?;
-    items.push(item(alloc, 3)?)?;
-    assert_eq!(rt; items.len(), 2);
-    items.insert(1, item(alloc, 2)?)?;
-    assert_eq!(rt; objects(alloc, &items)?.as_slice(), [1, 2, 3].as_slice());
-    let mut copy = Items::from_slice(alloc, items.as_slice())?;
-    assert_eq!(rt; objects(alloc, &copy)?.as_slice(), [1, 2, 3].as_slice());
-    assert_eq!(rt; items.as_slice()[2].body.as_slice(), [9; 160].as_slice());
-    assert_eq!(rt; items.len(), 3);
-    assert_eq!(rt; items.remove(0).key, key(1, 1, 0));
-    assert_eq!(rt; items.len(), 2);
-    assert_eq!(rt; items.replace(1, item(alloc, 4)?).key, key(3, 1, 0));
-    assert_eq!(rt; items.len(), 2);
-    let mut back = items.split_off(1)?;
-    assert_eq!(rt; objects(alloc, &items)?.as_slice(), [2].as_slice());
-    assert_eq!(rt; objects(alloc, &back)?.as_slice(), [4].as_slice());
-    copy.append(&mut back)?;
-    assert!(rt; back.is_empty());
-    assert_eq!(rt; objects(alloc, &copy)?.as_slice(), [1, 2, 3, 4].as_slice());
-    Ok(())
-}
-
-#[test]
-fn edits_pointers(rt: HostRuntime) -> Result<(), Fail> {
-    let alloc = rt.alloc();
-    let mut pointers = Pointers::new(alloc);
-    assert!(rt; pointers.is_empty());
-    pointers.push(pointer(1))?;
-    pointers.push(pointer(3))?;
-    assert_eq!(rt; pointers.len(), 2);
-    pointers.insert(1, pointer(2))?;
-    assert_eq!(rt;
-        pointers.as_slice(),
-        [pointer(1), pointer(2), pointer(3)].as_slice()
-    );
-    let mut copy = Pointers::from_slice(alloc, pointers.as_slice())?;
-    assert_eq!(rt; pointers.len(), 3);
-    assert_eq!(rt; pointers.remove(0), pointer(1));
-    assert_eq!(rt; pointers.len(), 2);
-    pointers.replace(1, pointer(4));
-    assert_eq!(rt; pointers.len(), 2);
-    let mut back = pointers.split_off(1)?;
-    assert_eq!(rt; pointers.as_slice(), [pointer(2)].as_slice());
-    copy.append(&mut back)?;
-    assert!(rt; back.is_empty());
-    assert_eq!(rt;
-        copy.as_slice(),
-        [pointer(1), pointer(2), pointer(3), pointer(4)].as_slice()
-    );
+    for (objectid, body) in [(1, [8; 57].as_slice()), (3, [9; 56].as_slice())] {
+        items.push(Item {
+            key: key(objectid, 1, 0),
+            body: Body::from_slice(alloc, body)?,
+        })?;
+    }
+    let copy = copy_items(alloc, items.as_slice())?;
+    assert_eq!(rt; copy.len(), 2);
+    for i in 0..2usize {
+        let (item, wanted) = (&copy.as_slice()[i], &items.as_slice()[i]);
+        assert_eq!(rt; item.key, wanted.key);
+        assert_eq!(rt; item.body.as_slice(), wanted.body.as_slice());
+    }
     Ok(())
 }

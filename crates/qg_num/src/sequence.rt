@@ -1,11 +1,12 @@
 // A list that clauses see as one.
-ghost use Rattle.std.specs.Prelude.{◌≡◌, ◌<◌, ◌≤◌, ◌==◌, ◌∷◌, ◌++◌, [], OnOk, OnErr, length, take, drop, slice_set, slice_index_or};
+ghost use Rattle.std.specs.Prelude.{◌≡◌, ◌<◌, ◌≤◌, ◌==◌, ◌∷◌, ◌++◌, [], IfOk, OnOk, OnErr, length, take, drop, remove, slice_get, slice_set, slice_index_or};
 ghost use Rattle.std.specs.Borrow.{sem};
 ghost use Rattle.qg_num.specs.Lending.{LendsItem};
 
 use crate::{GroupId, Piece, RootId, Row};
 use std::alloc::{AllocError, Global};
 use std::marker::Model;
+use std::mem;
 
 /// Quota groups, in the order in which they were named.
 pub type GroupList = Sequence<GroupId>;
@@ -41,6 +42,15 @@ impl<T: Drop> Sequence<T> {
         Sequence {
             items: Vec::new(alloc),
         }
+    }
+
+    /// The empty list, with room for so many items.
+    pub fn with_capacity(alloc: Global, count: usize) -> Result<Sequence<T>, AllocError>
+        ensures { IfOk result (λ items. items ≡ []) }
+    {
+        Ok(Sequence {
+            items: Vec::with_capacity(alloc, count)?,
+        })
     }
 
     /// Puts an item at the end. Where memory is refused, the list stays as it was and the item is dropped.
@@ -79,6 +89,24 @@ impl<T: Drop> Sequence<T> {
         self.items[index] = item;
     }
 
+    /// Puts an item in the place of the one at an index, which it gives back.
+    pub fn replace(&mut self, index: usize, item: T) -> T
+        requires { index < length self.old }
+        ensures taken { slice_get self.old index ≡ Some result }
+        ensures put { self.new ≡ slice_set self.old index item }
+    {
+        mem::replace(&mut self.items[index], item)
+    }
+
+    /// Takes the item at an index out; those behind it move down by one.
+    pub fn remove(&mut self, index: usize) -> T
+        requires { index < length self.old }
+        ensures taken { slice_get self.old index ≡ Some result }
+        ensures left { self.new ≡ remove self.old index }
+    {
+        self.items.remove(index)
+    }
+
     /// Takes out the items of a range of indices.
     pub fn remove_range(&mut self, from: usize, to: usize)
         requires order { from ≤ to }
@@ -86,6 +114,28 @@ impl<T: Drop> Sequence<T> {
         ensures { self.new ≡ take from self.old ++ drop to self.old }
     {
         self.items.drain(from..to);
+    }
+
+    /// Takes the items from an index on into a list of their own. Where memory is refused, the list stays as it was.
+    pub fn split_off(&mut self, at: usize) -> Result<Sequence<T>, AllocError>
+        requires { at ≤ length self.old }
+        ensures taken { IfOk result (λ back. self.old ≡ self.new ++ back) }
+        ensures left { IfOk result (λ _. length self.new ≡ at) }
+        ensures err { OnErr result (self.new ≡ self.old) }
+    {
+        Ok(Sequence {
+            items: self.items.split_off(at)?,
+        })
+    }
+
+    /// Moves the items of another list to the end. Where memory is refused, both lists stay as they were.
+    pub fn append(&mut self, others: &mut Sequence<T>) -> Result<(), AllocError>
+        ensures ok { OnOk result (self.new ≡ self.old ++ others.old) }
+        ensures moved { OnOk result (others.new ≡ []) }
+        ensures err { OnErr result (self.new ≡ self.old) }
+        ensures kept { OnErr result (others.new ≡ others.old) }
+    {
+        self.items.append(&mut others.items)
     }
 
     /// The items in order.
@@ -112,5 +162,27 @@ impl<T: Drop> Sequence<T> {
     /// What it takes memory from. Another list can be made from the same.
     pub fn allocator(&self) -> Global {
         *self.items.allocator()
+    }
+}
+
+impl<T: Copy> Sequence<T> {
+    /// A copy of these items.
+    pub fn from_slice(alloc: Global, items: &[T]) -> Result<Sequence<T>, AllocError>
+        ensures { IfOk result (λ copy. copy ≡ items.now) }
+    {
+        Ok(Sequence {
+            items: Vec::from_slice(alloc, items)?,
+        })
+    }
+
+    /// Puts items in front of the one at an index, or at the end; those from there on move up once. Where memory is refused, the list stays as it was.
+    pub fn insert_slice(&mut self, index: usize, items: &[T]) -> Result<(), AllocError>
+        requires { index ≤ length self.old }
+        ensures ok { OnOk result (self.new ≡ take index self.old ++ items.now ++ drop index self.old) }
+        ensures err { OnErr result (self.new ≡ self.old) }
+    {
+        self.items.extend_from_slice(items)?;
+        self.items[index..].rotate_right(items.len());
+        Ok(())
     }
 }

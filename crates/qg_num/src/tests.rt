@@ -116,15 +116,43 @@ fn groups_counts_and_lists(rt: HostRuntime) -> Result<(), Fail> {
     Ok(())
 }
 
+fn has_owners(owners: &OwnerList, numbers: &[u64]) -> bool {
+    let mut owners = owners.as_slice().iter();
+    for number in numbers {
+        if owners.next().copied() != Some(RootId::new(*number)) {
+            return false;
+        }
+    }
+    owners.next().is_none()
+}
+
 #[test]
 fn a_list_is_edited_in_place(rt: HostRuntime) -> Result<(), Fail> {
-    let mut owners = OwnerList::new(rt.alloc());
+    let mut owners = OwnerList::with_capacity(rt.alloc(), 1)?;
     owners.push(RootId::new(5))?;
     owners.insert(0, RootId::new(257))?;
     owners.set(1, RootId::new(300));
     *owners.item_mut(0) = RootId::new(258);
-    assert_eq!(rt; owners.as_slice().last().copied(), Some(RootId::new(300)));
-    owners.remove_range(1, 2);
-    assert_eq!(rt; owners.as_slice().last().copied(), Some(RootId::new(258)));
+    assert!(rt; has_owners(&owners, &[258, 300]));
+    assert_eq!(rt; owners.replace(1, RootId::new(259)), RootId::new(300));
+    assert_eq!(rt; owners.remove(0), RootId::new(258));
+    assert!(rt; has_owners(&owners, &[259]));
+    owners.remove_range(0, 1);
+    assert!(rt; owners.is_empty());
+    Ok(())
+}
+
+#[test]
+fn a_list_is_copied_split_and_joined(rt: HostRuntime) -> Result<(), Fail> {
+    let numbers = [5, 257, 258].map(RootId::new);
+    let mut front = OwnerList::from_slice(rt.alloc(), &numbers)?;
+    let mut back = front.split_off(1)?;
+    assert!(rt; has_owners(&front, &[5]));
+    assert!(rt; has_owners(&back, &[257, 258]));
+    back.append(&mut front)?;
+    assert!(rt; has_owners(&back, &[257, 258, 5]));
+    assert!(rt; front.is_empty());
+    back.insert_slice(1, &[RootId::new(300), RootId::new(301)])?;
+    assert!(rt; has_owners(&back, &[257, 300, 301, 258, 5]));
     Ok(())
 }

@@ -22,9 +22,10 @@ use Rattle.qg_state.specs.State.{State, Subvolume, node_at}
 use Rattle.qg_state.specs.Members.{members, is_member, is_below, leads, level_of_group}
 use Rattle.qg_state.specs.Reach.{reach, reach_of, reach_of_root, reaches, level_of, distinct}
 use Rattle.qg_state.specs.Counts.{referenced, exclusive, reach_of_group, is_reached_outside, bytes_of}
+use Rattle.qg_state.proofs.Contained.{contains_here, contains_later, contains_cases}
 use Rattle.qg_verdict.specs.Verdict.{space_failure}
 use Rattle.qg_reach.specs.Sets.{HaveSame}
-use Rattle.qg_reach.proofs.Members.{contains_here, contains_later, contains_cases, contains_map, one_mapped, contains_flat_map, one_flat_mapped}
+use Rattle.qg_reach.proofs.Members.{contains_map, one_mapped, contains_flat_map, one_flat_mapped}
 use Rattle.qg_reach.proofs.Distinct.{AreApart, apart_with, bytes_of_distinct}
 use Rattle.qg_reach.proofs.SpaceRule.{member_fits, AreApart-space}
 use Rattle.qg_reach.proofs.SlotRule.{slot_below}

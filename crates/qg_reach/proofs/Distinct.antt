@@ -12,8 +12,9 @@ use Rattle.std.proofs.lemmas.Map.Keys.{IsDistinct-head, IsDistinct-tail, IsDisti
 use Rattle.qg_state.specs.declared.element.Element.{Element}
 use Rattle.qg_state.specs.Reach.{is_among, distinct}
 use Rattle.qg_state.specs.Counts.{bytes_of}
+use Rattle.qg_state.proofs.Contained.{none_contained, contains_here, contains_later, contains_cases}
 use Rattle.qg_reach.specs.Sets.{HaveSame}
-use Rattle.qg_reach.proofs.Members.{none_contained, contains_here, contains_later, contains_cases, same_on}
+use Rattle.qg_reach.proofs.Members.{same_on}
 
 -- two elements begin at one address
 abbrev pub begin_alike : Element → Element → Bool

@@ -1,51 +1,29 @@
 -- What the rule `space` says of extents. Addresses and lengths are in bytes.
 use Rattle.std.proofs.Common.{◌≡◌, ℕ, ◌+◌, ◌-◌, ◌<◌, ◌≤◌, Bool, true, false, List, [], ◌∷◌, length, get_or, take, drop, Option, Some, None, refl, sym, ap, subst, ◌∙◌, arith, inl, inr}
-use Rattle.std.specs.Prelude.{◌==◌, nat_le, nat_lt, ◌%◌, ◌&&◌}
+use Rattle.std.specs.Prelude.{nat_le}
 use Rattle.std.specs.List.{Contains}
-use Rattle.std.proofs.lemmas.Bool.{and_parts, leb-true, ltb-true, cond-true, cond-false, cases_Bool}
+use Rattle.std.proofs.lemmas.Bool.{and_parts, leb-true, cond-true, cond-false, cases_Bool}
 use Rattle.std.proofs.lemmas.Option.{none-some}
 use Rattle.std.proofs.lemmas.List.{drop_more, drop_all, take_rest}
 use Rattle.std.proofs.lemmas.List.Sums.{sum_by-cons}
 use Rattle.qg_num.specs.declared.rule.Rule.TheVariants as rule
 use Rattle.qg_super.specs.declared.sizes.Sizes.{Sizes}
-use Rattle.qg_super.specs.Places.{data_begin, sector, total_bytes, is_run}
+use Rattle.qg_super.specs.Places.{total_bytes, is_run}
+use Rattle.qg_super.proofs.Runs.{WholeRun, WholeRun-is_run}
 use Rattle.qg_state.specs.declared.element.Element.{Element}
 use Rattle.qg_state.specs.Counts.{bytes_of}
+use Rattle.qg_state.proofs.Contained.{none_contained, contains_cases}
 use Rattle.qg_verdict.specs.declared.failure.Failure.{Failure}
 use Rattle.qg_verdict.specs.declared.failure.Failure.TheVariants.{Broken}
 use Rattle.qg_verdict.specs.Failure.{kept, first_failure}
 use Rattle.qg_verdict.specs.Verdict.{is_extent, longest_extent, space_failure}
 use Rattle.qg_reach.specs.Fits.{first_fits}
 use Rattle.qg_reach.proofs.Distinct.{AreApart, apart_none, apart_with}
-use Rattle.qg_reach.proofs.Members.{none_contained, contains_cases}
 
 -- ---- one run
 
--- a run in the data area
-pub record RunFits (sizes : Sizes) (address bytes : ℕ) : Type 0 where
-  pub begin : data_begin ≤ address
-  pub some : 0 < bytes
-  pub within : address + bytes ≤ total_bytes sizes
-
-pub RunFits-is_run : (sizes : Sizes) (address bytes : ℕ) → is_run sizes address bytes ≡ true → RunFits sizes address bytes
-unfolding is_run
-RunFits-is_run sizes address bytes is =
-    let begins = nat_le data_begin address in
-    let aligned = (address - data_begin) % sector == 0 in
-    let whole = bytes % sector == 0 in
-    let some = nat_lt 0 bytes in
-    let to_within = and_parts (begins && aligned && whole && some) (nat_le (address + bytes) (total_bytes sizes)) is in
-    let to_some = and_parts (begins && aligned && whole) some to_within.0 in
-    let to_whole = and_parts (begins && aligned) whole to_some.0 in
-    let to_aligned = and_parts begins aligned to_whole.0 in
-    record {
-      begin = leb-true data_begin address to_aligned.0;
-      some = ltb-true 0 bytes to_some.1;
-      within = leb-true (address + bytes) (total_bytes sizes) to_within.1;
-    }
-
-pub RunFits-is_extent : (sizes : Sizes) (extent : Element) → is_extent sizes extent ≡ true → RunFits sizes extent.address extent.bytes
-RunFits-is_extent sizes extent is = RunFits-is_run sizes extent.address extent.bytes (and_parts (is_run sizes extent.address extent.bytes) (nat_le extent.bytes longest_extent) is).0
+pub WholeRun-is_extent : (sizes : Sizes) (extent : Element) → is_extent sizes extent ≡ true → WholeRun sizes extent.address extent.bytes
+WholeRun-is_extent sizes extent is = WholeRun-is_run sizes extent.address extent.bytes (and_parts (is_run sizes extent.address extent.bytes) (nat_le extent.bytes longest_extent) is).0
 
 -- ---- one failure after the other
 
@@ -107,10 +85,10 @@ Keeps-space sizes extent later none = elim (cases_Bool (first_fits sizes (extent
   | inr fails ↦ absurd (none-some _ (sym none ∙ space_stops sizes extent later fails))
 ]
 
-pub first_run_fits : (sizes : Sizes) (extent : Element) (later : List Element) → first_fits sizes (extent ∷ later) ≡ true → RunFits sizes extent.address extent.bytes
-first_run_fits sizes extent [] fits = RunFits-is_extent sizes extent fits
+pub first_run_fits : (sizes : Sizes) (extent : Element) (later : List Element) → first_fits sizes (extent ∷ later) ≡ true → WholeRun sizes extent.address extent.bytes
+first_run_fits sizes extent [] fits = WholeRun-is_extent sizes extent fits
 first_run_fits sizes extent (next ∷ later) fits =
-    RunFits-is_extent sizes extent (and_parts (is_extent sizes extent) (nat_le (extent.address + extent.bytes) next.address) fits).0
+    WholeRun-is_extent sizes extent (and_parts (is_extent sizes extent) (nat_le (extent.address + extent.bytes) next.address) fits).0
 
 -- nothing of a list begins before an address
 abbrev pub IsFrom : ℕ → List Element → Type 0
@@ -138,12 +116,12 @@ ends_by_later sizes extent later y none has =
     from_member sizes (extent.address + extent.bytes) later y keeps.rest (ends_by_next sizes extent later keeps.fits) has
 
 -- each of them lies in the data area
-pub member_fits : (sizes : Sizes) (extents : List Element) (y : Element) → space_failure sizes extents ≡ None → Contains extents y → RunFits sizes y.address y.bytes
+pub member_fits : (sizes : Sizes) (extents : List Element) (y : Element) → space_failure sizes extents ≡ None → Contains extents y → WholeRun sizes y.address y.bytes
 member_fits sizes [] y none has = absurd (none_contained y has)
 member_fits sizes (extent ∷ later) y none has =
     let keeps = Keeps-space sizes extent later none in
     elim (contains_cases extent later y has) [
-      | inl is ↦ subst (λ (e : Element). RunFits sizes e.address e.bytes) is (first_run_fits sizes extent later keeps.fits)
+      | inl is ↦ subst (λ (e : Element). WholeRun sizes e.address e.bytes) is (first_run_fits sizes extent later keeps.fits)
       | inr has' ↦ member_fits sizes later y keeps.rest has'
     ]
 

@@ -1,10 +1,10 @@
 // Node slots, each once.
-ghost use Rattle.std.specs.Prelude.{◌≡◌, IfOk};
+ghost use Rattle.std.specs.Prelude.{IfOk};
 ghost use Rattle.std.specs.List.Sorted.{IsStrictlyIncreasing};
 ghost use Rattle.qg_reach.specs.Sets.{HaveSame};
 
 use qg_num::{Address, NoMemory, Sequence};
-use std::alloc::{AllocError, Global};
+use std::alloc::Global;
 
 /// The slots of nodes, ascending, each once. Addresses are in bytes (this project's own).
 pub fn each_once(alloc: Global, nodes: &[Address]) -> Result<Sequence<Address>, NoMemory>
@@ -14,16 +14,5 @@ pub fn each_once(alloc: Global, nodes: &[Address]) -> Result<Sequence<Address>, 
     let mut slots = Vec::from_slice(alloc, nodes)?;
     slots.sort_unstable();
     slots.dedup();
-    Ok(sequence_of(alloc, slots.as_slice())?)
-}
-
-/// A list of these addresses.
-fn sequence_of(alloc: Global, addresses: &[Address]) -> Result<Sequence<Address>, AllocError>
-    ensures { IfOk result (λ sequence. sequence ≡ addresses.now) }
-{
-    let mut sequence = Sequence::new(alloc);
-    for address in addresses {
-        sequence.push(*address)?;
-    }
-    Ok(sequence)
+    Ok(Sequence::from_slice(alloc, slots.as_slice())?)
 }

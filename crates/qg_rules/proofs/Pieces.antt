@@ -6,7 +6,8 @@ use Rattle.std.proofs.lemmas.List.{drop_all, drop_more}
 use Rattle.std.proofs.lemmas.List.Sums.{sum_by-cons}
 use Rattle.qg_num.specs.declared.piece.Piece.{Piece}
 use Rattle.qg_image.specs.declared.file.File.{File}
-use Rattle.qg_image.specs.FilesOf.{are_pieces, is_aligned, is_file, is_piece, largest_size, piece_end, pieces_bytes}
+use Rattle.qg_image.specs.FilesOf.{are_pieces, is_file, is_piece, piece_end, pieces_bytes}
+use Rattle.qg_image.proofs.Pieces.{FirstPiece-are_pieces, WholeFile-is_file}
 use Rattle.qg_rules.specs.Files.{is_between}
 
 -- the pieces lie between where they begin and the size
@@ -14,17 +15,14 @@ within : (from size : ℕ) (pieces : List Piece) → are_pieces from size pieces
 unfolding are_pieces
 within from size [] h = omega (arith, leb-true from size h)
 within from size (piece ∷ pieces) h =
-    let all = and_parts (nat_le from piece.position && is_piece piece) (are_pieces (piece_end piece) size pieces) h in
-    let begins = leb-true from piece.position (and_parts (nat_le from piece.position) (is_piece piece) all.0).0 in
-    omega (arith, begins, within (piece_end piece) size pieces all.1, sum_by-cons (λ (piece : Piece). piece.len) piece pieces)
+    let first = FirstPiece-are_pieces from size piece pieces h in
+    omega (arith, first.begins, within (piece_end piece) size pieces first.rest, sum_by-cons (λ (piece : Piece). piece.len) piece pieces)
 
 -- so those of a file are few bytes
 pub file_small : (file : File) → is_file file ≡ true → pieces_bytes file.pieces ≤ 2 ^ 40
-unfolding is_file
 file_small file h =
-    let all = and_parts (is_aligned file.size && nat_le file.size largest_size) (are_pieces 0 file.size file.pieces) h in
-    let least = leb-true file.size largest_size (and_parts (is_aligned file.size) (nat_le file.size largest_size) all.0).1 in
-    omega (arith, least, within 0 file.size file.pieces all.1)
+    let whole = WholeFile-is_file file h in
+    omega (arith, whole.least, within 0 file.size file.pieces whole.pieces)
 
 piece_between : (from size : ℕ) (piece : Piece) (pieces : List Piece) → is_between from size piece ≡ true → are_pieces from size (piece ∷ pieces) ≡ are_pieces (piece_end piece) size pieces
 unfolding are_pieces
@@ -59,3 +57,15 @@ are_pieces-all from size pieces i done bound = rw (drop_all i pieces done) (le-l
 
 pub between_ends : (from size : ℕ) (piece : Piece) → is_between from size piece ≡ true → piece_end piece ≤ size
 between_ends from size piece h = leb-true (piece_end piece) size (and_parts (nat_le from piece.position && is_piece piece) (nat_le (piece_end piece) size) h).1
+
+pub between_begins : (from size : ℕ) (piece : Piece) → is_between from size piece ≡ true → from ≤ piece.position
+between_begins from size piece h =
+    leb-true from piece.position (and_parts (nat_le from piece.position) (is_piece piece) (and_parts (nat_le from piece.position && is_piece piece) (nat_le (piece_end piece) size) h).0).0
+
+-- ---- their bytes
+
+pub pieces_bytes-more : (pieces : List Piece) (i : ℕ) (piece : Piece) → i < length pieces → piece ≡ get_or pieces i piece → pieces_bytes (drop i pieces) ≡ piece.len + pieces_bytes (drop (i + 1) pieces)
+pieces_bytes-more pieces i piece inside is = ap pieces_bytes (next_piece pieces i piece inside is) ∙ sum_by-cons (λ (piece : Piece). piece.len) piece (drop (i + 1) pieces)
+
+pub pieces_bytes-all : (pieces : List Piece) (i : ℕ) → length pieces ≤ i → pieces_bytes (drop i pieces) ≡ 0
+pieces_bytes-all pieces i done = ap pieces_bytes (drop_all i pieces done)

@@ -1,5 +1,5 @@
 // The rule on a subvolume's files.
-ghost use Rattle.std.specs.Prelude.{◌≡◌, ◌<◌, ◌^◌, map, IfOk, IsTrue};
+ghost use Rattle.std.specs.Prelude.{◌≡◌, map, IfOk, IsTrue};
 ghost use Rattle.std.specs.Bool.{then_some};
 ghost use Rattle.qg_node.specs.Nodes.{is_ascending};
 ghost use Rattle.qg_image.specs.declared.part.FilePart.TheVariants.{PieceOf};
@@ -66,36 +66,40 @@ fn read_file(told: FileItems) -> Option<File>
 fn is_file_of(ino: Ino, inode: &InodeItem, file: &File) -> bool
     ensures { result ≡ is_file_of ino inode.now file.now }
 {
-    if !is_file(file) {
-        return false;
+    match bytes_of_file(file) {
+        Some(bytes) => {
+            LEAST_INODE <= ino.value() && ino.value() < INODES_END && inode.nbytes == bytes
+        }
+        None => false,
     }
-    LEAST_INODE <= ino.value()
-        && ino.value() < INODES_END
-        && inode.nbytes == pieces_bytes(file.pieces.as_slice())
 }
 
-// Whether a file is of whole sectors and no larger than the largest, and its pieces fit it.
+// The bytes of a file's pieces; none where it is not of whole sectors or larger than the largest, or its pieces do not fit it.
 #[tactic(auto, unfolding(qg_image::specs::FilesOf::is_file))]
-fn is_file(file: &File) -> bool
-    ensures { result ≡ is_file file.now }
+fn bytes_of_file(file: &File) -> Option<u64>
+    ensures { result ≡ then_some (is_file file.now) (pieces_bytes file.now.pieces) }
 {
-    is_aligned(file.size)
-        && file.size <= LARGEST_SIZE
-        && are_pieces(file.size, file.pieces.as_slice())
+    if is_aligned(file.size) && file.size <= LARGEST_SIZE {
+        bytes_of_pieces(file.size, file.pieces.as_slice())
+    } else {
+        None
+    }
 }
 
-// Whether pieces ascend, overlap nowhere and end by the size.
-fn are_pieces(size: u64, pieces: &[Piece]) -> bool
-    ensures { result ≡ are_pieces 0 size pieces.now }
+// The bytes of pieces; none where they do not ascend, overlap or end past the size.
+fn bytes_of_pieces(size: u64, pieces: &[Piece]) -> Option<u64>
+    ensures { result ≡ then_some (are_pieces 0 size pieces.now) (pieces_bytes pieces.now) }
 {
     let mut from = 0;
+    let mut bytes = 0;
     for piece in pieces {
         if !is_between(from, size, piece) {
-            return false;
+            return None;
         }
         from = piece.position + piece.len;
+        bytes += piece.len;
     }
-    true
+    Some(bytes)
 }
 
 // Whether a piece is sound, begins no earlier than at a position and ends by the size.
@@ -127,12 +131,4 @@ fn is_aligned(bytes: u64) -> bool
     ensures { result ≡ is_aligned bytes }
 {
     bytes % SECTOR == 0
-}
-
-// The bytes of pieces.
-fn pieces_bytes(pieces: &[Piece]) -> u64
-    requires { pieces_bytes pieces.now < 2 ^ 64 }
-    ensures { result ≡ pieces_bytes pieces.now }
-{
-    pieces.iter().map(|piece| piece.len).sum()
 }

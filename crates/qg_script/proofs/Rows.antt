@@ -34,6 +34,9 @@ is_file sub ino = (is_sub_word sub && is_ino_word ino) ≡ true
 abbrev pub IsReadAs : ℕ → ℕ → ℕ → ℕ → Type 0
 IsReadAs sub ino first second = is_file first second × ◌≡◌ {A = ℕ × ℕ} (sub, ino) (first, second)
 
+same_pair : {sub ino first second : ℕ} → ◌≡◌ {A = ℕ × ℕ} (sub, ino) (first, second) → (sub ≡ first) × (ino ≡ second)
+same_pair {sub} {ino} {first} {second} is = (ap (λ (pair : ℕ × ℕ). pair.0) is, ap (λ (pair : ℕ × ℕ). pair.1) is)
+
 -- other numbers of a text than those of a file are read as a file's where they are
 pub file_at : {count : ℕ} {text numbers others : List ℕ} (sub ino : ℕ) → AreNumbers count text numbers → AreNumbers count text others
     → is_file (get_or others sub 0) (get_or others ino 0) → is_file (get_or numbers sub 0) (get_or numbers ino 0)
@@ -136,11 +139,10 @@ pub write_read : {rest numbers : List ℕ} {sub ino : ℕ} → AreNumbers 4 rest
     → IsTextOf (codes "write" ++ rest) (Write sub ino (get_or numbers 2 0) (get_or numbers 3 0))
 unfolding is_in_grammar
 write_read {rest} {numbers} {sub} {ino} are of =
-    let is_sub : sub ≡ get_or numbers 0 0 = ap (λ (pair : ℕ × ℕ). pair.0) of.1 in
-    let is_ino : ino ≡ get_or numbers 1 0 = ap (λ (pair : ℕ × ℕ). pair.1) of.1 in
+    let is = same_pair of.1 in
     let behind : rest ≡ flat_map then_number (get_or numbers 0 0 ∷ get_or numbers 1 0 ∷ get_or numbers 2 0 ∷ get_or numbers 3 0 ∷ []) =
     are.whole ∙ ap (flat_map then_number) (four numbers are) in
-    rw (is_sub, is_ino) (record {
+    rw (is.0, is.1) (record {
       spelled = ap (λ (xs : List ℕ). codes "write" ++ xs) behind ∙ sym (write_text _ _ _ _);
       in_grammar = and_from _ _ (and_from _ _ of.0 (word_at 2 are (lit< tt))) (word_at 3 are (lit< tt));
     })
@@ -176,13 +178,11 @@ pub clone_read : {rest numbers : List ℕ} {sub ino to_sub to_ino : ℕ} → Are
     → IsTextOf (codes "clone" ++ rest) (Clone sub ino (get_or numbers 2 0) (get_or numbers 3 0) to_sub to_ino (get_or numbers 6 0))
 unfolding is_in_grammar
 clone_read {rest} {numbers} {sub} {ino} {to_sub} {to_ino} are of to =
-    let is_sub : sub ≡ get_or numbers 0 0 = ap (λ (pair : ℕ × ℕ). pair.0) of.1 in
-    let is_ino : ino ≡ get_or numbers 1 0 = ap (λ (pair : ℕ × ℕ). pair.1) of.1 in
-    let is_to_sub : to_sub ≡ get_or numbers 4 0 = ap (λ (pair : ℕ × ℕ). pair.0) to.1 in
-    let is_to_ino : to_ino ≡ get_or numbers 5 0 = ap (λ (pair : ℕ × ℕ). pair.1) to.1 in
+    let is = same_pair of.1 in
+    let is_to = same_pair to.1 in
     let behind = are.whole ∙ ap (flat_map then_number) (seven numbers are) in
     let parts = and_parts (is_sub_word (get_or numbers 4 0)) (is_ino_word (get_or numbers 5 0)) to.0 in
-    rw (is_sub, is_ino, is_to_sub, is_to_ino) (record {
+    rw (is.0, is.1, is_to.0, is_to.1) (record {
       spelled = ap (λ (xs : List ℕ). codes "clone" ++ xs) behind ∙ sym (clone_text _ _ _ _ _ _ _);
       in_grammar =
           and_from _ _ (and_from _ _ (and_from _ _ (and_from _ _ (and_from _ _ of.0 (word_at 2 are (lit< tt))) (word_at 3 are (lit< tt))) parts.0) parts.1)
@@ -207,50 +207,47 @@ pub truncate_read : {rest numbers : List ℕ} {sub ino : ℕ} → AreNumbers 3 r
     → IsTextOf (codes "truncate" ++ rest) (Truncate sub ino (get_or numbers 2 0))
 unfolding is_in_grammar
 truncate_read {rest} {numbers} {sub} {ino} are of =
-    let is_sub : sub ≡ get_or numbers 0 0 = ap (λ (pair : ℕ × ℕ). pair.0) of.1 in
-    let is_ino : ino ≡ get_or numbers 1 0 = ap (λ (pair : ℕ × ℕ). pair.1) of.1 in
+    let is = same_pair of.1 in
     let behind = are.whole ∙ ap (flat_map then_number) (three numbers are) in
-    rw (is_sub, is_ino) (record {
+    rw (is.0, is.1) (record {
       spelled = ap (λ (xs : List ℕ). codes "truncate" ++ xs) behind ∙ sym (truncate_text _ _ _);
       in_grammar = and_from _ _ of.0 (word_at 2 are (lit< tt));
     })
 
-pub unlink_text : (sub ino : ℕ) → command_text (Unlink sub ino) ≡ codes "unlink" ++ flat_map then_number (sub ∷ ino ∷ [])
-unfolding command_text
-unlink_text sub ino = simp (append_assoc, append-nil)
+-- ---- the commands that tell a file and no more
+
+pub record TellsFile (word : List ℕ) (command : ℕ → ℕ → Command) : Type 0 where
+  pub text : (sub ino : ℕ) → command_text (command sub ino) ≡ word ++ flat_map then_number (sub ∷ ino ∷ [])
+  pub grammar : (sub ino : ℕ) → is_in_grammar (command sub ino) ≡ (is_sub_word sub && is_ino_word ino)
+
+-- the numbers behind the word are the file's
+file_numbers : {word rest : List ℕ} {command : ℕ → ℕ → Command} {sub ino : ℕ} → TellsFile word command → is_file sub ino → IsTextOf (word ++ rest) (command sub ino)
+    → AreNumbers 2 rest (sub ∷ ino ∷ [])
+file_numbers {word} {rest} {command} {sub} {ino} tells file is = numbers_of word (is.spelled ∙ tells.text sub ino) (file_fits sub ino [] file none_fit)
+
+pub file_read : {word rest numbers : List ℕ} {command : ℕ → ℕ → Command} {sub ino : ℕ} → TellsFile word command → AreNumbers 2 rest numbers
+    → IsReadAs sub ino (get_or numbers 0 0) (get_or numbers 1 0) → IsTextOf (word ++ rest) (command sub ino)
+file_read {word} {rest} {numbers} {command} {sub} {ino} tells are of =
+    let is = same_pair of.1 in
+    let behind = are.whole ∙ ap (flat_map then_number) (two numbers are) in
+    rw (is.0, is.1) (record { spelled = ap (λ (xs : List ℕ). word ++ xs) behind ∙ sym (tells.text _ _); in_grammar = tells.grammar _ _ ∙ of.0 })
+
+pub unlink_tells : TellsFile (codes "unlink") Unlink
+unfolding command_text is_in_grammar
+unlink_tells = record { text = λ sub ino. simp (append_assoc, append-nil); grammar = λ sub ino. refl }
 
 pub only_unlink : (P : Command → Type 0) (rest : List ℕ) → ((sub ino : ℕ) → is_file sub ino → AreNumbers 2 rest (sub ∷ ino ∷ []) → P (Unlink sub ino))
     → (command : Command) → IsTextOf (codes "unlink" ++ rest) command → P command
 unfolding command_text is_in_grammar
-only_unlink P rest unlink (Unlink sub ino) is =
-    unlink sub ino is.in_grammar (numbers_of (codes "unlink") (is.spelled ∙ unlink_text sub ino) (file_fits sub ino [] is.in_grammar none_fit))
+only_unlink P rest unlink (Unlink sub ino) is = unlink sub ino is.in_grammar (file_numbers unlink_tells is.in_grammar is)
 only_unlink P rest unlink command is = let first = ap mark is.spelled in absurd (omega (arith, first))
 
-pub unlink_read : {rest numbers : List ℕ} {sub ino : ℕ} → AreNumbers 2 rest numbers → IsReadAs sub ino (get_or numbers 0 0) (get_or numbers 1 0)
-    → IsTextOf (codes "unlink" ++ rest) (Unlink sub ino)
-unfolding is_in_grammar
-unlink_read {rest} {numbers} {sub} {ino} are of =
-    let is_sub : sub ≡ get_or numbers 0 0 = ap (λ (pair : ℕ × ℕ). pair.0) of.1 in
-    let is_ino : ino ≡ get_or numbers 1 0 = ap (λ (pair : ℕ × ℕ). pair.1) of.1 in
-    let behind = are.whole ∙ ap (flat_map then_number) (two numbers are) in
-    rw (is_sub, is_ino) (record { spelled = ap (λ (xs : List ℕ). codes "unlink" ++ xs) behind ∙ sym (unlink_text _ _); in_grammar = of.0 })
-
-pub ls_text : (sub ino : ℕ) → command_text (Ls sub ino) ≡ codes "ls" ++ flat_map then_number (sub ∷ ino ∷ [])
-unfolding command_text
-ls_text sub ino = simp (append_assoc, append-nil)
+pub ls_tells : TellsFile (codes "ls") Ls
+unfolding command_text is_in_grammar
+ls_tells = record { text = λ sub ino. simp (append_assoc, append-nil); grammar = λ sub ino. refl }
 
 pub only_ls : (P : Command → Type 0) (rest : List ℕ) → ((sub ino : ℕ) → is_file sub ino → AreNumbers 2 rest (sub ∷ ino ∷ []) → P (Ls sub ino))
     → (command : Command) → IsTextOf (codes "ls" ++ rest) command → P command
 unfolding command_text is_in_grammar
-only_ls P rest ls (Ls sub ino) is =
-    ls sub ino is.in_grammar (numbers_of (codes "ls") (is.spelled ∙ ls_text sub ino) (file_fits sub ino [] is.in_grammar none_fit))
+only_ls P rest ls (Ls sub ino) is = ls sub ino is.in_grammar (file_numbers ls_tells is.in_grammar is)
 only_ls P rest ls command is = let first = ap mark is.spelled in absurd (omega (arith, first))
-
-pub ls_read : {rest numbers : List ℕ} {sub ino : ℕ} → AreNumbers 2 rest numbers → IsReadAs sub ino (get_or numbers 0 0) (get_or numbers 1 0)
-    → IsTextOf (codes "ls" ++ rest) (Ls sub ino)
-unfolding is_in_grammar
-ls_read {rest} {numbers} {sub} {ino} are of =
-    let is_sub : sub ≡ get_or numbers 0 0 = ap (λ (pair : ℕ × ℕ). pair.0) of.1 in
-    let is_ino : ino ≡ get_or numbers 1 0 = ap (λ (pair : ℕ × ℕ). pair.1) of.1 in
-    let behind = are.whole ∙ ap (flat_map then_number) (two numbers are) in
-    rw (is_sub, is_ino) (record { spelled = ap (λ (xs : List ℕ). codes "ls" ++ xs) behind ∙ sym (ls_text _ _); in_grammar = of.0 })

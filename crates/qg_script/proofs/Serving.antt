@@ -8,7 +8,7 @@ use Rattle.qg_grammar.specs.ScriptText.{command_text, is_in_grammar, then_number
 use Rattle.qg_grammar.specs.Served.{is_served}
 use Rattle.qg_script.specs.Reading.{IsParted, IsTextOf}
 use Rattle.qg_script.proofs.Parting.{parted_once, plain_word, numbers_behind}
-use Rattle.qg_script.proofs.Rows.{write_text, clone_text, truncate_text, unlink_text, ls_text}
+use Rattle.qg_script.proofs.Rows.{write_text, clone_text, truncate_text, unlink_tells, ls_tells}
 
 -- a command that is a text by itself
 pub commit_read : {text : List ℕ} → text ≡ codes "commit" → IsTextOf text Commit
@@ -37,9 +37,9 @@ not_served parted commit show write clone truncate unlink ls (Clone sub ino off 
 not_served parted commit show write clone truncate unlink ls (Truncate sub ino size) served is =
     truncate (first_is (codes "truncate") (sub ∷ ino ∷ size ∷ []) parted refl (is.spelled ∙ truncate_text sub ino size))
 not_served parted commit show write clone truncate unlink ls (Unlink sub ino) served is =
-    unlink (first_is (codes "unlink") (sub ∷ ino ∷ []) parted refl (is.spelled ∙ unlink_text sub ino))
+    unlink (first_is (codes "unlink") (sub ∷ ino ∷ []) parted refl (is.spelled ∙ unlink_tells.text sub ino))
 not_served parted commit show write clone truncate unlink ls (Ls sub ino) served is =
-    ls (first_is (codes "ls") (sub ∷ ino ∷ []) parted refl (is.spelled ∙ ls_text sub ino))
+    ls (first_is (codes "ls") (sub ∷ ino ∷ []) parted refl (is.spelled ∙ ls_tells.text sub ino))
 not_served parted commit show write clone truncate unlink ls Commit served is = commit is.spelled
 not_served parted commit show write clone truncate unlink ls Show served is = show is.spelled
 not_served parted commit show write clone truncate unlink ls command served is = absurd cc

@@ -5,12 +5,13 @@ use Rattle.std.specs.List.{AllWithin, filter, list_any, insert}
 use Rattle.std.proofs.lemmas.Bool.{and_parts, and_left, and_right, or_parts, cases_Bool, cases_lt, cond-true, cond-false, cond_both, eqb-true, ne_eqb, le-leb, lt-leb, leb-true, leb-false, true≢false}
 use Rattle.qg_super.specs.declared.sizes.Sizes.{Sizes}
 use Rattle.qg_super.specs.Places.{is_run}
+use Rattle.qg_super.proofs.Runs.{WholeRun-is_run}
 use Rattle.qg_state.specs.declared.element.Element.{Element}
 use Rattle.qg_state.specs.Space.{overlaps}
-use Rattle.qg_space.specs.declared.runs.Run.{Run}
+use Rattle.qg_space.specs.Run.{Run}
 use Rattle.qg_space.specs.Holding.{with_run, is_that_run}
 use Rattle.qg_space.specs.Lying.{extents_of, present_of, end_of, LieApart}
-use Rattle.qg_space.proofs.Places.{whole_run, apart_cases}
+use Rattle.qg_space.proofs.Places.{apart_cases}
 
 -- ---- runs in order
 
@@ -92,8 +93,8 @@ pub put_apart : (sizes : Sizes) (from : ℕ) (new : Run) (runs : List Run) → F
 put_apart sizes from new [] fits low clear apart = (fits.run, low, fits.used, tt)
 put_apart sizes from new (run ∷ runs) fits low clear apart =
     let parts = or_parts (overlaps new.extent.address new.extent.bytes run.extent) (list_any (overlaps new.extent.address new.extent.bytes) (extents_of runs)) clear in
-    let whole = whole_run sizes new.extent.address new.extent.bytes fits.run in
-    let whole' = whole_run sizes run.extent.address run.extent.bytes apart.0 in
+    let whole = WholeRun-is_run sizes new.extent.address new.extent.bytes fits.run in
+    let whole' = WholeRun-is_run sizes run.extent.address run.extent.bytes apart.0 in
     let beside = apart_cases new.extent.address new.extent.bytes run.extent parts.0 in
     cond_both (nat_le new.extent.address run.extent.address) (new ∷ run ∷ runs) (run ∷ put new runs) (LieApart sizes from)
     (λ first. (fits.run, low, fits.used, (apart.0, ends beside (leb-true new.extent.address run.extent.address first) whole'.some, apart.2, apart.3)))
@@ -183,7 +184,7 @@ pub has_at : (sizes : Sizes) (from : ℕ) (runs : List Run) (i address bytes : �
     → list_any (is_that_run address bytes) (present_of runs) ≡ (is_that_run address bytes (get_or runs i d).extent && (get_or runs i d).present)
 has_at sizes from [] i address bytes d apart short before low = absurd (omega (arith, short))
 has_at sizes from (run ∷ runs) zero address bytes d apart short before low =
-    let whole = whole_run sizes run.extent.address run.extent.bytes apart.0 in
+    let whole = WholeRun-is_run sizes run.extent.address run.extent.bytes apart.0 in
     let none = none_there address bytes (end_of run.extent) (present_of runs) (omega (arith, low, whole.some)) (where_from sizes (end_of run.extent) (λ run. run.present) runs apart.3) in
     let is = is_that_run address bytes run.extent in
     elim (cases_Bool run.present) [

@@ -1,12 +1,13 @@
 -- Runs that both the present state and the last commit hold.
-use Rattle.std.proofs.Common.{◌≡◌, ℕ, ◌+◌, List, [], ◌∷◌, map, refl, sym, ap, subst, ◌∙◌}
+use Rattle.std.proofs.Common.{◌≡◌, ℕ, zero, suc, true, ◌+◌, ◌<◌, List, [], ◌∷◌, map, length, get_or, arith, refl, sym, ap, subst, ◌∙◌}
 use Rattle.qg_super.specs.declared.sizes.Sizes.{Sizes}
-use Rattle.qg_super.specs.Places.{data_begin}
+use Rattle.qg_super.specs.Places.{data_begin, is_run, is_served}
 use Rattle.qg_state.specs.declared.element.Element.{Element}
-use Rattle.qg_space.specs.declared.runs.Run.{Run}
+use Rattle.qg_space.specs.Run.{Run, FitsRun}
 use Rattle.qg_space.specs.declared.slots.Slot.{Slot}
 use Rattle.qg_space.specs.Holding.{Holding, AscendApart}
 use Rattle.qg_space.specs.Lying.{LieApart, run_of_both, present_of, held_of, holding_of}
+use Rattle.qg_space.proofs.Places.{fits_run}
 
 -- they lie apart where their extents do
 both_apart : (sizes : Sizes) (from : ℕ) (extents : List Element) → AscendApart sizes from extents → LieApart sizes from (map run_of_both extents)
@@ -18,6 +19,18 @@ pub new_apart : (sizes : Sizes) (now : Holding) (new : List Run) (extents : List
     → LieApart sizes data_begin new
 new_apart sizes now new extents same is apart =
     subst (LieApart sizes data_begin) (sym is) (both_apart sizes data_begin extents (subst (λ (s : Sizes). AscendApart s data_begin extents) (sym same) apart))
+
+-- each of them fits, in an image of sizes that are served
+pub run_at : (sizes : Sizes) (from : ℕ) (extents : List Element) (k : ℕ) (d : Element) → AscendApart sizes from extents → k < length extents
+    → is_run sizes (get_or extents k d).address (get_or extents k d).bytes ≡ true
+run_at sizes from [] k d apart short = absurd (omega (arith, short))
+run_at sizes from (extent ∷ extents) zero d apart short = apart.0
+run_at sizes from (extent ∷ extents) (suc k) d apart short = run_at sizes (extent.address + extent.bytes) extents k d apart.2 (omega (arith, short))
+
+pub fits_at : (sizes : Sizes) (from : ℕ) (extents : List Element) (k : ℕ) (extent : Element) → is_served sizes ≡ true → AscendApart sizes from extents → k < length extents
+    → extent ≡ get_or extents k extent → FitsRun extent
+fits_at sizes from extents k extent served apart short is =
+    fits_run sizes extent served (ap (λ (e : Element). is_run sizes e.address e.bytes) is ∙ run_at sizes from extents k extent apart short)
 
 -- each of the two holds all of them
 present_both : (extents : List Element) → present_of (map run_of_both extents) ≡ extents

@@ -9,13 +9,15 @@ use Rattle.std.proofs.lemmas.List.Elements.{Contains-append_left, Contains-appen
 use Rattle.std.proofs.lemmas.List.Folds.{list_any-append}
 use Rattle.std.proofs.lemmas.List.Sums.{sum_by-cons}
 use Rattle.qg_super.specs.Places.{slots_begin, slot_at, is_slot, is_served}
+use Rattle.qg_super.proofs.Slots.{IsSlotAt-is_slot}
 use Rattle.qg_image.specs.Table.{with_number}
 use Rattle.qg_state.specs.declared.element.Element.{Element}
 use Rattle.qg_state.specs.Space.{least}
+use Rattle.qg_state.proofs.Contained.{contains_here, contains_later, contains_cases}
 use Rattle.qg_space.specs.Holding.{Holding, is_free_slot, first_slot, free_slots, without_slot}
 use Rattle.qg_space.proofs.Least.{none_passes}
-use Rattle.qg_space.proofs.Marks.{SlotsFit-is_served, slots_apart, at_slot}
-use Rattle.qg_space.proofs.Members.{contains_cases, contains_here, contains_later, any_same, one_passes, passes_one, Contains-with_number, Contains-without_slot}
+use Rattle.qg_space.proofs.Marks.{SlotsFit-is_served, slots_apart}
+use Rattle.qg_space.proofs.Members.{any_same, one_passes, passes_one, Contains-with_number, Contains-without_slot}
 use Rattle.qg_space.proofs.Free.{free_is_slot}
 
 -- ---- counts over numbers
@@ -133,7 +135,7 @@ pub free_slots-taken : (holding : Holding) (address : ℕ) → is_served holding
 unfolding free_slots
 free_slots-taken holding address served free =
     let fit = SlotsFit-is_served holding.sizes served in
-    let slot = at_slot holding.sizes address (free_is_slot holding address free) in
+    let slot = IsSlotAt-is_slot holding.sizes address (free_is_slot holding address free) in
     let n = (address - slots_begin) / holding.sizes.nodesize in
     let after : Holding = record holding { slots = with_number address holding.slots } in
     count_but_one (is_free_slot holding) (is_free_slot after) (slot_at holding.sizes) 0 holding.sizes.slots n (omega arith) (omega (arith, slot.number))

@@ -7,13 +7,14 @@ use Rattle.std.proofs.lemmas.Bool.{and_left, and_from, and_parts, not-true, or_r
 use Rattle.std.proofs.lemmas.List.{map-append, set-get_or, set_split}
 use Rattle.std.proofs.lemmas.List.Elements.{filter-append}
 use Rattle.qg_super.specs.declared.sizes.Sizes.{Sizes}
-use Rattle.qg_super.specs.Places.{data_begin, is_run}
+use Rattle.qg_super.specs.Places.{data_begin, is_run, is_served}
+use Rattle.qg_super.proofs.Runs.{WholeRun-is_run}
 use Rattle.qg_state.specs.declared.element.Element.{Element}
 use Rattle.qg_state.specs.Space.{overlaps}
-use Rattle.qg_space.specs.declared.runs.Run.{Run}
+use Rattle.qg_space.specs.Run.{Run, FitsRun}
 use Rattle.qg_space.specs.Holding.{is_clear, with_run, without_run, is_that_run}
 use Rattle.qg_space.specs.Lying.{extents_of, present_of, held_of, end_of, with_held, LieApart}
-use Rattle.qg_space.proofs.Places.{whole_run}
+use Rattle.qg_space.proofs.Places.{fits_run}
 use Rattle.qg_space.proofs.Apart.{apart_sooner, extents_where, AreFrom, where_from, where_first, where_skips, where_put, where_put_fails, put, put_at, put_apart, IsAt, found_at}
 
 -- ---- the lists around a run
@@ -62,14 +63,14 @@ none_taken address bytes from (extent ∷ extents) short are =
 pub taken_out : (sizes : Sizes) (from : ℕ) (before : List Run) (run : Run) (after : List Run) → LieApart sizes from (before ++ run ∷ after) → run.present ≡ true
     → present_of (before ++ after) ≡ without_run run.extent.address run.extent.bytes (present_of (before ++ run ∷ after))
 taken_out sizes from [] run after apart present =
-    let whole = whole_run sizes run.extent.address run.extent.bytes apart.0 in
+    let whole = WholeRun-is_run sizes run.extent.address run.extent.bytes apart.0 in
     let is = and_from (run.extent.address == run.extent.address) (run.extent.bytes == run.extent.bytes) (eq-eqb run.extent.address run.extent.address refl) (eq-eqb run.extent.bytes run.extent.bytes refl) in
     let without = without_run run.extent.address run.extent.bytes (present_of after) in
     sym (ap (without_run run.extent.address run.extent.bytes) (where_first (λ run. run.present) run after present)
     ∙ cond-false _ (run.extent ∷ without) without (ap not is)
     ∙ none_taken run.extent.address run.extent.bytes (end_of run.extent) (present_of after) (omega (arith, whole.some)) (where_from sizes (end_of run.extent) (λ run. run.present) after apart.3))
 taken_out sizes from (first ∷ before) run after apart present =
-    let whole = whole_run sizes first.extent.address first.extent.bytes apart.0 in
+    let whole = WholeRun-is_run sizes first.extent.address first.extent.bytes apart.0 in
     let later = middle_from sizes (end_of first.extent) before run after apart.3 in
     let other = and_left (first.extent.address == run.extent.address) (first.extent.bytes == run.extent.bytes)
     (ne_eqb first.extent.address run.extent.address (λ same. omega (arith, same, later, whole.some))) in
@@ -94,6 +95,12 @@ pub record IsPut (sizes : Sizes) (runs edited : List Run) (extent : Element) : T
   pub present : present_of edited ≡ with_run extent (present_of runs)
   pub held : held_of edited ≡ held_of runs
 
+-- such a run fits, in an image of sizes that are served
+pub clear_fits : (sizes : Sizes) (runs : List Run) (extent : Element) → is_served sizes ≡ true → is_clear sizes (extents_of runs) extent.address extent.bytes ≡ true → FitsRun extent
+unfolding is_clear
+clear_fits sizes runs extent served clear =
+    fits_run sizes extent served (and_parts (is_run sizes extent.address extent.bytes) (not (list_any (overlaps extent.address extent.bytes) (extents_of runs))) clear).0
+
 pub put_kept : (sizes : Sizes) (runs seen edited : List Run) (i : ℕ) (extent : Element) → LieApart sizes data_begin runs → is_clear sizes (extents_of runs) extent.address extent.bytes ≡ true
     → seen ≡ runs → i ≤ length seen → AllWithin (λ run. run.extent.address < extent.address) seen 0 i → AllWithin (λ run. extent.address ≤ run.extent.address) seen i (length seen)
     → edited ≡ insert runs i (record { extent = extent; present = true; held = false }) → IsPut sizes runs edited extent
@@ -102,7 +109,7 @@ put_kept sizes runs seen edited i extent apart clear same bound before others is
     let new : Run = record { extent = extent; present = true; held = false } in
     let put' = is ∙ ap (λ (xs : List Run). insert xs i new) (sym same) ∙ put_at new seen i bound before others ∙ ap (put new) same in
     let parts = and_parts (is_run sizes extent.address extent.bytes) (not (list_any (overlaps extent.address extent.bytes) (extents_of runs))) clear in
-    let whole = whole_run sizes extent.address extent.bytes parts.0 in
+    let whole = WholeRun-is_run sizes extent.address extent.bytes parts.0 in
     record {
       apart = subst (LieApart sizes data_begin) (sym put') (put_apart sizes data_begin new runs (record { run = parts.0; used = refl }) whole.begin (not-true _ parts.1) apart);
       present = ap present_of put' ∙ where_put sizes data_begin (λ run. run.present) new runs apart refl;

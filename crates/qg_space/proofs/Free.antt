@@ -4,22 +4,23 @@ use Rattle.std.specs.Prelude.{◌==◌, ◌&&◌, ◌||◌, not, replicate}
 use Rattle.std.specs.List.{AllWithin, HoldsAt, list_any, count_by, range_with_len}
 use Rattle.std.specs.Option.{option_map}
 use Rattle.std.proofs.Math.ListN.{set, length-set}
-use Rattle.std.proofs.lemmas.Bool.{and_parts, or_parts, cases_Bool, not-true, or_right, true≢false}
+use Rattle.std.proofs.lemmas.Bool.{and_parts, or_parts, cases_Bool, not-true, true≢false}
 use Rattle.std.proofs.lemmas.List.{get_or-set_other}
 use Rattle.std.proofs.lemmas.List.Elements.{AllWithin-set}
 use Rattle.std.proofs.lemmas.List.Folds.{list_any-append}
 use Rattle.std.proofs.lemmas.List.Sums.{sum_by-cons, sum_by-set}
 use Rattle.qg_super.specs.declared.sizes.Sizes.{Sizes}
 use Rattle.qg_super.specs.Places.{slot_at, is_slot}
+use Rattle.qg_super.proofs.Slots.{is_slot-slot_at}
 use Rattle.qg_image.specs.Table.{with_number}
 use Rattle.qg_state.specs.declared.element.Element.{Element}
 use Rattle.qg_state.specs.Space.{least}
-use Rattle.qg_space.specs.declared.runs.Run.{Run}
+use Rattle.qg_space.specs.Run.{Run}
 use Rattle.qg_space.specs.declared.slots.Slot.{Slot}
 use Rattle.qg_space.specs.Holding.{Holding, nothing_held, is_free_slot, first_slot, free_slots, has_slot, without_slot}
 use Rattle.qg_space.specs.Lying.{present_of, held_of, slots_where, is_unused, committed_slot, holding_of, IsSound}
 use Rattle.qg_space.proofs.Least.{least_none, least_some}
-use Rattle.qg_space.proofs.Marks.{SlotsFit, is_slot_at, at, among, none_among, set_same, set_put, set_gone, present_committed, held_committed, none_unused}
+use Rattle.qg_space.proofs.Marks.{SlotsFit, at, among, none_among, set_same, set_put, set_gone, present_committed, held_committed, none_unused}
 
 -- ---- one slot
 
@@ -29,7 +30,7 @@ unfolding is_free_slot
 free_at sizes runs slots n d fit all short =
     let present = slots_where (λ slot. slot.present) sizes 0 slots in
     let held = slots_where (λ slot. slot.held) sizes 0 slots in
-    ap (λ b. b && not (list_any (at sizes n) (present ++ held))) (is_slot_at sizes n fit.some short)
+    ap (λ b. b && not (list_any (at sizes n) (present ++ held))) (is_slot-slot_at sizes n fit.some short)
     ∙ ap not (list_any-append (at sizes n) present held
     ∙ ap (λ b. b || list_any (at sizes n) held) (among (λ slot. slot.present) sizes n 0 n slots d fit.some (omega arith) (omega arith))
     ∙ ap (λ b. (get_or slots n d).present || b) (among (λ slot. slot.held) sizes n 0 n slots d fit.some (omega arith) (omega arith)))
@@ -163,24 +164,6 @@ given_holding sizes runs slots address n slot fit there is given still =
     (set_gone (λ slot. slot.present) sizes n 0 n slots slot slot fit.some (omega arith) there.within given (there.present slot)
     ∙ ap (λ a. without_slot a (slots_where (λ slot. slot.present) sizes 0 slots)) is)
     (set_same (λ slot. slot.held) sizes 0 n slots slot slot still)
-
--- the last commit holds it still
-pub given_held_sound : (sizes : Sizes) (runs : List Run) (packed : ℕ) (slots : List Slot) (unused first n : ℕ) (slot : Slot) → IsSound sizes runs packed slots unused first → IsPresentAt slots n → slot.held ≡ true
-    → IsSound sizes runs packed (set slots n slot) unused first
-given_held_sound sizes runs packed slots unused first n slot sound there held =
-    let f : Slot → ℕ = λ slot. cond (is_unused slot) 1 0 in
-    let used = or_right slot.present slot.held held in
-    let sums = sum_by-set f slots n slot slot there.within in
-    let was = used_zero (get_or slots n slot) (ap (λ b. b || (get_or slots n slot).held) (there.present slot)) in
-    let is = used_zero slot used in
-    record {
-      served = sound.served;
-      apart = sound.apart;
-      front = sound.front;
-      all = length-set slots n slot ∙ sound.all;
-      counted = omega (arith, sound.counted, sums, was, is);
-      used = AllWithin-set (λ slot. is_unused slot ≡ false) slots 0 first n slot there.within (ap not used) sound.used;
-    }
 
 -- it is unused now
 pub given_sound : (sizes : Sizes) (runs : List Run) (packed : ℕ) (slots : List Slot) (unused first n least : ℕ) (slot : Slot) → IsSound sizes runs packed slots unused first → IsPresentAt slots n → slot.present ≡ false

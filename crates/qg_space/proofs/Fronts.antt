@@ -5,15 +5,15 @@ use Rattle.std.proofs.Math.ListN.{set, length-set}
 use Rattle.std.proofs.lemmas.List.{take-take, take_more, take-map, take-set, take_at, length-map, length-append, length-take-le, get_or-map}
 use Rattle.qg_super.specs.declared.sizes.Sizes.{Sizes}
 use Rattle.qg_super.specs.Places.{data_begin}
+use Rattle.qg_super.proofs.Runs.{WholeRun, WholeRun-is_run}
 use Rattle.qg_state.specs.declared.element.Element.{Element}
-use Rattle.qg_space.specs.declared.runs.Run.{Run}
+use Rattle.qg_space.specs.Run.{Run}
 use Rattle.qg_space.specs.Lying.{extents_of, end_of, end_of_last, ArePacked, IsFront, SameBefore, LieApart}
-use Rattle.qg_space.proofs.Places.{WholeRun, whole_run}
 
 pub whole_at : (sizes : Sizes) (from : ℕ) (runs : List Run) (k : ℕ) (d : Run) → LieApart sizes from runs → k < length runs
     → WholeRun sizes (get_or runs k d).extent.address (get_or runs k d).extent.bytes
 whole_at sizes from [] k d apart short = absurd (omega (arith, short))
-whole_at sizes from (run ∷ runs) zero d apart short = whole_run sizes run.extent.address run.extent.bytes apart.0
+whole_at sizes from (run ∷ runs) zero d apart short = WholeRun-is_run sizes run.extent.address run.extent.bytes apart.0
 whole_at sizes from (run ∷ runs) (suc k) d apart short = whole_at sizes (end_of run.extent) runs k d apart.3 (omega (arith, short))
 
 -- the last of the first runs ends them
@@ -39,7 +39,7 @@ front_kept old new packed place count few before same front = record {
 pub no_front : (runs : List Run) → IsFront runs 0
 no_front runs = record { within = omega arith; packed = tt }
 
-one_more_packed : (from : ℕ) (extents : List Element) (extent : Element) → ArePacked from extents → extent.address ≡ end_of_last from extents → ArePacked from (extents ++ extent ∷ [])
+pub one_more_packed : (from : ℕ) (extents : List Element) (extent : Element) → ArePacked from extents → extent.address ≡ end_of_last from extents → ArePacked from (extents ++ extent ∷ [])
 one_more_packed from [] extent packed is = (is, tt)
 one_more_packed from (first ∷ later) extent packed is = (packed.0, one_more_packed (end_of first) later extent packed.1 is)
 

@@ -7,12 +7,13 @@ use Rattle.std.proofs.lemmas.Bool.{and_from, and_left, and_right, false_from_ne_
 use Rattle.std.proofs.lemmas.List.{drop_more, drop_all}
 use Rattle.qg_super.specs.declared.sizes.Sizes.{Sizes}
 use Rattle.qg_super.specs.Places.{data_begin, sector, sector_at, total_bytes, is_run}
+use Rattle.qg_super.proofs.Runs.{WholeRun, WholeRun-is_run, is_run-WholeRun}
 use Rattle.qg_state.specs.declared.element.Element.{Element}
 use Rattle.qg_state.specs.Space.{overlaps}
-use Rattle.qg_space.specs.declared.runs.Run.{Run}
+use Rattle.qg_space.specs.Run.{Run}
 use Rattle.qg_space.specs.Holding.{is_clear, first_clear}
 use Rattle.qg_space.specs.Lying.{extents_of, end_of, end_of_last, ArePacked, IsFront, LieApart}
-use Rattle.qg_space.proofs.Places.{WholeRun, whole_run, is_run_whole, end_aligned, apart_after, apart_before, overlaps_both}
+use Rattle.qg_space.proofs.Places.{end_aligned, apart_after, apart_before, overlaps_both}
 use Rattle.qg_space.proofs.Least.{least_none, least_some, least_alike}
 
 -- ---- one address
@@ -42,17 +43,17 @@ none_overlap sizes from address bytes (run ∷ runs) apart room =
 clear_here : (sizes : Sizes) (from address bytes : ℕ) (runs : List Run) → WholeRun sizes address bytes → LieApart sizes from runs → address + bytes ≤ from
     → is_clear sizes (extents_of runs) address bytes ≡ true
 unfolding is_clear
-clear_here sizes from address bytes runs run apart room = and_from _ _ (is_run_whole sizes address bytes run) (ap not (none_overlap sizes from address bytes runs apart room))
+clear_here sizes from address bytes runs run apart room = and_from _ _ (is_run-WholeRun sizes address bytes run) (ap not (none_overlap sizes from address bytes runs apart room))
 
 not_within : (sizes : Sizes) (extents : List Element) (address bytes : ℕ) → total_bytes sizes < address + bytes → is_clear sizes extents address bytes ≡ false
 unfolding is_clear
 not_within sizes extents address bytes past =
-    and_left (is_run sizes address bytes) _ (false_from_ne_true (is_run sizes address bytes) (λ is. omega (arith, past, (whole_run sizes address bytes is).within)))
+    and_left (is_run sizes address bytes) _ (false_from_ne_true (is_run sizes address bytes) (λ is. omega (arith, past, (WholeRun-is_run sizes address bytes is).within)))
 
 not_empty : (sizes : Sizes) (extents : List Element) (address bytes : ℕ) → bytes ≡ 0 → is_clear sizes extents address bytes ≡ false
 unfolding is_clear
 not_empty sizes extents address bytes is =
-    and_left (is_run sizes address bytes) _ (false_from_ne_true (is_run sizes address bytes) (λ run. omega (arith, is, (whole_run sizes address bytes run).some)))
+    and_left (is_run sizes address bytes) _ (false_from_ne_true (is_run sizes address bytes) (λ run. omega (arith, is, (WholeRun-is_run sizes address bytes run).some)))
 
 -- ---- runs that were passed
 
@@ -78,7 +79,7 @@ none_passed sizes runs bytes apart = record {
 pub one_more_passed : (sizes : Sizes) (runs : List Run) (run : Run) (rest : List Run) (bytes from : ℕ) → ArePassed sizes runs (run ∷ rest) bytes from → run.extent.address < from + bytes
     → ArePassed sizes runs rest bytes (end_of run.extent)
 one_more_passed sizes runs run rest bytes from passed little =
-    let whole = whole_run sizes run.extent.address run.extent.bytes passed.apart.0 in
+    let whole = WholeRun-is_run sizes run.extent.address run.extent.bytes passed.apart.0 in
     record {
       apart = passed.apart.3;
       begin = omega (arith, whole.begin);
@@ -121,7 +122,7 @@ first_is sizes runs bytes from begin aligned within clear none =
 pub first_before : (sizes : Sizes) (runs : List Run) (run : Run) (rest : List Run) (bytes from : ℕ) → IsSought bytes → ArePassed sizes runs (run ∷ rest) bytes from
     → from + bytes ≤ run.extent.address → first_clear sizes (extents_of runs) bytes ≡ Some from
 first_before sizes runs run rest bytes from sought passed room =
-    let whole = whole_run sizes run.extent.address run.extent.bytes passed.apart.0 in
+    let whole = WholeRun-is_run sizes run.extent.address run.extent.bytes passed.apart.0 in
     let here : WholeRun sizes from bytes = record { begin = passed.begin; aligned = passed.aligned; whole = sought.whole; some = sought.some; within = omega (arith, room, whole.within) } in
     first_is sizes runs bytes from passed.begin passed.aligned (omega (arith, room, whole.within, whole.some))
     (passed.same from (omega arith)

@@ -9,6 +9,7 @@ pub mod Free
 pub mod Members
 pub mod Agreements
 pub mod Fronts
+pub mod Packed
 pub mod Firsts
 pub mod Counted
 pub mod Listed

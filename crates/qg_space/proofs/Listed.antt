@@ -9,7 +9,7 @@ use Rattle.std.proofs.lemmas.List.Sums.{length-filter, count_by-le-length}
 use Rattle.std.proofs.lemmas.Map.Keys.{IsDistinct-cons, IsDistinct-from_apart, apart_from_distinct}
 use Rattle.qg_super.specs.declared.sizes.Sizes.{Sizes}
 use Rattle.qg_super.specs.Places.{slot_at}
-use Rattle.qg_space.specs.declared.runs.Run.{Run}
+use Rattle.qg_space.specs.Run.{Run}
 use Rattle.qg_space.specs.declared.slots.Slot.{Slot}
 use Rattle.qg_space.specs.Holding.{Holding, is_free_slot, free_list, free_slots}
 use Rattle.qg_space.specs.Lying.{slots_where, is_unused, holding_of}

@@ -1,13 +1,14 @@
 -- The node slots that pass a test, ascending. Addresses are in bytes.
-use Rattle.std.proofs.Common.{◌≡◌, ℕ, zero, suc, ◌+◌, ◌-◌, ◌*◌, ◌/◌, ◌<◌, ◌≤◌, Bool, true, false, List, [], ◌∷◌, map, length, get_or, refl, sym, ap, subst, ◌∙◌, arith, inl, inr, cond}
-use Rattle.std.specs.Prelude.{◌==◌, ◌%◌, ◌&&◌, ◌||◌, not, nat_le, nat_lt, replicate}
+use Rattle.std.proofs.Common.{◌≡◌, ℕ, zero, suc, ◌+◌, ◌*◌, ◌<◌, ◌≤◌, Bool, true, false, List, [], ◌∷◌, map, length, get_or, refl, sym, ap, subst, ◌∙◌, arith, inl, inr, cond}
+use Rattle.std.specs.Prelude.{◌==◌, ◌||◌, not, nat_lt, replicate}
 use Rattle.std.specs.List.{list_any}
 use Rattle.std.proofs.Math.ListN.{set}
-use Rattle.std.proofs.Math.Nat.{mul-le-mul_left, mul-mod_left, mul-div_cancel}
-use Rattle.std.proofs.lemmas.Bool.{and_parts, and_from, or_left, cases_Bool, cases_lt, cond-true, cond-false, eqb-true, eq-eqb, ne_eqb, leb-true, le-leb, ltb-true, lt-ltb, le-ltb, true≢false, or_cases}
-use Rattle.std.proofs.lemmas.Nat.{div-add-mod'}
+use Rattle.std.proofs.Math.Nat.{mul-le-mul_left}
+use Rattle.std.proofs.lemmas.Bool.{or_left, cases_Bool, cases_lt, cond-true, cond-false, eq-eqb, ne_eqb, lt-ltb, le-ltb, true≢false}
 use Rattle.qg_super.specs.declared.sizes.Sizes.{Sizes}
-use Rattle.qg_super.specs.Places.{slots_begin, slot_at, is_slot, is_served}
+use Rattle.qg_super.specs.Places.{slot_at, is_slot, is_served}
+use Rattle.qg_super.proofs.Served.{SizesFit-is_served}
+use Rattle.qg_super.proofs.Slots.{is_slot-slot_at}
 use Rattle.qg_image.specs.Table.{with_number}
 use Rattle.qg_space.specs.declared.slots.Slot.{Slot}
 use Rattle.qg_space.specs.Holding.{without_slot}
@@ -21,27 +22,7 @@ pub record SlotsFit (sizes : Sizes) : Type 0 where
   pub within : sizes.slots * sizes.nodesize ≤ 66060288
 
 pub SlotsFit-is_served : (sizes : Sizes) → is_served sizes ≡ true → SlotsFit sizes
-unfolding is_served
-SlotsFit-is_served sizes served =
-    let small = (sizes.nodesize == 4096) && nat_le sizes.slots 16128 in
-    let large = (sizes.nodesize == 16384) && nat_le sizes.slots 4032 in
-    let to_sectors = and_parts ((small || large) && nat_le 64 sizes.slots && nat_le 16 sizes.sectors) (nat_le sizes.sectors 16777216) served in
-    let to_few = and_parts ((small || large) && nat_le 64 sizes.slots) (nat_le 16 sizes.sectors) to_sectors.0 in
-    let to_slots = and_parts (small || large) (nat_le 64 sizes.slots) to_few.0 in
-    elim (or_cases small large to_slots.0) [
-      | inl is ↦
-          let parts = and_parts (sizes.nodesize == 4096) (nat_le sizes.slots 16128) is in
-          fits 4096 16128 (eqb-true sizes.nodesize 4096 parts.0) (leb-true sizes.slots 16128 parts.1) (omega arith) (omega arith)
-      | inr is ↦
-          let parts = and_parts (sizes.nodesize == 16384) (nat_le sizes.slots 4032) is in
-          fits 16384 4032 (eqb-true sizes.nodesize 16384 parts.0) (leb-true sizes.slots 4032 parts.1) (omega arith) (omega arith)
-    ]
-  where
-    fits : (nodesize most : ℕ) → sizes.nodesize ≡ nodesize → sizes.slots ≤ most → 0 < nodesize → nodesize * most ≤ 66060288 → SlotsFit sizes
-    fits nodesize most same few some short =
-        let all = mul-le-mul_left nodesize few in
-        let product = ap (λ n. sizes.slots * n) same in
-        record { some = omega arith; within = omega (arith, all, product, short) }
+SlotsFit-is_served sizes served = let fits = SizesFit-is_served sizes served in record { some = omega (arith, fits.least); within = fits.area }
 
 -- slots ascend
 pub slots_rise : (sizes : Sizes) (j k : ℕ) → 0 < sizes.nodesize → j < k → slot_at sizes j < slot_at sizes k
@@ -58,35 +39,6 @@ slots_apart sizes j k some differ same = elim (cases_lt j k) [
     | inr not' ↦ differ (omega (arith, not, not'))
   ]
 ]
-
-pub is_slot_at : (sizes : Sizes) (k : ℕ) → 0 < sizes.nodesize → k < sizes.slots → is_slot sizes (slot_at sizes k) ≡ true
-unfolding is_slot
-is_slot_at sizes k some short =
-    let offset : slot_at sizes k - slots_begin ≡ k * sizes.nodesize = omega arith in
-    let whole : (slot_at sizes k - slots_begin) % sizes.nodesize ≡ 0 = ap (λ n. n % sizes.nodesize) offset ∙ mul-mod_left k sizes.nodesize in
-    let number : (slot_at sizes k - slots_begin) / sizes.nodesize ≡ k = ap (λ n. n / sizes.nodesize) offset ∙ mul-div_cancel k some in
-    and_from _ _ (and_from _ _ (le-leb slots_begin (slot_at sizes k) (omega arith)) (eq-eqb ((slot_at sizes k - slots_begin) % sizes.nodesize) 0 whole))
-    (lt-ltb ((slot_at sizes k - slots_begin) / sizes.nodesize) sizes.slots (omega (arith, number, short)))
-
--- what an address of a slot is
-pub record IsSlotAt (sizes : Sizes) (address : ℕ) : Type 0 where
-  pub begin : slots_begin ≤ address
-  pub number : (address - slots_begin) / sizes.nodesize < sizes.slots
-  pub there : slot_at sizes ((address - slots_begin) / sizes.nodesize) ≡ address
-
-pub at_slot : (sizes : Sizes) (address : ℕ) → is_slot sizes address ≡ true → IsSlotAt sizes address
-unfolding is_slot
-at_slot sizes address is =
-    let to_last = and_parts (nat_le slots_begin address && ((address - slots_begin) % sizes.nodesize == 0)) (nat_lt ((address - slots_begin) / sizes.nodesize) sizes.slots) is in
-    let parts = and_parts (nat_le slots_begin address) ((address - slots_begin) % sizes.nodesize == 0) to_last.0 in
-    let begin = leb-true slots_begin address parts.0 in
-    let whole = eqb-true ((address - slots_begin) % sizes.nodesize) 0 parts.1 in
-    let divides = div-add-mod' (address - slots_begin) sizes.nodesize in
-    record {
-      begin = begin;
-      number = ltb-true ((address - slots_begin) / sizes.nodesize) sizes.slots to_last.1;
-      there = omega (arith, begin, whole, divides);
-    }
 
 -- ---- membership
 
@@ -143,7 +95,7 @@ none_among test sizes address k [] some not bound = refl
 none_among test sizes address k (slot ∷ slots) some not bound =
     let rest = none_among test sizes address (k + 1) slots some not (omega (arith, bound)) in
     let other : (slot_at sizes k == address) ≡ false = ne_eqb (slot_at sizes k) address
-    (λ same. true≢false (sym (ap (is_slot sizes) (sym same) ∙ is_slot_at sizes k some (omega (arith, bound))) ∙ not)) in
+    (λ same. true≢false (sym (ap (is_slot sizes) (sym same) ∙ is_slot-slot_at sizes k some (omega (arith, bound))) ∙ not)) in
     elim (cases_Bool (test slot)) [
       | inl passes ↦
           ap (list_any (λ slot. slot == address)) (where_first test sizes k slot slots passes)

@@ -1,5 +1,5 @@
 -- What lists of runs and of slots contain, before and after an edit. Addresses and lengths are in bytes.
-use Rattle.std.proofs.Common.{◌≡◌, ℕ, zero, suc, ◌<◌, Bool, true, List, [], ◌∷◌, ◌++◌, length, get_or, refl, sym, ap, subst, ◌∙◌, arith, ◌⊎◌, inl, inr}
+use Rattle.std.proofs.Common.{◌≡◌, ℕ, Bool, true, List, [], ◌∷◌, ◌++◌, refl, sym, ap, subst, ◌∙◌, ◌⊎◌, inl, inr}
 use Rattle.std.specs.Prelude.{◌≢◌, ◌↔◌, ◌==◌, not, nat_le, nat_lt}
 use Rattle.std.specs.List.{Contains, filter, list_any}
 use Rattle.std.proofs.lemmas.Bool.{and_parts, and_from, or_cases, cases_Bool, cond_both, cond-true, cond-false, eqb-true, eq-eqb, not-true, not_from_false, false_from_ne_true, true≢false}
@@ -7,24 +7,8 @@ use Rattle.std.proofs.lemmas.List.Elements.{Contains-append_left, Contains-appen
 use Rattle.std.proofs.lemmas.List.Folds.{list_any_at}
 use Rattle.qg_image.specs.Table.{with_number}
 use Rattle.qg_state.specs.declared.element.Element.{Element}
+use Rattle.qg_state.proofs.Contained.{none_contained, contains_here, contains_later, contains_cases}
 use Rattle.qg_space.specs.Holding.{Holding, is_that_run, has_run, with_run, without_run, has_slot, without_slot}
-
--- ---- one list
-
-pub none_contained : {A : Type 0} (x : A) → Contains [] x → ⊥
-none_contained x has = omega (arith, has.1)
-
-pub contains_here : {A : Type 0} (x : A) (xs : List A) → Contains (x ∷ xs) x
-contains_here x xs = (0, omega arith, refl)
-
-pub contains_later : {A : Type 0} (y : A) (xs : List A) (x : A) → Contains xs x → Contains (y ∷ xs) x
-contains_later y xs x has = (suc has.0, omega (arith, has.1), has.2)
-
-pub contains_cases : {A : Type 0} (y : A) (xs : List A) (x : A) → Contains (y ∷ xs) x → (y ≡ x) ⊎ Contains xs x
-contains_cases {A} y xs x has = at has.0 has.1 has.2 where
-  at : (k : ℕ) → k < length (y ∷ xs) → get_or (y ∷ xs) k x ≡ x → (y ≡ x) ⊎ Contains xs x
-  at zero short is = inl is
-  at (suc k) short is = inr (k, omega (arith, short), is)
 
 -- ---- tests
 

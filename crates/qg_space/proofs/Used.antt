@@ -6,12 +6,12 @@ use Rattle.std.proofs.lemmas.Bool.{and_parts, and_right, or_right, cases_Bool, c
 use Rattle.std.proofs.lemmas.List.Folds.{list_any-append}
 use Rattle.qg_super.specs.declared.sizes.Sizes.{Sizes}
 use Rattle.qg_super.specs.Places.{sector, is_run}
+use Rattle.qg_super.proofs.Runs.{WholeRun-is_run}
 use Rattle.qg_state.specs.declared.element.Element.{Element}
 use Rattle.qg_state.specs.Space.{overlaps}
-use Rattle.qg_space.specs.declared.runs.Run.{Run}
+use Rattle.qg_space.specs.Run.{Run}
 use Rattle.qg_space.specs.Holding.{is_clear, first_clear, is_that_run}
 use Rattle.qg_space.specs.Lying.{extents_of, present_of, held_of, end_of, LieApart}
-use Rattle.qg_space.proofs.Places.{whole_run}
 use Rattle.qg_space.proofs.Apart.{extents_where, where_first, where_skips}
 use Rattle.qg_space.proofs.Gaps.{first_clear_alike}
 
@@ -77,7 +77,7 @@ pub has_few : (sizes : Sizes) (from : ℕ) (runs : List Run) (address sectors : 
     → list_any (is_that_run address (sectors * sector)) (present_of runs) ≡ false
 has_few sizes from [] address sectors apart many = refl
 has_few sizes from (run ∷ runs) address sectors apart many =
-    let whole = whole_run sizes run.extent.address run.extent.bytes apart.0 in
+    let whole = WholeRun-is_run sizes run.extent.address run.extent.bytes apart.0 in
     let rest = has_few sizes (end_of run.extent) runs address sectors apart.3 many in
     let other = and_right (run.extent.address == address) (run.extent.bytes == sectors * sector) (ne_eqb run.extent.bytes (sectors * sector) (λ same. omega (arith, same, many, whole.within, whole.begin))) in
     elim (cases_Bool run.present) [
@@ -97,5 +97,5 @@ few_sectors sizes from runs address sectors apart has = elim (cases_lt sizes.sec
 pub clear_within : (sizes : Sizes) (extents : List Element) (address sectors : ℕ) → is_clear sizes extents address (sectors * sector) ≡ true → sectors ≤ sizes.sectors
 unfolding is_clear
 clear_within sizes extents address sectors clear =
-    let whole = whole_run sizes address (sectors * sector) (and_parts (is_run sizes address (sectors * sector)) (not (list_any (overlaps address (sectors * sector)) extents)) clear).0 in
+    let whole = WholeRun-is_run sizes address (sectors * sector) (and_parts (is_run sizes address (sectors * sector)) (not (list_any (overlaps address (sectors * sector)) extents)) clear).0 in
     omega (arith, whole.within, whole.begin)

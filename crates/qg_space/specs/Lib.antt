@@ -1,3 +1,5 @@
+pub mod Run
+pub mod Fields
 pub mod Holding
 pub mod Lying
 pub mod Agreement

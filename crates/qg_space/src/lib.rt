@@ -1,6 +1,7 @@
 //! Which runs of sectors and which node slots are free: those that neither the present state nor the last commit holds.
 #![tactic(auto)]
 
+mod run;
 mod runs;
 mod slots;
 mod space;

@@ -3,39 +3,41 @@ ghost use Rattle.std.specs.Prelude.{◌≡◌, ℕ, ◌+◌, ◌*◌, ◌<◌, �
 ghost use Rattle.std.specs.List.{AllWithin, filter, list_any};
 ghost use Rattle.qg_super.specs.declared.sizes.Sizes.{Sizes};
 ghost use Rattle.qg_super.specs.Places.{is_served, data_begin, sector};
-ghost use Rattle.qg_space.specs.declared.runs.Run.{Run};
-ghost use Rattle.qg_space.specs.Holding.{is_clear, first_clear, is_that_run, with_run, without_run};
+ghost use Rattle.qg_state.specs.declared.element.Element.{Element};
+ghost use Rattle.qg_space.specs.Run.{Run};
+ghost use Rattle.qg_space.specs.Holding.{AscendApart, is_clear, first_clear, is_that_run, with_run, without_run};
 ghost use Rattle.qg_space.specs.Lying.{LieApart, extents_of, present_of, held_of, with_held, run_of_both, end_of_last, IsFront, SameBefore};
 
+use crate::run::Run;
 use qg_num::Address;
 use qg_state::Element;
 use qg_super::{DATA_BEGIN, Sizes};
 use std::alloc::{AllocError, Global};
 
-/// A run of whole sectors, and what holds it.
-#[derive(Clone, Copy, Debug)]
-pub(crate) struct Run {
-    /// Where it lies, and its length in bytes.
-    pub extent: Element,
-    /// Whether the present state holds it.
-    pub present: bool,
-    /// Whether the last commit holds it.
-    pub held: bool,
-}
-
-/// The runs of extents, each held by the present state and by the last commit.
-pub(crate) fn runs_of_both(alloc: Global, extents: &[Element]) -> Result<Vec<Run>, AllocError>
-    ensures { IfOk result (λ runs. runs.items ≡ map run_of_both extents.now) }
+/// The runs of extents, each held by the present state and by the last commit, and how many of the first ones are packed.
+pub(crate) fn runs_of_both(
+    alloc: Global,
+    sizes: &Sizes,
+    extents: &[Element],
+) -> Result<(Vec<Run>, usize), AllocError>
+    requires served { IsTrue (is_served sizes.now) }
+    requires apart { AscendApart sizes.now data_begin extents.now }
+    ensures runs { IfOk result (λ made. made.0.items ≡ map run_of_both extents.now) }
+    ensures front { IfOk result (λ made. IsFront made.0.items made.1) }
+    ensures most { (extent : Element) → IfOk result (λ made. made.1 < length extents.now
+        → (slice_index_or extents.now made.1 extent).address ≢ end_of_last data_begin (take made.1 extents.now)) }
 {
     let mut runs = Vec::with_capacity(alloc, extents.len())?;
-    for extent in extents {
-        runs.push(Run {
-            extent: *extent,
-            present: true,
-            held: true,
-        })?;
+    let mut packed = 0;
+    let mut end = DATA_BEGIN;
+    for (number, extent) in extents.iter().enumerate() {
+        runs.push(Run::new(extent, true, true))?;
+        if packed == number && extent.address.value() == end {
+            packed += 1;
+            end = extent.address.value() + extent.bytes;
+        }
     }
-    Ok(runs)
+    Ok((runs, packed))
 }
 
 /// How many runs begin before an address.
@@ -45,7 +47,7 @@ pub(crate) fn runs_before(sizes: &Sizes, runs: &[Run], at: Address) -> usize
     ensures before { AllWithin (λ run. run.extent.address < at) runs.now 0 result }
     ensures others { AllWithin (λ run. at ≤ run.extent.address) runs.now result (length runs.now) }
 {
-    runs.partition_point(|run| run.extent.address < at)
+    runs.partition_point(|run| run.extent().address < at)
 }
 
 /// The run of so many bytes with the least address that overlaps none of some runs, of which the first ones are packed.
@@ -61,10 +63,11 @@ pub(crate) fn first_gap(sizes: &Sizes, runs: &[Run], packed: usize, bytes: u64) 
     let mut from = end_of_first(sizes, runs, packed);
     let later = &runs[packed..];
     for run in later {
-        if from + bytes <= run.extent.address.value() {
+        let extent = run.extent();
+        if from + bytes <= extent.address.value() {
             return Some(Address::new(from));
         }
-        from = run.extent.address.value() + run.extent.bytes;
+        from = extent.address.value() + extent.bytes;
     }
     if from + bytes <= sizes.total_bytes() {
         Some(Address::new(from))
@@ -83,8 +86,8 @@ fn end_of_first(sizes: &Sizes, runs: &[Run], count: usize) -> u64
     if count == 0 {
         return DATA_BEGIN;
     }
-    let last = &runs[count - 1];
-    last.extent.address.value() + last.extent.bytes
+    let last = runs[count - 1].extent();
+    last.address.value() + last.bytes
 }
 
 /// How many of the first runs are packed; so many are known to be.
@@ -98,11 +101,11 @@ pub(crate) fn packed_runs(sizes: &Sizes, runs: &[Run], known: usize) -> usize
 {
     let mut end = end_of_first(sizes, runs, known);
     for number in known..runs.len() {
-        let run = &runs[number];
-        if run.extent.address.value() != end {
+        let extent = runs[number].extent();
+        if extent.address.value() != end {
             return number;
         }
-        end = run.extent.address.value() + run.extent.bytes;
+        end = extent.address.value() + extent.bytes;
     }
     runs.len()
 }
@@ -113,6 +116,7 @@ pub(crate) fn put_run(
     runs: &mut Vec<Run>,
     extent: Element,
 ) -> Result<usize, AllocError>
+    requires served { IsTrue (is_served sizes.now) }
     requires apart { LieApart sizes.now data_begin runs.old.items }
     requires clear { IsTrue (is_clear sizes.now (extents_of runs.old.items) extent.address extent.bytes) }
     ensures apart { LieApart sizes.now data_begin runs.new.items }
@@ -122,14 +126,7 @@ pub(crate) fn put_run(
     ensures err { OnErr result (runs.new.items ≡ runs.old.items) }
 {
     let place = runs_before(sizes, runs, extent.address);
-    runs.insert(
-        place,
-        Run {
-            extent,
-            present: true,
-            held: false,
-        },
-    )?;
+    runs.insert(place, Run::new(&extent, true, false))?;
     Ok(place)
 }
 
@@ -144,8 +141,8 @@ pub(crate) fn take_out_run(sizes: &Sizes, runs: &mut Vec<Run>, at: Address, byte
     ensures before { SameBefore result runs.old.items runs.new.items }
 {
     let place = runs_before(sizes, runs, at);
-    if runs[place].held {
-        runs[place].present = false;
+    if runs[place].is_held() {
+        runs[place].set_present(false);
     } else {
         runs.remove(place);
     }
@@ -168,7 +165,8 @@ pub(crate) fn has_run(sizes: &Sizes, runs: &[Run], at: Address, bytes: u64) -> b
 fn is_present(run: &Run, at: Address, bytes: u64) -> bool
     ensures { result ≡ (is_that_run at bytes run.now.extent && run.now.present) }
 {
-    run.extent.address == at && run.extent.bytes == bytes && run.present
+    let extent = run.extent();
+    extent.address == at && extent.bytes == bytes && run.is_present()
 }
 
 /// Drops the runs that the present state doesn't hold, and has the last commit hold the others.
@@ -185,7 +183,7 @@ pub(crate) fn commit_runs(runs: &mut Vec<Run>)
 fn keep_present(runs: &mut Vec<Run>)
     ensures { runs.new.items ≡ filter (λ run. run.present) runs.old.items }
 {
-    runs.retain(|run| run.present);
+    runs.retain(|run| run.is_present());
 }
 
 /// Has the last commit hold each run.
@@ -193,6 +191,6 @@ fn hold_all(runs: &mut [Run])
     ensures { runs.new ≡ map with_held runs.old }
 {
     for run in runs.iter_mut() {
-        run.held = true;
+        run.set_held(true);
     }
 }

@@ -5,8 +5,9 @@ ghost use Rattle.qg_super.specs.Places.{data_begin, is_served, sector, slot_at};
 ghost use Rattle.qg_image.specs.Table.{with_number};
 ghost use Rattle.qg_space.specs.Holding.{nothing_held, AscendApart, is_free_run, first_run, has_run, with_run, without_run, is_free_slot, first_slot, free_list, free_slots, has_slot, without_slot};
 
+use crate::run::Run;
 use crate::runs::{
-    Run, commit_runs, first_gap, has_run, packed_runs, put_run, runs_of_both, take_out_run,
+    commit_runs, first_gap, has_run, packed_runs, put_run, runs_of_both, take_out_run,
 };
 use crate::slots::{
     Slot, address_of, commit_slots, count_unused, first_unused, first_unused_slots, is_slot,
@@ -96,9 +97,9 @@ impl Space {
         ensures ok { OnOk result (self.new ≡ record self.old { runs = extents.now; held_runs = extents.now }) }
         ensures err { OnErr result (self.new ≡ self.old) }
     {
-        let runs = runs_of_both(*self.runs.allocator(), extents)?;
-        self.packed = packed_runs(&self.sizes, &runs, 0);
+        let (runs, packed) = runs_of_both(*self.runs.allocator(), &self.sizes, extents)?;
         self.runs = runs;
+        self.packed = packed;
         Ok(())
     }
 

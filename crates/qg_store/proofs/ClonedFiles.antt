@@ -1,19 +1,18 @@
 -- What a clone takes of a file, and files once it was put in a range of one of them. Positions, lengths and weights are in bytes.
 use Rattle.std.proofs.Common.{◌≡◌, ℕ, ◌+◌, ◌≤◌, List, [], ◌∷◌, length, map, Option, None, Some, true, refl, sym, ap, subst, ◌∙◌, arith}
-use Rattle.std.specs.Prelude.{nat_le, ◌&&◌}
 use Rattle.std.specs.List.{All, Contains, cons_option}
-use Rattle.std.proofs.lemmas.Bool.{and_parts}
 use Rattle.std.proofs.lemmas.List.Elements.{All-map, All-nil, All-weaker}
 use Rattle.qg_num.specs.declared.piece.Piece.{Piece}
 use Rattle.qg_image.specs.declared.file.File.{File}
-use Rattle.qg_image.specs.FilesOf.{are_pieces, is_aligned, is_file, largest_size}
+use Rattle.qg_image.specs.FilesOf.{are_pieces, is_aligned, is_file}
 use Rattle.qg_image.specs.Table.{value_at}
+use Rattle.qg_image.proofs.Pieces.{WholeFile-is_file}
 use Rattle.qg_state.specs.Reach.{extent_of}
+use Rattle.qg_state.proofs.Contained.{none_contained}
 use Rattle.qg_machine.specs.FileChange.{after, before, moved, part_after, part_before, pieces_or_none, within}
 use Rattle.qg_rules.specs.Writable.{AreWritableFiles, IsFileBy, IsPlaced, IsWritableFile}
 use Rattle.qg_files.proofs.Kept.{are_pieces-moved, are_pieces-within}
 use Rattle.qg_subvol.proofs.Editable.{aligned-add, no_pieces}
-use Rattle.qg_reach.proofs.Members.{none_contained}
 use Rattle.qg_store.specs.declared.kept.Kept.{Kept}
 use Rattle.qg_store.specs.Cloning.{AreTaken, IsClonable, files_cloned, pieces_taken}
 use Rattle.qg_store.specs.Keeping.{IsKept}
@@ -43,8 +42,7 @@ within_few : (from to : ℕ) (xs : List Piece) → length (within from to xs) �
 within_few from to xs = omega (arith, before_few to (after from xs), after_few from xs)
 
 file_pieces : (file : File) → is_file file ≡ true → are_pieces 0 file.size file.pieces ≡ true
-unfolding is_file
-file_pieces file is = (and_parts (is_aligned file.size && nat_le file.size largest_size) (are_pieces 0 file.size file.pieces) is).1
+file_pieces file is = (WholeFile-is_file file is).pieces
 
 -- nothing of a file that is missing
 pub taken_none : (ino off len : ℕ) (files : List (ℕ × File)) → value_at ino files ≡ None → [] ≡ pieces_taken ino off len files

@@ -2,20 +2,23 @@
 use Rattle.std.proofs.Common.{◌≡◌, ℕ, ◌+◌, ◌<◌, ◌≤◌, List, [], ◌∷◌, ◌++◌, length, get_or, take, drop, map, Option, None, Some, true, refl, sym, ap, subst, ◌∙◌, arith, inl, inr}
 use Rattle.std.specs.Prelude.{if◌then◌else◌}
 use Rattle.std.specs.List.{Contains, count_by, sum_by}
+use Rattle.std.specs.List.Sorted.{IsStrictlyIncreasing}
 use Rattle.std.proofs.lemmas.Bool.{cases_Bool, cond-false, cond-true}
 use Rattle.std.proofs.lemmas.List.{map-append, take-append-drop, take_more}
 use Rattle.std.proofs.lemmas.List.Sums.{sum_by-append, sum_by-cons}
 use Rattle.qg_num.specs.declared.piece.Piece.{Piece}
 use Rattle.qg_image.specs.declared.file.File.{File}
+use Rattle.qg_image.specs.Table.{keys_of, value_at, with_value}
 use Rattle.qg_state.specs.declared.element.Element.{Element}
 use Rattle.qg_state.specs.Reach.{extent_of}
+use Rattle.qg_state.proofs.Contained.{none_contained, contains_here, contains_later, contains_cases}
 use Rattle.qg_verdict.specs.Verdict.{same_extent}
-use Rattle.qg_reach.proofs.Members.{none_contained, contains_cases, contains_here, contains_later}
 use Rattle.qg_reach.proofs.Order.{same_extent_is, same_itself}
 use Rattle.qg_machine.specs.FileChange.{file_or_new, pieces_or_none, with_range}
 use Rattle.qg_files.specs.Split.{IsSplit}
+use Rattle.qg_subvol.proofs.Ascending.{Ascends-increasing}
 use Rattle.qg_store.specs.Keeping.{extents_named}
-use Rattle.qg_store.proofs.Exchanged.{amount_told}
+use Rattle.qg_store.proofs.Exchanged.{amount_told, exchanged}
 
 -- one where two extents are the same
 abbrev pub one : Element → Element → ℕ
@@ -117,3 +120,16 @@ told_pieces extent ino (Some file) = refl
 pub new_pieces : (generation : ℕ) (found : Option File) → (file_or_new generation found).pieces ≡ pieces_or_none found
 new_pieces generation None = refl
 new_pieces generation (Some file) = refl
+
+-- what a file names comes in the place of what the one of its number named
+pub listed_exchanged : (ino : ℕ) (file : File) (files : List (ℕ × File)) (extent : Element) → IsStrictlyIncreasing (keys_of files)
+    → count_by (same_extent extent) (extents_named (with_value ino file files)) + named_by extent (pieces_or_none (value_at ino files))
+    ≡ count_by (same_extent extent) (extents_named files) + named_by extent file.pieces
+listed_exchanged ino file files extent up =
+    omega (
+      arith,
+      listed_named extent (with_value ino file files),
+      listed_named extent files,
+      exchanged (named_in extent) 0 ino file files (Ascends-increasing files up),
+      told_pieces extent ino (value_at ino files),
+    )

@@ -19,7 +19,7 @@ use Rattle.qg_files.proofs.Splits.{truncate_is_cut}
 use Rattle.qg_subvol.proofs.Ascending.{Ascends-increasing, all-with_value, ascends-with_value, increasing-Ascends}
 use Rattle.qg_store.specs.Editing.{IsCutAt, files_cut}
 use Rattle.qg_store.specs.Keeping.{extents_named, files_weight}
-use Rattle.qg_store.proofs.Counted.{listed_named, named_by, named_in, named_split, new_pieces, told_pieces}
+use Rattle.qg_store.proofs.Counted.{listed_exchanged, named_by, named_split, new_pieces}
 use Rattle.qg_store.proofs.Edited.{IsExchange}
 use Rattle.qg_store.proofs.Exchanged.{amount_told, exchanged, file_found}
 use Rattle.qg_store.proofs.Rests.{all-before, rest_named}
@@ -107,14 +107,11 @@ exchange_cut generation ino size files gone rests up cut extent =
     let found = value_at ino files in
     let old = pieces_or_none found in
     let file : File = with_size generation size (file_or_new generation found) in
-    let pieces : named_in extent (ino, file) ≡ named_by extent (before size old) = ap (λ old. named_by extent (before size old)) (new_pieces generation found) in
+    let pieces : named_by extent file.pieces ≡ named_by extent (before size old) = ap (λ old. named_by extent (before size old)) (new_pieces generation found) in
     let range : named_by extent (with_range size cut.top [] old) ≡ named_by extent (before size old) = ap (named_by extent) (truncate_is_cut size cut.top old cut.ends) in
     omega (
       arith,
-      listed_named extent (with_value ino file files),
-      listed_named extent files,
-      exchanged (named_in extent) 0 ino file files (Ascends-increasing files up),
-      told_pieces extent ino found,
+      listed_exchanged ino file files extent up,
       pieces,
       range,
       named_split extent size cut.top [] old gone rests cut.split,

@@ -1,5 +1,5 @@
 -- What is kept once files are others. Addresses and lengths are in bytes.
-use Rattle.std.proofs.Common.{◌≡◌, ℕ, ◌+◌, ◌%◌, ◌^◌, ◌<◌, ◌≤◌, List, ◌++◌, None, sym, ap, subst, ◌∙◌, arith, inl, inr}
+use Rattle.std.proofs.Common.{◌≡◌, ℕ, ◌+◌, ◌%◌, ◌^◌, ◌<◌, ◌≤◌, List, ◌++◌, None, map, sym, ap, subst, ◌∙◌, arith, inl, inr}
 use Rattle.std.specs.Prelude.{◌↔◌, nat_le}
 use Rattle.std.specs.List.{All, Contains, count_by}
 use Rattle.std.proofs.lemmas.Bool.{and_parts, cases_lt}
@@ -7,6 +7,7 @@ use Rattle.std.proofs.lemmas.List.Elements.{All-contains, All-contains_itself, A
 use Rattle.qg_num.specs.declared.piece.Piece.{Piece}
 use Rattle.qg_super.specs.Places.{is_run, sector}
 use Rattle.qg_super.specs.SuperText.{sizes_of}
+use Rattle.qg_super.proofs.Runs.{WholeRun-is_run}
 use Rattle.qg_image.specs.declared.file.File.{File}
 use Rattle.qg_image.specs.Table.{value_at}
 use Rattle.qg_state.specs.declared.element.Element.{Element}
@@ -20,7 +21,6 @@ use Rattle.qg_reach.proofs.Members.{contains_map}
 use Rattle.qg_named.specs.Named.{AreNamed, named_count}
 use Rattle.qg_named.proofs.Names.{contained_exactly_named, named_few}
 use Rattle.qg_space.specs.Holding.{Holding, free_slots}
-use Rattle.qg_space.proofs.Places.{whole_run}
 use Rattle.qg_store.specs.declared.kept.Kept.{Kept}
 use Rattle.qg_store.specs.Held.{HasMore, HoldsNamed, SameBesideRuns}
 use Rattle.qg_store.specs.Keeping.{IsKept, extents_named, files_weight, need_of}
@@ -54,9 +54,16 @@ pub named_then : (old : Kept) (more : List (Element × ℕ)) (files : List (ℕ 
     → named_count more extent ≡ count_by (same_extent extent) (extents_named files) + count_by (same_extent extent) gone
 named_then old more files gone come extent kept exchange has_more = omega (arith, has_more extent, kept.named extent, exchange extent)
 
-pub gone_named : (old : Kept) (more : List (Element × ℕ)) (files : List (ℕ × File)) (gone come : List Element) → IsKept old
-    → IsExchange old.files files gone come → HasMore old.named more come → (extent : Element) → count_by (same_extent extent) gone ≤ named_count more extent
-gone_named old more files gone come kept exchange has_more extent = omega (arith, named_then old more files gone come extent kept exchange has_more)
+-- the pieces that go, as they were read, name no extent more often than it is named then
+pub gone_named : (old : Kept) (more : List (Element × ℕ)) (files : List (ℕ × File)) (read gone : List Piece) (come : List Element) → IsKept old → read ≡ gone
+    → IsExchange old.files files (map extent_of gone) come → HasMore old.named more come
+    → (extent : Element) → count_by (same_extent extent) (map extent_of read) ≤ named_count more extent
+gone_named old more files read gone come kept is exchange has_more extent =
+    omega (
+      arith,
+      ap (λ (pieces : List Piece). count_by (same_extent extent) (map extent_of pieces)) is,
+      named_then old more files (map extent_of gone) come extent kept exchange has_more,
+    )
 
 pub edited_named : (old : Kept) (more named : List (Element × ℕ)) (files : List (ℕ × File)) (gone come : List Element) → IsKept old
     → IsExchange old.files files gone come → HasMore old.named more come → HasMore named more gone → AreNamed named (extents_named files)
@@ -115,16 +122,23 @@ pieces_whole old ino kept = All-weaker (Contains pieces) (λ (piece : Piece). pi
       let named = told_named ino old.files extent (contains_map extent_of pieces piece has) in
       let sizes = sizes_of old.superblock in
       let is = (AreSpaced-space sizes (extents_named old.files) kept.apart).each extent named in
-      (whole_run sizes extent.address extent.bytes (and_parts (is_run sizes extent.address extent.bytes) (nat_le extent.bytes longest_extent) is).0).whole
+      (WholeRun-is_run sizes extent.address extent.bytes (and_parts (is_run sizes extent.address extent.bytes) (nat_le extent.bytes longest_extent) is).0).whole
 
 -- what is said of all pieces is true of those that go
-pub all_gone : (P : Piece → Type 0) (from to : ℕ) (pieces gone rests : List Piece) → IsSplit from to pieces gone rests → All P pieces → All P gone
+all_gone : (P : Piece → Type 0) (from to : ℕ) (pieces gone rests : List Piece) → IsSplit from to pieces gone rests → All P pieces → All P gone
 all_gone P from to pieces gone rests split all = All-weaker (Contains gone) P one gone (All-contains_itself gone) where
   one : (piece : Piece) → Contains gone piece → P piece
   one piece has =
       All-contains P pieces piece all
       (subst (λ (ps : List Piece). Contains ps piece) (sym split.old)
       (Contains-append_left (split.front ++ gone) split.back piece (Contains-append_right split.front gone piece has)))
+
+-- so the extents of those that go, as they were read, are whole sectors too
+pub gone_whole : (old : Kept) (ino from to : ℕ) (read gone rests : List Piece) → IsKept old → read ≡ gone → IsSplit from to (pieces_or_none (value_at ino old.files)) gone rests
+    → All (λ (piece : Piece). piece.extent_bytes % sector ≡ 0) read
+gone_whole old ino from to read gone rests kept is split =
+    let Whole : Piece → Type 0 = λ piece. piece.extent_bytes % sector ≡ 0 in
+    subst (All Whole) (sym is) (all_gone Whole from to (pieces_or_none (value_at ino old.files)) gone rests split (pieces_whole old ino kept))
 
 -- ---- what is kept fits together again
 

@@ -1,11 +1,15 @@
 -- What comes of a command that changes files, once only the free slots are left to be counted. Positions and sizes are in bytes.
-use Rattle.std.proofs.Common.{◌≡◌, ℕ, ◌<◌, ◌≤◌, List, [], ◌∷◌, Some, sym, ap, ◌∙◌}
+use Rattle.std.proofs.Common.{◌≡◌, ℕ, ◌<◌, ◌≤◌, List, [], ◌∷◌, Option, None, Some, true, sym, ap, ◌∙◌}
+use Rattle.std.specs.Prelude.{is_some}
 use Rattle.qg_num.specs.declared.answer.Answer.{Answer}
 use Rattle.qg_num.specs.declared.answer.Answer.TheVariants.{Refused}
 use Rattle.qg_num.specs.declared.command.Command.{Command}
+use Rattle.qg_num.specs.declared.refusal.Refusal.{Refusal}
 use Rattle.qg_num.specs.declared.refusal.Refusal.TheVariants as why
+use Rattle.qg_items.specs.declared.tree.TheConstants.{TOP_LEVEL}
 use Rattle.qg_image.specs.declared.file.File.{File}
 use Rattle.qg_image.specs.ItemMeaning.{first_some}
+use Rattle.qg_image.specs.Table.{value_at}
 use Rattle.qg_state.specs.State.{State}
 use Rattle.qg_state.specs.Space as state_space
 use Rattle.qg_machine.specs.FileChange.{file_change}
@@ -54,3 +58,27 @@ edits old new state command reply files amount pieces free need is enough answer
     ∙ sufficing told (file_change told command) (change_to files amount pieces) free need is.change (slots_told old state free is.keeps is.slots)
     (need_told old state files amount pieces ∙ sym is.needs) enough)
     is.change answers does edited fits
+
+-- ---- a command of one file that is there
+
+-- nothing but too few slots may refuse it where the files come to be these, and so many slots are free and needed
+pub record MayEdit (kept : Kept) (state : State) (sub ino : ℕ) (refused : Option Refusal) (files : List (ℕ × File)) (free need : ℕ) : Type 0 where
+  pub keeps : IsKeptOf kept state
+  pub top : sub ≡ TOP_LEVEL
+  pub passes : refused ≡ None
+  pub there : is_some (value_at ino kept.files) ≡ true
+  pub slots : free ≡ free_slots kept.space
+  pub needs : need ≡ need_of kept.superblock.nodesize (files_weight files)
+
+-- by what the files weigh
+pub may_edit : (kept : Kept) (state : State) (sub ino : ℕ) (refused : Option Refusal) (files : List (ℕ × File)) (free need weight : ℕ) → IsKeptOf kept state → sub ≡ TOP_LEVEL → None ≡ refused
+    → is_some (value_at ino kept.files) ≡ true → free ≡ free_slots kept.space → need ≡ need_of kept.superblock.nodesize weight → weight ≡ files_weight files
+    → MayEdit kept state sub ino refused files free need
+may_edit kept state sub ino refused files free need weight keeps top passes there slots needs weighs = record {
+  keeps = keeps;
+  top = top;
+  passes = sym passes;
+  there = there;
+  slots = slots;
+  needs = needs ∙ ap (need_of kept.superblock.nodesize) weighs;
+}

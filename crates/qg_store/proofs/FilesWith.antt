@@ -18,7 +18,7 @@ use Rattle.qg_subvol.proofs.Ascending.{Ascends-increasing, all-with_value, ascen
 use Rattle.qg_subvol.proofs.Editable.{new_editable}
 use Rattle.qg_store.specs.Editing.{files_with}
 use Rattle.qg_store.specs.Keeping.{extents_named, files_weight}
-use Rattle.qg_store.proofs.Counted.{listed_both, listed_named, named_by, named_in, named_split, new_pieces, told_pieces}
+use Rattle.qg_store.proofs.Counted.{listed_both, listed_exchanged, named_by, named_split, new_pieces}
 use Rattle.qg_store.proofs.Exchanged.{amount_told, exchanged, file_found}
 use Rattle.qg_store.proofs.Rests.{all-with_range}
 use Rattle.qg_store.proofs.Weights.{split_none, weight_in}
@@ -84,15 +84,12 @@ pub listed_with : (generation ino from to : ℕ) (given : List Piece) (files : L
 listed_with generation ino from to given files gone rests extent up split =
     let found = value_at ino files in
     let file : File = with_pieces generation from to given (file_or_new generation found) in
-    let pieces : named_in extent (ino, file) ≡ named_by extent (with_range from to given (pieces_or_none found)) =
+    let pieces : named_by extent file.pieces ≡ named_by extent (with_range from to given (pieces_or_none found)) =
     ap (λ old. named_by extent (with_range from to given old)) (new_pieces generation found)
     in
     omega (
       arith,
-      listed_named extent (with_value ino file files),
-      listed_named extent files,
-      exchanged (named_in extent) 0 ino file files (Ascends-increasing files up),
-      told_pieces extent ino found,
+      listed_exchanged ino file files extent up,
       pieces,
       named_split extent from to given (pieces_or_none found) gone rests split,
       listed_both extent (map extent_of given) (map extent_of rests),

@@ -9,6 +9,7 @@ use Rattle.qg_super.specs.declared.sizes.Sizes.{Sizes}
 use Rattle.qg_super.specs.Places.{is_run}
 use Rattle.qg_super.specs.SuperText.{sizes_of}
 use Rattle.qg_super.proofs.Served.{SizesFit-is_served, SuperFits-is_super}
+use Rattle.qg_super.proofs.Runs.{WholeRun-is_run}
 use Rattle.qg_image.specs.Table.{value_at}
 use Rattle.qg_state.specs.declared.element.Element.{Element}
 use Rattle.qg_state.specs.Reach.{extent_of}
@@ -20,7 +21,7 @@ use Rattle.qg_check.specs.IsImage.{extents_in}
 use Rattle.qg_named.specs.Named.{AreNamed, named_count}
 use Rattle.qg_space.specs.Holding.{Holding, free_slots, is_clear, is_free_run, with_run}
 use Rattle.qg_space.proofs.Members.{Contains-with_run, passes_one}
-use Rattle.qg_space.proofs.Places.{apart_cases, whole_run}
+use Rattle.qg_space.proofs.Places.{apart_cases}
 use Rattle.qg_store.specs.declared.kept.Kept.{Kept}
 use Rattle.qg_store.specs.Held.{HasMore, HoldsNamed, SameBesideRuns}
 use Rattle.qg_store.specs.Keeping.{IsKept, extents_named, files_weight, need_of}
@@ -109,7 +110,7 @@ written_apart old holding more ino off len run gone rests kept range free split 
 placed : (old : Kept) (run len : ℕ) → IsKept old → is_free_run old.space run len ≡ true → run < 2 ^ 64
 placed old run len kept free =
     let clear = clear_run old.space.sizes (old.space.runs ++ old.space.held_runs) run len free in
-    let whole = whole_run (sizes_of old.superblock) run len (subst (λ (s : Sizes). is_run s run len ≡ true) kept.sizes clear.whole) in
+    let whole = WholeRun-is_run (sizes_of old.superblock) run len (subst (λ (s : Sizes). is_run s run len ≡ true) kept.sizes clear.whole) in
     let few = (SizesFit-is_served (sizes_of old.superblock) (SuperFits-is_super old.superblock kept.superblock).served).sectors in
     omega (arith, whole.within, few)
 

@@ -1,12 +1,9 @@
 -- What is kept is light where a commit finds its slots. All in bytes but the slots.
-use Rattle.std.proofs.Common.{◌≡◌, ◌-◌, ◌^◌, ◌≤◌, ◌<◌, ℕ, List, [], ◌∷◌, length, map, true, inl, inr, subst, arith, ◌⊎◌}
-use Rattle.std.specs.Prelude.{◌==◌, ◌&&◌, ◌||◌, nat_le, nat_lt}
-use Rattle.std.proofs.lemmas.Bool.{and_parts, eqb-true, ltb-true, or_cases}
+use Rattle.std.proofs.Common.{◌≡◌, ◌-◌, ◌^◌, ◌≤◌, ◌<◌, ℕ, List, [], ◌∷◌, length, map, true, inl, inr, subst, arith}
 use Rattle.std.proofs.lemmas.List.{length-append, length-map}
 use Rattle.std.proofs.lemmas.List.Sums.{sum_by-cons}
 use Rattle.qg_super.specs.declared.sizes.Sizes.{Sizes}
 use Rattle.qg_super.specs.declared.superblock.Super.{Super}
-use Rattle.qg_super.specs.Places.{is_served}
 use Rattle.qg_super.specs.SuperText.{is_super, sizes_of}
 use Rattle.qg_super.proofs.Served.{SizesFit-is_served, SuperFits-is_super}
 use Rattle.qg_image.specs.declared.file.File.{File}
@@ -15,20 +12,6 @@ use Rattle.qg_state.specs.Reach.{extent_of}
 use Rattle.qg_space.specs.Holding.{Holding, free_slots}
 use Rattle.qg_space.proofs.Listed.{free_slots-le-slots}
 use Rattle.qg_store.specs.Keeping.{extents_named, files_weight, need_of}
-
--- a node has one of two sizes
-node_sizes : (sizes : Sizes) → is_served sizes ≡ true → (sizes.nodesize ≡ 4096) ⊎ (sizes.nodesize ≡ 16384)
-unfolding is_served
-node_sizes sizes served =
-    let small = (sizes.nodesize == 4096) && nat_le sizes.slots 16128 in
-    let large = (sizes.nodesize == 16384) && nat_le sizes.slots 4032 in
-    let to_sectors = and_parts ((small || large) && nat_le 64 sizes.slots && nat_le 16 sizes.sectors) (nat_le sizes.sectors 16777216) served in
-    let to_few = and_parts ((small || large) && nat_le 64 sizes.slots) (nat_le 16 sizes.sectors) to_sectors.0 in
-    let to_slots = and_parts (small || large) (nat_le 64 sizes.slots) to_few.0 in
-    elim (or_cases small large to_slots.0) [
-      | inl is ↦ inl (eqb-true sizes.nodesize 4096 (and_parts (sizes.nodesize == 4096) (nat_le sizes.slots 16128) is).0)
-      | inr is ↦ inr (eqb-true sizes.nodesize 16384 (and_parts (sizes.nodesize == 16384) (nat_le sizes.slots 4032) is).0)
-    ]
 
 few_nodes : (weight free : ℕ) → need_of 4096 weight ≤ free → free ≤ 16128 → weight ≤ 2 ^ 62
 few_nodes weight free enough few = omega arith
@@ -40,24 +23,17 @@ pub light : (super : Super) (holding : Holding) (weight : ℕ) → is_super supe
 light super holding weight is same enough =
     let served = (SuperFits-is_super super is).served in
     let slots : free_slots holding ≤ (sizes_of super).slots = subst (λ (sizes : Sizes). free_slots holding ≤ sizes.slots) same (free_slots-le-slots holding) in
-    let most = (SizesFit-is_served (sizes_of super) served).slots in
+    let fits = SizesFit-is_served (sizes_of super) served in
+    let most = fits.slots in
     let few : free_slots holding ≤ 16128 = omega arith in
-    elim (node_sizes (sizes_of super) served) [
+    elim (fits.node_size) [
       | inl small ↦ few_nodes weight (free_slots holding) (subst (λ n. need_of n weight ≤ free_slots holding) small enough) few
       | inr large ↦ few_large_nodes weight (free_slots holding) (subst (λ n. need_of n weight ≤ free_slots holding) large enough) few
     ]
 
 -- the generation to come is a number too
 pub next_fits : (super : Super) → is_super super ≡ true → super.generation < 2 ^ 64 - 1
-unfolding is_super
-next_fits super is =
-    let some = nat_le 1 super.generation in
-    let next = nat_lt super.generation (2 ^ 64 - 1) in
-    let root = nat_lt super.root (2 ^ 64) in
-    let served = is_served (sizes_of super) in
-    let to_served = (and_parts (some && next && root && served) (super.format == 1) is).0 in
-    let to_next = (and_parts (some && next) root (and_parts (some && next && root) served to_served).0).0 in
-    ltb-true super.generation (2 ^ 64 - 1) (and_parts some next to_next).1
+next_fits super is = (SuperFits-is_super super is).next
 
 -- files name no more extents than their items take bytes
 pub few_named : (files : List (ℕ × File)) → length (extents_named files) ≤ files_weight files

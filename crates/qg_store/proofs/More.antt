@@ -1,5 +1,5 @@
 -- Extents that some pieces more name.
-use Rattle.std.proofs.Common.{◌≡◌, ℕ, ◌+◌, ◌-◌, ◌^◌, ◌<◌, ◌≤◌, List, [], ◌∷◌, ◌++◌, length, get_or, take, map, arith}
+use Rattle.std.proofs.Common.{◌≡◌, ℕ, ◌+◌, ◌-◌, ◌^◌, ◌<◌, ◌≤◌, List, [], ◌∷◌, ◌++◌, length, get_or, take, map, subst, arith}
 use Rattle.std.specs.List.{count_by}
 use Rattle.std.proofs.lemmas.List.{length-map, length-take-le}
 use Rattle.std.proofs.lemmas.List.Sums.{count_by-le-length}
@@ -13,6 +13,10 @@ use Rattle.qg_store.proofs.Counted.{listed_both, listed_first, named_more, named
 
 pub more_none : (named : List (Element × ℕ)) → HasMore named named []
 more_none named extent = omega arith
+
+-- those that pieces name, as they were read
+pub more_read : (old new : List (Element × ℕ)) (read pieces : List Piece) → read ≡ pieces → HasMore old new (map extent_of read) → HasMore old new (map extent_of pieces)
+more_read old new read pieces is more = subst (λ (ps : List Piece). HasMore old new (map extent_of ps)) is more
 
 -- one more, and then others more
 pub more_first : (old between new : List (Element × ℕ)) (extent : Element) (extents : List Element) → HasOneMore old between extent → HasMore between new extents → HasMore old new (extent ∷ extents)

@@ -1,6 +1,6 @@
 -- What comes of a size that a file may get, told by what is kept. Sizes are in bytes.
-use Rattle.std.proofs.Common.{◌≡◌, ℕ, ◌+◌, ◌<◌, ◌≤◌, List, [], ◌∷◌, true, None, Some, Option, refl, sym, ap, subst, ◌∙◌}
-use Rattle.std.specs.Prelude.{is_some, not}
+use Rattle.std.proofs.Common.{◌≡◌, ℕ, ◌+◌, ◌<◌, ◌≤◌, List, [], ◌∷◌, None, Some, Option, refl, sym, ap, subst, ◌∙◌}
+use Rattle.std.specs.Prelude.{not}
 use Rattle.std.specs.Option.{option_map}
 use Rattle.qg_num.specs.declared.answer.Answer.TheVariants.{Done, Refused}
 use Rattle.qg_num.specs.declared.command.Command.TheVariants.{Truncate}
@@ -14,14 +14,13 @@ use Rattle.qg_image.specs.Table.{value_at, with_value}
 use Rattle.qg_state.specs.State.{State}
 use Rattle.qg_machine.specs.FileChange.{file_change, pieces_past, truncate_change, with_size}
 use Rattle.qg_machine.specs.Refusals.{no_far, no_file, no_nodes_for, no_sub, refusal, refuse, too_many_pending}
-use Rattle.qg_space.specs.Holding.{free_slots}
 use Rattle.qg_store.specs.declared.kept.Kept.{Kept}
 use Rattle.qg_store.specs.Answering.{Does}
 use Rattle.qg_store.specs.Editing.{IsEdited, files_cut, size_refusal}
 use Rattle.qg_store.specs.Keeping.{IsKept, IsKeptOf, files_weight, need_of}
 use Rattle.qg_store.proofs.Alone.{is_told, told_by}
 use Rattle.qg_store.proofs.CutFiles.{cut_there, some_file}
-use Rattle.qg_store.proofs.Edits.{IsLate, edits, lacks}
+use Rattle.qg_store.proofs.Edits.{IsLate, MayEdit, edits, lacks}
 use Rattle.qg_store.proofs.Refused.{first_early, first_late}
 use Rattle.qg_store.proofs.Stepped.{does_nothing}
 
@@ -38,13 +37,9 @@ refused_size kept state sub ino size refused keeps is =
     (first_early refused (size_parts state sub ino size) (no_nodes_for state (file_change state (Truncate sub ino size)) ∷ []) is)
 
 -- a file of the top-level subvolume may get the size; so many slots are free and needed
-pub record MaySize (kept : Kept) (state : State) (sub ino size free need : ℕ) : Type 0 where
-  pub keeps : IsKeptOf kept state
-  pub top : sub ≡ TOP_LEVEL
-  pub passes : size_refusal state sub ino size ≡ None
-  pub there : is_some (value_at ino kept.files) ≡ true
-  pub slots : free ≡ free_slots kept.space
-  pub needs : need ≡ need_of kept.superblock.nodesize (files_weight (files_cut (kept.superblock.generation + 1) ino size kept.files))
+abbrev pub MaySize : Kept → State → ℕ → ℕ → ℕ → ℕ → ℕ → Type 0
+MaySize kept state sub ino size free need =
+    MayEdit kept state sub ino (size_refusal state sub ino size) (files_cut (kept.superblock.generation + 1) ino size kept.files) free need
 
 late_size : (state : State) (sub ino size : ℕ) → size_refusal state sub ino size ≡ None
     → refusal state (Truncate sub ino size) ≡ first_some (no_nodes_for state (file_change state (Truncate sub ino size)) ∷ [])

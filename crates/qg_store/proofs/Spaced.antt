@@ -6,12 +6,12 @@ use Rattle.std.proofs.lemmas.Bool.{and_parts, and_from, le-leb, true≢false}
 use Rattle.std.proofs.lemmas.Bool.Decides.{nat_tests}
 use Rattle.qg_super.specs.declared.sizes.Sizes.{Sizes}
 use Rattle.qg_state.specs.declared.element.Element.{Element}
+use Rattle.qg_state.proofs.Contained.{none_contained, contains_here, contains_later, contains_cases}
 use Rattle.qg_verdict.specs.Verdict.{extent_set, is_before, is_extent, space_failure}
 use Rattle.qg_reach.specs.Fits.{first_fits}
 use Rattle.qg_reach.proofs.ExtentSets.{Ascends, extent_set_ascends, extent_set_same}
-use Rattle.qg_reach.proofs.Members.{none_contained, contains_here, contains_later, contains_cases}
 use Rattle.qg_reach.proofs.Order.{before_not_itself}
-use Rattle.qg_reach.proofs.SpaceRule.{Keeps-space, RunFits-is_extent, ends_by_later, space_passes}
+use Rattle.qg_reach.proofs.SpaceRule.{Keeps-space, WholeRun-is_extent, ends_by_later, space_passes}
 use Rattle.qg_space.specs.Lying.{end_of}
 
 -- one is the other, or ends by where the other begins
@@ -73,7 +73,7 @@ ends_by : (sizes : Sizes) (x y : Element) → is_before x y ≡ true → is_exte
 ends_by sizes x y before is (inl same) = absurd (true≢false (sym before ∙ subst (λ (e : Element). is_before x e ≡ false) same (before_not_itself x)))
 ends_by sizes x y before is (inr (inl ends)) = ends
 ends_by sizes x y before is (inr (inr ends)) =
-    let some = (RunFits-is_extent sizes y is).some in
+    let some = (WholeRun-is_extent sizes y is).some in
     absurd (first_no_later x y before (omega arith))
   where
     first_no_later : (x y : Element) → is_before x y ≡ true → y.address < x.address → ⊥

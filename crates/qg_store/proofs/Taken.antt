@@ -8,9 +8,10 @@ use Rattle.std.proofs.lemmas.List.{take_all}
 use Rattle.std.proofs.lemmas.List.Elements.{Contains-append_left, Contains-append_right, Contains-append_cases}
 use Rattle.qg_image.specs.Table.{with_number}
 use Rattle.qg_super.specs.Places.{is_slot}
+use Rattle.qg_state.proofs.Contained.{none_contained, contains_here, contains_cases}
 use Rattle.qg_space.specs.Holding.{Holding, has_slot, is_free_slot, without_slot}
 use Rattle.qg_space.proofs.Firsts.{is_free_slot-clear}
-use Rattle.qg_space.proofs.Members.{Contains-has_slot, Contains-with_number, Contains-without_slot, contains_cases, contains_here, none_contained}
+use Rattle.qg_space.proofs.Members.{Contains-has_slot, Contains-with_number, Contains-without_slot}
 use Rattle.qg_laid.proofs.Commits.{each_passes}
 use Rattle.qg_laid.proofs.Rebuilt.{each_contained}
 use Rattle.qg_store.specs.Slots.{ChangesSlots}

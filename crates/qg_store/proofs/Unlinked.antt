@@ -1,6 +1,5 @@
 -- What comes of a file that may be taken away, told by what is kept.
-use Rattle.std.proofs.Common.{◌≡◌, ℕ, ◌<◌, ◌≤◌, List, [], ◌∷◌, length, true, None, Some, Option, refl, sym, ap, subst, ◌∙◌}
-use Rattle.std.specs.Prelude.{is_some}
+use Rattle.std.proofs.Common.{◌≡◌, ℕ, ◌<◌, ◌≤◌, List, [], ◌∷◌, length, None, Some, Option, refl, sym, ap, subst, ◌∙◌}
 use Rattle.std.specs.Option.{option_map}
 use Rattle.qg_num.specs.declared.answer.Answer.TheVariants.{Done, Refused}
 use Rattle.qg_num.specs.declared.command.Command.TheVariants.{Unlink}
@@ -13,14 +12,13 @@ use Rattle.qg_image.specs.Table.{value_at, without_key}
 use Rattle.qg_state.specs.State.{State}
 use Rattle.qg_machine.specs.FileChange.{file_change, unlink_change}
 use Rattle.qg_machine.specs.Refusals.{no_file, no_nodes_for, no_sub, refusal, too_many_pending}
-use Rattle.qg_space.specs.Holding.{free_slots}
 use Rattle.qg_store.specs.declared.kept.Kept.{Kept}
 use Rattle.qg_store.specs.Answering.{Does}
 use Rattle.qg_store.specs.Editing.{IsEdited, unlink_refusal}
-use Rattle.qg_store.specs.Keeping.{IsKept, IsKeptOf, files_weight, need_of}
+use Rattle.qg_store.specs.Keeping.{IsKept, IsKeptOf}
 use Rattle.qg_store.proofs.Alone.{is_told, told_by}
 use Rattle.qg_store.proofs.CutFiles.{some_file}
-use Rattle.qg_store.proofs.Edits.{IsLate, edits, lacks}
+use Rattle.qg_store.proofs.Edits.{IsLate, MayEdit, edits, lacks}
 use Rattle.qg_store.proofs.Refused.{first_early, first_late}
 use Rattle.qg_store.proofs.Stepped.{does_nothing}
 
@@ -36,13 +34,8 @@ refused_unlink kept state sub ino refused keeps is =
     (first_early refused (unlink_parts state sub ino) (no_nodes_for state (file_change state (Unlink sub ino)) ∷ []) is)
 
 -- a file of the top-level subvolume may go; so many slots are free and needed
-pub record MayGo (kept : Kept) (state : State) (sub ino free need : ℕ) : Type 0 where
-  pub keeps : IsKeptOf kept state
-  pub top : sub ≡ TOP_LEVEL
-  pub passes : unlink_refusal state sub ino ≡ None
-  pub there : is_some (value_at ino kept.files) ≡ true
-  pub slots : free ≡ free_slots kept.space
-  pub needs : need ≡ need_of kept.superblock.nodesize (files_weight (without_key ino kept.files))
+abbrev pub MayGo : Kept → State → ℕ → ℕ → ℕ → ℕ → Type 0
+MayGo kept state sub ino free need = MayEdit kept state sub ino (unlink_refusal state sub ino) (without_key ino kept.files) free need
 
 late_unlink : (state : State) (sub ino : ℕ) → unlink_refusal state sub ino ≡ None
     → refusal state (Unlink sub ino) ≡ first_some (no_nodes_for state (file_change state (Unlink sub ino)) ∷ [])

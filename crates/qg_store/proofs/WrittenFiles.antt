@@ -7,11 +7,12 @@ use Rattle.qg_image.specs.declared.file.File.{File}
 use Rattle.qg_image.specs.Table.{value_at}
 use Rattle.qg_state.specs.declared.element.Element.{Element}
 use Rattle.qg_state.specs.Reach.{extent_of}
+use Rattle.qg_state.proofs.Contained.{none_contained}
 use Rattle.qg_machine.specs.FileChange.{new_piece, pieces_or_none}
 use Rattle.qg_rules.specs.Writable.{AreWritableFiles, IsFileBy, IsPlaced}
 use Rattle.qg_files.proofs.Kept.{are_pieces-new_piece}
 use Rattle.qg_subvol.proofs.Editable.{aligned-add}
-use Rattle.qg_reach.proofs.Members.{contains_flat_map, none_contained}
+use Rattle.qg_reach.proofs.Members.{contains_flat_map}
 use Rattle.qg_store.specs.Keeping.{extents_named}
 use Rattle.qg_store.specs.Writing.{IsWritable, files_written}
 use Rattle.qg_store.proofs.Exchanged.{file_found}

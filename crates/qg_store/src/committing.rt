@@ -20,7 +20,7 @@ use crate::kept::Kept;
 use crate::slots::hold_commit;
 use crate::weight::need_of;
 use qg_disk::Disk;
-use qg_laid::Laid;
+use qg_laid::{Laid, Parts};
 use qg_num::{Address, Answer, BlockFault, NoMemory, Refusal, Sequence};
 use qg_reach::extents_of;
 
@@ -86,17 +86,15 @@ fn write_trees<D: Disk>(kept: &Kept, disk: &mut D, slots: &[Address]) -> Result<
     ensures cause { HasCause BlockFault.Disk (D.faults disk.old) (D.faults disk.new) result }
 {
     let extents = extents_of(kept.alloc, kept.files.as_slice())?;
-    qg_commit::commit(
-        kept.alloc,
-        disk,
-        &kept.superblock,
-        &kept.root,
-        kept.files.as_slice(),
-        extents.as_slice(),
-        &kept.group.counters,
-        kept.group.stamp,
-        slots,
-    )
+    let parts = Parts {
+        superblock: &kept.superblock,
+        root: &kept.root,
+        files: kept.files.as_slice(),
+        extents: extents.as_slice(),
+        counters: &kept.group.counters,
+        stamp: kept.group.stamp,
+    };
+    qg_commit::commit(kept.alloc, disk, &parts, slots)
 }
 
 // What was laid out in the first of some slots is committed, and takes the place of the last commit.

@@ -1,15 +1,17 @@
 -- A file at its index, or the index at which it is to stand.
 use Rattle.std.proofs.Common.{◌≡◌, ℕ, suc, ◌+◌, ◌<◌, ◌≤◌, List, [], ◌∷◌, ◌++◌, length, get_or, take, drop, set, Some, None, sym, ap, subst, ◌∙◌, arith}
-use Rattle.std.specs.Prelude.{◌==◌, not}
+use Rattle.std.specs.Prelude.{◌==◌, not, Result, Ok, Err, OnOk, OnErr}
 use Rattle.std.specs.List.{All, AllByRecursion}
 use Rattle.std.proofs.lemmas.Option.{same_Some}
+use Rattle.std.proofs.lemmas.Result.{on_ok_weaker}
 use Rattle.std.proofs.lemmas.List.{take-append-drop, drop_more, drop_all, set_split, set-get_or, get_or-map, get_or_default, length-take-le, drop_at, take_at, get_or_at, length-append, drop-drop}
 use Rattle.std.proofs.lemmas.List.Elements.{recursion_from_All, All-from_recursion, All-get_or, All-filter, All-same, All-nil, All-head}
+use Rattle.qg_num.specs.declared.piece.Piece.{Piece}
 use Rattle.qg_image.specs.declared.file.File.{File}
 use Rattle.qg_image.specs.Table.{value_at, with_value, without_key}
-use Rattle.qg_machine.specs.FileChange.{file_or_new}
+use Rattle.qg_machine.specs.FileChange.{file_or_new, with_pieces}
 use Rattle.qg_subvol.specs.AreFiles.{IsEditable, AreFiles, IsAt, IsGap}
-use Rattle.qg_subvol.proofs.Entries.{value_at-there, with_value-there, without_key-there, value_at-gap, with_value-gap, without_key-gap, value_at-with_value, with_value-twice}
+use Rattle.qg_subvol.proofs.Entries.{value_at-there, with_value-there, without_key-there, value_at-gap, with_value-gap, without_key-gap, value_at-with_value, with_value-twice, without_key-with_value}
 use Rattle.qg_subvol.proofs.Ascending.{Ascends, Ascends-increasing, increasing-Ascends, ascends-drop, all_past, ascends-with_value, ascends-filter, all-with_value}
 
 -- ---- a file at an index
@@ -63,17 +65,6 @@ made_there generation n files i at =
     let entry = get_or files i (n, file_or_new generation None) in
     let is = get_or_default files i (n, file_or_new generation None) entry at.bound in
     ap (λ found. with_value n (file_or_new generation found) files) (value_at-at n files i entry at is) ∙ same-at n files i entry at is
-
--- ---- a file that was found or made, and then edited
-
-pub edited : (n : ℕ) (old file : File) (before files : List (ℕ × File)) (i : ℕ) (entry : ℕ × File) → files ≡ with_value n old before → IsAt n files i → entry ≡ get_or files i entry
-    → set files i (entry.0, file) ≡ with_value n file before
-edited n old file before files i entry made at is = set-at n files i entry file at is ∙ ap (with_value n file) made ∙ with_value-twice n file old before
-
--- what it was before
-pub was : (n : ℕ) (old : File) (before files : List (ℕ × File)) (i : ℕ) (entry : ℕ × File) → files ≡ with_value n old before → IsAt n files i → entry ≡ get_or files i entry → entry.1 ≡ old
-was n old before files i entry made at is =
-    same_Some entry.1 old (sym (value_at-at n files i entry at is) ∙ ap (value_at n) made ∙ value_at-with_value n old before)
 
 -- ---- no file
 
@@ -174,3 +165,32 @@ AreFiles-without_key n files are = record {
   ascending = increasing-Ascends 0 (without_key n files) (ascends-filter 0 (λ e. not (e.0 == n)) files (Ascends-increasing files are.ascending));
   each = All-filter (λ e. not (e.0 == n)) (λ e. IsEditable e.1) files are.each;
 }
+
+-- ---- a file that was found or made, and then edited
+
+-- the file of a number stands at an index, where it was found or made
+pub record IsOpen (n generation : ℕ) (before files : List (ℕ × File)) (i : ℕ) (entry : ℕ × File) : Type 0 where
+  pub made : files ≡ with_value n (file_or_new generation (value_at n before)) before
+  pub at : IsAt n files i
+  pub is : entry ≡ get_or files i entry
+
+module _ {n generation : ℕ} {before files : List (ℕ × File)} {i : ℕ} {entry : ℕ × File} (file : File) (found : IsOpen n generation before files i entry) where
+  edited : set files i (entry.0, file) ≡ with_value n file before
+  edited = set-at n files i entry file found.at found.is ∙ ap (with_value n file) found.made ∙ with_value-twice n file (file_or_new generation (value_at n before)) before
+
+  -- what it was before
+  was : entry.1 ≡ file_or_new generation (value_at n before)
+  was =
+      same_Some entry.1 (file_or_new generation (value_at n before))
+      (sym (value_at-at n files i entry found.at found.is) ∙ ap (value_at n) found.made ∙ value_at-with_value n (file_or_new generation (value_at n before)) before)
+
+  pub edited_ok : {T E : Type 0} (r : Result T E) (from to : ℕ) (given : List Piece) → OnOk r (file ≡ with_pieces generation from to given entry.1)
+      → OnOk r (set files i (entry.0, file) ≡ with_value n (with_pieces generation from to given (file_or_new generation (value_at n before))) before)
+  edited_ok r from to given put = on_ok_weaker r (λ is. edited ∙ ap (λ f. with_value n f before) (is ∙ ap (with_pieces generation from to given) was)) put
+
+  pub edited_err : {T E : Type 0} (r : Result T E) → OnErr r (without_key n (set files i (entry.0, file)) ≡ without_key n before)
+  edited_err (Ok x) = tt
+  edited_err (Err e) = ap (without_key n) edited ∙ without_key-with_value n file before
+
+  pub edited_kept : IsEditable file → AreFiles before → AreFiles (set files i (entry.0, file))
+  edited_kept editable are = subst AreFiles (sym edited) (AreFiles-with_value n file before editable are)

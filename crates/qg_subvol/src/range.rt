@@ -1,27 +1,32 @@
 // What a command does to a range of one file.
-ghost use Rattle.std.specs.Prelude.{◌≡◌, ◌+◌, ◌<◌, ◌≤◌, ◌^◌, ◌∷◌, [], true, map, OnOk, OnErr, IsOk};
+ghost use Rattle.std.specs.Prelude.{◌≡◌, ◌+◌, ◌-◌, ◌<◌, ◌≤◌, ◌^◌, ◌∷◌, [], true, map, IfOk, OnOk, OnErr, IsOk};
 ghost use Rattle.std.specs.List.{All};
-ghost use Rattle.qg_image.specs.FilesOf.{are_pieces, is_aligned, largest_size};
+ghost use Rattle.qg_image.specs.FilesOf.{piece_end, are_pieces, is_aligned, largest_size};
 ghost use Rattle.qg_machine.specs.FileChange.{with_pieces, with_size, new_piece, moved};
+ghost use Rattle.qg_files.specs.Apart.{AreApartFrom};
 ghost use Rattle.qg_subvol.specs.AreFiles.{IsEditable};
 
-use qg_files::{cut_range, put_piece};
+use qg_files::replace_range;
 use qg_image::File;
 use qg_num::{Address, Generation, NoMemory, Piece, Pieces};
+use std::alloc::Global;
 
-/// Cuts out what a file has in a range of bytes, and makes the file at least as large as the range's end.
-pub(crate) fn clear(
+/// Puts pieces in the place of what a file has in a range of bytes, and makes the file at least as large as the range's end.
+fn put(
     file: &mut File,
     generation: Generation,
     from: u64,
     to: u64,
+    given: &[Piece],
 ) -> Result<(), NoMemory>
     requires file { IsEditable file.old }
     requires order { from ≤ to }
-    ensures ok { OnOk result (file.new ≡ with_pieces generation from to [] file.old) }
+    requires given { AreApartFrom from given.now }
+    requires ends { All (λ piece. piece_end piece ≤ to) given.now }
+    ensures ok { OnOk result (file.new ≡ with_pieces generation from to given.now file.old) }
     ensures err { OnErr result (file.new ≡ file.old) }
 {
-    cut_range(&mut file.pieces, from, to)?;
+    replace_range(&mut file.pieces, from, to, given)?;
     file.size = file.size.max(to);
     file.transid = generation;
     Ok(())
@@ -44,7 +49,6 @@ pub(crate) fn put_run(
         ≡ with_pieces generation off (off + len) (new_piece generation off len run ∷ []) file.old) }
     ensures kept { IsEditable file.new }
 {
-    clear(file, generation, off, off + len)?;
     let piece = Piece {
         position: off,
         len,
@@ -53,8 +57,7 @@ pub(crate) fn put_run(
         stamp: generation,
         extent_bytes: len,
     };
-    put_piece(&mut file.pieces, piece)?;
-    Ok(())
+    put(file, generation, off, off + len, &[piece])
 }
 
 /// Puts pieces that lie in a range of another place, each as far from the range's start, in the place of what a file has in a range.
@@ -78,12 +81,22 @@ pub(crate) fn put_moved(
         ≡ with_pieces generation off (off + len) (map (moved from off) taken.now) file.old) }
     ensures kept { IsEditable file.new }
 {
-    clear(file, generation, off, off + len)?;
+    let given = moved_pieces(taken.allocator(), taken, from, off)?;
+    put(file, generation, off, off + len, given.as_slice())
+}
+
+/// Pieces as far from a place as they are from the start of the range that they lie in.
+fn moved_pieces(alloc: Global, taken: &Pieces, from: u64, off: u64) -> Result<Pieces, NoMemory>
+    requires begins { All (λ piece. from ≤ piece.position) taken.now }
+    requires near { All (λ piece. piece.position - from + off < 2 ^ 64) taken.now }
+    ensures { IfOk result (λ given. given ≡ map (moved from off) taken.now) }
+{
+    let mut given = Pieces::with_capacity(alloc, taken.len())?;
     for piece in taken.as_slice() {
         let position = piece.position - from + off;
-        put_piece(&mut file.pieces, Piece { position, ..*piece })?;
+        given.push(Piece { position, ..*piece })?;
     }
-    Ok(())
+    Ok(given)
 }
 
 /// Cuts a file to a size in bytes, or makes it grow to it with nothing behind.

@@ -1,2 +1,4 @@
+pub mod Runs
 pub mod Served
+pub mod Slots
 pub mod SuperTexts

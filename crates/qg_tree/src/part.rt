@@ -1,6 +1,6 @@
 // What a level of a tree is made of: items, or pointers to the level below.
 use crate::cut::Weighed;
-use qg_node::{Header, Item, Items, Node, Pointer, Pointers};
+use qg_node::{Header, Item, Node, Pointer, Pointers, copy_items};
 use qg_num::NoMemory;
 use std::alloc::Global;
 
@@ -49,7 +49,7 @@ impl Part for Item {
     fn node(alloc: Global, header: Header, parts: &[Item]) -> Result<Node, NoMemory> {
         Ok(Node::Leaf {
             header,
-            items: Items::from_slice(alloc, parts)?,
+            items: copy_items(alloc, parts)?,
         })
     }
 }

@@ -1,11 +1,12 @@
 -- Ranges of keys: a list that ends where the next one begins.
-use Rattle.std.proofs.Common.{◌≡◌, true, false, List, [], ◌∷◌, ◌++◌, map, refl, sym, ap, ◌∙◌, Option, Some, None}
-use Rattle.std.specs.Prelude.{Bool, not, ◌==◌, ◌&&◌}
+use Rattle.std.proofs.Common.{◌≡◌, ◌-◌, true, false, List, [], ◌∷◌, ◌++◌, map, length, refl, sym, ap, subst, ◌∙◌, arith, Option, Some, None, inl, inr}
+use Rattle.std.specs.Prelude.{Bool, not, ◌==◌, ◌&&◌, slice_get}
 use Rattle.std.specs.List.{list_all}
 use Rattle.std.specs.declared.cmp.Ordering.{Ordering}
 use Rattle.std.specs.declared.cmp.Ordering.TheVariants.{Less, Equal, Greater}
 use Rattle.std.specs.Ordering.{is_gt, is_lt, ordering_reverse}
-use Rattle.std.proofs.lemmas.Bool.{and_from, and_parts, eqb-true}
+use Rattle.std.proofs.Math.Bool.{and_assoc, and-true}
+use Rattle.std.proofs.lemmas.Bool.{and_from, and_parts, cases_Bool, eqb-true}
 use Rattle.std.proofs.lemmas.Cmp.{alike_right, tied_itself, upto}
 use Rattle.std.proofs.lemmas.List.Folds.{list_all-append}
 use Rattle.qg_num.specs.Key.{key_cmp}
@@ -13,6 +14,7 @@ use Rattle.qg_num.specs.declared.key.Key.{Key}
 use Rattle.qg_num.proofs.KeyOrder.{key_cmp_total}
 use Rattle.qg_node.specs.declared.pointer.Pointer.{Pointer}
 use Rattle.qg_node.specs.Nodes.{ascends_from, is_ascending}
+use Rattle.qg_parts.proofs.Parts.{and-false}
 use Rattle.qg_image.specs.IsShaped.{same_key}
 use Rattle.qg_verdict.specs.Walk.{begins_at, ends_before, next_key}
 use Rattle.qg_walk.specs.Added.{is_from, is_to, AreSpaced, AreWithin}
@@ -67,6 +69,10 @@ same_key-true a b same =
 
 not_less_itself : (key : Key) → not (is_lt (key_cmp key key)) ≡ true
 not_less_itself key = ap (λ (answer : Ordering). not (is_lt answer)) (tied_itself key_cmp_total key)
+
+-- what is greater than a key is not less than it
+not_less_behind : (before key : Key) → is_lt (key_cmp before key) ≡ true → not (is_lt (key_cmp key before)) ≡ true
+not_less_behind before key less = not_less (key_cmp key before) (key_cmp before key) (key_cmp_total.antisymm key before) (ap is_gt (is_less (key_cmp before key) less))
 
 -- ---- all of some keys
 
@@ -143,6 +149,57 @@ ends_before-all (Some to) keys h = h
 
 pub AreWithin-own : (from to : Option Key) (keys : List Key) → is_ascending keys ≡ true → begins_at from keys ≡ true → ends_before to keys ≡ true → AreWithin from to keys
 AreWithin-own from to keys ascending begins ends = record { ascending = ascending; first = begins_at-all from keys begins; last = ends_before-all to keys ends }
+
+-- ---- ascending keys, by the first and the last of them
+
+some-injective : {a b : Key} → Some a ≡ Some b → a ≡ b
+some-injective {a} {b} same = cc
+
+all_from : (from low : Key) (keys : List Key) → not (is_lt (key_cmp low from)) ≡ true → ascends_from low keys ≡ true → list_all (λ later. not (is_lt (key_cmp later from))) keys ≡ true
+unfolding ascends_from
+all_from from low [] h ascends = refl
+all_from from low (key ∷ keys) h ascends =
+    let parts = and_parts (is_lt (key_cmp low key)) (ascends_from key keys) ascends in
+    let here = not_less_trans from low key h (not_less_behind low key parts.0) in
+    and_from (not (is_lt (key_cmp key from))) (list_all (λ later. not (is_lt (key_cmp later from))) keys) here (all_from from key keys here parts.1)
+
+begins_by_first : (from key : Key) (keys : List Key) → ascends_from key keys ≡ true → begins_at (Some from) (key ∷ keys) ≡ same_key key from
+begins_by_first from key keys ascends = elim (cases_Bool (same_key key from)) [
+  | inl same ↦
+      let here : not (is_lt (key_cmp key from)) ≡ true = rw (same_key-true key from same) (not_less_itself from) in
+      and_from (same_key key from) (list_all (λ later. not (is_lt (key_cmp later from))) keys) same (all_from from key keys here ascends) ∙ sym same
+  | inr differ ↦ rw differ refl
+]
+
+-- as two keys are compared
+pub same_key-nested : (a b : Key) → ((a.objectid == b.objectid) && ((a.kind == b.kind) && (a.offset == b.offset))) ≡ same_key a b
+same_key-nested a b = sym (and_assoc (a.objectid == b.objectid) (a.kind == b.kind) (a.offset == b.offset))
+
+pub begins_at-first : (from first : Key) (keys : List Key) → is_ascending keys ≡ true → slice_get keys 0 ≡ Some first → begins_at (Some from) keys ≡ same_key first from
+unfolding is_ascending
+begins_at-first from first [] ascends is = absurd cc
+begins_at-first from first (key ∷ keys) ascends is = begins_by_first from key keys ascends ∙ ap (λ k. same_key k from) (some-injective is)
+
+ends_by_last : (to key last : Key) (keys : List Key) → ascends_from key keys ≡ true → slice_get (key ∷ keys) (length keys) ≡ Some last
+    → list_all (λ k. is_lt (key_cmp k to)) (key ∷ keys) ≡ is_lt (key_cmp last to)
+unfolding ascends_from
+ends_by_last to key last [] ascends is = and-true (is_lt (key_cmp key to)) ∙ ap (λ k. is_lt (key_cmp k to)) (some-injective is)
+ends_by_last to key last (next ∷ keys) ascends is =
+    let parts = and_parts (is_lt (key_cmp key next)) (ascends_from next keys) ascends in
+    let later = ends_by_last to next last keys parts.1 is in
+    elim (cases_Bool (list_all (λ k. is_lt (key_cmp k to)) (next ∷ keys))) [
+      | inl all ↦
+          let below = (and_parts (is_lt (key_cmp next to)) (list_all (λ k. is_lt (key_cmp k to)) keys) all).0 in
+          and_from (is_lt (key_cmp key to)) (list_all (λ k. is_lt (key_cmp k to)) (next ∷ keys)) (less_trans key next to parts.0 below) all ∙ sym all ∙ later
+      | inr some ↦ ap (λ b. is_lt (key_cmp key to) && b) some ∙ and-false (is_lt (key_cmp key to)) ∙ sym some ∙ later
+    ]
+
+pub ends_before-last : (to last : Key) (keys : List Key) → is_ascending keys ≡ true → slice_get keys (length keys - 1) ≡ Some last → ends_before (Some to) keys ≡ is_lt (key_cmp last to)
+unfolding is_ascending
+ends_before-last to last [] ascends is = absurd cc
+ends_before-last to last (key ∷ keys) ascends is =
+    let back : length (key ∷ keys) - 1 ≡ length keys = omega arith in
+    ends_by_last to key last keys ascends (subst (λ n. slice_get (key ∷ keys) n ≡ Some last) back is)
 
 to_next : (to : Option Key) (key : Key) (pointers : List Pointer) → is_to to key ≡ true → ascends_from key (map (λ pointer. pointer.key) pointers) ≡ true
     → is_to (next_key to pointers) key ≡ true

@@ -1,6 +1,6 @@
 // The rules on a node that was read, from `depth` to `shape`.
-ghost use Rattle.std.specs.Prelude.{◌≡◌, ◌<◌, ◌≤◌, ◌&&◌, ◌^◌, ℕ, None};
-ghost use Rattle.qg_node.specs.Nodes.{own_keys, used_bytes};
+ghost use Rattle.std.specs.Prelude.{◌≡◌, ◌<◌, ◌≤◌, ◌&&◌, ◌^◌, ℕ, None, IsTrue};
+ghost use Rattle.qg_node.specs.Nodes.{is_ascending, own_keys, used_bytes};
 ghost use Rattle.qg_image.specs.IsShaped.{is_first, is_shaped};
 ghost use Rattle.qg_verdict.specs.Walk.{begins_at, ends_before, is_told, is_generation};
 ghost use Rattle.qg_walk.specs.Standing.{form_failure};
@@ -23,7 +23,8 @@ pub(crate) fn form_failure<P: TreePart>(
     address: Address,
     node: &Node,
 ) -> Option<Failure>
-    requires { used_bytes node.now < 2 ^ 32 }
+    requires used { used_bytes node.now < 2 ^ 32 }
+    requires ascending { IsTrue (is_ascending (own_keys node.now)) }
     ensures { result ≡ form_failure P.tree superblock.now expected.now address node.now }
 {
     let header = node.header();
@@ -68,6 +69,7 @@ fn is_generation(last: Generation, told: Option<Generation>, generation: Generat
 }
 
 fn is_in_range(from: Option<Key>, to: Option<Key>, node: &Node) -> bool
+    requires { IsTrue (is_ascending (own_keys node.now)) }
     ensures { result ≡ (begins_at from (own_keys node.now) && ends_before to (own_keys node.now)) }
 {
     match node {

@@ -1,5 +1,4 @@
-use Rattle.std.proofs.Common.{◌≡◌, ◌≤◌, ◌<◌, ℕ, List, map, length, get_or, Some, None, sym, ◌∙◌, subst}
-use Rattle.qg_num.specs.declared.counters.Which.TheVariants.{Rfer, Excl}
+use Rattle.std.proofs.Common.{◌≡◌, ◌≤◌, ℕ, List, map, length, Some, sym, ◌∙◌, subst}
 use Rattle.qg_state.specs.declared.quota.Group.{Group}
 use Rattle.qg_verdict.specs.Failure.{first_failure}
 use Rattle.qg_check.proofs.Counters.{judged, HaveJudged, counts_judged, HaveJudged-found, HaveJudged-all}

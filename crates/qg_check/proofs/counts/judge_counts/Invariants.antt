@@ -1,6 +1,3 @@
-use Rattle.std.proofs.Common.{◌≡◌, Some, None, drop}
-use Rattle.qg_state.specs.State.{State}
-use Rattle.qg_check.specs.Counted.{CountAll}
 use Rattle.qg_check.proofs.Counters.{HaveJudged}
 use Rattle.qg_check.proofs.counts.judge_counts.Given as goal
 

@@ -1,4 +1,4 @@
-use Rattle.std.proofs.Common.{◌≡◌, ◌+◌, ◌<◌, sym, ◌∙◌, ap, arith, length}
+use Rattle.std.proofs.Common.{sym, ◌∙◌, arith}
 use Rattle.qg_device.specs.History.{content}
 use Rattle.qg_check.proofs.SuperIn.{super_in-short, super_in-range}
 use Rattle.qg_check.proofs.places.read_place.Goals as goal

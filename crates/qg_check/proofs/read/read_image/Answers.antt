@@ -1,17 +1,22 @@
 use Rattle.std.proofs.Common.{◌≡◌, ℕ, List, [], ◌∷◌, length, None, Some, refl, sym, ap, ◌∙◌, subst}
 use Rattle.std.specs.Prelude.{Option}
-use Rattle.qg_device.specs.History.{content}
+use Rattle.qg_device.specs.History.{Event, content}
 use Rattle.qg_super.specs.declared.superblock.Super.{Super}
 use Rattle.qg_super.specs.SuperText.{choose}
+use Rattle.qg_verdict.specs.declared.failure.Failure.{Failure}
 use Rattle.qg_verdict.specs.Failure.{first_failure}
 use Rattle.qg_verdict.specs.Verdict.{verdict}
 use Rattle.qg_verdict.specs.StateOf.{super_in, super_of}
+use Rattle.qg_check.specs.declared.trees.Trees.{Trees}
 use Rattle.qg_check.specs.IsImage.{IsKept}
-use Rattle.qg_check.specs.Stages.{places_failure, roots_failure}
+use Rattle.qg_check.specs.Stages.{places_failure, roots_failure, trees_failure}
+use Rattle.qg_check.specs.Trees.{AreTrees}
 use Rattle.qg_check.proofs.Editable.{stale_editable}
 use Rattle.qg_check.proofs.Staging.{tells_first, pass_first, tells_same, fails_handed}
 use Rattle.qg_check.proofs.Verdicts.{alone, verdict_none, verdict_some, image_failure_parts, rest_failure, rest_failure_trees}
+use Rattle.qg_check.proofs.read.read_image.Given.{Over}
 use Rattle.qg_check.proofs.read.read_image.Goals as goal
+use Rattle.qg_check.proofs.read.read_image.Goals.{After-len}
 
 -- the superblock that counts, of those that were read
 super_read : (bytes : List ℕ) (first second : Option Super) → first ≡ super_in bytes 65536 → second ≡ super_in bytes 67108864 → super_of bytes ≡ choose first second
@@ -38,47 +43,51 @@ sized_parts : (bytes : List ℕ) (first second : Option Super) (super : Super) (
 sized_parts bytes first second super len is is' chosen long =
     parts bytes first second super is is' chosen ∙ ap (λ (n : ℕ). first_failure (places_failure super first second n ∷ roots_failure super bytes ∷ rest_failure super bytes ∷ [])) (sym long)
 
+-- what is left of it where the superblocks and the root tree break no rule
+trees_left : (bytes : List ℕ) (super : Super) (trees : Trees) (places : Option Failure) → verdict bytes ≡ first_failure (places ∷ roots_failure super bytes ∷ rest_failure super bytes ∷ []) → places ≡ None
+    → roots_failure super bytes ≡ None → AreTrees super bytes trees → verdict bytes ≡ trees_failure super bytes trees
+trees_left bytes super trees places whole none none' are =
+    whole ∙ pass_first places _ none ∙ pass_first (roots_failure super bytes) _ none' ∙ alone (rest_failure super bytes) ∙ rest_failure_trees super bytes trees are
+
+-- the verdict, by what was read of the superblocks
+whole : (g : Over) (c : After-len g) (events : List Event) → g.D.Disk.history c.args.disk.now ≡ Some events
+    → verdict (content events) ≡ first_failure (places_failure c.in-Some.superblock c.in_ok-places.places.first c.in_ok-places.places.second c.len.result
+    ∷ roots_failure c.in-Some.superblock (content events) ∷ rest_failure c.in-Some.superblock (content events) ∷ [])
+whole g c events told =
+    sized_parts (content events) c.in_ok-places.places.first c.in_ok-places.places.second c.in-Some.superblock c.len.result (c.in_ok-places.ensures.first events told) (c.in_ok-places.ensures.second events told)
+    (sym c.chosen.ensures.value ∙ c.in-Some.is) (c.len.ensures ∙ g.met.D.Disk.sized c.read_places.new.disk events (c.in_ok-places.ensures.history ∙ told))
+
 pub returns-in_err-judge_places-clause-failure : goal.returns-in_err-judge_places-clause-failure
 returns-in_err-judge_places-clause-failure g c = λ events told.
     let fault = c.in_err-judge_places.field-0.0 in
-    let whole = sized_parts (content events) c.in_ok-places.places.first c.in_ok-places.places.second c.in-Some.superblock c.len.result (c.in_ok-places.ensures.first events told) (c.in_ok-places.ensures.second events told)
-    (sym c.chosen.ensures.value ∙ c.in-Some.is) (c.len.ensures ∙ g.met.D.Disk.sized c.read_places.new.disk events (c.in_ok-places.ensures.history ∙ told)) in
     fails_handed c.from_residual-in_err-judge_places.result fault _ c.from_residual-in_err-judge_places.ensures.1
-    (tells_same fault whole (tells_first fault _ _ c.in_err-judge_places.ensures.failure))
+    (tells_same fault (whole g (goal.at.returns-in_err-judge_places-clause-failure g c).After-len events told) (tells_first fault _ _ c.in_err-judge_places.ensures.failure))
 
 pub returns-in_err-trees-clause-failure : goal.returns-in_err-trees-clause-failure
 returns-in_err-trees-clause-failure g c = λ events told.
     let fault = c.in_err-trees.field-0.0 in
-    let whole = sized_parts (content events) c.in_ok-places.places.first c.in_ok-places.places.second c.in-Some.superblock c.len.result (c.in_ok-places.ensures.first events told) (c.in_ok-places.ensures.second events told)
-    (sym c.chosen.ensures.value ∙ c.in-Some.is) (c.len.ensures ∙ g.met.D.Disk.sized c.read_places.new.disk events (c.in_ok-places.ensures.history ∙ told)) in
+    let parts = whole g (goal.at.returns-in_err-trees-clause-failure g c).After-len events told in
     let roots = c.in_err-trees.ensures.failure events (c.in_ok-places.ensures.history ∙ told) in
     fails_handed c.from_residual-in_err-trees.result fault _ c.from_residual-in_err-trees.ensures.1
-    (tells_same fault (whole ∙ pass_first _ _ c.in_ok-judge_places.ensures.failure) (tells_first fault _ _ roots))
+    (tells_same fault (parts ∙ pass_first _ _ c.in_ok-judge_places.ensures.failure) (tells_first fault _ _ roots))
 
 pub returns-in_err-image-clause-failure : goal.returns-in_err-image-clause-failure
 returns-in_err-image-clause-failure g c = λ events told.
     let fault = c.in_err-image.field-0.0 in
-    let whole = sized_parts (content events) c.in_ok-places.places.first c.in_ok-places.places.second c.in-Some.superblock c.len.result (c.in_ok-places.ensures.first events told) (c.in_ok-places.ensures.second events told)
-    (sym c.chosen.ensures.value ∙ c.in-Some.is) (c.len.ensures ∙ g.met.D.Disk.sized c.read_places.new.disk events (c.in_ok-places.ensures.history ∙ told)) in
     let told' = c.in_ok-places.ensures.history ∙ told in
-    let last = c.in_ok-trees.ensures.history ∙ told' in
-    let roots = c.in_ok-trees.ensures.failure events told' in
     let are = c.in_ok-trees.ensures.trees events told' in
+    let parts = whole g (goal.at.returns-in_err-image-clause-failure g c).After-len events told in
     fails_handed c.from_residual-in_err-image.result fault _ c.from_residual-in_err-image.ensures.1
-    (tells_same fault
-    (whole ∙ pass_first _ _ c.in_ok-judge_places.ensures.failure ∙ pass_first _ _ roots ∙ alone (rest_failure c.in-Some.superblock (content events)) ∙ rest_failure_trees c.in-Some.superblock (content events) c.in_ok-trees.trees are)
-    (c.in_err-image.ensures.failure events last are))
+    (tells_same fault (trees_left (content events) c.in-Some.superblock c.in_ok-trees.trees _ parts c.in_ok-judge_places.ensures.failure (c.in_ok-trees.ensures.failure events told') are)
+    (c.in_err-image.ensures.failure events (c.in_ok-trees.ensures.history ∙ told') are))
 
 pub returns-clause-failure : goal.returns-clause-failure
 returns-clause-failure g c = λ events told.
-    let whole = sized_parts (content events) c.in_ok-places.places.first c.in_ok-places.places.second c.in-Some.superblock c.len.result (c.in_ok-places.ensures.first events told) (c.in_ok-places.ensures.second events told)
-    (sym c.chosen.ensures.value ∙ c.in-Some.is) (c.len.ensures ∙ g.met.D.Disk.sized c.read_places.new.disk events (c.in_ok-places.ensures.history ∙ told)) in
     let told' = c.in_ok-places.ensures.history ∙ told in
-    let last = c.in_ok-trees.ensures.history ∙ told' in
-    let roots = c.in_ok-trees.ensures.failure events told' in
     let are = c.in_ok-trees.ensures.trees events told' in
-    whole ∙ pass_first _ _ c.in_ok-judge_places.ensures.failure ∙ pass_first _ _ roots ∙ alone (rest_failure c.in-Some.superblock (content events))
-    ∙ rest_failure_trees c.in-Some.superblock (content events) c.in_ok-trees.trees are ∙ c.in_ok-image.ensures.failure events last are
+    let parts = whole g (goal.at.returns-clause-failure g c).After-len events told in
+    trees_left (content events) c.in-Some.superblock c.in_ok-trees.trees _ parts c.in_ok-judge_places.ensures.failure (c.in_ok-trees.ensures.failure events told') are
+    ∙ c.in_ok-image.ensures.failure events (c.in_ok-trees.ensures.history ∙ told') are
 
 pub returns-clause-image : goal.returns-clause-image
 returns-clause-image g c = λ events told.

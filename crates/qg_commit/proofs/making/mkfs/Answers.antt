@@ -3,9 +3,9 @@ use Rattle.qg_bytes.specs.Fields.{zeros}
 use Rattle.qg_device.specs.History.{Wrote, Cut, with_event}
 use Rattle.qg_node.specs.NodeText.{IsNodeSize}
 use Rattle.qg_super.specs.Places.{is_served, slot_at}
+use Rattle.qg_super.proofs.Served.{SizesFit-is_served}
 use Rattle.qg_commit.specs.Fresh.{fresh_nodes, fresh_super}
 use Rattle.qg_commit.specs.Calls.{with_image}
-use Rattle.qg_commit.proofs.Slots.{SizesServed-is_served}
 use Rattle.qg_commit.proofs.FreshNodes.{fresh-is_super, fresh-writable}
 use Rattle.qg_commit.proofs.Made.{made-HoldsFreshImage}
 use Rattle.qg_commit.proofs.MakingCalls.{image_calls}
@@ -20,7 +20,7 @@ pub write_commit-requires-clause-node_size : goal.write_commit-requires-clause-n
 write_commit-requires-clause-node_size g c =
     let served : is_served c.args.sizes ≡ true = sym c.is_served.ensures ∙ c.if-not-is_served.false in
     let long : length c.deref_mut.result.now ≡ c.args.sizes.nodesize = c.deref_mut.ensures.len ∙ c.in_ok-buffer.ensures.len in
-    subst IsNodeSize (sym long) (SizesServed-is_served c.args.sizes served).nodesize
+    subst IsNodeSize (sym long) (SizesFit-is_served c.args.sizes served).node_size
 
 pub write_commit-requires-clause-nodes : goal.write_commit-requires-clause-nodes
 write_commit-requires-clause-nodes g c =

@@ -1,4 +1,4 @@
-use Rattle.std.proofs.Common.{◌≡◌, ◌≤◌, ◌<◌, ◌^◌, length, map, subst, sym, ap, ◌∙◌, List, arith}
+use Rattle.std.proofs.Common.{◌≤◌, ◌<◌, ◌^◌, length, map, subst, sym, ap, ◌∙◌, List, arith}
 use Rattle.std.specs.Prelude.{All}
 use Rattle.std.specs.List.{filter_map, list_all}
 use Rattle.qg_node.specs.declared.item.Item.{Item}

@@ -1,10 +1,10 @@
-use Rattle.std.proofs.Common.{◌≡◌, ◌-◌, ◌<◌, ◌++◌, [], length, get_or, take, drop, sym, ap, ◌∙◌, subst, arith}
+use Rattle.std.proofs.Common.{◌≡◌, ◌<◌, ◌++◌, [], length, take, drop, sym, ap, ◌∙◌, subst, arith}
 use Rattle.std.specs.Option.{option_to_list}
 use Rattle.std.proofs.lemmas.Result.{on_ok_weaker, on_err_weaker}
 use Rattle.qg_machine.specs.FileChange.{part_before, with_range}
 use Rattle.qg_files.specs.Apart.{AreApart}
 use Rattle.qg_files.specs.Meeting.{AreMeeting}
-use Rattle.qg_files.proofs.Edits.{sizes_at, cut_nothing, cut_meeting}
+use Rattle.qg_files.proofs.Edits.{last_sizes, cut_nothing, cut_meeting}
 use Rattle.qg_files.proofs.KeptApart.{apart-cut}
 use Rattle.qg_files.proofs.Outcome.{either_way}
 use Rattle.qg_files.proofs.cut.cut_range.Goals as goal
@@ -18,13 +18,8 @@ returns-then-first-end-clause-ok c =
 
 pub part_after-rest-requires : goal.part_after-rest-requires
 part_after-rest-requires c =
-    let xs = c.args.pieces.now in
-    let end = c.meeting-first.result.1 in
-    let y = c.index-items-end.result in
-    let at = c.index-items-end.is ∙ ap (λ zs. get_or zs (end - 1) y) c.as_slice-items.ensures in
-    let order = c.meeting-first.ensures.order in
-    let bound = c.meeting-first.ensures.finish.bound in
-    sizes_at xs (end - 1) y c.requires.apart (omega (arith, order, bound)) at
+    last_sizes c.args.from c.args.to c.args.pieces.now c.as_slice-items.result.now c.meeting-first.result.0 c.meeting-first.result.1 c.index-items-end.result c.requires.apart c.meeting-first.ensures
+    (omega (arith, c.meeting-first.ensures.order)) c.as_slice-items.ensures c.index-items-end.is
 
 -- what stands in the list once the rests are put
 left : (c : goal.After-replace) → take c.meeting-first.result.0 c.args.pieces.now ++ option_to_list c.part_before-front.result ++ option_to_list c.part_after-rest.result ++ drop c.meeting-first.result.1 c.args.pieces.now ≡ with_range c.args.from c.args.to [] c.args.pieces.now
@@ -33,12 +28,10 @@ left c =
     let first = c.meeting-first.result.0 in
     let end = c.meeting-first.result.1 in
     let x = c.index-items-first.result in
-    let y = c.index-items-end.result in
-    let first_is = c.index-items-first.is ∙ ap (λ zs. get_or zs first x) c.as_slice-items.ensures in
-    let last_is = c.index-items-end.is ∙ ap (λ zs. get_or zs (end - 1) y) c.as_slice-items.ensures in
     ap (λ front. take first xs ++ option_to_list front ++ option_to_list c.part_after-rest.result ++ drop end xs) c.part_before-front.ensures
     ∙ ap (λ rest. take first xs ++ option_to_list (part_before c.args.from x) ++ option_to_list rest ++ drop end xs) c.part_after-rest.ensures
-    ∙ sym (cut_meeting c.args.from c.args.to xs first end x y c.requires.apart c.meeting-first.ensures (omega (arith, c.meeting-first.ensures.order)) first_is last_is)
+    ∙ sym (cut_meeting c.args.from c.args.to xs c.as_slice-items.result.now first end x c.index-items-end.result c.requires.apart c.meeting-first.ensures (omega (arith, c.meeting-first.ensures.order)) c.as_slice-items.ensures
+    c.index-items-first.is c.index-items-end.is)
 
 pub returns-clause-ok : goal.returns-clause-ok
 returns-clause-ok c = on_ok_weaker c.replace.result (λ is. is ∙ left c) c.replace.ensures.ok

@@ -1,4 +1,4 @@
-use Rattle.qg_script.proofs.Rows.{reads_none, file_at, only_ls, ls_read}
+use Rattle.qg_script.proofs.Rows.{reads_none, file_at, file_read, only_ls, ls_tells}
 use Rattle.qg_script.proofs.parse.read_ls.Goals as goal
 
 pub returns-in_err-sub : goal.returns-in_err-sub
@@ -12,4 +12,4 @@ returns-in_err-sub-2 c =
     (only_ls (λ command. ⊥) c.args.rest.now (λ sub ino file are. c.in_err-sub-2.ensures (file_at 0 1 c.in_ok-sub.ensures.found are file)))
 
 pub returns : goal.returns
-returns c = record { command = ls_read c.in_ok-sub.ensures.found c.in_ok-sub-2.ensures; none = tt }
+returns c = record { command = file_read ls_tells c.in_ok-sub.ensures.found c.in_ok-sub-2.ensures; none = tt }

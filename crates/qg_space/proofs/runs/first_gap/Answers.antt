@@ -1,8 +1,10 @@
-use Rattle.std.proofs.Common.{ℕ, List, drop, ◌∙◌, sym, ap, subst, Some, arith}
+use Rattle.std.proofs.Common.{◌≡◌, ◌+◌, ℕ, List, drop, ◌∙◌, sym, ap, subst, Some, arith}
 use Rattle.std.proofs.lemmas.List.{take_rest}
 use Rattle.qg_super.proofs.Served.{SizesFit-is_served}
-use Rattle.qg_space.specs.declared.runs.Run.{Run}
-use Rattle.qg_space.proofs.Places.{whole_run}
+use Rattle.qg_super.proofs.Runs.{WholeRun-is_run}
+use Rattle.qg_state.specs.declared.element.Element.{Element}
+use Rattle.qg_space.specs.Run.{Run}
+use Rattle.qg_space.specs.Lying.{end_of}
 use Rattle.qg_space.proofs.Gaps.{ArePassed, front_passed, one_more_passed, passed_at, passed_all, first_before, first_at_end, none_at_end}
 use Rattle.qg_space.proofs.runs.first_gap.Goals as goal
 
@@ -26,22 +28,23 @@ returns-then-from-bytes c =
     let run = c.run-item.result in
     let passed = passed_at c.args.sizes.now c.args.runs.now _ c.loop-run.run-index c.args.bytes c.loop-run.from run c.loop-run-test.true c.run-item.is c.loop-run.invariant in
     ap (λ n. Some n) c.new.ensures
-    ∙ sym (first_before c.args.sizes.now c.args.runs.now run _ c.args.bytes c.loop-run.from (record { some = c.requires.some; whole = c.requires.whole }) passed (omega arith))
+    ∙ sym (first_before c.args.sizes.now c.args.runs.now run _ c.args.bytes c.loop-run.from (record { some = c.requires.some; whole = c.requires.whole }) passed (omega (arith, ap (λ (e : Element). e.address) c.extent-extent.ensures)))
 
 pub overflow_add-from-in-loop-run : goal.overflow_add-from-in-loop-run
 overflow_add-from-in-loop-run c =
     let served = SizesFit-is_served c.args.sizes.now c.requires.served in
     let run = c.run-item.result in
     let passed = passed_at c.args.sizes.now c.args.runs.now _ c.loop-run.run-index c.args.bytes c.loop-run.from run c.loop-run-test.true c.run-item.is c.loop-run.invariant in
-    let whole = whole_run c.args.sizes.now run.extent.address run.extent.bytes passed.apart.0 in
+    let whole = WholeRun-is_run c.args.sizes.now run.extent.address run.extent.bytes passed.apart.0 in
     let within = whole.within in
-    omega arith
+    omega (arith, ap (λ (e : Element). end_of e) c.extent-extent.ensures)
 
 pub loop-run-preserved : goal.loop-run-preserved
 loop-run-preserved c =
     let run = c.run-item.result in
     let passed = passed_at c.args.sizes.now c.args.runs.now _ c.loop-run.run-index c.args.bytes c.loop-run.from run c.loop-run-test.true c.run-item.is c.loop-run.invariant in
-    rw c.value-in-loop-run.ensures (one_more_passed c.args.sizes.now c.args.runs.now run _ c.args.bytes c.loop-run.from passed (omega arith))
+    let next : c.value-in-loop-run.result + c.extent-extent.result.bytes ≡ end_of run.extent = omega (arith, ap (λ (e : Element). end_of e) c.extent-extent.ensures) in
+    rw next (one_more_passed c.args.sizes.now c.args.runs.now run _ c.args.bytes c.loop-run.from passed (omega (arith, ap (λ (e : Element). e.address) c.extent-extent.ensures)))
 
 pub overflow_add-from-2 : goal.overflow_add-from-2
 overflow_add-from-2 c =

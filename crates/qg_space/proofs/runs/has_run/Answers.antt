@@ -1,7 +1,7 @@
 use Rattle.std.proofs.Common.{sym, ap, ◌∙◌, arith}
 use Rattle.std.specs.Prelude.{◌&&◌}
 use Rattle.qg_super.specs.Places.{data_begin}
-use Rattle.qg_space.specs.declared.runs.Run.{Run}
+use Rattle.qg_space.specs.Run.{Run}
 use Rattle.qg_space.specs.Holding.{is_that_run}
 use Rattle.qg_space.proofs.Apart.{has_none, has_at}
 use Rattle.qg_space.proofs.runs.has_run.Goals as goal

@@ -1,22 +1,28 @@
-use Rattle.std.proofs.Common.{length, ap, arith}
-use Rattle.qg_space.proofs.Edits.{put_kept}
+use Rattle.std.proofs.Common.{ap, ◌∙◌, length, arith}
+use Rattle.std.specs.List.{insert}
+use Rattle.qg_space.specs.Run.{Run}
+use Rattle.qg_space.proofs.Edits.{IsPut, clear_fits, put_kept}
 use Rattle.qg_space.proofs.Fronts.{same_before_put}
 use Rattle.qg_space.proofs.runs.put_run.Goals as goal
+use Rattle.qg_space.proofs.runs.put_run.Goals.{In_ok-insert}
+
+pub new-requires : goal.new-requires
+new-requires c = clear_fits c.args.sizes.now c.args.runs.now.items c.args.extent c.requires.served c.requires.clear
+
+put : (c : In_ok-insert) → IsPut c.args.sizes.now c.args.runs.now.items c.insert.new.self.items c.args.extent
+put c =
+    let put' = c.in_ok-insert.ensures.items ∙ ap (λ (run : Run). insert c.args.runs.now.items c.runs_before-place.result run) c.new.ensures in
+    put_kept c.args.sizes.now c.args.runs.now.items c.deref.result.now c.insert.new.self.items c.runs_before-place.result c.args.extent c.requires.apart c.requires.clear c.deref.ensures.value
+    c.runs_before-place.ensures.bound c.runs_before-place.ensures.before c.runs_before-place.ensures.others put'
 
 pub returns-clause-apart : goal.returns-clause-apart
-returns-clause-apart c =
-    (put_kept c.args.sizes.now c.args.runs.now.items c.deref.result.now c.insert.new.self.items c.runs_before-place.result c.args.extent c.requires.apart c.requires.clear c.deref.ensures.value
-    c.runs_before-place.ensures.bound c.runs_before-place.ensures.before c.runs_before-place.ensures.others c.in_ok-insert.ensures.items).apart
+returns-clause-apart c = (put c).apart
 
 pub returns-clause-present : goal.returns-clause-present
-returns-clause-present c =
-    (put_kept c.args.sizes.now c.args.runs.now.items c.deref.result.now c.insert.new.self.items c.runs_before-place.result c.args.extent c.requires.apart c.requires.clear c.deref.ensures.value
-    c.runs_before-place.ensures.bound c.runs_before-place.ensures.before c.runs_before-place.ensures.others c.in_ok-insert.ensures.items).present
+returns-clause-present c = (put c).present
 
 pub returns-clause-held : goal.returns-clause-held
-returns-clause-held c =
-    (put_kept c.args.sizes.now c.args.runs.now.items c.deref.result.now c.insert.new.self.items c.runs_before-place.result c.args.extent c.requires.apart c.requires.clear c.deref.ensures.value
-    c.runs_before-place.ensures.bound c.runs_before-place.ensures.before c.runs_before-place.ensures.others c.in_ok-insert.ensures.items).held
+returns-clause-held c = (put c).held
 
 pub returns-clause-before : goal.returns-clause-before
 returns-clause-before c =

@@ -3,7 +3,7 @@ use Rattle.std.specs.Prelude.{nat_lt}
 use Rattle.std.proofs.lemmas.Bool.{ltb-true, ltb-false}
 use Rattle.std.proofs.lemmas.List.Sorted.{IsPartitionedBy-ltb, IsPartitionPoint-from_clause}
 use Rattle.qg_super.specs.Places.{data_begin}
-use Rattle.qg_space.specs.declared.runs.Run.{Run}
+use Rattle.qg_space.specs.Run.{Run}
 use Rattle.qg_space.proofs.Apart.{addresses_rise}
 use Rattle.qg_space.proofs.runs.runs_before.Goals as goal
 

@@ -1,15 +1,11 @@
 use Rattle.std.proofs.Common.{◌≡◌, ℕ, ◌+◌, ◌*◌, ◌/◌, ◌%◌, ◌≤◌, List, ◌∷◌, ◌∙◌, ap, arith, length, map, subst, sym}
-use Rattle.std.specs.List.{All, count_by}
 use Rattle.std.proofs.lemmas.Bool.{eqb-true}
 use Rattle.qg_num.specs.declared.piece.Piece.{Piece}
 use Rattle.qg_super.specs.Places.{sector}
 use Rattle.qg_image.specs.declared.file.File.{File}
 use Rattle.qg_state.specs.declared.element.Element.{Element}
 use Rattle.qg_state.specs.Reach.{extent_of}
-use Rattle.qg_verdict.specs.Verdict.{same_extent}
-use Rattle.qg_image.specs.Table.{value_at}
-use Rattle.qg_machine.specs.FileChange.{pieces_or_none}
-use Rattle.qg_named.specs.Named.{HasOneMore, named_count}
+use Rattle.qg_named.specs.Named.{HasOneMore}
 use Rattle.qg_space.specs.Holding.{Holding, with_run}
 use Rattle.qg_store.specs.Held.{HasMore}
 use Rattle.qg_store.specs.Keeping.{IsKept}
@@ -17,9 +13,9 @@ use Rattle.qg_store.specs.Writing.{files_written}
 use Rattle.qg_store.proofs.HeldNamed.{beside_taken, beside_then}
 use Rattle.qg_store.proofs.Light.{next_fits}
 use Rattle.qg_store.proofs.Counted.{one_most}
-use Rattle.qg_store.proofs.Edited.{all_gone, edited_named, gone_named, kept_room, pieces_whole}
+use Rattle.qg_store.proofs.Edited.{edited_named, gone_named, gone_whole, kept_room}
 use Rattle.qg_store.proofs.KeptWritten.{exchange_written, extent_at, kept_written, taken_held, written_apart}
-use Rattle.qg_store.proofs.More.{more_first}
+use Rattle.qg_store.proofs.More.{more_first, more_read}
 use Rattle.qg_store.proofs.putting.put_extent.Goals as goal
 
 pub overflow_add-value : goal.overflow_add-value
@@ -43,19 +39,16 @@ taken holding new run len aligned is =
 -- what more is named then
 more : (old between new : List (Element × ℕ)) (slice rests : List Piece) (extent : Element) → slice ≡ rests → HasOneMore old between extent → HasMore between new (map extent_of slice)
     → HasMore old new (extent ∷ map extent_of rests)
-more old between new slice rests extent is one has =
-    more_first old between new extent (map extent_of rests) one (subst (λ (pieces : List Piece). HasMore between new (map extent_of pieces)) is has)
+more old between new slice rests extent is one has = more_first old between new extent (map extent_of rests) one (more_read between new slice rests is has)
 
 pub drop_names-requires-clause-named : goal.drop_names-requires-clause-named
 drop_names-requires-clause-named c =
     let old = c.args.kept.now in
     let split = c.args.split.now in
     let has_more = more old.named c.add.new.self c.add_names.new.named c.as_slice.result.now split.rests (extent_at c.args.run c.args.len) c.as_slice.ensures c.in_ok-add.ensures.ok c.in_ok-add_names.ensures in
-    let Named : List Piece → Type 0 = λ pieces. (extent : Element) → count_by (same_extent extent) (map extent_of pieces) ≤ named_count c.add_names.new.named extent in
-    subst Named (sym c.as_slice-2.ensures)
-    (gone_named old c.add_names.new.named (files_written (old.superblock.generation + 1) c.args.ino c.args.off c.args.len c.args.run old.files) (map extent_of split.gone)
-    (extent_at c.args.run c.args.len ∷ map extent_of split.rests) c.requires.kept
-    (exchange_written old c.args.ino c.args.off c.args.len c.args.run split.gone split.rests c.requires.kept c.requires.split) has_more)
+    gone_named old c.add_names.new.named (files_written (old.superblock.generation + 1) c.args.ino c.args.off c.args.len c.args.run old.files) c.as_slice-2.result.now split.gone
+    (extent_at c.args.run c.args.len ∷ map extent_of split.rests) c.requires.kept c.as_slice-2.ensures
+    (exchange_written old c.args.ino c.args.off c.args.len c.args.run split.gone split.rests c.requires.kept c.requires.split) has_more
 
 pub drop_names-requires-clause-held : goal.drop_names-requires-clause-held
 drop_names-requires-clause-held c =
@@ -67,10 +60,7 @@ drop_names-requires-clause-held c =
 
 pub drop_names-requires-clause-whole : goal.drop_names-requires-clause-whole
 drop_names-requires-clause-whole c =
-    let Whole : List Piece → Type 0 = λ pieces. All (λ (piece : Piece). piece.extent_bytes % sector ≡ 0) pieces in
-    subst Whole (sym c.as_slice-2.ensures)
-    (all_gone (λ (piece : Piece). piece.extent_bytes % sector ≡ 0) c.args.off (c.args.off + c.args.len) (pieces_or_none (value_at c.args.ino c.args.kept.now.files))
-    c.args.split.now.gone c.args.split.now.rests c.requires.split (pieces_whole c.args.kept.now c.args.ino c.requires.kept))
+    gone_whole c.args.kept.now c.args.ino c.args.off (c.args.off + c.args.len) c.as_slice-2.result.now c.args.split.now.gone c.args.split.now.rests c.requires.kept c.as_slice-2.ensures c.requires.split
 
 pub returns-clause-kept : goal.returns-clause-kept
 returns-clause-kept c =
@@ -83,9 +73,7 @@ returns-clause-kept c =
     let now = c.drop_names.new in
     let has_more = more old.named c.add.new.self c.add_names.new.named c.as_slice.result.now split.rests (extent_at run len) c.as_slice.ensures c.in_ok-add.ensures.ok c.in_ok-add_names.ensures in
     let is = taken old.space c.take_run.new.self run len (eqb-true (len % sector) 0 c.requires.range.len_aligned) c.in_ok-take_run.ensures.ok in
-    let less : HasMore now.named c.add_names.new.named (map extent_of split.gone) =
-    subst (λ (pieces : List Piece). HasMore now.named c.add_names.new.named (map extent_of pieces)) c.as_slice-2.ensures c.drop_names.ensures.less
-    in
+    let less = more_read now.named c.add_names.new.named c.as_slice-2.result.now split.gone c.as_slice-2.ensures c.drop_names.ensures.less in
     let beside = beside_then old.space c.take_run.new.self now.space (beside_taken old.space c.take_run.new.self (with_run (extent_at run len) old.space.runs) is) c.drop_names.ensures.beside in
     let are =
     edited_named old c.add_names.new.named now.named (files_written (old.superblock.generation + 1) ino off len run old.files) (map extent_of split.gone) (extent_at run len ∷ map extent_of split.rests)

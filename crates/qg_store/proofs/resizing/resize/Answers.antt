@@ -1,21 +1,14 @@
-use Rattle.std.proofs.Common.{◌≡◌, ℕ, ◌+◌, ◌%◌, ◌≤◌, List, ◌∙◌, ap, arith, length, map, refl, subst, sym}
-use Rattle.std.specs.List.{All, count_by}
+use Rattle.std.proofs.Common.{◌≡◌, ℕ, ◌+◌, ◌≤◌, List, ◌∙◌, ap, arith, length, map, refl, subst, sym}
 use Rattle.qg_num.specs.declared.piece.Piece.{Piece}
-use Rattle.qg_super.specs.Places.{sector}
 use Rattle.qg_image.specs.declared.file.File.{File}
-use Rattle.qg_image.specs.Table.{value_at}
-use Rattle.qg_state.specs.declared.element.Element.{Element}
 use Rattle.qg_state.specs.Reach.{extent_of}
-use Rattle.qg_verdict.specs.Verdict.{same_extent}
-use Rattle.qg_machine.specs.FileChange.{pieces_or_none}
-use Rattle.qg_named.specs.Named.{named_count}
 use Rattle.qg_space.specs.Holding.{Holding}
 use Rattle.qg_store.specs.Editing.{files_cut}
-use Rattle.qg_store.specs.Held.{HasMore}
 use Rattle.qg_store.specs.Keeping.{IsKept}
 use Rattle.qg_store.proofs.CutFiles.{by_cut, cut_changed, exchange_cut, rests_known, writable_cut}
-use Rattle.qg_store.proofs.Edited.{all_gone, edited_apart, edited_named, gone_named, kept_edited, kept_room, more_held, pieces_whole}
+use Rattle.qg_store.proofs.Edited.{edited_apart, edited_named, gone_named, gone_whole, kept_edited, kept_room, more_held}
 use Rattle.qg_store.proofs.Light.{next_fits}
+use Rattle.qg_store.proofs.More.{more_read}
 use Rattle.qg_store.proofs.resizing.resize.Goals as goal
 
 pub add_names-requires : goal.add_names-requires
@@ -26,37 +19,26 @@ add_names-requires c other =
 pub overflow_add-value : goal.overflow_add-value
 overflow_add-value c = omega (arith, c.value.ensures, next_fits c.args.kept.now.superblock c.requires.kept.superblock)
 
--- what more is named then
-more : (old new : List (Element × ℕ)) (slice rests : List Piece) → slice ≡ rests → HasMore old new (map extent_of slice) → HasMore old new (map extent_of rests)
-more old new slice rests is has = subst (λ (pieces : List Piece). HasMore old new (map extent_of pieces)) is has
-
 pub drop_names-requires-clause-named : goal.drop_names-requires-clause-named
 drop_names-requires-clause-named c =
     let old = c.args.kept.now in
     let split = c.args.split.now in
     let generation = old.superblock.generation + 1 in
-    let has_more = more old.named c.add_names.new.named c.as_slice.result.now split.rests c.as_slice.ensures c.in_ok-add_names.ensures in
-    let Named : List Piece → Type 0 = λ pieces. (extent : Element) → count_by (same_extent extent) (map extent_of pieces) ≤ named_count c.add_names.new.named extent in
-    subst Named (sym c.as_slice-2.ensures)
-    (gone_named old c.add_names.new.named (files_cut generation c.args.ino c.args.size old.files) (map extent_of split.gone) (map extent_of split.rests) c.requires.kept
-    (exchange_cut generation c.args.ino c.args.size old.files split.gone split.rests c.requires.kept.files.ascending c.requires.split) has_more)
+    let has_more = more_read old.named c.add_names.new.named c.as_slice.result.now split.rests c.as_slice.ensures c.in_ok-add_names.ensures in
+    gone_named old c.add_names.new.named (files_cut generation c.args.ino c.args.size old.files) c.as_slice-2.result.now split.gone (map extent_of split.rests) c.requires.kept c.as_slice-2.ensures
+    (exchange_cut generation c.args.ino c.args.size old.files split.gone split.rests c.requires.kept.files.ascending c.requires.split) has_more
 
 pub drop_names-requires-clause-held : goal.drop_names-requires-clause-held
 drop_names-requires-clause-held c =
     let old = c.args.kept.now in
     let split = c.args.split.now in
-    let has_more = more old.named c.add_names.new.named c.as_slice.result.now split.rests c.as_slice.ensures c.in_ok-add_names.ensures in
+    let has_more = more_read old.named c.add_names.new.named c.as_slice.result.now split.rests c.as_slice.ensures c.in_ok-add_names.ensures in
     more_held old c.add_names.new.named (map extent_of split.rests) c.requires.kept has_more
     (rests_known c.args.ino c.args.size old.files split.gone split.rests c.requires.split)
 
 pub drop_names-requires-clause-whole : goal.drop_names-requires-clause-whole
 drop_names-requires-clause-whole c =
-    let old = c.args.kept.now in
-    let split = c.args.split.now in
-    let Whole : List Piece → Type 0 = λ pieces. All (λ (piece : Piece). piece.extent_bytes % sector ≡ 0) pieces in
-    subst Whole (sym c.as_slice-2.ensures)
-    (all_gone (λ (piece : Piece). piece.extent_bytes % sector ≡ 0) c.args.size c.requires.split.top (pieces_or_none (value_at c.args.ino old.files)) split.gone split.rests
-    c.requires.split.split (pieces_whole old c.args.ino c.requires.kept))
+    gone_whole c.args.kept.now c.args.ino c.args.size c.requires.split.top c.as_slice-2.result.now c.args.split.now.gone c.args.split.now.rests c.requires.kept c.as_slice-2.ensures c.requires.split.split
 
 pub returns-clause-edited : goal.returns-clause-edited
 returns-clause-edited c =
@@ -90,8 +72,8 @@ returns-clause-kept c =
     let gone = map extent_of split.gone in
     let come = map extent_of split.rests in
     let exchange = exchange_cut generation ino size old.files split.gone split.rests c.requires.kept.files.ascending c.requires.split in
-    let has_more = more old.named c.add_names.new.named c.as_slice.result.now split.rests c.as_slice.ensures c.in_ok-add_names.ensures in
-    let less = more now.named c.add_names.new.named c.as_slice-2.result.now split.gone c.as_slice-2.ensures c.drop_names.ensures.less in
+    let has_more = more_read old.named c.add_names.new.named c.as_slice.result.now split.rests c.as_slice.ensures c.in_ok-add_names.ensures in
+    let less = more_read now.named c.add_names.new.named c.as_slice-2.result.now split.gone c.as_slice-2.ensures c.drop_names.ensures.less in
     let are = edited_named old c.add_names.new.named now.named files gone come c.requires.kept exchange has_more less in
     let apart = edited_apart old c.add_names.new.named files gone come c.requires.kept exchange has_more (rests_known ino size old.files split.gone split.rests c.requires.split) in
     let Kept' : List (ℕ × File) → Type 0 = λ cut. IsKept (record old { files = cut; space = now.space; named = now.named; weight = c.args.weight; pending = old.pending + 1 }) in

@@ -1,20 +1,16 @@
-use Rattle.std.proofs.Common.{◌≡◌, ℕ, ◌+◌, ◌%◌, ◌≤◌, List, [], ◌∙◌, Option, Some, ap, map, subst, sym}
-use Rattle.std.specs.List.{All, count_by}
+use Rattle.std.proofs.Common.{◌≡◌, ℕ, ◌+◌, ◌%◌, List, [], ◌∙◌, Option, Some, ap, map, subst, sym}
+use Rattle.std.specs.List.{All}
 use Rattle.qg_num.specs.declared.piece.Piece.{Piece}
 use Rattle.qg_super.specs.Places.{sector}
 use Rattle.qg_image.specs.declared.file.File.{File}
 use Rattle.qg_image.specs.Table.{value_at, without_key}
-use Rattle.qg_state.specs.declared.element.Element.{Element}
 use Rattle.qg_state.specs.Reach.{extent_of}
-use Rattle.qg_verdict.specs.Verdict.{same_extent}
+use Rattle.qg_state.proofs.Contained.{none_contained}
 use Rattle.qg_machine.specs.FileChange.{pieces_or_none}
-use Rattle.qg_named.specs.Named.{named_count}
-use Rattle.qg_reach.proofs.Members.{none_contained}
-use Rattle.qg_store.specs.Held.{HasMore}
 use Rattle.qg_store.specs.Keeping.{IsKept}
 use Rattle.qg_store.proofs.Edited.{edited_apart, edited_named, gone_named, kept_edited, kept_held, pieces_whole}
 use Rattle.qg_store.proofs.LeftFiles.{by_left, exchange_left, writable_left}
-use Rattle.qg_store.proofs.More.{more_none}
+use Rattle.qg_store.proofs.More.{more_none, more_read}
 use Rattle.qg_store.proofs.unlinking.take_away.Goals as goal
 
 -- the pieces that go are all of the file's
@@ -24,10 +20,9 @@ gone found file slice is pieces = pieces ∙ ap pieces_or_none is
 pub drop_names-requires-clause-named : goal.drop_names-requires-clause-named
 drop_names-requires-clause-named c =
     let old = c.args.kept.now in
-    let Named : List Piece → Type 0 = λ pieces. (extent : Element) → count_by (same_extent extent) (map extent_of pieces) ≤ named_count old.named extent in
-    subst Named (sym (gone (value_at c.args.ino old.files) c.in-Some.file.now c.as_slice.result.now (sym c.in-Some.ensures) c.as_slice.ensures))
-    (gone_named old old.named (without_key c.args.ino old.files) (map extent_of (pieces_or_none (value_at c.args.ino old.files))) [] c.requires.kept
-    (exchange_left c.args.ino old.files c.requires.kept.files.ascending) (more_none old.named))
+    gone_named old old.named (without_key c.args.ino old.files) c.as_slice.result.now (pieces_or_none (value_at c.args.ino old.files)) [] c.requires.kept
+    (gone (value_at c.args.ino old.files) c.in-Some.file.now c.as_slice.result.now (sym c.in-Some.ensures) c.as_slice.ensures) (exchange_left c.args.ino old.files c.requires.kept.files.ascending)
+    (more_none old.named)
 
 pub drop_names-requires-clause-held : goal.drop_names-requires-clause-held
 drop_names-requires-clause-held c = kept_held c.args.kept.now c.requires.kept
@@ -47,9 +42,8 @@ returns-clause-kept c =
     let files = without_key ino old.files in
     let all = pieces_or_none (value_at ino old.files) in
     let exchange = exchange_left ino old.files c.requires.kept.files.ascending in
-    let less : HasMore now.named old.named (map extent_of all) =
-    subst (λ (pieces : List Piece). HasMore now.named old.named (map extent_of pieces))
-    (gone (value_at ino old.files) c.in-Some.file.now c.as_slice.result.now (sym c.in-Some.ensures) c.as_slice.ensures) c.drop_names.ensures.less
+    let less =
+    more_read now.named old.named c.as_slice.result.now all (gone (value_at ino old.files) c.in-Some.file.now c.as_slice.result.now (sym c.in-Some.ensures) c.as_slice.ensures) c.drop_names.ensures.less
     in
     let are = edited_named old old.named now.named files (map extent_of all) [] c.requires.kept exchange (more_none old.named) less in
     let apart =

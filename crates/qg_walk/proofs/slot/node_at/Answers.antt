@@ -2,7 +2,8 @@ use Rattle.std.proofs.Common.{◌≡◌, length, arith, sym, ◌∙◌, Ok, Err,
 use Rattle.qg_device.specs.History.{content}
 use Rattle.qg_node.specs.NodeText.{IsNodeSize}
 use Rattle.qg_super.specs.SuperText.{sizes_of}
-use Rattle.qg_walk.proofs.Slots.{AreServed-is_served, slot_inside}
+use Rattle.qg_super.proofs.Served.{SizesFit-is_served}
+use Rattle.qg_walk.proofs.Slots.{slot_inside}
 use Rattle.qg_walk.proofs.Found.{node_found-no_slot, node_found-read}
 use Rattle.qg_walk.proofs.slot.node_at.Goals as goal
 
@@ -20,7 +21,7 @@ read-requires g c =
 pub read_node-requires : goal.read_node-requires
 read_node-requires g c =
     let long : length c.read.new.buf ≡ c.args.superblock.now.nodesize = c.read.auto.buf ∙ c.requires.buffer in
-    subst IsNodeSize (sym long) (AreServed-is_served (sizes_of c.args.superblock.now) c.requires.served).nodesize
+    subst IsNodeSize (sym long) (SizesFit-is_served (sizes_of c.args.superblock.now) c.requires.served).node_size
 
 pub returns-in-Ok-clause-told : goal.returns-in-Ok-clause-told
 returns-in-Ok-clause-told g c events told =

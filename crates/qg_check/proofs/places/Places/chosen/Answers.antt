@@ -2,7 +2,7 @@ use Rattle.std.proofs.Common.{Option, Some, None, Bool, true, false, cond, sym, 
 use Rattle.std.specs.Prelude.{IfSome, IsTrue, nat_lt}
 use Rattle.qg_super.specs.declared.superblock.Super.{Super}
 use Rattle.qg_super.specs.Places.{is_served}
-use Rattle.qg_super.specs.SuperText.{is_super, sizes_of, choose}
+use Rattle.qg_super.specs.SuperText.{sizes_of, choose}
 use Rattle.qg_super.proofs.Served.{SuperFits-is_super}
 use Rattle.qg_check.specs.Stages.{FieldsFit}
 use Rattle.qg_check.proofs.places.Places.chosen.Goals as goal

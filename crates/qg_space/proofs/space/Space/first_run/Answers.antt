@@ -1,7 +1,7 @@
 use Rattle.std.proofs.Common.{◌*◌, sym, ap, ◌∙◌, arith, List}
 use Rattle.qg_super.specs.Places.{data_begin, sector}
 use Rattle.qg_super.proofs.Served.{SizesFit-is_served}
-use Rattle.qg_space.specs.declared.runs.Run.{Run}
+use Rattle.qg_space.specs.Run.{Run}
 use Rattle.qg_space.specs.Holding.{Holding, first_run, first_clear}
 use Rattle.qg_space.specs.Lying.{extents_of}
 use Rattle.qg_space.proofs.Gaps.{none_of_none, none_of_too_many}

@@ -2,7 +2,7 @@ use Rattle.std.proofs.Common.{◌*◌, List, subst, sym, ap, ◌∙◌, arith}
 use Rattle.qg_super.specs.Places.{data_begin, sector}
 use Rattle.qg_super.proofs.Served.{SizesFit-is_served}
 use Rattle.qg_space.specs.Holding.{Holding, is_free_run}
-use Rattle.qg_space.specs.declared.runs.Run.{Run}
+use Rattle.qg_space.specs.Run.{Run}
 use Rattle.qg_space.specs.Lying.{IsFront}
 use Rattle.qg_space.proofs.Fronts.{front_kept}
 use Rattle.qg_space.proofs.Used.{is_clear_used, clear_within}

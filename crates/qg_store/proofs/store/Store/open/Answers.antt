@@ -3,6 +3,9 @@ use Rattle.qg_device.specs.History.{Synced, content}
 use Rattle.qg_commit.specs.Opening.{with_repair}
 use Rattle.qg_store.proofs.store.Store.open.Goals as goal
 
+pub returns-in-Ok-clause-sound : goal.returns-in-Ok-clause-sound
+returns-in-Ok-clause-sound g c = λ events told. (c.in_ok-image.ensures.image events told).sound
+
 pub returns-in-Ok-clause-opened : goal.returns-in-Ok-clause-opened
 returns-in-Ok-clause-opened g c = λ events state told stands. record {
   running = refl;
