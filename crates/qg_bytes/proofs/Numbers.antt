@@ -3,10 +3,10 @@ use Rattle.std.proofs.Common.{◌≡◌, ℕ, zero, suc, ◌+◌, ◌-◌, ◌^�
 use Rattle.std.specs.Int.{bytes_low_first}
 use Rattle.std.proofs.lemmas.Bool.{cases_lt}
 use Rattle.std.proofs.lemmas.List.{drop-drop, drop_at, get_or_append_left, get_or-append_right, get_or-drop, get_or_past, get_or-replicate, get_or-take, length-drop, length-replicate, length-take}
-use Rattle.std.proofs.lemmas.Nat.{le_bytes_2, le_bytes_4, le_bytes_8}
+use Rattle.std.proofs.lemmas.Nat.{le_bytes_4, le_bytes_8}
 use Rattle.byteorder.specs.Endian.{little_bytes, little_number}
 use Rattle.byteorder.specs.Numbers.{little_from-lt, little_number-reads_back}
-use Rattle.qg_bytes.specs.Fields.{IsBytes, u16_bytes, u32_bytes, u64_bytes, u16_at, u32_at, u64_at, zeros}
+use Rattle.qg_bytes.specs.Fields.{IsBytes, u16_bytes, u32_bytes, u64_bytes, u32_at, u64_at, zeros}
 
 -- ---- how many bytes a number has
 
@@ -17,10 +17,6 @@ length-u64_bytes n = refl
 pub length-u32_bytes : (n : ℕ) → length (u32_bytes n) ≡ 4
 unfolding u32_bytes
 length-u32_bytes n = refl
-
-pub length-u16_bytes : (n : ℕ) → length (u16_bytes n) ≡ 2
-unfolding u16_bytes
-length-u16_bytes n = refl
 
 -- ---- which lists are bytes
 
@@ -73,10 +69,6 @@ pub u32_at-u32_bytes : (place n : ℕ) (front rest : List ℕ) → length front 
 unfolding u32_at u32_bytes
 u32_at-u32_bytes place n front rest long fits = ap (little_number 4) (drop_at front (little_bytes 4 n ++ rest) place long) ∙ little_number-reads_back 4 n rest fits
 
-pub u16_at-u16_bytes : (place n : ℕ) (front rest : List ℕ) → length front ≡ place → n < 2 ^ 16 → u16_at place (front ++ (u16_bytes n ++ rest)) ≡ n
-unfolding u16_at u16_bytes
-u16_at-u16_bytes place n front rest long fits = ap (little_number 2) (drop_at front (little_bytes 2 n ++ rest) place long) ∙ little_number-reads_back 2 n rest fits
-
 -- two numbers with the same bytes are one
 pub u64_bytes_cancel : (m n : ℕ) → m < 2 ^ 64 → n < 2 ^ 64 → u64_bytes m ≡ u64_bytes n → m ≡ n
 u64_bytes_cancel m n fits_m fits_n same =
@@ -85,10 +77,6 @@ u64_bytes_cancel m n fits_m fits_n same =
 pub u32_bytes_cancel : (m n : ℕ) → m < 2 ^ 32 → n < 2 ^ 32 → u32_bytes m ≡ u32_bytes n → m ≡ n
 u32_bytes_cancel m n fits_m fits_n same =
     sym (u32_at-u32_bytes 0 m [] [] refl fits_m) ∙ ap (λ (bytes : List ℕ). u32_at 0 (bytes ++ [])) same ∙ u32_at-u32_bytes 0 n [] [] refl fits_n
-
-pub u16_bytes_cancel : (m n : ℕ) → m < 2 ^ 16 → n < 2 ^ 16 → u16_bytes m ≡ u16_bytes n → m ≡ n
-u16_bytes_cancel m n fits_m fits_n same =
-    sym (u16_at-u16_bytes 0 m [] [] refl fits_m) ∙ ap (λ (bytes : List ℕ). u16_at 0 (bytes ++ [])) same ∙ u16_at-u16_bytes 0 n [] [] refl fits_n
 
 -- ---- a number that was read gives its bytes back
 
@@ -102,11 +90,6 @@ four bytes are long =
     le_bytes_4 (take 4 bytes) (little_number 4 bytes) (omega (arith, length-take 4 bytes)) (IsBytes-take 4 bytes are)
     (omega (arith, get_or-take 4 bytes 0 0 (lit< tt), get_or-take 4 bytes 1 0 (lit< tt), get_or-take 4 bytes 2 0 (lit< tt), get_or-take 4 bytes 3 0 (lit< tt)))
 
-two : (bytes : List ℕ) → IsBytes bytes → 2 ≤ length bytes → little_bytes 2 (little_number 2 bytes) ≡ take 2 bytes
-two bytes are long =
-    le_bytes_2 (take 2 bytes) (little_number 2 bytes) (omega (arith, length-take 2 bytes)) (IsBytes-take 2 bytes are)
-    (omega (arith, get_or-take 2 bytes 0 0 (lit< tt), get_or-take 2 bytes 1 0 (lit< tt)))
-
 pub u64_bytes-u64_at : (place : ℕ) (bytes : List ℕ) → IsBytes bytes → place + 8 ≤ length bytes → u64_bytes (u64_at place bytes) ≡ take 8 (drop place bytes)
 unfolding u64_bytes u64_at
 u64_bytes-u64_at place bytes are within = eight (drop place bytes) (IsBytes-drop place bytes are) (omega (arith, length-drop place bytes))
@@ -114,10 +97,6 @@ u64_bytes-u64_at place bytes are within = eight (drop place bytes) (IsBytes-drop
 pub u32_bytes-u32_at : (place : ℕ) (bytes : List ℕ) → IsBytes bytes → place + 4 ≤ length bytes → u32_bytes (u32_at place bytes) ≡ take 4 (drop place bytes)
 unfolding u32_bytes u32_at
 u32_bytes-u32_at place bytes are within = four (drop place bytes) (IsBytes-drop place bytes are) (omega (arith, length-drop place bytes))
-
-pub u16_bytes-u16_at : (place : ℕ) (bytes : List ℕ) → IsBytes bytes → place + 2 ≤ length bytes → u16_bytes (u16_at place bytes) ≡ take 2 (drop place bytes)
-unfolding u16_bytes u16_at
-u16_bytes-u16_at place bytes are within = two (drop place bytes) (IsBytes-drop place bytes are) (omega (arith, length-drop place bytes))
 
 -- a number that was read is in range
 pub u64_at-lt : (place : ℕ) (bytes : List ℕ) → IsBytes bytes → u64_at place bytes < 2 ^ 64
@@ -128,10 +107,6 @@ pub u32_at-lt : (place : ℕ) (bytes : List ℕ) → IsBytes bytes → u32_at pl
 unfolding u32_at
 u32_at-lt place bytes are = little_from-lt 0 4 (drop place bytes) (IsBytes-drop place bytes are)
 
-pub u16_at-lt : (place : ℕ) (bytes : List ℕ) → IsBytes bytes → u16_at place bytes < 2 ^ 16
-unfolding u16_at
-u16_at-lt place bytes are = little_from-lt 0 2 (drop place bytes) (IsBytes-drop place bytes are)
-
 -- ---- a number in a part of a text
 
 pub u64_at-drop : (place from : ℕ) (bytes : List ℕ) → u64_at place (drop from bytes) ≡ u64_at (from + place) bytes
@@ -141,7 +116,3 @@ u64_at-drop place from bytes = ap (little_number 8) (drop-drop place from bytes)
 pub u32_at-drop : (place from : ℕ) (bytes : List ℕ) → u32_at place (drop from bytes) ≡ u32_at (from + place) bytes
 unfolding u32_at
 u32_at-drop place from bytes = ap (little_number 4) (drop-drop place from bytes)
-
-pub u16_at-drop : (place from : ℕ) (bytes : List ℕ) → u16_at place (drop from bytes) ≡ u16_at (from + place) bytes
-unfolding u16_at
-u16_at-drop place from bytes = ap (little_number 2) (drop-drop place from bytes)

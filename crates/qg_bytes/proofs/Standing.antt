@@ -7,8 +7,8 @@ use Rattle.std.proofs.lemmas.List.{append-nil, append_assoc, drop-append-le, dro
 use Rattle.std.proofs.lemmas.List.Folds.{drop_split}
 use Rattle.std.proofs.Math.Seq.{drop-cons}
 use Rattle.byteorder.specs.Endian.{little_number}
-use Rattle.qg_bytes.specs.Fields.{IsBytes, u16_bytes, u32_bytes, u64_bytes, u16_at, u32_at, u64_at, is_zero, zeros}
-use Rattle.qg_bytes.proofs.Numbers.{u16_at-u16_bytes, u16_bytes-u16_at, u32_at-u32_bytes, u32_bytes-u32_at, u64_at-u64_bytes, u64_bytes-u64_at}
+use Rattle.qg_bytes.specs.Fields.{IsBytes, u32_bytes, u64_bytes, u32_at, u64_at, is_zero, zeros}
+use Rattle.qg_bytes.proofs.Numbers.{u32_at-u32_bytes, u32_bytes-u32_at, u64_at-u64_bytes, u64_bytes-u64_at}
 
 pub record Stands (bytes : List ℕ) (from to : ℕ) (text : List ℕ) : Type 0 where
   pub is : drop from bytes ≡ text ++ drop to bytes
@@ -85,9 +85,6 @@ u64_stands bytes a are within = first_n bytes (u64_bytes (u64_at a bytes)) a 8 w
 pub u32_stands : (bytes : List ℕ) (a : ℕ) → IsBytes bytes → a + 4 ≤ length bytes → Stands bytes a (a + 4) (u32_bytes (u32_at a bytes))
 u32_stands bytes a are within = first_n bytes (u32_bytes (u32_at a bytes)) a 4 within (u32_bytes-u32_at a bytes are within)
 
-pub u16_stands : (bytes : List ℕ) (a : ℕ) → IsBytes bytes → a + 2 ≤ length bytes → Stands bytes a (a + 2) (u16_bytes (u16_at a bytes))
-u16_stands bytes a are within = first_n bytes (u16_bytes (u16_at a bytes)) a 2 within (u16_bytes-u16_at a bytes are within)
-
 pub byte_stands : (bytes : List ℕ) (a : ℕ) → a < length bytes → Stands bytes a (a + 1) (slice_index bytes a ∷ [])
 byte_stands bytes a within = record { is = rw (add-one, drop-cons bytes a 0) refl; long = refl }
 
@@ -124,10 +121,6 @@ pub u32_at-in_front : (bytes : List ℕ) (a n : ℕ) (rest : List ℕ) → n < 2
 unfolding u32_at
 u32_at-in_front bytes a n rest fits is = ap (little_number 4) is ∙ u32_at-u32_bytes 0 n [] rest refl fits
 
-pub u16_at-in_front : (bytes : List ℕ) (a n : ℕ) (rest : List ℕ) → n < 2 ^ 16 → drop a bytes ≡ u16_bytes n ++ rest → u16_at a bytes ≡ n
-unfolding u16_at
-u16_at-in_front bytes a n rest fits is = ap (little_number 2) is ∙ u16_at-u16_bytes 0 n [] rest refl fits
-
 pub slice_index-in_front : (bytes : List ℕ) (a byte : ℕ) (rest : List ℕ) → drop a bytes ≡ byte ∷ rest → slice_index bytes a ≡ byte
 slice_index-in_front bytes a byte rest is =
     let here : a + 0 ≡ a = omega arith in
@@ -149,9 +142,6 @@ u64_at-stands {bytes = bytes} {a = a} {b = b} n fits stands = u64_at-in_front by
 
 pub u32_at-stands : {bytes : List ℕ} {a b : ℕ} (n : ℕ) → n < 2 ^ 32 → Stands bytes a b (u32_bytes n) → u32_at a bytes ≡ n
 u32_at-stands {bytes = bytes} {a = a} {b = b} n fits stands = u32_at-in_front bytes a n (drop b bytes) fits stands.is
-
-pub u16_at-stands : {bytes : List ℕ} {a b : ℕ} (n : ℕ) → n < 2 ^ 16 → Stands bytes a b (u16_bytes n) → u16_at a bytes ≡ n
-u16_at-stands {bytes = bytes} {a = a} {b = b} n fits stands = u16_at-in_front bytes a n (drop b bytes) fits stands.is
 
 pub slice_index-stands : {bytes text : List ℕ} {a b byte : ℕ} → Stands bytes a b (byte ∷ text) → slice_index bytes a ≡ byte
 slice_index-stands {bytes = bytes} {text = text} {a = a} {b = b} {byte = byte} stands = slice_index-in_front bytes a byte (text ++ drop b bytes) stands.is

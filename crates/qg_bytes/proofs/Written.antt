@@ -3,8 +3,8 @@ use Rattle.std.proofs.Common.{◌≡◌, ℕ, ◌+◌, ◌≤◌, ◌<◌, List,
 use Rattle.std.proofs.lemmas.List.{append-nil, append_assoc, drop-drop, drop_all, drop_at, length-append, length-drop, length-replicate, length-take, length-take-le, set_split, take-append-drop, take-append-le, take-take, take_at}
 use Rattle.std.proofs.lemmas.Slice.{between_is, drop-put_mid}
 use Rattle.std.specs.Prelude.{slice_range}
-use Rattle.qg_bytes.specs.Fields.{u16_bytes, u32_bytes, u64_bytes, zeros}
-use Rattle.qg_bytes.proofs.Numbers.{length-u16_bytes, length-u32_bytes, length-u64_bytes}
+use Rattle.qg_bytes.specs.Fields.{u32_bytes, u64_bytes, zeros}
+use Rattle.qg_bytes.proofs.Numbers.{length-u32_bytes, length-u64_bytes}
 use Rattle.qg_bytes.proofs.Standing.{Stands, Stands-in_front, slice_range-stands, slice_stands}
 
 -- ---- one piece
@@ -114,10 +114,6 @@ Written-u64 n new so_far is = Written-put 8 (u64_bytes n) new so_far (length-u64
 pub Written-u32 : {old mid text : List ℕ} {place : ℕ} (n : ℕ) (new : List ℕ) → Written old mid place text
     → new ≡ take place mid ++ (u32_bytes n ++ drop (place + 4) mid) → Written old new (place + 4) (text ++ u32_bytes n)
 Written-u32 n new so_far is = Written-put 4 (u32_bytes n) new so_far (length-u32_bytes n) is
-
-pub Written-u16 : {old mid text : List ℕ} {place : ℕ} (n : ℕ) (new : List ℕ) → Written old mid place text
-    → new ≡ take place mid ++ (u16_bytes n ++ drop (place + 2) mid) → Written old new (place + 2) (text ++ u16_bytes n)
-Written-u16 n new so_far is = Written-put 2 (u16_bytes n) new so_far (length-u16_bytes n) is
 
 pub Written-zeros : {old mid text : List ℕ} {place : ℕ} (n : ℕ) (new : List ℕ) → Written old mid place text
     → new ≡ take place mid ++ (zeros n ++ drop (place + n) mid) → Written old new (place + n) (text ++ zeros n)

@@ -21,15 +21,12 @@ u16_bytes n = little_bytes 2 n
 abbrev pub zeros : ℕ → List ℕ
 zeros n = replicate n 0
 
--- the number in the 8, 4 or 2 bytes from a place on
+-- the number in the 8 or 4 bytes from a place on
 unfoldable pub u64_at : ℕ → List ℕ → ℕ
 u64_at place bytes = little_number 8 (drop place bytes)
 
 unfoldable pub u32_at : ℕ → List ℕ → ℕ
 u32_at place bytes = little_number 4 (drop place bytes)
-
-unfoldable pub u16_at : ℕ → List ℕ → ℕ
-u16_at place bytes = little_number 2 (drop place bytes)
 
 -- the bytes from one place to another are 0
 abbrev pub is_zero : ℕ → ℕ → List ℕ → Bool

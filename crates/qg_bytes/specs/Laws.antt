@@ -1,4 +1,4 @@
--- What reading and writing a number are to each other.
+-- What reading and writing a number are to each other (this project's own).
 use Rattle.std.specs.Prelude.{◌≡◌, ℕ, ◌+◌, ◌^◌, ◌<◌, ◌≤◌, List, ◌++◌, length, take, drop}
 use Rattle.qg_bytes.specs.Fields.{IsBytes}
 

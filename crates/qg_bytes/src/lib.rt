@@ -9,8 +9,8 @@ mod reading;
 mod writing;
 
 pub use laws::{reads_back, writes_back};
-pub use reading::{is_zero, u16_at, u32_at, u64_at};
-pub use writing::{put_bytes, put_u16, put_u32, put_u64, put_zeros};
+pub use reading::{is_zero, u32_at, u64_at};
+pub use writing::{put_bytes, put_u32, put_u64, put_zeros};
 
 #[cfg(test)]
 mod tests;

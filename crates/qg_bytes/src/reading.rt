@@ -1,17 +1,8 @@
 // Fields read at a place.
 ghost use Rattle.std.specs.Prelude.{◌≡◌, ◌+◌, ◌≤◌, length};
-ghost use Rattle.qg_bytes.specs.Fields.{u16_at, u32_at, u64_at, is_zero};
+ghost use Rattle.qg_bytes.specs.Fields.{u32_at, u64_at, is_zero};
 
 use byteorder::{ByteOrder, LittleEndian};
-
-/// The number in the two bytes from a place on, the lowest byte first (on-disk format, little-endian).
-#[tactic(auto, unfolding(crate::specs::Fields::u16_at))]
-pub fn u16_at(bytes: &[u8], place: usize) -> u16
-    requires { place + 2 ≤ length bytes.now }
-    ensures { result ≡ u16_at place bytes.now }
-{
-    LittleEndian::read_u16(&bytes[place..])
-}
 
 /// The number in the four bytes from a place on, the lowest byte first (on-disk format, little-endian).
 #[tactic(auto, unfolding(crate::specs::Fields::u32_at))]

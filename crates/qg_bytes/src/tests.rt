@@ -31,11 +31,9 @@ fn numbers_and_their_bytes(rt: HostRuntime) {
     let mut bytes = [0xee; 8];
     put_zeros(&mut bytes, 0, 1);
     put_u32(&mut bytes, 1, 0xe3069283);
-    put_u16(&mut bytes, 5, 258);
-    put_bytes(&mut bytes, 7, &[9]);
+    put_bytes(&mut bytes, 5, &[2, 1, 9]);
     assert_eq!(rt; bytes, [0x00, 0x83, 0x92, 0x06, 0xe3, 0x02, 0x01, 0x09]);
     assert_eq!(rt; u32_at(&bytes, 1), 0xe3069283);
-    assert_eq!(rt; u16_at(&bytes, 5), 258);
 
     let ranges = [
         (0, 1, true),

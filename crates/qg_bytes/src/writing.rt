@@ -1,18 +1,8 @@
 // Fields written at a place.
 ghost use Rattle.std.specs.Prelude.{◌≡◌, ◌+◌, ◌≤◌, ◌++◌, take, drop, length};
-ghost use Rattle.qg_bytes.specs.Fields.{u16_bytes, u32_bytes, u64_bytes, zeros};
+ghost use Rattle.qg_bytes.specs.Fields.{u32_bytes, u64_bytes, zeros};
 
 use byteorder::{ByteOrder, LittleEndian};
-
-/// Writes a number into the two bytes from a place on, the lowest byte first (on-disk format, little-endian).
-#[tactic(auto, unfolding(crate::specs::Fields::u16_bytes))]
-pub fn put_u16(bytes: &mut [u8], place: usize, number: u16)
-    requires { place + 2 ≤ length bytes.old }
-    ensures { bytes.new ≡ take place bytes.old ++ (u16_bytes number ++ drop (place + 2) bytes.old) }
-{
-    let (_, behind) = bytes.split_at_mut(place);
-    LittleEndian::write_u16(behind, number);
-}
 
 /// Writes a number into the four bytes from a place on, the lowest byte first (on-disk format, little-endian).
 #[tactic(auto, unfolding(crate::specs::Fields::u32_bytes))]

@@ -1,6 +1,6 @@
 -- What items say, where each says something.
-use Rattle.std.proofs.Common.{◌≡◌, ℕ, List, [], ◌∷◌, map, refl, ap, subst}
-use Rattle.std.specs.Prelude.{Option, Some, None, Result, Ok, Err, IfOk}
+use Rattle.std.proofs.Common.{◌≡◌, ℕ, List, [], ◌∷◌, map, refl, ap}
+use Rattle.std.specs.Prelude.{Option, Some, None}
 use Rattle.std.specs.List.{filter_map}
 use Rattle.qg_node.specs.declared.item.Item.{Item}
 use Rattle.qg_items.specs.declared.root.RootItem.{RootItem}
@@ -11,9 +11,7 @@ use Rattle.qg_verdict.specs.declared.tree.Tree.{Tree}
 use Rattle.qg_verdict.specs.declared.tree.Tree.TheVariants.{Roots, Quotas}
 use Rattle.qg_verdict.specs.Walk.{root_expected, root_told}
 use Rattle.qg_verdict.specs.StateOf.{roots_in, tree_items, items_of_root, quota_parts}
-use Rattle.qg_num.specs.declared.fault.NoMemory.{NoMemory}
 use Rattle.qg_walk.specs.IsWalk.{IsWalk}
-use Rattle.qg_check.specs.Stages.{given_of}
 
 -- the parts are what is said, and nothing was left out
 pub filter_map_said : {P : Type 0} (meaning : Item → Option P) (items : List Item) (parts : List P) → map meaning items ≡ map (λ part. Some part) parts → filter_map meaning items ≡ parts
@@ -42,11 +40,6 @@ unfolding quota_parts
 quota_parts_of super image root there = rw there refl
 
 -- ---- answers
-
--- what holds of the answer of a call that can only want memory
-pub given_ok : {T : Type 0} (P : T → Type 0) (answer : Result T NoMemory) (value : T) → given_of answer ≡ Ok value → IfOk answer P → P value
-given_ok P (Ok other) value is holds = let same : other ≡ value = cc in subst P same holds
-given_ok P (Err fault) value is holds = absurd cc
 
 -- an answer that is not something is nothing
 pub is_none : {A : Type 0} (found : Option A) → ((x : A) → found ≡ Some x → ⊥) → found ≡ None

@@ -31,7 +31,7 @@ state_kept image layout = as_committed image.others (record {
   layout = layout;
   quota = Some image.quota;
   pending = [];
-  held = record { nodes = []; extents = []; records = [] };
+  held = record { nodes = []; others = []; extents = []; records = [] };
 })
 
 -- this is kept of bytes with this superblock: the state that they stand for, the only subvolume, and where its nodes and extents lie

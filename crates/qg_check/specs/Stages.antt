@@ -1,6 +1,5 @@
 -- The rules of an image by the part that they look at, in their order (this project's own).
-use Rattle.std.specs.Prelude.{ℕ, List, [], ◌∷◌, length, Option, Some, None, Result, Ok, Err, nat_le, IsTrue}
-use Rattle.qg_num.specs.declared.fault.NoMemory.{NoMemory}
+use Rattle.std.specs.Prelude.{ℕ, List, [], ◌∷◌, length, Option, Some, None, nat_le, IsTrue}
 use Rattle.qg_num.specs.declared.rule.Rule.TheVariants as rule
 use Rattle.qg_items.specs.declared.root.RootItem.{RootItem}
 use Rattle.qg_super.specs.declared.superblock.Super.{Super}
@@ -13,8 +12,6 @@ use Rattle.qg_verdict.specs.Failure.{kept, first_failure}
 use Rattle.qg_verdict.specs.Walk.{root_expected, root_told, tree_failure}
 use Rattle.qg_verdict.specs.StateOf.{roots_in, state_in, subvolume_roots}
 use Rattle.qg_verdict.specs.Verdict.{are_mirrored, are_roots, counts_failure, extent_set, most_subvolumes, quota_failure, space_failure, subvolume_failure}
-use Rattle.qg_walk.specs.declared.fault.WalkFault.{WalkFault}
-use Rattle.qg_walk.specs.declared.fault.WalkFault.TheVariants as walk
 use Rattle.qg_check.specs.declared.trees.Trees.{Trees}
 
 -- its length, and its two superblocks
@@ -52,8 +49,3 @@ trees_failure super image trees = first_failure
 -- the fields are some that a superblock may have
 abbrev pub FieldsFit : Super → Type 0
 FieldsFit super = IsTrue (is_super super)
-
--- the answer of a call that can only want memory
-abbrev pub given_of : {T : Type 0} → Result T NoMemory → Result T WalkFault
-given_of (Ok value) = Ok value
-given_of (Err fault) = Err walk.NoMemory

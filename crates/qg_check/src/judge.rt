@@ -12,7 +12,7 @@ ghost use Rattle.qg_check.specs.IsImage.{IsKept, Keeps};
 
 use crate::Image;
 use crate::counts::{judge_counts, judge_extents};
-use crate::trees::{FileTree, QuotaTree, Trees, given};
+use crate::trees::{FileTree, QuotaTree, Trees};
 use qg_num::{Address, NoMemory, Sequence};
 use qg_reach::{each_once, extents_of, reached_bytes};
 use qg_super::Super;
@@ -47,9 +47,9 @@ pub(crate) fn judge_trees(alloc: Global, superblock: Super, read: Read) -> Resul
         subvolume,
     } = read;
     let sizes = superblock.sizes();
-    let extents = given(extents_of(alloc, subvolume.files.as_slice()))?;
+    let extents = extents_of(alloc, subvolume.files.as_slice())?;
     judge_extents(&sizes, extents.as_slice())?;
-    let nodes = given(each_once(alloc, subvolume.nodes.as_slice()))?;
+    let nodes = each_once(alloc, subvolume.nodes.as_slice())?;
     let bytes = reached_bytes(&sizes, nodes.as_slice(), extents.as_slice());
     judge_counts(&quotas.quota, bytes)?;
     Ok(Image {
@@ -58,7 +58,7 @@ pub(crate) fn judge_trees(alloc: Global, superblock: Super, read: Read) -> Resul
         root: trees.files,
         files: subvolume.files,
         quota: quotas.quota,
-        others: given(joined(trees.nodes, extent_nodes, quotas.nodes))?,
+        others: joined(trees.nodes, extent_nodes, quotas.nodes)?,
         nodes,
         extents,
     })
@@ -67,16 +67,12 @@ pub(crate) fn judge_trees(alloc: Global, superblock: Super, read: Read) -> Resul
 // Three lists, one after the other.
 fn joined(
     mut first: Sequence<Address>,
-    second: Sequence<Address>,
-    third: Sequence<Address>,
+    mut second: Sequence<Address>,
+    mut third: Sequence<Address>,
 ) -> Result<Sequence<Address>, NoMemory>
     ensures { IfOk result (λ all. all ≡ first ++ second ++ third) }
 {
-    for address in second.as_slice() {
-        first.push(*address)?;
-    }
-    for address in third.as_slice() {
-        first.push(*address)?;
-    }
+    first.append(&mut second)?;
+    first.append(&mut third)?;
     Ok(first)
 }

@@ -13,14 +13,13 @@ ghost use Rattle.qg_verdict.specs.StateOf.{nodes_of_root, roots_in};
 ghost use Rattle.qg_verdict.specs.Verdict.{are_roots, quota_failure, subvolume_failure};
 ghost use Rattle.qg_walk.specs.Fault.{FailsAs};
 ghost use Rattle.qg_check.specs.Stages.{roots_failure, extents_failure};
-ghost use Rattle.qg_check.specs.Stages.{given_of};
 ghost use Rattle.qg_check.specs.Trees.{AreFitFiles, AreNamed, AreTrees, HasOneGroup, IsQuotaTree, IsFileTree, addresses_of};
 
 use qg_disk::Disk;
 use qg_image::{ExtentPart, FileList, FilePart, QuotaPart, RootPart};
 use qg_items::RootItem;
 use qg_items::tree::{EXTENT_TREE, QUOTA_TREE, TOP_LEVEL};
-use qg_num::{Address, NoMemory, RootId, Rule, Sequence};
+use qg_num::{Address, RootId, Rule, Sequence};
 use qg_rules::{FileParts, QuotaFault, are_roots, read_files, read_quota, root_of};
 use qg_state::Quota;
 use qg_super::Super;
@@ -59,16 +58,6 @@ pub(crate) fn broken(rule: Rule, address: Address) -> WalkFault
     ensures { result ≡ WalkFault.Unsound (Failure.Broken rule address) }
 {
     WalkFault::Unsound(Failure::Broken { rule, address })
-}
-
-/// The answer of a call that can only want memory.
-pub(crate) fn given<T: Drop>(answer: Result<T, NoMemory>) -> Result<T, WalkFault>
-    ensures { result ≡ given_of answer }
-{
-    match answer {
-        Ok(value) => Ok(value),
-        Err(NoMemory) => Err(WalkFault::NoMemory),
-    }
 }
 
 // What is expected of a root by its ROOT_ITEM.
@@ -242,7 +231,7 @@ pub(crate) fn read_subvolume<D: Disk>(
         &root_told(root),
         root.bytenr,
     )?;
-    let Some(files) = given(read_files(alloc, walked.parts))? else {
+    let Some(files) = read_files(alloc, walked.parts)? else {
         return Err(broken(Rule::File, root.bytenr));
     };
     Ok(FileTree {

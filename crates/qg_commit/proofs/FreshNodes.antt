@@ -20,7 +20,8 @@ use Rattle.qg_super.specs.Places.{is_served, slot_at}
 use Rattle.qg_super.specs.SuperText.{is_super}
 use Rattle.qg_super.proofs.Served.{SizesFit-is_served}
 use Rattle.qg_contents.proofs.Bodies.{item-fits, root_text-AreBytes, status_text-AreBytes, info_text-AreBytes, limit_text-AreBytes}
-use Rattle.qg_commit.specs.Fresh.{fresh_leaf_of, fresh_root, root_item, root_items, quota_items, fresh_super, fresh_nodes}
+use Rattle.qg_contents.specs.Written.{item_of_root}
+use Rattle.qg_commit.specs.Fresh.{fresh_leaf_of, fresh_root, root_items, quota_items, fresh_super, fresh_nodes}
 use Rattle.qg_commit.specs.Calls.{IsWritable}
 use Rattle.qg_commit.proofs.FreshImage.{ReadsBack}
 use Rattle.qg_commit.proofs.Slots.{node_size_bounds}
@@ -100,7 +101,7 @@ leaf-NodeFits : (owner address : ℕ) (items : List Item) → owner < 2 ^ 64 →
 leaf-NodeFits owner address items owned placed items_fit =
     (record { address = placed; generation = lit< tt; owner = owned; level = lit< tt }, All-from_recursion ItemFits items items_fit)
 
-root_item-ItemFits : (tree address : ℕ) → tree < 2 ^ 64 → ItemFits (root_item tree address)
+root_item-ItemFits : (tree address : ℕ) → tree < 2 ^ 64 → ItemFits (item_of_root tree (fresh_root address))
 root_item-ItemFits tree address fits = item-fits tree 132 0 (root_text (fresh_root address)) fits (lit< tt) (lit< tt) (root_text-AreBytes (fresh_root address) (lit< tt))
 
 quota_items-fit : (n : ℕ) → AllByRecursion ItemFits (quota_items n)

@@ -14,3 +14,4 @@ pub mod FreshNodes
 pub mod Made
 pub mod MakingCalls
 pub mod Refused
+pub mod Touched

@@ -3,13 +3,12 @@ use Rattle.std.specs.Prelude.{ℕ, List, [], ◌∷◌}
 use Rattle.qg_node.specs.declared.item.Item.{Item}
 use Rattle.qg_node.specs.declared.node.Node.{Node}
 use Rattle.qg_node.specs.declared.node.Node.TheVariants.{Leaf}
-use Rattle.qg_items.specs.declared.kind.TheConstants.{ROOT_ITEM, QGROUP_STATUS, QGROUP_INFO, QGROUP_LIMIT}
 use Rattle.qg_items.specs.declared.tree.TheConstants.{ROOT_TREE, EXTENT_TREE, TOP_LEVEL, QUOTA_TREE}
 use Rattle.qg_items.specs.declared.root.RootItem.{RootItem}
-use Rattle.qg_items.specs.ItemText.{root_text, status_text, info_text, limit_text}
 use Rattle.qg_super.specs.declared.sizes.Sizes.{Sizes}
 use Rattle.qg_super.specs.declared.superblock.Super.{Super}
 use Rattle.qg_super.specs.Places.{slot_at}
+use Rattle.qg_contents.specs.Written.{items_of_roots, status_at, info_of, items_of_quota}
 
 -- a leaf of generation 1
 abbrev pub fresh_leaf_of : ℕ → ℕ → List Item → Node
@@ -19,27 +18,13 @@ fresh_leaf_of owner address items = Leaf (record { address = address; generation
 abbrev pub fresh_root : ℕ → RootItem
 fresh_root address = record { generation = 1; bytenr = address; last_snapshot = 0; refs = 1; level = 0 }
 
--- the item that names such a tree
-abbrev pub root_item : ℕ → ℕ → Item
-root_item tree address = record { key = record { objectid = tree; kind = ROOT_ITEM; offset = 0 }; body = root_text (fresh_root address) }
-
 -- the root tree's leaf: the extent tree, the top-level subvolume and the quota tree
 abbrev pub root_items : ℕ → ℕ → ℕ → List Item
-root_items extents files quotas = root_item EXTENT_TREE extents ∷ root_item TOP_LEVEL files ∷ root_item QUOTA_TREE quotas ∷ []
+root_items extents files quotas = items_of_roots (fresh_root extents) (fresh_root files) (fresh_root quotas)
 
 -- the quota tree's leaf: quota is on; the top-level subvolume's group counts its root node and has no limit
 abbrev pub quota_items : ℕ → List Item
-quota_items nodesize =
-    record { key = record { objectid = 0; kind = QGROUP_STATUS; offset = 0 }; body = status_text (record { generation = 1; flags = 1; cursor = 0 }) }
-    ∷ record {
-      key = record { objectid = 0; kind = QGROUP_INFO; offset = TOP_LEVEL };
-      body = info_text (record { generation = 1; rfer = nodesize; rfer_cmpr = nodesize; excl = nodesize; excl_cmpr = nodesize });
-    }
-    ∷ record {
-      key = record { objectid = 0; kind = QGROUP_LIMIT; offset = TOP_LEVEL };
-      body = limit_text (record { flags = 0; max_rfer = 0; max_excl = 0 });
-    }
-    ∷ []
+quota_items nodesize = items_of_quota (status_at 1) TOP_LEVEL (info_of 1 (record { rfer = nodesize; excl = nodesize }))
 
 -- the superblock
 abbrev pub fresh_super : Sizes → ℕ → Super

@@ -1,11 +1,12 @@
--- What opening a sound image does to the disk (this project's own).
-use Rattle.std.specs.Prelude.{◌≡◌, ℕ, List, ◌∷◌, Option, Some}
+-- What opening an image does to the disk (this project's own).
+use Rattle.std.specs.Prelude.{◌≡◌, ◌⊎◌, ℕ, List, ◌∷◌, Option, Some}
 use Rattle.qg_device.specs.History.{Event, Synced, content}
 use Rattle.qg_super.specs.declared.superblock.Super.{Super}
 use Rattle.qg_super.specs.Places.{first_place, second_place}
 use Rattle.qg_verdict.specs.StateOf.{super_in, super_of}
+use Rattle.qg_verdict.specs.Verdict.{IsSound}
 use Rattle.qg_check.specs.Stale.{stale_place}
-use Rattle.qg_commit.specs.Opening.{with_repair}
+use Rattle.qg_commit.specs.Opening.{IsLookedAt, IsWriting, with_repair}
 
 -- the place that does not hold the superblock that counts, if there is one
 abbrev pub stale_of : List ℕ → Option ℕ
@@ -16,3 +17,16 @@ pub record IsOpened (events : List Event) (history : Option (List Event)) : Type
   pub super : Super
   pub chosen : super_of (content events) ≡ Some super
   pub repaired : history ≡ Some (with_repair super (stale_of (content events)) (Synced ∷ events))
+
+-- the image is sound, and behind a sync the place that does not hold the superblock that counts was written, whole or torn; nothing else was done
+pub record IsRepairing (events : List Event) (history : Option (List Event)) : Type 0 where
+  pub sound : IsSound (content events)
+  pub super : Super
+  pub chosen : super_of (content events) ≡ Some super
+  pub place : ℕ
+  pub stale : stale_of (content events) ≡ Some place
+  pub written : IsWriting super place (Synced ∷ events) history
+
+-- what opening has done to the disk, whatever it answers: at most a sync, and of a sound image the repair, or a part of it
+abbrev pub IsOpening : List Event → Option (List Event) → Type 0
+IsOpening events history = IsLookedAt events history ⊎ IsRepairing events history

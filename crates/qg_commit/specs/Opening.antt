@@ -1,6 +1,6 @@
 -- What opening an image does (this project's own).
-use Rattle.std.specs.Prelude.{◌≡◌, ⊤, ℕ, List, ◌∷◌, Option, Some, None}
-use Rattle.qg_device.specs.History.{Event, Wrote, Synced}
+use Rattle.std.specs.Prelude.{◌≡◌, ◌⊎◌, ⊤, ℕ, ◌≤◌, List, ◌∷◌, length, Option, Some, None}
+use Rattle.qg_device.specs.History.{Event, Wrote, Tore, Synced}
 use Rattle.qg_super.specs.declared.superblock.Super.{Super}
 use Rattle.qg_super.specs.SuperText.{super_text}
 use Rattle.qg_verdict.specs.declared.failure.Failure.{Failure}
@@ -12,6 +12,16 @@ use Rattle.qg_commit.specs.declared.fault.OpenFault.TheVariants.{Broken, Differs
 abbrev pub with_repair : Super → Option ℕ → List Event → List Event
 with_repair super None events = events
 with_repair super (Some place) events = Synced ∷ Wrote place (super_text place super) ∷ events
+
+-- the superblock was written at a place: torn, which may leave any bytes there, no more than were asked; or whole, and perhaps made sure of
+abbrev pub IsWriting : Super → ℕ → List Event → Option (List Event) → Type 0
+IsWriting super place events history =
+    ((left : List ℕ) × (length left ≤ length (super_text place super)) × (history ≡ Some (Tore place (super_text place super) left ∷ events)))
+    ⊎ ((history ≡ Some (Wrote place (super_text place super) ∷ events)) ⊎ (history ≡ Some (with_repair super (Some place) events)))
+
+-- nothing was done to the disk, but that it was perhaps made sure of
+abbrev pub IsLookedAt : List Event → Option (List Event) → Type 0
+IsLookedAt events history = (history ≡ Some events) ⊎ (history ≡ Some (Synced ∷ events))
 
 -- where the image is refused, this is its first failure
 abbrev pub IsRefusal : OpenFault → Option Failure → Type 0

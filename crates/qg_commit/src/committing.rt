@@ -38,10 +38,13 @@ pub fn commit<D: Disk>(
     ensures placed { IfOk result (λ laid. (slot : ℕ)
         → Contains (map (λ node. (header_of node).address) (nodes_laid laid)) slot → Contains slots.now slot) }
 
-    // Over a disk that tells what it holds: exactly these calls, and what then stands.
+    // Over a disk that tells what it holds: exactly these calls.
     ensures calls { (events : List Event) → D.history disk.old ≡ Some events
         → IfOk result (λ laid. D.history disk.new ≡ Some (with_commit laid.superblock (nodes_laid laid) events)) }
-    ensures committed { (events : List Event) (old : State) (before : Subvolume) (group : Group) → D.history disk.old ≡ Some events
+
+    // What these calls leave on a disk that is long enough, whatever was done to it.
+    ensures committed { (events : List Event) (old : State) (before : Subvolume) (group : Group)
+        → total_bytes (sizes_of parts.now.superblock.now) ≤ length (content events)
         → IfOk result (λ laid. ArePartsOf old before group parts.now slots.now
         → IsCommitOf old laid parts.now.files.now (content (with_commit laid.superblock (nodes_laid laid) events))) }
 

@@ -5,7 +5,7 @@ ghost use Rattle.qg_commit.specs.declared.fault.MkfsFault.TheVariants.{Disk, NoM
 ghost use Rattle.qg_commit.specs.Fault.{mkfs_fault, open_fault, fault_of_walk, refusal_of};
 
 use qg_disk::DiskFault;
-use qg_num::{Address, GroupId, Rule, Which};
+use qg_num::{Address, GroupId, NoMemory, Rule, Which};
 use qg_verdict::Failure;
 use qg_walk::WalkFault;
 use std::alloc::AllocError;
@@ -33,6 +33,14 @@ impl From<DiskFault> for MkfsFault {
             DiskFault::Failed => MkfsFault::Disk,
             DiskFault::NoMemory => MkfsFault::NoMemory,
         }
+    }
+}
+
+impl From<NoMemory> for MkfsFault {
+    ghost from_gives = { λ _ e. e ≡ NoMemory };
+
+    fn from(_: NoMemory) -> Self {
+        MkfsFault::NoMemory
     }
 }
 

@@ -7,7 +7,8 @@ ghost use Rattle.qg_super.specs.SuperText.{is_super, sizes_of};
 ghost use Rattle.qg_verdict.specs.Verdict.{verdict};
 ghost use Rattle.qg_check.specs.IsImage.{IsEditable, IsImage};
 ghost use Rattle.qg_commit.specs.Calls.{GoesOn};
-ghost use Rattle.qg_commit.specs.Opening.{IsRefusal, IsUntouched, with_repair};
+ghost use Rattle.qg_commit.specs.Opened.{IsOpening};
+ghost use Rattle.qg_commit.specs.Opening.{IsRefusal, IsUntouched, IsWriting, with_repair};
 
 use crate::OpenFault;
 use qg_check::{Image, read_image};
@@ -29,6 +30,7 @@ pub fn open<D: Disk>(alloc: Global, disk: &mut D) -> Result<Image, OpenFault>
         → IfOk result (λ image. D.history disk.new ≡ Some (with_repair image.superblock image.stale (Synced ∷ events))) }
     ensures unwritten { (events : List Event) → D.history disk.old ≡ Some events
         → IfErr result (λ fault. IsUntouched fault (D.history disk.new) (Synced ∷ events)) }
+    ensures touches { (events : List Event) → D.history disk.old ≡ Some events → IsOpening events (D.history disk.new) }
     ensures later { (events : List Event) → D.history disk.old ≡ Some events → GoesOn events (D.history disk.new) }
 
     // Over any disk.
@@ -51,6 +53,8 @@ fn write_place<D: Disk>(disk: &mut D, superblock: &Super, place: u64) -> Result<
     requires place { (place ≡ FIRST_PLACE) ⊎ (place ≡ SECOND_PLACE) }
     ensures calls { (events : List Event) → D.history disk.old ≡ Some events
         → OnOk result (D.history disk.new ≡ Some (with_repair superblock.now (Some place) events)) }
+    ensures touches { (events : List Event) → D.history disk.old ≡ Some events
+        → (D.history disk.new ≡ Some events) ⊎ IsWriting superblock.now place events (D.history disk.new) }
     ensures later { (events : List Event) → D.history disk.old ≡ Some events → GoesOn events (D.history disk.new) }
     ensures no_less { D.size disk.old ≤ D.size disk.new }
     ensures cause { HasCause DiskFault.Failed (D.faults disk.old) (D.faults disk.new) result }

@@ -68,9 +68,11 @@ extent_data_of piece = record {
   num_bytes = piece.len;
 }
 
+-- a file's INODE_ITEM, under the file's number
 abbrev pub item_of_inode : ℕ → File → Item
 item_of_inode ino file = item_under ino INODE_ITEM 0 (inode_text (inode_of file))
 
+-- the EXTENT_DATA of a file's piece, under the piece's position
 abbrev pub item_of_piece : ℕ → Piece → Item
 item_of_piece ino piece = item_under ino EXTENT_DATA piece.position (extent_data_text (extent_data_of piece))
 

@@ -30,6 +30,7 @@ pub fn quota_items(
     stamp: Generation,
 ) -> Result<Items, NoMemory>
     requires { stamp ≤ generation }
+    ensures exact { IfOk result (λ items. items ≡ items_of_quota (status_at generation) group (info_of stamp counters.now)) }
     ensures told { IfOk result (λ items. filter_map quota_part items
         ≡ Status (status_at generation) ∷ Info group (info_of stamp counters.now) ∷ Limits group no_limit ∷ []) }
     ensures allowed { IfOk result (λ items. IsTrue (list_all (is_item_of Quotas generation) items)) }

@@ -28,6 +28,7 @@ pub fn root_items(
     requires extents { IsWritableRoot extents.now }
     requires files { IsWritableRoot files.now }
     requires quotas { IsWritableRoot quotas.now }
+    ensures exact { IfOk result (λ items. items ≡ items_of_roots extents.now files.now quotas.now) }
     ensures told { IfOk result (λ items. filter_map root_part items
         ≡ (EXTENT_TREE, extents.now) ∷ (TOP_LEVEL, files.now) ∷ (QUOTA_TREE, quotas.now) ∷ []) }
     ensures allowed { IfOk result (λ items. (generation : ℕ)

@@ -1,4 +1,4 @@
--- Checksums that are known from elsewhere, computed by the definition (RFC 3720, appendix B.4, has the texts of 32 and 48 bytes).
+-- Checksums that are known from elsewhere, computed by the definition (RFC 3720, appendix B.4, has the texts of 32 bytes).
 use Rattle.std.specs.Prelude.{◌≡◌, [], ◌∷◌, codes, replicate, refl}
 use Rattle.qg_crc32c.specs.Crc32c.{crc32c_of, remainder, shift, shifts}
 

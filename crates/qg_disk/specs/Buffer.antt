@@ -1,4 +1,4 @@
--- What a buffer shows of a disk.
+-- What a buffer shows of a disk (this project's own).
 use Rattle.std.specs.Prelude.{◌≡◌, ℕ, ◌+◌, ◌<◌, List, length, slice_index}
 
 -- the buffer has what the bytes are from a place on, and 0 past their end

@@ -1,5 +1,5 @@
 -- What the calls of a disk in memory did to it (this project's own).
-use Rattle.std.specs.Prelude.{◌≡◌, Some, ℕ, ◌+◌, ◌/◌, ◌<◌, ◌^◌, Bool, true, false, List, [], ◌∷◌, length, take, fold}
+use Rattle.std.specs.Prelude.{◌≡◌, Option, Some, unwrap_or, ℕ, ◌+◌, ◌/◌, ◌<◌, ◌^◌, Bool, true, false, List, [], ◌∷◌, length, take, fold}
 use Rattle.std.proofs.Common.{ap}
 use Rattle.qg_device.specs.History.{Event, Wrote, Tore, Cut, CutShort, Synced, content}
 use Rattle.qg_disk.specs.declared.call.Request.{Request}
@@ -36,4 +36,4 @@ Fits request.Sync = Unit {0}
 pub sized_as_told : (calls : List Call) (events : List Event) → Some (history_of calls) ≡ Some events → size_of calls ≡ length (content events)
 unfolding history_of size_of
 sized_as_told calls events told =
-    let same : history_of calls ≡ events = cc in ap (λ (es : List Event). length (content es)) same
+    ap (λ (history : Option (List Event)). length (content (unwrap_or history []))) told

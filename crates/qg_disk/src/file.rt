@@ -5,7 +5,8 @@ ghost use Rattle.qg_disk.specs.FileDisk.{CountsFault};
 
 use crate::{Disk, DiskFault};
 use std::fs::{File, OpenFile};
-use std::io::{Read, Seek, SeekFrom, Write};
+use std::io;
+use std::io::{ErrorKind, Read, Seek, SeekFrom, Write};
 use std::marker::Model;
 
 /// A disk that is a file (this project's own). It tells nothing of what the file holds, and never wants
@@ -40,6 +41,18 @@ impl<F: Read + Write + Seek + OpenFile> FileDisk<F> {
             faults: 0,
         }
     }
+
+    // Counts an error of the file as a fault.
+    fn counted(&mut self, done: io::Result<()>) -> Result<(), DiskFault>
+        ensures len { self.new.len ≡ self.old.len }
+        ensures counts { CountsFault self.old self.new result }
+        ensures cause { HasCause DiskFault.Failed self.old.faults self.new.faults result }
+    {
+        match done {
+            Ok(()) => Ok(()),
+            Err(_) => Err(fault(&mut self.faults)),
+        }
+    }
 }
 
 // Counts a fault, up to the last number of 64 bits.
@@ -52,19 +65,18 @@ fn fault(faults: &mut u64) -> DiskFault
     DiskFault::Failed
 }
 
-// Fills the buffer from a place of the file on. It is false where that could not be done.
-fn read_whole<F: Read + Seek>(file: &mut F, at: u64, buf: &mut [u8]) -> bool {
-    if file.seek(SeekFrom::Start(at)).is_err() {
-        return false;
-    }
+// Fills the buffer from a place of the file on. A file that ends before is an error.
+fn read_whole<F: Read + Seek>(file: &mut F, at: u64, buf: &mut [u8]) -> io::Result<()> {
+    file.seek(SeekFrom::Start(at))?;
     let mut done = 0;
     while done < buf.len() {
-        match file.read(&mut buf[done..]) {
-            Ok(count) if count > 0 => done += count,
-            _ => return false,
+        let count = file.read(&mut buf[done..])?;
+        if count == 0 {
+            return Err(io::Error::from(ErrorKind::UnexpectedEof));
         }
+        done += count;
     }
-    true
+    Ok(())
 }
 
 // Writes the bytes from a place of the file on, and says how many of them the file took.
@@ -85,13 +97,15 @@ fn write_whole<F: Write + Seek>(file: &mut F, at: u64, bytes: &[u8]) -> usize
 }
 
 impl<F: Read + Write + Seek + OpenFile> Disk for FileDisk<F> {
+    ghost use Rattle.qg_disk.specs.FileDisk.{sized_untold};
+
     ghost history = { λ _. None };
 
     ghost size = { λ d. d.len };
 
     ghost faults = { λ d. d.faults };
 
-    ghost sized = { λ d events told. Prim.cc };
+    ghost sized = { λ d events told. sized_untold d.len events told };
 
     fn len(&self) -> u64 {
         self.len
@@ -103,10 +117,8 @@ impl<F: Read + Write + Seek + OpenFile> Disk for FileDisk<F> {
         ensures counts { CountsFault self.old self.new result }
         ensures cause { HasCause DiskFault.Failed self.old.faults self.new.faults result }
     {
-        if !read_whole(&mut self.file, at, buf) {
-            return Err(fault(&mut self.faults));
-        }
-        Ok(())
+        let done = read_whole(&mut self.file, at, buf);
+        self.counted(done)
     }
 
     fn write_at(&mut self, at: u64, bytes: &[u8]) -> Result<(), DiskFault>
@@ -118,9 +130,8 @@ impl<F: Read + Write + Seek + OpenFile> Disk for FileDisk<F> {
         ensures cause { HasCause DiskFault.Failed self.old.faults self.new.faults result }
     {
         if self.len < at {
-            if self.file.set_len(at).is_err() {
-                return Err(fault(&mut self.faults));
-            }
+            let done = self.file.set_len(at);
+            self.counted(done)?;
             self.len = at;
         }
         let done = write_whole(&mut self.file, at, bytes);
@@ -138,9 +149,8 @@ impl<F: Read + Write + Seek + OpenFile> Disk for FileDisk<F> {
         ensures counts { CountsFault self.old self.new result }
         ensures cause { HasCause DiskFault.Failed self.old.faults self.new.faults result }
     {
-        if self.file.set_len(len).is_err() {
-            return Err(fault(&mut self.faults));
-        }
+        let done = self.file.set_len(len);
+        self.counted(done)?;
         self.len = len;
         Ok(())
     }
@@ -150,9 +160,7 @@ impl<F: Read + Write + Seek + OpenFile> Disk for FileDisk<F> {
         ensures counts { CountsFault self.old self.new result }
         ensures cause { HasCause DiskFault.Failed self.old.faults self.new.faults result }
     {
-        if self.file.sync_all().is_err() {
-            return Err(fault(&mut self.faults));
-        }
-        Ok(())
+        let done = self.file.sync_all();
+        self.counted(done)
     }
 }

@@ -7,6 +7,7 @@ mod calls;
 mod fault;
 mod file;
 mod fill;
+mod laws;
 mod memory;
 mod sure;
 #[cfg(test)]
@@ -16,6 +17,7 @@ mod traits;
 pub use call::{Bytes, Call, Request};
 pub use fault::DiskFault;
 pub use file::FileDisk;
+pub use laws::leaves_what_it_holds;
 pub use memory::MemDisk;
 pub use sure::SureDisk;
 pub use traits::Disk;

@@ -26,7 +26,7 @@ pub fn split_range(alloc: Global, pieces: &Pieces, from: u64, to: u64) -> Result
 {
     let (first, end) = meeting(pieces, from, to);
     let items = pieces.as_slice();
-    let gone = copied(alloc, &items[first..end])?;
+    let gone = Pieces::from_slice(alloc, &items[first..end])?;
     let mut rests = Pieces::new(alloc);
     if first == end {
         return Ok(Split { gone, rests });
@@ -34,17 +34,6 @@ pub fn split_range(alloc: Global, pieces: &Pieces, from: u64, to: u64) -> Result
     push_part(&mut rests, part_before(items[first], from))?;
     push_part(&mut rests, part_after(items[end - 1], to))?;
     Ok(Split { gone, rests })
-}
-
-/// Some pieces, as a list of its own.
-fn copied(alloc: Global, pieces: &[Piece]) -> Result<Pieces, NoMemory>
-    ensures { IfOk result (λ copy. copy ≡ pieces.now) }
-{
-    let mut copy = Pieces::new(alloc);
-    for piece in pieces {
-        copy.push(*piece)?;
-    }
-    Ok(copy)
 }
 
 /// Puts a part at the end of a list, if there is one.

@@ -14,7 +14,7 @@ use Rattle.qg_image.specs.declared.part.FilePart.{FilePart}
 use Rattle.qg_image.specs.declared.part.FilePart.TheVariants.{Inode, PieceOf}
 use Rattle.qg_image.specs.ItemMeaning.{some_passes, file_part, file_part_stamps}
 
--- the largest size of a file, and the first number past those of files
+-- the largest size of a file, the least number of one, and the first number past those of files
 abbrev pub largest_size : ℕ
 largest_size = 2 ^ 40
 

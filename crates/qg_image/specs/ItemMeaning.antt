@@ -54,6 +54,7 @@ piece_told position told =
     then_some (told.ram_bytes == told.disk_num_bytes)
     (record { position = position; len = told.num_bytes; extent = told.disk_bytenr; offset = told.offset; stamp = told.generation; extent_bytes = told.disk_num_bytes })
 
+-- a file, by its INODE_ITEM, or a piece of one, by an EXTENT_DATA
 unfoldable pub file_part : Item → Option FilePart
 file_part item =
     when (has_key item.key.objectid INODE_ITEM 0 item) (option_map (Inode item.key.objectid) (inode_read item.body))
@@ -76,11 +77,13 @@ root_part item =
     when (has_key item.key.objectid ROOT_ITEM 0 item && ((item.key.objectid == EXTENT_TREE) || (item.key.objectid == QUOTA_TREE) || is_subvolume_number item.key.objectid))
     (option_and_then (λ root. then_some (root.refs == 1) (item.key.objectid, root)) (root_read item.body))
 
+-- the generations that a ROOT_ITEM tells
 abbrev pub root_part_stamps : ℕ × RootItem → List ℕ
 root_part_stamps part = part.1.generation ∷ part.1.last_snapshot ∷ []
 
 -- ---- the extent tree
 
+-- the record of a data extent or of a node, or a reference to one; a reference to a node has an empty body, and counts 1
 unfoldable pub extent_part : Item → Option ExtentPart
 extent_part item =
     when (item.key.kind == EXTENT_ITEM) (option_map (DataRecord item.key.objectid item.key.offset) (extent_read item.body))
@@ -92,6 +95,7 @@ extent_part item =
     orelse when (item.key.kind == SHARED_DATA_REF)
     (option_map (λ shared. Referenced item.key.objectid (SharedData item.key.offset) shared.count) (shared_data_ref_read item.body))
 
+-- the generations that an item tells; a reference tells none
 abbrev pub extent_part_stamps : ExtentPart → List ℕ
 extent_part_stamps (DataRecord address bytes extent) = extent.generation ∷ []
 extent_part_stamps (NodeRecord address level extent) = extent.generation ∷ []
@@ -103,6 +107,7 @@ extent_part_stamps (Referenced address reference count) = []
 abbrev pub is_status : QgroupStatus → Bool
 is_status status = (status.flags == 1) && (status.cursor == 0)
 
+-- the state of quota, a group's counters, its limits, or one end of a relation, whose body is empty
 unfoldable pub quota_part : Item → Option QuotaPart
 quota_part item =
     when (has_key 0 QGROUP_STATUS 0 item) (option_and_then (λ status. then_some (is_status status) (Status status)) (status_read item.body))
@@ -110,6 +115,7 @@ quota_part item =
     orelse when (has_key 0 QGROUP_LIMIT item.key.offset item) (option_and_then (λ limit. then_some (nat_le limit.flags 3) (Limits item.key.offset limit)) (limit_read item.body))
     orelse when ((item.key.kind == QGROUP_RELATION) && (length item.body == 0)) (Some (Relation item.key.objectid item.key.offset))
 
+-- the generations that an item tells; limits and relations tell none
 abbrev pub quota_part_stamps : QuotaPart → List ℕ
 quota_part_stamps (Status status) = status.generation ∷ []
 quota_part_stamps (Info group info) = info.generation ∷ []

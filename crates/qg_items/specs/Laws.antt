@@ -1,4 +1,4 @@
--- What reading and writing a body are to each other.
+-- What reading and writing a body are to each other (this project's own).
 use Rattle.std.specs.Prelude.{◌≡◌, ℕ, ◌^◌, ◌<◌, List, Option, Some}
 use Rattle.qg_bytes.specs.Fields.{IsBytes}
 use Rattle.qg_items.specs.declared.file.InodeItem.{InodeItem}
@@ -26,12 +26,14 @@ pub record RoundTrips {Item : Type 0} (Fits : Item → Type 0) (text : Item → 
 
 -- ---- the numbers of an item fit their fields
 
+-- of an INODE_ITEM: four fields of 8 bytes
 pub record InodeFits (inode : InodeItem) : Type 0 where
   pub generation : inode.generation < 2 ^ 64
   pub transid : inode.transid < 2 ^ 64
   pub size : inode.size < 2 ^ 64
   pub nbytes : inode.nbytes < 2 ^ 64
 
+-- of an EXTENT_DATA: six fields of 8 bytes
 pub record ExtentDataFits (piece : ExtentData) : Type 0 where
   pub generation : piece.generation < 2 ^ 64
   pub ram_bytes : piece.ram_bytes < 2 ^ 64
@@ -40,6 +42,7 @@ pub record ExtentDataFits (piece : ExtentData) : Type 0 where
   pub offset : piece.offset < 2 ^ 64
   pub num_bytes : piece.num_bytes < 2 ^ 64
 
+-- of a ROOT_ITEM: three fields of 8 bytes, one of 4 and one of 1
 pub record RootFits (root : RootItem) : Type 0 where
   pub generation : root.generation < 2 ^ 64
   pub bytenr : root.bytenr < 2 ^ 64
@@ -47,25 +50,30 @@ pub record RootFits (root : RootItem) : Type 0 where
   pub refs : root.refs < 2 ^ 32
   pub level : root.level < 2 ^ 8
 
+-- of an EXTENT_ITEM or a METADATA_ITEM: three fields of 8 bytes
 pub record ExtentFits (extent : ExtentItem) : Type 0 where
   pub refs : extent.refs < 2 ^ 64
   pub generation : extent.generation < 2 ^ 64
   pub flags : extent.flags < 2 ^ 64
 
+-- of an EXTENT_DATA_REF: three fields of 8 bytes and one of 4
 pub record DataRefFits (reference : ExtentDataRef) : Type 0 where
   pub root : reference.root < 2 ^ 64
   pub objectid : reference.objectid < 2 ^ 64
   pub offset : reference.offset < 2 ^ 64
   pub count : reference.count < 2 ^ 32
 
+-- of a SHARED_DATA_REF: one field of 4 bytes
 pub record SharedDataRefFits (reference : SharedDataRef) : Type 0 where
   pub count : reference.count < 2 ^ 32
 
+-- of a QGROUP_STATUS, behind its version: three fields of 8 bytes
 pub record StatusFits (status : QgroupStatus) : Type 0 where
   pub generation : status.generation < 2 ^ 64
   pub flags : status.flags < 2 ^ 64
   pub cursor : status.cursor < 2 ^ 64
 
+-- of a QGROUP_INFO: five fields of 8 bytes
 pub record InfoFits (info : QgroupInfo) : Type 0 where
   pub generation : info.generation < 2 ^ 64
   pub rfer : info.rfer < 2 ^ 64
@@ -73,6 +81,7 @@ pub record InfoFits (info : QgroupInfo) : Type 0 where
   pub excl : info.excl < 2 ^ 64
   pub excl_cmpr : info.excl_cmpr < 2 ^ 64
 
+-- of a QGROUP_LIMIT, in front of its zeros: three fields of 8 bytes
 pub record LimitFits (limit : QgroupLimit) : Type 0 where
   pub flags : limit.flags < 2 ^ 64
   pub max_rfer : limit.max_rfer < 2 ^ 64

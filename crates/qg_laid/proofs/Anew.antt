@@ -46,7 +46,7 @@ use Rattle.qg_laid.proofs.Sound.{HasSuper, HasTrees, laid_sound, laid_StateOf, o
 use Rattle.qg_laid.proofs.Told.{files_said}
 use Rattle.qg_laid.proofs.TreesIn.{IsBuiltFor, IsTreeIn-open, IsTreeIn-told, those_told}
 use Rattle.qg_check.specs.IsImage.{extents_in}
-use Rattle.qg_laid.specs.Anew.{quota_parts_laid, stamp_now, BuildsFiles, bytes_laid, BuildsOther, BuildsAnew}
+use Rattle.qg_laid.specs.Anew.{all_exclusive, quota_parts_laid, stamp_after, BuildsFiles, bytes_laid, BuildsOther, BuildsAnew}
 
 -- ---- the trees
 
@@ -184,7 +184,7 @@ module _ (old : State) (before : Subvolume) (group : Group) (super : Super) (nod
   bytes = bytes_laid old before b.file_nodes
 
   abbrev stamp : ℕ
-  stamp = stamp_now group bytes (next_generation old)
+  stamp = stamp_after group.counters (all_exclusive bytes) group.stamp (next_generation old)
 
   pub supers : HasSuper super image
   supers = record { first = has.first; second = has.second; long = has.long }
@@ -208,7 +208,7 @@ module _ (old : State) (before : Subvolume) (group : Group) (super : Super) (nod
     quota_tree = quota_tree.is;
     bytes = bytes;
     counted = ap (λ (s : Sizes). s.nodesize * length b.file_nodes + bytes_of (extents_in before.files)) (sym b.tells.sizes);
-    told = subst (λ (g : ℕ). filter_map quota_part b.quota_items ≡ quota_parts_laid g stamp bytes) (sym b.tells.generation) b.counted;
+    told = subst (λ (g : ℕ). filter_map quota_part b.quota_items ≡ quota_parts_laid g (all_exclusive bytes) stamp) (sym b.tells.generation) b.counted;
   }
 
   abbrev all_others : List ℕ

@@ -41,25 +41,22 @@ use Rattle.qg_laid.proofs.Slots.{AreInOrder, count_addresses, in_order, ordered_
 use Rattle.qg_laid.proofs.Sound.{state_laid}
 use Rattle.qg_laid.proofs.Told.{all_said, files_said, quota_laid, SayFiles}
 use Rattle.qg_check.specs.IsImage.{extents_in}
-use Rattle.qg_laid.specs.Anew.{stamp_now, one_entry, one_group, IsOne, BuildsFiles, bytes_laid, Continues}
+use Rattle.qg_laid.specs.Anew.{all_exclusive, stamp_after, one_entry, one_group, IsOne, BuildsFiles, bytes_laid, Continues}
 
 -- ---- a group that is counted anew
 
-abbrev both : ℕ → Counters
-both bytes = record { rfer = bytes; excl = bytes }
-
 group_counted : (group : Group) (bytes generation : ℕ) → group.max_rfer ≡ None → group.max_excl ≡ None
-    → cond (same_counters group.counters (both bytes)) (one_group group) (one_group (record group { counters = both bytes; stamp = generation }))
-    ≡ quota_laid (stamp_now group bytes generation) bytes
-group_counted group bytes generation no_rfer no_excl = cases (same_counters group.counters (both bytes)) refl where
-  cases : (same : Bool) → same_counters group.counters (both bytes) ≡ same
-      → cond same (one_group group) (one_group (record group { counters = both bytes; stamp = generation })) ≡ quota_laid (cond same group.stamp generation) bytes
+    → cond (same_counters group.counters (all_exclusive bytes)) (one_group group) (one_group (record group { counters = all_exclusive bytes; stamp = generation }))
+    ≡ quota_laid (stamp_after group.counters (all_exclusive bytes) group.stamp generation) bytes
+group_counted group bytes generation no_rfer no_excl = cases (same_counters group.counters (all_exclusive bytes)) refl where
+  cases : (same : Bool) → same_counters group.counters (all_exclusive bytes) ≡ same
+      → cond same (one_group group) (one_group (record group { counters = all_exclusive bytes; stamp = generation })) ≡ quota_laid (cond same group.stamp generation) bytes
   cases true is =
       let parts = and_parts (group.counters.rfer == bytes) (group.counters.excl == bytes) is in
       let rfer : group.counters.rfer ≡ bytes = eqb-true group.counters.rfer bytes parts.0 in
       let excl : group.counters.excl ≡ bytes = eqb-true group.counters.excl bytes parts.1 in
       λ i. one_group (record { counters = record { rfer = rfer i; excl = excl i }; max_rfer = no_rfer i; max_excl = no_excl i; stamp = group.stamp })
-  cases false is = λ i. one_group (record { counters = both bytes; max_rfer = no_rfer i; max_excl = no_excl i; stamp = generation })
+  cases false is = λ i. one_group (record { counters = all_exclusive bytes; max_rfer = no_rfer i; max_excl = no_excl i; stamp = generation })
 
 recounted_by : (state : State) (group : Group) (generation : ℕ) (counters : Counters) → direct_count state (one_group group) 5 ≡ counters
     → recounted state generation (one_group group) ≡ cond (same_counters group.counters counters) (one_group group) (one_group (record group { counters = counters; stamp = generation }))
@@ -179,19 +176,19 @@ module _ (old : State) (before : Subvolume) (group : Group) (items : List Item) 
       referenced_told laid_out (one_group group) moved those (in_order addresses) (extents_in before.files) single has told
       ∙ ap (λ (n : ℕ). old.sizes.nodesize * n + bytes_of (extents_in before.files)) (count_addresses those nodes builds.built.reached.same apart)
 
-  counted_laid : direct_count laid_out (one_group group) 5 ≡ both (bytes_laid old before nodes)
+  counted_laid : direct_count laid_out (one_group group) 5 ≡ all_exclusive (bytes_laid old before nodes)
   counted_laid =
       let exclusive_laid : exclusive laid_out (one_group group) 5 ≡ bytes_laid old before nodes = exclusive_single laid_out (one_group group) moved single ∙ referenced_laid in
       λ i. record { rfer = referenced_laid i; excl = exclusive_laid i }
 
   abbrev pub stamp : ℕ
-  stamp = stamp_now group (bytes_laid old before nodes) (next_generation old)
+  stamp = stamp_after group.counters (all_exclusive (bytes_laid old before nodes)) group.stamp (next_generation old)
 
   quota_now : option_map (recounted laid_out (next_generation old)) old.quota ≡ Some (quota_laid stamp (bytes_laid old before nodes))
   quota_now =
       ap (λ (quota : Option Quota). option_map (recounted laid_out (next_generation old)) quota) one.counted
       ∙ ap (λ (quota : Quota). Some quota)
-      (recounted_by laid_out group (next_generation old) (both (bytes_laid old before nodes)) counted_laid
+      (recounted_by laid_out group (next_generation old) (all_exclusive (bytes_laid old before nodes)) counted_laid
       ∙ group_counted group (bytes_laid old before nodes) (next_generation old) one.no_max_rfer one.no_max_excl)
 
   -- ---- the state that is committed
@@ -204,7 +201,7 @@ module _ (old : State) (before : Subvolume) (group : Group) (items : List Item) 
     layout = layout_of [] those;
     quota = quota;
     pending = [];
-    held = record { nodes = []; extents = []; records = [] };
+    held = record { nodes = []; others = []; extents = []; records = [] };
   })
 
   settled_laid : (others : List ℕ) → as_committed others (settled laid_out)

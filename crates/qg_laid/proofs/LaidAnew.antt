@@ -16,7 +16,6 @@ use Rattle.qg_super.specs.declared.superblock.Super.{Super}
 use Rattle.qg_super.specs.SuperText.{sizes_of}
 use Rattle.qg_super.proofs.Served.{SuperFits-is_super}
 use Rattle.qg_image.specs.declared.file.File.{File}
-use Rattle.qg_image.specs.declared.part.QuotaPart.TheVariants.{Status, Info, Limits}
 use Rattle.qg_image.specs.ItemMeaning.{quota_part}
 use Rattle.qg_state.specs.declared.element.Element.{Element}
 use Rattle.qg_state.specs.declared.quota.Group.{Group}
@@ -29,9 +28,8 @@ use Rattle.qg_verdict.specs.declared.tree.Tree.TheVariants.{Extents, Quotas, Roo
 use Rattle.qg_verdict.specs.Walk.{is_item_of, is_owner}
 use Rattle.qg_tree.specs.Build.{IsBuilt}
 use Rattle.qg_tree.proofs.Frame.{IsDistinct-front}
-use Rattle.qg_contents.specs.Written.{info_of, no_limit, status_at}
 use Rattle.qg_laid.specs.declared.laying.Laid.{Laid}
-use Rattle.qg_laid.specs.Anew.{BuildsAnew, BuildsFiles, BuildsOther, bytes_laid, one_group, quota_parts_laid, roots_laid, stamp_now}
+use Rattle.qg_laid.specs.Anew.{all_exclusive, BuildsAnew, BuildsFiles, BuildsOther, bytes_laid, one_group, quota_parts_laid, roots_laid, stamp_after}
 use Rattle.qg_laid.specs.Trees.{AreFor, AreTreesLaid, IsCommitOf, IsLaidState, nodes_laid, root_of}
 use Rattle.qg_laid.specs.Holds.{HasCommit}
 use Rattle.qg_laid.proofs.Anew.{anew-Commits, anew-StateOf, anew-held, anew-nodes, anew-sound, state_anew}
@@ -129,10 +127,10 @@ module _ (old : State) (before : Subvolume) (group : Group) (committed : Super) 
   }
 
   counted : filter_map quota_part trees.quota_tree.items
-      ≡ quota_parts_laid (next_generation old) (stamp_now group (bytes_laid old before laid.files.nodes) (next_generation old)) (bytes_laid old before laid.files.nodes)
+      ≡ quota_parts_laid (next_generation old) (all_exclusive (bytes_laid old before laid.files.nodes)) (stamp_after group.counters (all_exclusive (bytes_laid old before laid.files.nodes)) group.stamp (next_generation old))
   counted = trees.quota_tree.told ∙ told where
-    told : Status (status_at (committed.generation + 1)) ∷ Info TOP_LEVEL (info_of laid.stamp laid.counters) ∷ Limits TOP_LEVEL no_limit ∷ []
-        ≡ quota_parts_laid (next_generation old) (stamp_now group (bytes_laid old before laid.files.nodes) (next_generation old)) (bytes_laid old before laid.files.nodes)
+    told : quota_parts_laid (committed.generation + 1) laid.counters laid.stamp
+        ≡ quota_parts_laid (next_generation old) (all_exclusive (bytes_laid old before laid.files.nodes)) (stamp_after group.counters (all_exclusive (bytes_laid old before laid.files.nodes)) group.stamp (next_generation old))
     told = rw (trees.stamped, trees.counted, is.counters_kept, is.stamp_kept, ← next, ← size, is.held, ← is.named) refl
 
   abbrev laid-BuildsAnew : BuildsAnew old before group laid.superblock (nodes_laid laid)
@@ -191,7 +189,7 @@ module _ (old : State) (before : Subvolume) (group : Group) (committed : Super) 
     one_subvolume : state_laid.subvolumes ≡ (TOP_LEVEL, record { files = files; root = laid.root.bytenr; last_snapshot = laid.root.last_snapshot }) ∷ []
     one_subvolume = rw (is.held, trees.own_root) refl
 
-    group_now : quota_laid (stamp_now group (bytes_laid old before laid.files.nodes) (next_generation old)) (bytes_laid old before laid.files.nodes)
+    group_now : quota_laid (stamp_after group.counters (all_exclusive (bytes_laid old before laid.files.nodes)) group.stamp (next_generation old)) (bytes_laid old before laid.files.nodes)
         ≡ one_group (record { counters = laid.counters; max_rfer = None; max_excl = None; stamp = laid.stamp })
     group_now = rw (trees.stamped, trees.counted, is.counters_kept, is.stamp_kept, ← next, ← size, is.held, ← is.named) refl
 

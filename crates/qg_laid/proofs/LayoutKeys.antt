@@ -1,9 +1,9 @@
--- The addresses of a layout are those of its nodes.
-use Rattle.std.proofs.Common.{◌≡◌, ℕ, Bool, true, false, cond, List, [], ◌∷◌, ◌++◌, map, refl, subst, ◌⊎◌, inl, inr}
+-- The addresses of a layout are those of its nodes, and ascend.
+use Rattle.std.proofs.Common.{◌≡◌, ℕ, zero, suc, ◌+◌, ◌<◌, ◌≤◌, Bool, true, false, cond, List, [], ◌∷◌, ◌++◌, map, length, get_or, refl, subst, ◌⊎◌, inl, inr, arith, add-one}
 use Rattle.std.specs.Prelude.{◌==◌, nat_lt}
 use Rattle.std.specs.List.{Contains}
-use Rattle.std.specs.List.Sorted.{IsPermutation}
-use Rattle.std.proofs.lemmas.Bool.{eqb-true}
+use Rattle.std.specs.List.Sorted.{IsPermutation, IsStrictlyIncreasing}
+use Rattle.std.proofs.lemmas.Bool.{ltb-true, ltb-false, eqb-true, eqb-false}
 use Rattle.std.proofs.lemmas.List.Elements.{Contains-append_left, Contains-append_right, Contains-append_cases}
 use Rattle.std.proofs.lemmas.List.Sorted.{IsPermutation-map}
 use Rattle.qg_node.specs.declared.node.Node.{Node}
@@ -67,6 +67,40 @@ with_value-kept n value [] m has = absurd (none_contained m has)
 with_value-kept n value (entry ∷ entries) m has =
     put-kept (nat_lt n entry.0) (entry.0 == n) n value entry entries (with_value n value entries) m (eqb-true entry.0 n) (with_value-kept n value entries m) has
 
+-- ---- a table that ascends
+
+-- numbers that ascend, the first no less than a bound
+abbrev Ascends : ℕ → List ℕ → Type 0
+Ascends from [] = Unit {0}
+Ascends from (n ∷ ns) = (from ≤ n) × Ascends (n + 1) ns
+
+put-ascends : {A : Type 0} (before same : Bool) (from n : ℕ) (value : A) (entry : ℕ × A) (entries behind : List (ℕ × A)) → (before ≡ true → n < entry.0) → (same ≡ true → entry.0 ≡ n)
+    → (before ≡ false → same ≡ false → Ascends (entry.0 + 1) (keys_of behind)) → from ≤ n → Ascends from (keys_of (entry ∷ entries)) → Ascends from (keys_of (put before same n value entry entries behind))
+put-ascends true same from n value entry entries behind less is later begins up = (begins, (omega (arith, less refl), up.1))
+put-ascends false true from n value entry entries behind less is later begins up = (begins, subst (λ (k : ℕ). Ascends (k + 1) (keys_of entries)) (is refl) up.1)
+put-ascends false false from n value entry entries behind less is later begins up = (up.0, later refl refl)
+
+past : (n m : ℕ) → nat_lt n m ≡ false → (m == n) ≡ false → m + 1 ≤ n
+past n m after other =
+    let from = ltb-false n m after in
+    let differ = eqb-false m n other in
+    omega (arith, from, differ)
+
+with_value-ascends : {A : Type 0} (from n : ℕ) (value : A) (table : List (ℕ × A)) → from ≤ n → Ascends from (keys_of table) → Ascends from (keys_of (with_value n value table))
+with_value-ascends from n value [] begins up = (begins, tt)
+with_value-ascends from n value (entry ∷ entries) begins up =
+    put-ascends (nat_lt n entry.0) (entry.0 == n) from n value entry entries (with_value n value entries) (ltb-true n entry.0) (eqb-true entry.0 n)
+    (λ after other. with_value-ascends (entry.0 + 1) n value entries (past n entry.0 after other) up.1) begins up
+
+neighbours : (from : ℕ) (ns : List ℕ) (k : ℕ) → Ascends from ns → suc k < length ns → get_or ns k 0 < get_or ns (suc k) 0
+neighbours from [] k up short = absurd (omega arith)
+neighbours from (n ∷ []) k up short = absurd (omega arith)
+neighbours from (n ∷ m ∷ ns) zero up short = omega (arith, up.1.0)
+neighbours from (n ∷ m ∷ ns) (suc k) up short = neighbours (n + 1) (m ∷ ns) k up.1 (omega arith)
+
+increasing : (from : ℕ) (ns : List ℕ) → Ascends from ns → IsStrictlyIncreasing ns
+increasing from ns up = λ k short. rw add-one (neighbours from ns k up (omega arith))
+
 -- ---- a layout
 
 nodes-into : (parts : List ExtentPart) (layout : List (ℕ × Placed)) (nodes : List Node) (m : ℕ) → Contains (keys_of (with_nodes parts layout nodes)) m → Contains (keys_of layout) m ⊎ Contains (map address_of nodes) m
@@ -102,6 +136,14 @@ layout-keys parts nodes = record {
   into = λ m has. only_later (map address_of nodes) m (nodes-into parts [] nodes m has);
   back = λ m has. nodes-back parts [] nodes m has;
 }
+
+nodes-ascend : (parts : List ExtentPart) (layout : List (ℕ × Placed)) (nodes : List Node) → Ascends 0 (keys_of layout) → Ascends 0 (keys_of (with_nodes parts layout nodes))
+nodes-ascend parts layout [] up = up
+nodes-ascend parts layout (node ∷ nodes) up =
+    nodes-ascend parts (with_value (address_of node) (placed parts node) layout) nodes (with_value-ascends 0 (address_of node) (placed parts node) layout (omega arith) up)
+
+pub layout-ascends : (parts : List ExtentPart) (nodes : List Node) → IsStrictlyIncreasing (keys_of (layout_of parts nodes))
+layout-ascends parts nodes = increasing 0 (keys_of (layout_of parts nodes)) (nodes-ascend parts [] nodes tt)
 
 -- ---- the same nodes in another order
 

@@ -8,3 +8,4 @@ pub mod LayoutKeys
 pub mod Anew
 pub mod Enough
 pub mod LaidAnew
+pub mod Samples

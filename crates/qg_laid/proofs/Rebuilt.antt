@@ -3,6 +3,7 @@
 use Rattle.std.proofs.Common.{◌≡◌, ℕ, Bool, true, false, cond, List, [], ◌∷◌, map, length, take, drop, refl, sym, ap, subst, ◌∙◌, inl, inr}
 use Rattle.std.specs.Prelude.{◌&&◌, ◌||◌, ◌==◌, nat_lt, Some}
 use Rattle.std.specs.List.{AllByRecursion, Contains, IsDistinct, flat_map, list_all, list_any}
+use Rattle.std.specs.List.Sorted.{IsStrictlyIncreasing}
 use Rattle.std.proofs.lemmas.Bool.{and_from, cases_Bool, cond-true, cond-false, eq-eqb, or_left, or_right}
 use Rattle.std.proofs.lemmas.List.{take-append-drop}
 use Rattle.std.proofs.lemmas.List.Elements.{All-contains, All-from_recursion, Contains-append_left}
@@ -29,6 +30,7 @@ use Rattle.qg_reach.proofs.Reached.{elements_of, extents_named, LieWhereFound}
 use Rattle.qg_tree.specs.Build.{node_among, IsMadeFor}
 use Rattle.qg_tree.specs.Row.{address_of}
 use Rattle.qg_tree.proofs.Frame.{all_found}
+use Rattle.qg_laid.proofs.LayoutKeys.{layout-ascends}
 use Rattle.qg_laid.proofs.TreesIn.{AreLaid, IsBuiltFor, IsTreeOf-built, nodes_laid}
 
 -- ---- lists and tables
@@ -147,6 +149,7 @@ module _ (state : State) (subvolume : Subvolume) (nodesize generation : ℕ) (it
   IsWhole-laid =
       let tree = IsTreeOf-built state subvolume nodesize 5 generation items slots nodes level is.built laid is.files in
       record {
+        ascending = subst (λ (layout : List (ℕ × Placed)). IsStrictlyIncreasing (keys_of layout)) (sym is.layout) (layout-ascends [] those);
         trees = subst (λ (subvolumes : List (ℕ × Subvolume)). AllByRecursion (λ entry. IsTreeOf state entry.1) subvolumes) (sym is.alone) (tree, tt);
         reached = subst (λ (layout : List (ℕ × Placed)). AllByRecursion (IsReached state) layout) (sym is.layout) (all_laid (IsReached state) those reached);
       }

@@ -48,7 +48,7 @@ use Rattle.qg_laid.specs.Holds.{IsTreeIn}
 use Rattle.qg_laid.proofs.Slots.{AreInOrder, count_addresses, found_slots, in_order, ordered_addresses}
 use Rattle.qg_laid.proofs.Told.{file_tree_laid, files_said, quota_laid, quota_laid_few, quota_laid_keeps, quota_tree_laid, read_served, roots_named, SayFiles}
 use Rattle.qg_check.specs.IsImage.{extents_in}
-use Rattle.qg_laid.specs.Anew.{roots_laid, quota_parts_laid}
+use Rattle.qg_laid.specs.Anew.{all_exclusive, roots_laid, quota_parts_laid}
 
 -- the image has this superblock at both places and is as long as it says
 pub record HasSuper (super : Super) (image : List ℕ) : Type 0 where
@@ -76,7 +76,7 @@ pub record HasTrees (super : Super) (image : List ℕ) (extents quotas subvolume
   pub quota_tree : IsTreeIn Quotas super image (root_told quotas) quotas.bytenr quota_items quota_nodes
   pub bytes : ℕ
   pub counted : bytes ≡ super.nodesize * length file_nodes + bytes_of (extents_in files)
-  pub told : filter_map quota_part quota_items ≡ quota_parts_laid super.generation stamp bytes
+  pub told : filter_map quota_part quota_items ≡ quota_parts_laid super.generation (all_exclusive bytes) stamp
 
 -- the state of such an image: these are the addresses of the nodes of the root, extent and quota trees, the subvolume's root, and its
 -- nodes
@@ -88,7 +88,7 @@ state_laid super others subvolume files nodes stamp bytes = as_committed others 
   layout = layout_of [] nodes;
   quota = Some (quota_laid stamp bytes);
   pending = [];
-  held = record { nodes = []; extents = []; records = [] };
+  held = record { nodes = []; others = []; extents = []; records = [] };
 })
 
 -- ---- parts that fail nowhere
@@ -154,7 +154,7 @@ committed super others subvolumes layout quota = as_committed others (record {
   layout = layout;
   quota = quota;
   pending = [];
-  held = record { nodes = []; extents = []; records = [] };
+  held = record { nodes = []; others = []; extents = []; records = [] };
 })
 
 state_parts : (super : Super) (image : List ℕ) → state_in super image ≡ committed super (other_nodes super image) (subvolumes_in super image) (layout_in super image) (quota_in super image)
@@ -252,7 +252,7 @@ module _ (super : Super) (image : List ℕ) (extents quotas subvolume : RootItem
   quota_pass =
       let parts = quota_parts super image in
       let subvolumes = keys_of (subvolume_roots (roots_in super image)) in
-      let told : parts ≡ quota_parts_laid super.generation stamp trees.bytes =
+      let told : parts ≡ quota_parts_laid super.generation (all_exclusive trees.bytes) stamp =
       quota_parts_of super image quotas named.quota_tree ∙ ap (λ (own : List Item). filter_map quota_part own) trees.quota_tree.items_are ∙ trees.told in
       let only : subvolumes ≡ 5 ∷ [] = ap (λ (roots : List (ℕ × RootItem)). keys_of roots) named.only in
       let keeps : is_quota subvolumes parts ≡ true = ap (λ (subs : List ℕ). is_quota subs parts) only ∙ ap (is_quota (5 ∷ [])) told ∙ quota_laid_keeps super.generation stamp trees.bytes in

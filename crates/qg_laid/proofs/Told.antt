@@ -26,7 +26,7 @@ use Rattle.qg_verdict.specs.Verdict.{are_few, are_roots, is_quota}
 use Rattle.qg_check.specs.Trees.{addresses_of, AreNamed, IsFileTree, IsQuotaTree}
 use Rattle.qg_check.proofs.Found.{items_under-nodes}
 use Rattle.qg_laid.specs.Holds.{IsTreeIn}
-use Rattle.qg_laid.specs.Anew.{roots_laid, quota_parts_laid}
+use Rattle.qg_laid.specs.Anew.{all_exclusive, roots_laid, quota_parts_laid}
 
 then_told : {A : Type 0} (test : Bool) (x y : A) → then_some test x ≡ Some y → (test ≡ true) × (x ≡ y)
 then_told true x y h = (refl, same_Some x y h)
@@ -56,22 +56,22 @@ roots_named super image items nodes extents files quotas tree named =
 
 abbrev pub quota_laid : ℕ → ℕ → Quota
 quota_laid stamp bytes =
-    record { groups = (5, record { counters = record { rfer = bytes; excl = bytes }; max_rfer = None; max_excl = None; stamp = stamp }) ∷ []; pairs = [] }
+    record { groups = (5, record { counters = all_exclusive bytes; max_rfer = None; max_excl = None; stamp = stamp }) ∷ []; pairs = [] }
 
-quota_laid_told : (generation stamp bytes : ℕ) → quota_laid stamp bytes ≡ quota_told (quota_parts_laid generation stamp bytes)
+quota_laid_told : (generation stamp bytes : ℕ) → quota_laid stamp bytes ≡ quota_told (quota_parts_laid generation (all_exclusive bytes) stamp)
 unfolding quota_told
 quota_laid_told generation stamp bytes = refl
 
-pub quota_laid_keeps : (generation stamp bytes : ℕ) → is_quota (5 ∷ []) (quota_parts_laid generation stamp bytes) ≡ true
+pub quota_laid_keeps : (generation stamp bytes : ℕ) → is_quota (5 ∷ []) (quota_parts_laid generation (all_exclusive bytes) stamp) ≡ true
 unfolding is_quota is_subvolume_number
 quota_laid_keeps generation stamp bytes = rw (eq-eqb bytes bytes refl) refl
 
-pub quota_laid_few : (generation stamp bytes : ℕ) → are_few (quota_parts_laid generation stamp bytes) ≡ true
+pub quota_laid_few : (generation stamp bytes : ℕ) → are_few (quota_parts_laid generation (all_exclusive bytes) stamp) ≡ true
 unfolding are_few
 quota_laid_few generation stamp bytes = refl
 
 pub quota_tree_laid : (super : Super) (image : List ℕ) (root : RootItem) (items : List Item) (nodes : List Node) (generation stamp bytes : ℕ)
-    → (tree : IsTreeIn Quotas super image (root_told root) root.bytenr items nodes) → filter_map quota_part items ≡ quota_parts_laid generation stamp bytes
+    → (tree : IsTreeIn Quotas super image (root_told root) root.bytenr items nodes) → filter_map quota_part items ≡ quota_parts_laid generation (all_exclusive bytes) stamp
     → IsQuotaTree super image root (record { quota = quota_laid stamp bytes; nodes = addresses_of tree.those })
 quota_tree_laid super image root items nodes generation stamp bytes tree told =
     let parts = ap (λ (own : List Item). filter_map quota_part own) tree.items_are ∙ told in

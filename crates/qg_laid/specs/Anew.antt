@@ -1,6 +1,7 @@
 -- Trees that are built anew for a commit, as long as there is one subvolume and its group alone (this project's own). Sizes are in bytes.
-use Rattle.std.specs.Prelude.{◌≡◌, ℕ, ◌+◌, ◌*◌, ◌&&◌, ◌==◌, List, [], ◌∷◌, ◌++◌, length, Some, None, if◌then◌else◌, IsTrue}
+use Rattle.std.specs.Prelude.{◌≡◌, ℕ, ◌+◌, ◌*◌, ◌==◌, List, [], ◌∷◌, ◌++◌, length, Some, None, if◌then◌else◌, IsTrue}
 use Rattle.std.specs.List.{Contains, IsDistinct, filter_map, list_all}
+use Rattle.qg_num.specs.declared.counters.Counters.{Counters}
 use Rattle.qg_node.specs.declared.item.Item.{Item}
 use Rattle.qg_node.specs.declared.node.Node.{Node}
 use Rattle.qg_items.specs.declared.root.RootItem.{RootItem}
@@ -22,7 +23,9 @@ use Rattle.qg_verdict.specs.declared.tree.Tree.TheVariants.{Extents, Quotas, Roo
 use Rattle.qg_verdict.specs.Verdict.{space_failure}
 use Rattle.qg_verdict.specs.Walk.{is_item_of, is_owner}
 use Rattle.qg_check.specs.IsImage.{extents_in}
+use Rattle.qg_machine.specs.GroupChange.{same_counters}
 use Rattle.qg_tree.specs.Build.{IsBuilt}
+use Rattle.qg_contents.specs.Written.{info_of, no_limit, status_at}
 
 -- ---- what is told
 
@@ -30,17 +33,18 @@ use Rattle.qg_tree.specs.Build.{IsBuilt}
 abbrev pub roots_laid : RootItem → RootItem → RootItem → List (ℕ × RootItem)
 roots_laid extents files quotas = (EXTENT_TREE, extents) ∷ (TOP_LEVEL, files) ∷ (QUOTA_TREE, quotas) ∷ []
 
--- what the quota tree says: the top-level subvolume's group counts so many bytes since a generation, and has no limit
-abbrev pub quota_parts_laid : ℕ → ℕ → ℕ → List QuotaPart
-quota_parts_laid generation stamp bytes =
-    Status (record { generation = generation; flags = 1; cursor = 0 })
-    ∷ Info TOP_LEVEL (record { generation = stamp; rfer = bytes; rfer_cmpr = bytes; excl = bytes; excl_cmpr = bytes })
-    ∷ Limits TOP_LEVEL (record { flags = 0; max_rfer = 0; max_excl = 0 })
-    ∷ []
+-- what the quota tree says: the top-level subvolume's group has these counters since a generation, and no limit
+abbrev pub quota_parts_laid : ℕ → Counters → ℕ → List QuotaPart
+quota_parts_laid generation counters stamp =
+    Status (status_at generation) ∷ Info TOP_LEVEL (info_of stamp counters) ∷ Limits TOP_LEVEL no_limit ∷ []
 
--- the generation of the commit that last changed the counters, where they are so many bytes now
-abbrev pub stamp_now : Group → ℕ → ℕ → ℕ
-stamp_now group bytes generation = if (group.counters.rfer == bytes) && (group.counters.excl == bytes) then group.stamp else generation
+-- the commit that changed the counters last
+abbrev pub stamp_after : Counters → Counters → ℕ → ℕ → ℕ
+stamp_after old new stamp generation = if same_counters old new then stamp else generation
+
+-- the counters of a group whose bytes nobody else reaches
+abbrev pub all_exclusive : ℕ → Counters
+all_exclusive bytes = record { rfer = bytes; excl = bytes }
 
 -- quota with one group, and that of the top-level subvolume
 abbrev pub one_entry : ℕ × Group → Quota
@@ -110,7 +114,8 @@ pub record BuildsAnew (old : State) (before : Subvolume) (group : Group) (super 
   pub quota_nodes : List Node
   pub counts : BuildsOther Quotas QUOTA_TREE old quota_items quota_slots file_slots quota_nodes quotas.bytenr quotas.level
   pub counted : filter_map quota_part quota_items
-      ≡ quota_parts_laid (next_generation old) (stamp_now group (bytes_laid old before file_nodes) (next_generation old)) (bytes_laid old before file_nodes)
+      ≡ quota_parts_laid (next_generation old) (all_exclusive (bytes_laid old before file_nodes))
+      (stamp_after group.counters (all_exclusive (bytes_laid old before file_nodes)) group.stamp (next_generation old))
   pub root_items : List Item
   pub root_slots : List ℕ
   pub root_nodes : List Node

@@ -1,5 +1,5 @@
 -- The four trees that a commit builds, one behind the other in free slots (this project's own).
-use Rattle.std.specs.Prelude.{◌≡◌, ◌↔◌, ℕ, ◌+◌, ◌*◌, ◌^◌, ◌≤◌, true, None, List, Some, [], ◌∷◌, ◌++◌, map, length, drop, ◌==◌, if◌then◌else◌, IsTrue}
+use Rattle.std.specs.Prelude.{◌≡◌, ◌↔◌, ℕ, ◌+◌, ◌*◌, ◌^◌, ◌≤◌, true, None, List, Some, [], ◌∷◌, ◌++◌, map, length, drop, ◌==◌, IsTrue}
 use Rattle.std.specs.List.{All, Contains, IsDistinct, filter_map, list_all, sum_by}
 use Rattle.qg_num.specs.declared.counters.Counters.{Counters}
 use Rattle.qg_node.specs.declared.item.Item.{Item}
@@ -9,7 +9,6 @@ use Rattle.qg_items.specs.declared.root.RootItem.{RootItem}
 use Rattle.qg_items.specs.declared.tree.TheConstants.{ROOT_TREE, EXTENT_TREE, TOP_LEVEL, QUOTA_TREE}
 use Rattle.qg_super.specs.declared.superblock.Super.{Super}
 use Rattle.qg_image.specs.declared.file.File.{File}
-use Rattle.qg_image.specs.declared.part.QuotaPart.TheVariants.{Status, Info, Limits}
 use Rattle.qg_image.specs.ItemMeaning.{quota_part, root_part}
 use Rattle.qg_image.specs.FilesOf.{files_of}
 use Rattle.qg_image.specs.Table.{keys_of}
@@ -23,16 +22,14 @@ use Rattle.qg_verdict.specs.StateOf.{StateOf}
 use Rattle.qg_verdict.specs.Verdict.{IsSound, space_failure}
 use Rattle.qg_rules.specs.Writable.{AreWritableFiles, IsFileBy}
 use Rattle.qg_check.specs.IsImage.{extents_in}
-use Rattle.qg_laid.specs.Anew.{IsOne, one_group}
+use Rattle.qg_laid.specs.Anew.{IsOne, one_group, quota_parts_laid, roots_laid, stamp_after}
 use Rattle.qg_state.specs.Counts.{bytes_of}
 use Rattle.qg_verdict.specs.declared.tree.Tree.{Tree}
 use Rattle.qg_verdict.specs.declared.tree.Tree.TheVariants.{Extents, Files, Quotas, Roots}
 use Rattle.qg_verdict.specs.Walk.{is_item_of}
-use Rattle.qg_machine.specs.GroupChange.{same_counters}
 use Rattle.qg_machine.specs.Step.{Commits}
 use Rattle.qg_tree.specs.declared.building.Built.{Built}
 use Rattle.qg_tree.specs.Build.{IsBuilt}
-use Rattle.qg_contents.specs.Written.{info_of, no_limit, status_at}
 use Rattle.qg_laid.specs.declared.laying.Laid.{Laid}
 use Rattle.qg_laid.specs.declared.laying.Parts.{Parts}
 
@@ -75,12 +72,11 @@ root_of built generation last_snapshot =
 
 -- what the items of the root tree tell
 abbrev pub RootsTell : RootItem → RootItem → RootItem → List Item → Type 0
-RootsTell extents files quotas items = filter_map root_part items ≡ (EXTENT_TREE, extents) ∷ (TOP_LEVEL, files) ∷ (QUOTA_TREE, quotas) ∷ []
+RootsTell extents files quotas items = filter_map root_part items ≡ roots_laid extents files quotas
 
 -- what the items of the quota tree tell: one group, with no limit
 abbrev pub QuotaTells : ℕ → Counters → ℕ → List Item → Type 0
-QuotaTells generation counters stamp items =
-    filter_map quota_part items ≡ Status (status_at generation) ∷ Info TOP_LEVEL (info_of stamp counters) ∷ Limits TOP_LEVEL no_limit ∷ []
+QuotaTells generation counters stamp items = filter_map quota_part items ≡ quota_parts_laid generation counters stamp
 
 -- what the items of the subvolume's tree tell
 abbrev pub FilesTell : ℕ → List (ℕ × File) → List Item → Type 0
@@ -89,10 +85,6 @@ FilesTell generation files items = files_of generation items ≡ Some files
 -- the extent tree has no items
 abbrev pub NoItems : List Item → Type 0
 NoItems items = items ≡ []
-
--- the commit that changed the counters last
-abbrev pub stamp_after : Counters → Counters → ℕ → ℕ → ℕ
-stamp_after old new stamp generation = if same_counters old new then stamp else generation
 
 -- all nodes of a commit: those of the root, extent and quota trees, and those of the files' tree
 abbrev pub nodes_laid : Laid → List Node

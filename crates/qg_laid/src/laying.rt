@@ -5,7 +5,8 @@ ghost use Rattle.qg_state.specs.Counts.{bytes_of};
 ghost use Rattle.qg_state.specs.State.{State, Subvolume};
 ghost use Rattle.qg_state.specs.declared.quota.Group.{Group};
 ghost use Rattle.qg_laid.specs.Holds.{HasCommit};
-ghost use Rattle.qg_laid.specs.Trees.{ArePartsOf, AreTreesOf, CanBeLaid, IsCommitOf, nodes_laid, stamp_after};
+ghost use Rattle.qg_laid.specs.Anew.{stamp_after};
+ghost use Rattle.qg_laid.specs.Trees.{ArePartsOf, AreTreesOf, CanBeLaid, IsCommitOf, nodes_laid};
 
 use crate::trees::{NamedRoots, extent_tree, file_tree, quota_tree, root_of, root_tree};
 use qg_image::File;

@@ -5,3 +5,6 @@ mod laying;
 mod trees;
 
 pub use laying::{Laid, Parts, lay_out};
+
+#[cfg(test)]
+mod tests;

@@ -74,6 +74,7 @@ no_such_run : refusal fresh (Write 5 257 0 (1025 * 4096)) ≡ Some why.NoRun
 unfolding refusal first_run least is_free_run is_run present_extents over file_change free_slots is_free_slot is_slot whole_weight present_records reserved members is_below leads
 no_such_run = refl
 
+-- as long as each commit builds all trees anew; by copy on write 228 slots are needed, and it would be `NoNodes 60 228`
 write_is_accepted : refusal fresh (Write 5 257 0 4096) ≡ None
 unfolding refusal first_run least is_free_run is_run present_extents over file_change free_slots is_free_slot is_slot whole_weight present_records reserved members is_below leads before after
 write_is_accepted = refl

@@ -59,7 +59,7 @@ abbrev pub limits_of : ℕ → Option Group → Group
 limits_of generation None = new_group generation
 limits_of generation (Some source) = record (new_group generation) { max_rfer = source.max_rfer; max_excl = source.max_excl }
 
--- and a relation to each group of a list
+-- and a relation to each group of a list; it gets no other relation, and none without a list (this project's own)
 abbrev pub inherited : ℕ → ℕ → ℕ → List ℕ → Quota → Quota
 inherited generation source copy parents quota =
     fold (λ made parent. assigned copy parent made) (with_group copy (limits_of generation (value_at source quota.groups)) quota) parents

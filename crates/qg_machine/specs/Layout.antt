@@ -1,6 +1,7 @@
 -- Which layouts of nodes the machine may come to: slots and the cut of trees are its only free choices (this project's own).
 use Rattle.std.specs.Prelude.{◌≡◌, ℕ, ◌≤◌, Bool, ◌&&◌, ◌||◌, not, List, length, map, Option, Some, None, Result, Ok, Err, ◌==◌, IsTrue}
 use Rattle.std.specs.List.{list_all, list_any, filter, AllByRecursion}
+use Rattle.std.specs.List.Sorted.{IsStrictlyIncreasing}
 use Rattle.qg_num.specs.declared.rule.Rule.TheVariants as rule
 use Rattle.qg_node.specs.declared.item.Item.{Item}
 use Rattle.qg_node.specs.declared.node.Node.{Node}
@@ -8,7 +9,7 @@ use Rattle.qg_node.specs.Nodes.{header_of}
 use Rattle.qg_node.specs.NodeText.{IsNode}
 use Rattle.qg_super.specs.declared.superblock.Super.{Super}
 use Rattle.qg_super.specs.Places.{is_slot}
-use Rattle.qg_image.specs.Table.{value_at, has_key}
+use Rattle.qg_image.specs.Table.{value_at, has_key, keys_of}
 use Rattle.qg_image.specs.FilesOf.{files_of}
 use Rattle.qg_state.specs.Stage.{copies_on_write}
 use Rattle.qg_state.specs.State.{State, Subvolume, Placed, node_at, next_generation}
@@ -56,8 +57,9 @@ pub record IsReached (state : State) (entry : ℕ × Placed) : Type 0 where
   pub placed : (header_of entry.1.node).address ≡ entry.0
   pub reached : IsTrue (is_reached state entry.0)
 
--- the layout is that of the files: each subvolume has its tree, and there are no other nodes
+-- the layout is that of the files: it is a table (addresses ascend, each once), each subvolume has its tree, and there are no other nodes
 pub record IsWhole (state : State) : Type 0 where
+  pub ascending : IsStrictlyIncreasing (keys_of state.layout)
   pub trees : AllByRecursion (λ entry. IsTreeOf state entry.1) state.subvolumes
   pub reached : AllByRecursion (IsReached state) state.layout
 
@@ -122,8 +124,8 @@ pub record Rebuilds (old new : State) : Type 0 where
 -- ---- the other trees
 
 -- the nodes of the root, extent and quota trees lie in slots that the layout leaves: free ones, or once these trees are edited by copy on
--- write such as the last commit held
+-- write such as nodes of these three trees had in the last commit
 abbrev pub is_other_slot : State → State → ℕ → Bool
 is_other_slot old new address =
     is_slot old.sizes address && not (has_key address new.layout)
-    && (is_free_slot old address || (copies_on_write && list_any (λ node. node == address) old.held.nodes))
+    && (is_free_slot old address || (copies_on_write && list_any (λ node. node == address) old.held.others))

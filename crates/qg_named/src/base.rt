@@ -1,9 +1,10 @@
 // Extents that ascend, each once.
-ghost use Rattle.std.specs.Prelude.{◌≡◌, ◌<◌, ◌==◌, true, IfSome, IfNone, length};
+ghost use Rattle.std.specs.Prelude.{◌≡◌, ◌<◌, true, IfSome, IfNone, length};
 ghost use Rattle.std.specs.List.{HoldsAt, count_by, flat_map, items_where_true};
-ghost use Rattle.qg_verdict.specs.Verdict.{is_before, same_extent};
+ghost use Rattle.qg_verdict.specs.Verdict.{same_extent};
 ghost use Rattle.qg_named.specs.Base.{AscendOnce};
 
+use qg_reach::is_before;
 use qg_state::Element;
 
 /// The index of an extent among those that stay of some that ascend, each once; none exactly where it is not among them.
@@ -39,12 +40,4 @@ fn index_of(extents: &[Element], extent: &Element) -> Option<usize>
     } else {
         None
     }
-}
-
-/// Whether an extent comes before another.
-fn is_before(extent: &Element, other: &Element) -> bool
-    ensures { result ≡ is_before extent.now other.now }
-{
-    extent.address < other.address
-        || (extent.address == other.address && extent.bytes < other.bytes)
 }

@@ -5,7 +5,7 @@ mod base;
 mod named;
 mod tally;
 
-pub use named::{Named, named_by, named_of};
+pub use named::{Named, named_of};
 
 #[cfg(test)]
 mod tests;

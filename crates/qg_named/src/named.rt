@@ -39,17 +39,6 @@ impl Model for Named {
 }
 
 impl Named {
-    /// Nothing is named yet. It takes no memory.
-    pub fn new(alloc: Global) -> Named
-        ensures { (extent : Element) → named_count result extent ≡ 0 }
-    {
-        Named {
-            extents: Sequence::new(alloc),
-            stays: Vec::new(alloc),
-            more: Tally::new(alloc),
-        }
-    }
-
     /// How many pieces name an extent.
     pub fn count(&self, extent: &Element) -> u64
         ensures { result ≡ named_count self.now extent.now }
@@ -98,7 +87,7 @@ impl Named {
 }
 
 /// How many pieces of some files name each extent.
-pub fn named_by(alloc: Global, files: &[(Ino, File)]) -> Result<Named, NoMemory>
+fn named_by(alloc: Global, files: &[(Ino, File)]) -> Result<Named, NoMemory>
     ensures { IfOk result (λ named. AreNamed named (flat_map (λ file. map extent_of file.1.pieces) files.now)) }
 {
     Ok(Named {

@@ -1,5 +1,5 @@
 // Data extents with their counts, how many pieces name each.
-ghost use Rattle.std.specs.Prelude.{◌≡◌, ◌+◌, ◌-◌, ◌^◌, ◌<◌, ◌≤◌, ◌↔◌, ◌++◌, length, map, slice_index_or, IfOk, OnOk, OnErr, IsTrue};
+ghost use Rattle.std.specs.Prelude.{◌≡◌, ◌+◌, ◌-◌, ◌^◌, ◌<◌, ◌≤◌, ◌↔◌, length, map, slice_index_or, IfOk, OnOk, OnErr, IsTrue};
 ghost use Rattle.std.specs.List.{flat_map};
 ghost use Rattle.qg_state.specs.declared.element.Element.{Element};
 ghost use Rattle.qg_state.specs.Reach.{extent_of};
@@ -7,7 +7,8 @@ ghost use Rattle.qg_named.specs.Named.{named_count, HasOneMore, HasSoManyMore, A
 ghost use Rattle.qg_named.specs.Tally.{key_of, IsRow};
 
 use qg_image::File;
-use qg_num::{Ino, NoMemory, Piece};
+use qg_num::{Ino, NoMemory};
+use qg_reach::named_extents;
 use qg_state::Element;
 use std::alloc::Global;
 use std::collections::BTreeMap;
@@ -101,33 +102,10 @@ fn key_of(extent: &Element) -> (u64, u64)
 pub(crate) fn tally_by(alloc: Global, files: &[(Ino, File)]) -> Result<Tally, NoMemory>
     ensures { IfOk result (λ named. AreNamed named (flat_map (λ file. map extent_of file.1.pieces) files.now)) }
 {
-    let mut extents = Vec::new(alloc);
-    for file in files {
-        put_extents(&mut extents, file.1.pieces.as_slice())?;
-    }
+    let mut extents = named_extents(alloc, files)?;
     // Where addresses ascend, the map is filled from one end to the other.
     extents.sort_unstable_by_key(|extent| extent.address);
     count_all(alloc, extents.as_slice())
-}
-
-/// The extent that a piece names.
-fn extent_of(piece: &Piece) -> Element
-    ensures { result ≡ extent_of piece.now }
-{
-    Element {
-        address: piece.extent,
-        bytes: piece.extent_bytes,
-    }
-}
-
-/// Puts the extents that pieces name at the end of a list.
-fn put_extents(extents: &mut Vec<Element>, pieces: &[Piece]) -> Result<(), NoMemory>
-    ensures { OnOk result (extents.new.items ≡ extents.old.items ++ map extent_of pieces.now) }
-{
-    for piece in pieces {
-        extents.push(extent_of(piece))?;
-    }
-    Ok(())
 }
 
 /// How often each extent is listed. Where one is listed several times in a row, the map is asked once.

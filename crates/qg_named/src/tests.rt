@@ -1,4 +1,4 @@
-use crate::{Named, named_by, named_of};
+use crate::{Named, named_of};
 use qg_image::{File, FileList};
 use qg_num::{Address, Generation, Ino, NoMemory, Piece, Pieces};
 use qg_reach::extents_of;
@@ -42,7 +42,8 @@ fn of_two_files(alloc: Global, first: &[Element], second: &[Element]) -> Result<
     let mut files = FileList::new(alloc);
     files.push((Ino::new(257), file_of(alloc, first)?))?;
     files.push((Ino::new(258), file_of(alloc, second)?))?;
-    named_by(alloc, files.as_slice())
+    let known = extents_of(alloc, files.as_slice())?;
+    named_of(alloc, files.as_slice(), known)
 }
 
 // What a file of these extents names, once they are known.

@@ -10,6 +10,7 @@ use Rattle.qg_node.specs.declared.node.Header.{Header}
 use Rattle.qg_node.specs.declared.node.Node.{Node}
 use Rattle.qg_node.specs.declared.node.Node.TheVariants.{Leaf, Inner}
 
+-- a node's header
 abbrev pub header_of : Node → Header
 header_of (Leaf header items) = header
 header_of (Inner header pointers) = header

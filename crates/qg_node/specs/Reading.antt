@@ -35,6 +35,7 @@ has_checksum bytes = is_zero 4 32 bytes && (u32_at 0 bytes == crc32c_of (drop 32
 unfoldable pub has_empty_fields : List ℕ → Bool
 has_empty_fields bytes = is_zero 32 48 bytes && is_zero 56 80 bytes
 
+-- the fields of a header, where a node has them
 unfoldable pub header_at : List ℕ → Header
 header_at bytes = record { address = u64_at 48 bytes; generation = u64_at 80 bytes; owner = u64_at 88 bytes; level = slice_index bytes 100 }
 
@@ -60,6 +61,7 @@ items_at (suc count) place end low bytes = do
   others ← items_at count (place + 25) first.1 low bytes
   Ok (first.0 ∷ others.0, others.1)
 
+-- a leaf: its items, or the first rule that they break, of bounds, order and slack
 unfoldable pub leaf_at : List ℕ → Result Node NodeFault
 leaf_at bytes =
     let low = 101 + 25 * count_at bytes in
@@ -71,13 +73,16 @@ leaf_at bytes =
 
 -- ---- inner nodes
 
+-- the pointer in the 33 bytes from a place on
 unfoldable pub pointer_at : ℕ → List ℕ → Pointer
 pointer_at place bytes = record { key = key_at place bytes; child = u64_at (place + 17) bytes; generation = u64_at (place + 25) bytes }
 
+-- so many pointers, one behind the other, from a place on
 unfoldable pub pointers_at : ℕ → ℕ → List ℕ → List Pointer
 pointers_at zero place bytes = []
 pointers_at (suc count) place bytes = pointer_at place bytes ∷ pointers_at count (place + 33) bytes
 
+-- an inner node: its pointers, or the first rule that they break, of bounds, order and slack
 unfoldable pub inner_at : List ℕ → Result Node NodeFault
 inner_at bytes =
     let end = 101 + 33 * count_at bytes in

@@ -7,14 +7,14 @@ use crate::keyed::is_ascending;
 use crate::{Item, Items, Pointers};
 use qg_num::{Address, Generation, RootId};
 
-/// How many bytes a node's header takes.
-pub(crate) const HEADER_BYTES: usize = 101;
+/// How many bytes a node's header takes (on-disk format, "header").
+pub const HEADER_BYTES: usize = 101;
 
-/// How many bytes an item takes beside its body.
-pub(crate) const ITEM_HEADER_BYTES: usize = 25;
+/// How many bytes an item takes beside its body (on-disk format, "nodes and leaves").
+pub const ITEM_HEADER_BYTES: usize = 25;
 
-/// How many bytes a pointer takes.
-pub(crate) const POINTER_BYTES: usize = 33;
+/// How many bytes a pointer takes (on-disk format, "nodes and leaves").
+pub const POINTER_BYTES: usize = 33;
 
 /// What a node says of itself (on-disk format, "header").
 #[derive(Clone, Copy, Debug, PartialEq, Eq)]

@@ -164,9 +164,9 @@ fn leaf(alloc: Global) -> Result<Node, AllocError> {
     })
 }
 
-/// The node that `inner_bytes` spells.
-fn inner(alloc: Global) -> Result<Node, AllocError> {
-    let pointers = [
+/// The pointers of the node that `inner_bytes` spells.
+fn two_pointers() -> [Pointer; 2] {
+    [
         Pointer {
             key: key(257, 1, 0),
             child: Address::new(1064960),
@@ -177,10 +177,14 @@ fn inner(alloc: Global) -> Result<Node, AllocError> {
             child: Address::new(1081344),
             generation: Generation::new(1),
         },
-    ];
+    ]
+}
+
+/// The node that `inner_bytes` spells.
+fn inner(alloc: Global) -> Result<Node, AllocError> {
     Ok(Node::Inner {
         header: header(1),
-        pointers: Pointers::from_slice(alloc, &pointers)?,
+        pointers: Pointers::from_slice(alloc, &two_pointers())?,
     })
 }
 
@@ -212,6 +216,20 @@ fn spells_and_reads_what_was_spelled_by_hand(rt: HostRuntime) -> Result<(), Fail
             items.as_slice()[1].body.as_slice(),
             [0xb1, 0xb2].as_slice()
         );
+
+        assert!(rt; write(&inner(alloc)?, &mut bytes));
+        assert_eq!(rt; bytes.as_slice(), inner_bytes(alloc, size)?.as_slice());
+        let Ok(
+            Node::Inner {
+                header: told,
+                pointers,
+            },
+        ) = read(alloc, &bytes, PLACE)
+        else {
+            return Err(Fail::from("no inner node"));
+        };
+        assert_eq!(rt; told, header(1));
+        assert_eq!(rt; pointers.as_slice(), two_pointers().as_slice());
     }
     Ok(())
 }

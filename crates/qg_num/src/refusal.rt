@@ -7,9 +7,9 @@ pub enum Refusal {
     NoSub,
     /// There is no such file there.
     NoFile,
-    /// A position, length or size is no multiple of a sector, or a length is 0.
+    /// A position, length or size is no multiple of 4096 bytes, or a length is 0.
     Align,
-    /// An end or a size is past the largest file, or a write is longer than the longest extent.
+    /// An end or a size is past 1099511627776 bytes, or a write is longer than 134217728 bytes.
     Far,
     /// The source range ends past the source's size.
     Source,
@@ -39,8 +39,9 @@ pub enum Refusal {
     Busy,
     /// The top-level subvolume is not deleted.
     TopLevel,
-    /// The command would pass a limit of the store.
+    /// There would be more than 4096 live subvolumes, 4096 groups, 16384 relations or 65536 pending
+    /// file commands, or a subvolume with the number 2^48.
     TooMany,
-    /// The generation to come is past the last one.
+    /// The command would commit, and the committed generation is greater than 2^63.
     NoGeneration,
 }

@@ -10,6 +10,7 @@ mod root;
 
 pub use list::PartList;
 pub use part::TreePart;
+pub use root::is_subvolume_number;
 
 #[cfg(test)]
 mod tests;

@@ -37,7 +37,7 @@ impl TreePart for RootPart {
 
 /// Whether a subvolume may have this number (on-disk format, "trees").
 #[tactic(auto, unfolding(qg_image::specs::ItemMeaning::is_subvolume_number))]
-pub(crate) fn is_subvolume_number(number: u64) -> bool
+pub fn is_subvolume_number(number: u64) -> bool
     ensures { result ≡ is_subvolume_number number }
 {
     number == TOP_LEVEL || (FIRST_FREE <= number && number < SUBVOLUMES_END)

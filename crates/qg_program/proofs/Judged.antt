@@ -1,16 +1,17 @@
 -- An image that was opened, and one that was not.
 use Rattle.std.proofs.Common.{◌≡◌, ◌⊎◌, ℕ, List, [], Option, Some, None, inl, inr, refl, sym, ◌∙◌, subst}
-use Rattle.qg_device.specs.History.{Event}
+use Rattle.qg_device.specs.History.{Event, content}
 use Rattle.qg_super.specs.declared.superblock.Super.{Super}
 use Rattle.qg_state.specs.State.{State}
 use Rattle.qg_verdict.specs.StateOf.{StateOf, state_in, super_of}
-use Rattle.qg_verdict.specs.Verdict.{IsSound}
+use Rattle.qg_verdict.specs.Verdict.{IsSound, verdict}
+use Rattle.qg_verdict.specs.declared.failure.Failure.{Failure}
 use Rattle.qg_grammar.specs.ScriptText.{script_lines}
 use Rattle.qg_check.proofs.Verdicts.{verdict_none}
 use Rattle.qg_commit.specs.declared.fault.OpenFault.{OpenFault}
 use Rattle.qg_commit.specs.declared.fault.OpenFault.TheVariants as opening
-use Rattle.qg_commit.specs.Calls.{GoesOn}
-use Rattle.qg_commit.specs.Opening.{IsUntouched}
+use Rattle.qg_commit.specs.Opened.{IsOpening}
+use Rattle.qg_commit.specs.Opening.{IsLookedAt, IsUntouched}
 use Rattle.qg_program.specs.declared.status.Status.{Status}
 use Rattle.qg_program.specs.declared.status.Status.TheVariants as status
 use Rattle.qg_program.specs.Following.{Follows}
@@ -33,6 +34,12 @@ untouched-judged (opening.Differs group which stored counted) same disk memory =
 untouched-judged opening.Disk same disk memory = absurd (disk refl)
 untouched-judged opening.NoMemory same disk memory = absurd (memory refl)
 
+-- nor was any that is not sound
+pub looked-unsound : (events : List Event) (failure : Failure) (history : Option (List Event)) → verdict (content events) ≡ Some failure → IsOpening events history
+    → IsLookedAt events history
+looked-unsound events failure history unsound (inl looked) = looked
+looked-unsound events failure history unsound (inr repairing) = let sound : verdict (content events) ≡ None = repairing.sound in absurd cc
+
 -- no line was answered
 puts-none : (state : State) (lines : List (List ℕ)) (old new : Option (List ℕ)) → new ≡ old → PutsSome state lines [] old new
 puts-none state lines old new same = record {
@@ -42,10 +49,10 @@ puts-none state lines old new same = record {
 
 -- a sound image that was not opened: no line was answered, and nothing was committed
 pub follows-unopened : (end : Status) {state : State} {input : List ℕ} {events : List Event} {history : Option (List Event)} {old new : Option (List ℕ)}
-    → (end ≡ status.Disk) ⊎ (end ≡ status.NoMemory) → GoesOn events history → new ≡ old → Follows end state input events history old new
-follows-unopened end {state} {input} {events} {history} {old} {new} (inl is) later same =
+    → (end ≡ status.Disk) ⊎ (end ≡ status.NoMemory) → IsOpening events history → new ≡ old → Follows end state input events history old new
+follows-unopened end {state} {input} {events} {history} {old} {new} (inl is) touched same =
     subst (λ (end : Status). Follows end state input events history old new) (sym is)
-    (record { commits = []; answers = puts-none state (script_lines input) old new same; made = inr (refl, later) })
-follows-unopened end {state} {input} {events} {history} {old} {new} (inr is) later same =
+    (record { commits = []; answers = puts-none state (script_lines input) old new same; made = inr (refl, touched) })
+follows-unopened end {state} {input} {events} {history} {old} {new} (inr is) touched same =
     subst (λ (end : Status). Follows end state input events history old new) (sym is)
-    (record { commits = []; answers = puts-none state (script_lines input) old new same; made = inr (refl, later) })
+    (record { commits = []; answers = puts-none state (script_lines input) old new same; made = inr (refl, touched) })

@@ -3,7 +3,7 @@ use Rattle.std.specs.Prelude.{◌≡◌, ◌⊎◌, ℕ, List, [], Option, Some}
 use Rattle.qg_device.specs.History.{Event, synced}
 use Rattle.qg_state.specs.State.{State}
 use Rattle.qg_commit.specs.Calls.{GoesOn}
-use Rattle.qg_commit.specs.Opened.{IsOpened}
+use Rattle.qg_commit.specs.Opened.{IsOpened, IsOpening}
 use Rattle.qg_store.specs.Making.{AreSynced, Makes}
 use Rattle.qg_program.specs.declared.status.Status.{Status}
 use Rattle.qg_program.specs.declared.status.Status.TheVariants.{Disk, NoMemory}
@@ -28,9 +28,9 @@ pub record MakesFirst (commits : List State) (events : List Event) (history : Op
   pub synced : AreSynced commits (synced opened) (synced mid)
   pub more : GoesOn mid history
 
--- so it is, or the image was not opened: perhaps some calls of opening, and no commit
+-- so it is, or the image was not opened: what opening may do by then, and no commit
 abbrev pub MakesSome : List State → List Event → Option (List Event) → Type 0
-MakesSome commits events history = MakesFirst commits events history ⊎ ((commits ≡ []) × GoesOn events history)
+MakesSome commits events history = MakesFirst commits events history ⊎ ((commits ≡ []) × IsOpening events history)
 
 -- what a run does to the disk that makes these commits, by how it ended
 abbrev pub MakesBy : Status → List State → List Event → Option (List Event) → Type 0

@@ -1,17 +1,10 @@
 // Scripts of clones, truncates, unlinks and lists over images in memory.
 use crate::Status;
-use crate::test_images::{answers_so, ends_so, fresh_disk, made_disk, times};
+use crate::test_images::{answers_so, disk_after, ends_so, goes_on_so, made_disk, times};
 use qg_disk::MemDisk;
 use std::alloc::Global;
 use std::process::Abort;
 use std::test::Fail;
-
-// A fresh disk over which a script was run, which put this.
-fn disk_after(rt: &impl Abort, alloc: Global, script: &[u8], text: &[u8]) -> Result<MemDisk, Fail> {
-    let mut disk = fresh_disk(alloc)?;
-    ends_so(rt, alloc, &mut disk, script, Status::Done, text)?;
-    Ok(disk)
-}
 
 // Each script is run over a disk in turn, and puts this. None of them commits.
 fn each_answers_so(
@@ -31,19 +24,13 @@ const THREE_SECTORS: &[u8] = b"write 5 257 0 12288\ncommit\n";
 
 const COMMITTED: &[u8] = b"ok extent 67174400\nok commit 2\n";
 
+// The example `place_taken_again`.
 #[test]
 fn keeps_the_first_length_of_a_place(rt: HostRuntime) -> Result<(), Fail> {
-    let table: [(&[u8], &[u8]); 2] = [
-        (
-            b"write 5 257 0 8192\nunlink 5 257\nwrite 5 257 0 4096\ncommit\nshow\n",
-            b"ok extent 67174400\nok\nok extent 67174400\nok commit 2\n0/5 20480 20480 none none\nok\n",
-        ),
-        // The last commit holds the place, so that it is not taken.
-        (
-            b"write 5 257 0 8192\ncommit\nunlink 5 257\nwrite 5 257 0 4096\ncommit\nshow\n",
-            b"ok extent 67174400\nok commit 2\nok\nok extent 67182592\nok commit 3\n0/5 20480 20480 none none\nok\n",
-        ),
-    ];
+    let table: [(&[u8], &[u8]); 1] = [(
+        b"write 5 257 0 8192\nunlink 5 257\nwrite 5 257 0 4096\ncommit\nshow\n",
+        b"ok extent 67174400\nok\nok extent 67174400\nok commit 2\n0/5 20480 20480 none none\nok\n",
+    )];
     answers_so(&rt, rt.alloc(), &table)
 }
 
@@ -57,7 +44,7 @@ fn a_run_is_held_while_some_piece_names_it(rt: HostRuntime) -> Result<(), Fail> 
 }
 
 #[test]
-fn a_run_that_is_given_up_waits_for_the_commit(rt: HostRuntime) -> Result<(), Fail> {
+fn freed_run_waits_for_the_commit(rt: HostRuntime) -> Result<(), Fail> {
     let alloc = rt.alloc();
     let mut disk = made_disk(alloc, ["16384", "1024", "16"])?;
     let script =
@@ -68,40 +55,26 @@ fn a_run_that_is_given_up_waits_for_the_commit(rt: HostRuntime) -> Result<(), Fa
 }
 
 #[test]
-fn a_file_that_is_not_committed_is_gone_when_opened_again(rt: HostRuntime) -> Result<(), Fail> {
-    let alloc = rt.alloc();
-    let script = b"write 5 257 0 8192\n";
-    let mut disk = disk_after(&rt, alloc, script, b"ok extent 67174400\n")?;
-    let (script, text) = (b"ls 5 257\n", b"no file\n");
-    ends_so(&rt, alloc, &mut disk, script, Status::Done, text)
-}
-
-#[test]
-fn a_cut_extent_stays_whole(rt: HostRuntime) -> Result<(), Fail> {
-    let alloc = rt.alloc();
-    let script = b"write 5 257 0 8192\ncommit\nshow\n";
-    let text = b"ok extent 67174400\nok commit 2\n0/5 24576 24576 none none\nok\n";
-    let mut disk = disk_after(&rt, alloc, script, text)?;
+fn cut_extent_stays_whole(rt: HostRuntime) -> Result<(), Fail> {
     let script = b"truncate 5 257 4096\ncommit\nshow\ntruncate 5 257 0\ncommit\nshow\n";
     let text =
         b"ok\nok commit 3\n0/5 24576 24576 none none\nok\nok\nok commit 4\n0/5 16384 16384 none none\nok\n";
-    ends_so(&rt, alloc, &mut disk, script, Status::Done, text)
+    goes_on_so(&rt, rt.alloc(), script, text)
 }
 
 #[test]
-fn a_clone_names_the_same_extents(rt: HostRuntime) -> Result<(), Fail> {
-    let table: [(&[u8], &[u8]); 2] = [
-        // Within one file an extent counts once.
-        (
-            b"write 5 257 0 8192\ncommit\nclone 5 257 0 8192 5 257 8192\ncommit\nshow\nls 5 257\n",
-            b"ok extent 67174400\nok commit 2\nok\nok commit 3\n0/5 24576 24576 none none\nok\n0 8192 67174400 0\n8192 8192 67174400 0\nok file 16384\n",
-        ),
-        (
-            b"write 5 257 0 8192\ncommit\nclone 5 257 0 8192 5 257 4096\nclone 5 257 4096 8192 5 258 0\nclone 5 999 0 4096 5 258 0\nclone 5 257 4096 4096 5 258 0\nls 5 258\n",
-            b"ok extent 67174400\nok commit 2\nno overlap\nno source\nno file\nok\n0 4096 67174400 4096\nok file 4096\n",
-        ),
-    ];
-    answers_so(&rt, rt.alloc(), &table)
+fn clone_within_a_file(rt: HostRuntime) -> Result<(), Fail> {
+    let script = b"clone 5 257 0 8192 5 257 8192\ncommit\nshow\n";
+    let text = b"ok\nok commit 3\n0/5 24576 24576 none none\nok\n";
+    goes_on_so(&rt, rt.alloc(), script, text)
+}
+
+#[test]
+fn refusals_of_clone(rt: HostRuntime) -> Result<(), Fail> {
+    let script =
+        b"clone 5 257 0 8192 5 257 4096\nclone 5 257 4096 8192 5 258 0\nclone 5 999 0 4096 5 258 0\nclone 5 257 4096 4096 5 258 0\nls 5 258\n";
+    let text = b"no overlap\nno source\nno file\nok\n0 4096 67174400 4096\nok file 4096\n";
+    goes_on_so(&rt, rt.alloc(), script, text)
 }
 
 #[test]
@@ -219,18 +192,11 @@ fn the_first_refusal_of_other_commands_is_told(rt: HostRuntime) -> Result<(), Fa
 }
 
 #[test]
-fn no_more_than_65536_truncates_may_be_pending(rt: HostRuntime) -> Result<(), Fail> {
+fn pending_limit(rt: HostRuntime) -> Result<(), Fail> {
     let alloc = rt.alloc();
-    let script = b"write 5 257 0 8192\ncommit\n";
-    let mut disk = disk_after(&rt, alloc, script, COMMITTED)?;
     let mut script = times(alloc, 65536, b"truncate 5 257 4096\n")?;
     let mut text = times(alloc, 65536, b"ok\n")?;
-    script.extend_from_slice(b"truncate 5 257 4096\nunlink 5 257\nclone 5 257 0 4096 5 258 0\n")?;
-    text.extend_from_slice(b"no many\nno many\nno many\n")?;
-    // The other refusals are told first.
-    script.extend_from_slice(
-        b"truncate 5 257 1099511631872\nunlink 5 258\nclone 5 257 0 4096 5 257 0\ncommit\n",
-    )?;
-    text.extend_from_slice(b"no far\nno file\nno overlap\nok commit 3\n")?;
-    ends_so(&rt, alloc, &mut disk, &script, Status::Done, &text)
+    script.extend_from_slice(b"truncate 5 257 4096\ncommit\n")?;
+    text.extend_from_slice(b"no many\nok commit 3\n")?;
+    goes_on_so(&rt, alloc, &script, &text)
 }

@@ -13,9 +13,10 @@ ghost use Rattle.qg_verdict.specs.declared.failure.Failure.{Failure};
 ghost use Rattle.qg_commit.specs.Calls.{with_image};
 ghost use Rattle.qg_commit.specs.Fresh.{fresh_nodes, fresh_super};
 ghost use Rattle.qg_commit.specs.Mkfs.{HoldsFreshImage};
+ghost use Rattle.qg_commit.specs.Opening.{IsLookedAt};
 ghost use Rattle.qg_words.specs.Words.{texts, HaveForm};
 ghost use Rattle.qg_program.specs.Words.{AskServed, AskToMake, AskToRun, AskUnserved};
-ghost use Rattle.qg_program.specs.Ends.{is_judged, is_made, is_refused, is_settled, is_told};
+ghost use Rattle.qg_program.specs.Ends.{is_judged, is_made, is_makers, is_refused, is_runners, is_settled, is_told};
 ghost use Rattle.qg_program.specs.Putting.{PutsFailure, Refuses, SaysMade, failure_text};
 ghost use Rattle.qg_program.specs.Following.{Follows};
 ghost use Rattle.qg_program.specs.Running.{IsTaken};
@@ -45,6 +46,10 @@ pub fn run_program<D: Disk, S: Source, K: Sink>(
     ensures source_untouched { IsTrue (is_refused result) → source.new ≡ source.old }
     ensures sink_untouched { IsTrue (is_refused result) → sink.new ≡ sink.old }
 
+    // Each form has its ends.
+    ensures make_ends { (sizes : Sizes) → AskToMake words.now.items sizes → IsTrue (is_makers result) }
+    ensures run_ends { AskToRun words.now.items → IsTrue (is_runners result) }
+
     // An image is made: the calls, what the disk holds then where it tells it, and what was put.
     ensures calls { (sizes : Sizes) → AskServed words.now.items sizes → IsTrue (is_made result) → D.history disk.new
         ≡ option_map (with_image (fresh_super sizes (slot_at sizes 0)) (fresh_nodes sizes)) (D.history disk.old) }
@@ -61,13 +66,17 @@ pub fn run_program<D: Disk, S: Source, K: Sink>(
         → Follows result state input events (D.history disk.new) (K.bytes_held sink.old) (K.bytes_held sink.new) }
     ensures takes { AskToRun words.now.items → IsTaken result (S.bytes_left source.old) (S.bytes_left source.new) }
 
-    // A run over any other image says the first failure.
+    // A run over any other image says the first failure, and nothing else does.
+    ensures image_run { result ≡ Status.Image → AskToRun words.now.items }
+    ensures unsound { (events : List Event) → D.history disk.old ≡ Some events → result ≡ Status.Image → IsSound (content events) → ⊥ }
     ensures refuses { (events : List Event) (failure : Failure) → AskToRun words.now.items → D.history disk.old ≡ Some events
         → verdict (content events) ≡ Some failure
         → Refuses result (failure_text failure) (K.bytes_held sink.old) (K.bytes_held sink.new) }
     ensures told { result ≡ Status.Image → PutsFailure (K.bytes_held sink.old) (K.bytes_held sink.new) }
     ensures unwritten { (events : List Event) (failure : Failure) → AskToRun words.now.items → D.history disk.old ≡ Some events
         → verdict (content events) ≡ Some failure → IsTrue (is_judged result) → D.history disk.new ≡ Some (Synced ∷ events) }
+    ensures looked_at { (events : List Event) (failure : Failure) → AskToRun words.now.items → D.history disk.old ≡ Some events
+        → verdict (content events) ≡ Some failure → IsLookedAt events (D.history disk.new) }
     ensures refused_unread { (events : List Event) (failure : Failure) → AskToRun words.now.items → D.history disk.old ≡ Some events
         → verdict (content events) ≡ Some failure → source.new ≡ source.old }
 

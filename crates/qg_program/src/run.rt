@@ -7,7 +7,7 @@ ghost use Rattle.qg_verdict.specs.StateOf.{StateOf};
 ghost use Rattle.qg_verdict.specs.Verdict.{IsSound, verdict};
 ghost use Rattle.qg_verdict.specs.declared.failure.Failure.{Failure};
 ghost use Rattle.qg_commit.specs.declared.fault.OpenFault.TheVariants as opening;
-ghost use Rattle.qg_commit.specs.Opening.{IsRefusal};
+ghost use Rattle.qg_commit.specs.Opening.{IsLookedAt, IsRefusal};
 ghost use Rattle.qg_program.specs.Ends.{is_judged, is_refusers, is_runners};
 ghost use Rattle.qg_program.specs.Following.{Follows};
 ghost use Rattle.qg_program.specs.Putting.{PutsFailure, Refuses, failure_text};
@@ -35,12 +35,15 @@ pub(crate) fn run<D: Disk, S: Source, K: Sink>(
     ensures follows { (events : List Event) (input : List ℕ) (state : State) → D.history disk.old ≡ Some events
         → S.bytes_left source.old ≡ Some input → IsSound (content events) → StateOf (content events) state
         → Follows result state input events (D.history disk.new) (K.bytes_held sink.old) (K.bytes_held sink.new) }
+    ensures unsound { (events : List Event) → D.history disk.old ≡ Some events → result ≡ Status.Image → IsSound (content events) → ⊥ }
     ensures refuses { (events : List Event) (failure : Failure) → D.history disk.old ≡ Some events
         → verdict (content events) ≡ Some failure
         → Refuses result (failure_text failure) (K.bytes_held sink.old) (K.bytes_held sink.new) }
     ensures told { result ≡ Status.Image → PutsFailure (K.bytes_held sink.old) (K.bytes_held sink.new) }
     ensures unwritten { (events : List Event) (failure : Failure) → D.history disk.old ≡ Some events
         → verdict (content events) ≡ Some failure → IsTrue (is_judged result) → D.history disk.new ≡ Some (Synced ∷ events) }
+    ensures looked_at { (events : List Event) (failure : Failure) → D.history disk.old ≡ Some events
+        → verdict (content events) ≡ Some failure → IsLookedAt events (D.history disk.new) }
     ensures unread { (events : List Event) (failure : Failure) → D.history disk.old ≡ Some events
         → verdict (content events) ≡ Some failure → source.new ≡ source.old }
     ensures takes { IsTaken result (S.bytes_left source.old) (S.bytes_left source.new) }

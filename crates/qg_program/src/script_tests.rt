@@ -1,8 +1,9 @@
 // Scripts over a fresh image in memory.
-use crate::test_images::{TABLE, change, ends_so, fresh_disk, run_over, run_word};
-use crate::{Status, run_program};
+use crate::Status;
+use crate::test_images::{
+    FIRST_REPLIES, FIRST_WRITE, TABLE, change, disk_after, ends_so, fresh_disk, run_over,
+};
 use qg_disk::{Disk, MemDisk, Request};
-use qg_edge::{MemSink, MemSource};
 use std::process::Abort;
 use std::test::Fail;
 
@@ -34,29 +35,26 @@ fn lines_of_a_script_are_answered(rt: HostRuntime) -> Result<(), Fail> {
     let alloc = rt.alloc();
     let mut disk = fresh_disk(alloc)?;
     let made = writes(&disk);
+    // The example `empty_script`.
     ends_so(&rt, alloc, &mut disk, b"", Status::Done, b"")?;
+    // The example `fresh_show`.
     ends_so(&rt, alloc, &mut disk, b"show\n", Status::Done, TABLE)?;
-    ends_so(&rt, alloc, &mut disk, b"show", Status::Done, TABLE)?;
-    ends_so(&rt, alloc, &mut disk, b"\n", Status::Done, b"no line\n")?;
-    ends_so(
-        &rt,
-        alloc,
-        &mut disk,
-        &[b'a'; 257],
-        Status::Done,
-        b"no line\n",
-    )?;
+    let script = b"shown\nshow\ncommit";
+    let text = b"no line\n0/5 16384 16384 none none\nok\nok commit 1\n";
+    ends_so(&rt, alloc, &mut disk, script, Status::Done, text)?;
     assert_eq!(rt; writes(&disk), made);
     Ok(())
 }
 
 #[test]
-fn each_line_has_its_reply(rt: HostRuntime) -> Result<(), Fail> {
+fn lines_that_are_none(rt: HostRuntime) -> Result<(), Fail> {
     let alloc = rt.alloc();
     let mut disk = fresh_disk(alloc)?;
-    let script = b"shown\nshow\ncommit";
-    let text = b"no line\n0/5 16384 16384 none none\nok\nok commit 1\n";
-    ends_so(&rt, alloc, &mut disk, script, Status::Done, text)
+    let mut script = b"\n".to_vec(alloc)?;
+    script.extend_from_slice(&[b'a'; 257])?;
+    script.extend_from_slice(b"\nshow")?;
+    let text = b"no line\nno line\n0/5 16384 16384 none none\nok\n";
+    ends_so(&rt, alloc, &mut disk, &script, Status::Done, text)
 }
 
 #[test]
@@ -71,21 +69,7 @@ fn a_sink_that_fails_at_its_second_put_has_the_first_reply(rt: HostRuntime) -> R
 }
 
 #[test]
-fn a_source_that_fails_ends_the_run(rt: HostRuntime) -> Result<(), Fail> {
-    let alloc = rt.alloc();
-    let mut disk = fresh_disk(alloc)?;
-    let words = run_word(alloc)?;
-    let mut source = MemSource::new(b"show\n".to_vec(alloc)?);
-    source.fail_at(vec![in alloc; 1]?);
-    let mut sink = MemSink::new(alloc);
-    let status = run_program(alloc, &words, &mut disk, &mut source, &mut sink);
-    assert_eq!(rt; status, Status::Source);
-    assert!(rt; sink.bytes().is_empty());
-    Ok(())
-}
-
-#[test]
-fn an_image_that_is_cut_is_refused(rt: HostRuntime) -> Result<(), Fail> {
+fn no_superblock(rt: HostRuntime) -> Result<(), Fail> {
     let alloc = rt.alloc();
     let mut disk = fresh_disk(alloc)?;
     resize(&rt, &mut disk, 65536)?;
@@ -102,13 +86,25 @@ fn a_longer_image_is_sound(rt: HostRuntime) -> Result<(), Fail> {
 }
 
 #[test]
-fn counters_that_are_not_the_direct_counts_are_told(rt: HostRuntime) -> Result<(), Fail> {
+fn stored_count_differs(rt: HostRuntime) -> Result<(), Fail> {
     let alloc = rt.alloc();
     let mut disk = fresh_disk(alloc)?;
     // The referenced bytes, twice, and the checksum of the leaf then.
     change(&mut disk, 1114048, &[0; 16])?;
     change(&mut disk, 1097728, &[0x18, 0xf1, 0x38, 0xc5])?;
     let text = b"differs 0/5 rfer 0 16384\n";
+    ends_so(&rt, alloc, &mut disk, b"show\n", Status::Image, text)
+}
+
+#[test]
+fn keys_exchanged(rt: HostRuntime) -> Result<(), Fail> {
+    let alloc = rt.alloc();
+    let mut disk = disk_after(&rt, alloc, FIRST_WRITE, FIRST_REPLIES)?;
+    // The keys of the leaf's two items differ in their types alone. Then the checksum of the leaf.
+    change(&mut disk, 1114221, &[108])?;
+    change(&mut disk, 1114246, &[1])?;
+    change(&mut disk, 1114112, &[0xc9, 0x47, 0x56, 0xd5])?;
+    let text = b"broken order 1114112\n";
     ends_so(&rt, alloc, &mut disk, b"show\n", Status::Image, text)
 }
 

@@ -9,6 +9,13 @@ use std::test::Fail;
 // The table of a fresh image.
 pub(crate) const TABLE: &[u8] = b"0/5 16384 16384 none none\nok\n";
 
+// The first write: a range is written and committed, and the group's counts are shown.
+pub(crate) const FIRST_WRITE: &[u8] = b"write 5 257 0 8192\ncommit\nshow\n";
+
+// What it puts over a fresh image.
+pub(crate) const FIRST_REPLIES: &[u8] =
+    b"ok extent 67174400\nok commit 2\n0/5 24576 24576 none none\nok\n";
+
 // The words of a command line.
 pub(crate) fn run_word(alloc: Global) -> Result<Vec<String>, Fail> {
     let mut words = Vec::new(alloc);
@@ -63,6 +70,29 @@ pub(crate) fn ends_so(
     assert_eq!(rt; status, wanted);
     assert_eq!(rt; sink.bytes(), text);
     Ok(())
+}
+
+// A disk over whose fresh image a script was run, which put this.
+pub(crate) fn disk_after(
+    rt: &impl Abort,
+    alloc: Global,
+    script: &[u8],
+    text: &[u8],
+) -> Result<MemDisk, Fail> {
+    let mut disk = fresh_disk(alloc)?;
+    ends_so(rt, alloc, &mut disk, script, Status::Done, text)?;
+    Ok(disk)
+}
+
+// A script over the image that the first write leaves ends so, and puts this.
+pub(crate) fn goes_on_so(
+    rt: &impl Abort,
+    alloc: Global,
+    script: &[u8],
+    text: &[u8],
+) -> Result<(), Fail> {
+    let mut disk = disk_after(rt, alloc, FIRST_WRITE, FIRST_REPLIES)?;
+    ends_so(rt, alloc, &mut disk, script, Status::Done, text)
 }
 
 // Each script over a fresh image of 1024 slots of 16384 bytes and 1024 sectors puts these replies.

@@ -32,6 +32,8 @@ fn images_of_each_size_are_made(rt: HostRuntime) -> Result<(), Fail> {
         ("mkfs 16384 64 1024", 71368704),
         ("mkfs 16384 4032 16", 67239936),
         ("mkfs 16384 1024 16777216", 68786651136),
+        // Of the example `words_and_sizes`.
+        ("mkfs 16384 1024 1024", 71368704),
     ];
     for (text, len) in rows {
         let mut disk = MemDisk::new(alloc);
@@ -50,6 +52,7 @@ fn images_of_each_size_are_made(rt: HostRuntime) -> Result<(), Fail> {
 #[test]
 fn other_words_and_sizes_are_refused(rt: HostRuntime) -> Result<(), Fail> {
     let alloc = rt.alloc();
+    // Those of the example `words_and_sizes`, and more.
     let rows = [
         ("run x", Status::Words),
         ("run --", Status::Words),

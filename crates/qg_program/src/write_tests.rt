@@ -1,40 +1,24 @@
 // Scripts of writes and commits over images in memory.
-use crate::Status;
 use crate::test_images::{
-    TABLE, answers_so, change, ends_so, fresh_disk, made_disk, run_over, times,
+    FIRST_REPLIES, FIRST_WRITE, TABLE, answers_so, change, disk_after, ends_so, fresh_disk,
+    goes_on_so, made_disk, run_over, run_word, times,
 };
+use crate::{Status, run_program};
 use qg_disk::MemDisk;
+use qg_edge::{MemSink, MemSource};
 use std::alloc::Global;
 use std::process::Abort;
 use std::test::Fail;
 
-// The first run: a range is written and committed, and the group's counts are shown.
-const FIRST_RUN: &[u8] = b"write 5 257 0 8192\ncommit\nshow\n";
-
 #[test]
-fn writes_are_counted_once_they_are_committed(rt: HostRuntime) -> Result<(), Fail> {
-    let table: [(&[u8], &[u8]); 3] = [
-        (
-            FIRST_RUN,
-            b"ok extent 67174400\nok commit 2\n0/5 24576 24576 none none\nok\n",
-        ),
-        // Before a commit the stored counts stay.
-        (
-            b"write 5 257 0 8192\nshow\n",
-            b"ok extent 67174400\n0/5 16384 16384 none none\nok\n",
-        ),
-        // An extent counts whole while some piece names it.
-        (
-            b"write 5 257 0 12288\nwrite 5 257 4096 4096\ncommit\nshow\n",
-            b"ok extent 67174400\nok extent 67186688\nok commit 2\n0/5 32768 32768 none none\nok\n",
-        ),
-    ];
-    answers_so(&rt, rt.alloc(), &table)
+fn first_write(rt: HostRuntime) -> Result<(), Fail> {
+    disk_after(&rt, rt.alloc(), FIRST_WRITE, FIRST_REPLIES)?;
+    Ok(())
 }
 
 #[test]
 fn a_place_given_back_is_free_once_no_commit_holds_it(rt: HostRuntime) -> Result<(), Fail> {
-    let table: [(&[u8], &[u8]); 3] = [
+    let table: [(&[u8], &[u8]); 4] = [
         // Taken again before a commit it has its new length.
         (
             b"write 5 257 0 8192\nwrite 5 257 0 8192\nwrite 5 258 0 4096\ncommit\nshow\n",
@@ -44,6 +28,10 @@ fn a_place_given_back_is_free_once_no_commit_holds_it(rt: HostRuntime) -> Result
         (
             b"write 5 257 0 4096\ncommit\nwrite 5 257 0 4096\nwrite 5 258 0 4096\ncommit\nwrite 5 259 0 4096\n",
             b"ok extent 67174400\nok commit 2\nok extent 67178496\nok extent 67182592\nok commit 3\nok extent 67174400\n",
+        ),
+        (
+            b"write 5 257 0 8192\ncommit\nunlink 5 257\nwrite 5 257 0 4096\ncommit\nshow\n",
+            b"ok extent 67174400\nok commit 2\nok\nok extent 67182592\nok commit 3\n0/5 20480 20480 none none\nok\n",
         ),
         // A free run that is too short is passed over.
         (
@@ -64,49 +52,43 @@ fn a_commit_of_nothing_answers_the_generation(rt: HostRuntime) -> Result<(), Fai
 }
 
 #[test]
-fn what_is_not_committed_is_lost(rt: HostRuntime) -> Result<(), Fail> {
+fn pending_is_lost(rt: HostRuntime) -> Result<(), Fail> {
     let alloc = rt.alloc();
-    let mut disk = fresh_disk(alloc)?;
-    let script = b"write 5 257 0 8192\n";
-    let text = b"ok extent 67174400\n";
-    ends_so(&rt, alloc, &mut disk, script, Status::Done, text)?;
-    ends_so(&rt, alloc, &mut disk, script, Status::Done, text)?;
-    ends_so(&rt, alloc, &mut disk, b"show\n", Status::Done, TABLE)
-}
-
-#[test]
-fn what_is_committed_is_there_when_opened_again(rt: HostRuntime) -> Result<(), Fail> {
-    let alloc = rt.alloc();
-    let mut disk = fresh_disk(alloc)?;
-    let first = b"ok extent 67174400\nok commit 2\n0/5 24576 24576 none none\nok\n";
-    ends_so(&rt, alloc, &mut disk, FIRST_RUN, Status::Done, first)?;
-    let script = b"show\nwrite 5 257 0 4096\ncommit\nshow\n";
-    let text =
-        b"0/5 24576 24576 none none\nok\nok extent 67182592\nok commit 3\n0/5 28672 28672 none none\nok\n";
+    let script = b"write 5 257 0 8192\nshow\n";
+    let text = b"ok extent 67174400\n0/5 16384 16384 none none\nok\n";
+    let mut disk = disk_after(&rt, alloc, script, text)?;
+    let (script, text) = (b"ls 5 257\n", b"no file\n");
     ends_so(&rt, alloc, &mut disk, script, Status::Done, text)
 }
 
 #[test]
+fn what_is_committed_is_there_when_opened_again(rt: HostRuntime) -> Result<(), Fail> {
+    let script = b"show\nwrite 5 257 0 4096\ncommit\nshow\n";
+    let text =
+        b"0/5 24576 24576 none none\nok\nok extent 67182592\nok commit 3\n0/5 28672 28672 none none\nok\n";
+    goes_on_so(&rt, rt.alloc(), script, text)
+}
+
+#[test]
 fn the_first_refusal_that_holds_is_told(rt: HostRuntime) -> Result<(), Fail> {
-    let table: [(&[u8], &[u8]); 8] = [
+    let table: [(&[u8], &[u8]); 4] = [
         (b"write 256 257 1 0\n", b"no sub\n"),
         (b"write 5 257 1 1099511627776\n", b"no align\n"),
-        (b"write 5 257 0 0\n", b"no align\n"),
-        (b"write 5 257 1099511627776 4096\n", b"no far\n"),
         (b"write 5 257 18446744073709547520 4096\n", b"no far\n"),
-        (b"write 5 257 0 134221824\n", b"no far\n"),
         (b"write 5 257 0 4198400\n", b"no run\n"),
-        (b"write 5 257 1099511623680 4096\n", b"ok extent 67174400\n"),
     ];
     answers_so(&rt, rt.alloc(), &table)
 }
 
 #[test]
-fn the_longest_write_is_done(rt: HostRuntime) -> Result<(), Fail> {
+fn align_and_far(rt: HostRuntime) -> Result<(), Fail> {
     let alloc = rt.alloc();
+    let script =
+        b"write 5 257 1099511627776 4096\nwrite 5 257 0 0\nwrite 5 257 100 4096\nwrite 5 257 1099511623680 4096\nwrite 5 257 0 134221824\n";
+    let text = b"no far\nno align\nno align\nok extent 67174400\nno far\n";
+    disk_after(&rt, alloc, script, text)?;
     let mut disk = made_disk(alloc, ["16384", "1024", "32768"])?;
-    let script = b"write 5 257 0 134221824\nwrite 5 257 0 134217728\n";
-    let text = b"no far\nok extent 67174400\n";
+    let (script, text) = (b"write 5 257 0 134217728\n", b"ok extent 67174400\n");
     ends_so(&rt, alloc, &mut disk, script, Status::Done, text)
 }
 
@@ -158,15 +140,23 @@ fn a_write_that_finds_too_few_slots_or_no_run_is_refused(rt: HostRuntime) -> Res
 }
 
 #[test]
-fn no_more_than_65536_writes_may_be_pending(rt: HostRuntime) -> Result<(), Fail> {
+fn no_more_than_65536_commands_may_be_pending(rt: HostRuntime) -> Result<(), Fail> {
     let alloc = rt.alloc();
     let mut disk = fresh_disk(alloc)?;
     let mut script = times(alloc, 65536, b"write 5 257 0 4096\n")?;
     // The runs that are taken alternate.
     let mut text = times(alloc, 32768, b"ok extent 67174400\nok extent 67178496\n")?;
     // There is no run of 1025 sectors either.
-    script.extend_from_slice(b"write 5 257 0 4198400\ncommit\nwrite 5 257 0 4096\n")?;
-    text.extend_from_slice(b"no many\nok commit 2\nok extent 67174400\n")?;
+    script.extend_from_slice(b"write 5 257 0 4198400\n")?;
+    script.extend_from_slice(b"truncate 5 257 4096\nunlink 5 257\nclone 5 257 0 4096 5 258 0\n")?;
+    text.extend_from_slice(b"no many\nno many\nno many\nno many\n")?;
+    // The other refusals are told first.
+    script.extend_from_slice(
+        b"truncate 5 257 1099511631872\nunlink 5 258\nclone 5 257 0 4096 5 257 0\n",
+    )?;
+    text.extend_from_slice(b"no far\nno file\nno overlap\n")?;
+    script.extend_from_slice(b"commit\nwrite 5 257 0 4096\n")?;
+    text.extend_from_slice(b"ok commit 2\nok extent 67174400\n")?;
     ends_so(&rt, alloc, &mut disk, &script, Status::Done, &text)
 }
 
@@ -226,24 +216,61 @@ fn the_last_generation_is_reached(rt: HostRuntime) -> Result<(), Fail> {
     ends_so(&rt, alloc, &mut disk, script, Status::Done, text)
 }
 
-#[test]
-fn a_sink_that_fails_at_its_first_put_ends_the_run(rt: HostRuntime) -> Result<(), Fail> {
-    let alloc = rt.alloc();
+// The sink fails at its first put.
+fn sink_fails(rt: &impl Abort, alloc: Global) -> Result<(), Fail> {
     let mut disk = fresh_disk(alloc)?;
-    let (status, _) = run_over(alloc, &mut disk, FIRST_RUN, vec![in alloc; 1]?)?;
+    let (status, sink) = run_over(alloc, &mut disk, FIRST_WRITE, vec![in alloc; 1]?)?;
     assert_eq!(rt; status, Status::Sink);
-    ends_so(&rt, alloc, &mut disk, b"show\n", Status::Done, TABLE)
+    assert!(rt; b"ok extent 67174400\n".starts_with(sink.bytes()));
+    ends_so(rt, alloc, &mut disk, b"show\n", Status::Done, TABLE)
 }
 
-// The table once the first run was committed.
+// The source fails at its first take.
+fn source_fails(rt: &impl Abort, alloc: Global) -> Result<(), Fail> {
+    let mut disk = fresh_disk(alloc)?;
+    let words = run_word(alloc)?;
+    let mut source = MemSource::new(FIRST_WRITE.to_vec(alloc)?);
+    source.fail_at(vec![in alloc; 1]?);
+    let mut sink = MemSink::new(alloc);
+    let status = run_program(alloc, &words, &mut disk, &mut source, &mut sink);
+    assert_eq!(rt; status, Status::Source);
+    assert!(rt; sink.bytes().is_empty());
+    Ok(())
+}
+
+// The disk fails at its first write. Making takes eleven calls and opening seven.
+fn disk_fails(rt: &impl Abort, alloc: Global) -> Result<(), Fail> {
+    let mut disk = fresh_disk(alloc)?;
+    disk.fail_at(vec![in alloc; 19]?);
+    let text = b"ok extent 67174400\n";
+    ends_so(rt, alloc, &mut disk, FIRST_WRITE, Status::Disk, text)?;
+    ends_so(
+        rt,
+        alloc,
+        &mut disk,
+        b"commit\n",
+        Status::Done,
+        b"ok commit 1\n",
+    )
+}
+
+#[test]
+fn each_fault_has_its_status(rt: HostRuntime) -> Result<(), Fail> {
+    let alloc = rt.alloc();
+    sink_fails(&rt, alloc)?;
+    source_fails(&rt, alloc)?;
+    disk_fails(&rt, alloc)
+}
+
+// The table once the first write was committed.
 const COMMITTED: &[u8] = b"0/5 24576 24576 none none\nok\n";
 
-// The first run fails at a call of the disk, and the image then has this table.
+// The first write fails at a call of the disk, and the image then has this table.
 fn fails_at(rt: &impl Abort, alloc: Global, number: u64, table: &[u8]) -> Result<(), Fail> {
     let mut disk = fresh_disk(alloc)?;
     disk.fail_at(vec![in alloc; number]?);
     let text = b"ok extent 67174400\n";
-    ends_so(rt, alloc, &mut disk, FIRST_RUN, Status::Disk, text)?;
+    ends_so(rt, alloc, &mut disk, FIRST_WRITE, Status::Disk, text)?;
     ends_so(rt, alloc, &mut disk, b"show\n", Status::Done, table)
 }
 

@@ -70,16 +70,16 @@ fn put_last(extents: &mut Sequence<Element>, extent: Element) -> Result<bool, Al
     }
 }
 
-/// Whether an extent comes before another.
-fn is_before(extent: &Element, other: &Element) -> bool
+/// Whether an extent comes before another: by address, and where that is one by length (this project's own).
+pub fn is_before(extent: &Element, other: &Element) -> bool
     ensures { result ≡ is_before extent.now other.now }
 {
     extent.address < other.address
         || (extent.address == other.address && extent.bytes < other.bytes)
 }
 
-/// The extents that files name, as often as they are named.
-fn named_extents(alloc: Global, files: &[(Ino, File)]) -> Result<Vec<Element>, AllocError>
+/// The extents that files name, as often as they are named (on-disk format, EXTENT_DATA).
+pub fn named_extents(alloc: Global, files: &[(Ino, File)]) -> Result<Vec<Element>, NoMemory>
     ensures { IfOk result (λ named. named.items ≡ flat_map (λ file. map extent_of file.1.pieces) files.now) }
 {
     let mut named = Vec::new(alloc);
@@ -89,8 +89,8 @@ fn named_extents(alloc: Global, files: &[(Ino, File)]) -> Result<Vec<Element>, A
     Ok(named)
 }
 
-/// The extent that a piece names.
-fn extent_of(piece: &Piece) -> Element
+/// The extent that a piece names (on-disk format, EXTENT_DATA).
+pub fn extent_of(piece: &Piece) -> Element
     ensures { result ≡ extent_of piece.now }
 {
     Element {

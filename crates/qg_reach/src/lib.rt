@@ -7,9 +7,9 @@ mod slots;
 mod space;
 
 pub use bytes::reached_bytes;
-pub use extents::extents_of;
+pub use extents::{extent_of, extents_of, is_before, named_extents};
 pub use slots::each_once;
-pub use space::space_failure;
+pub use space::{LONGEST_EXTENT, space_failure};
 
 #[cfg(test)]
 mod tests;

@@ -10,7 +10,7 @@ use qg_super::{DATA_BEGIN, SECTOR, Sizes};
 use qg_verdict::Failure;
 
 /// The longest data extent, in bytes (this project's own).
-const LONGEST_EXTENT: u64 = 134217728;
+pub const LONGEST_EXTENT: u64 = 134217728;
 
 /// The first failure of the rule `space` over extents that ascend: the first one that lies where none may, or ends past where the
 /// next one begins (this project's own).

@@ -14,8 +14,8 @@ use qg_num::{Ino, NoMemory, Piece};
 use qg_super::SECTOR;
 use std::alloc::Global;
 
-// The largest size of a file, in bytes.
-const LARGEST_SIZE: u64 = 1 << 40;
+/// The largest size of a file, in bytes (this project's own).
+pub const LARGEST_SIZE: u64 = 1 << 40;
 
 // The least number of a file.
 const LEAST_INODE: u64 = 257;

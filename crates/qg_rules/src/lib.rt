@@ -6,7 +6,7 @@ mod parts;
 mod quota;
 mod roots;
 
-pub use files::read_files;
+pub use files::{LARGEST_SIZE, read_files};
 pub use parts::FileParts;
 pub use quota::{QuotaFault, read_quota};
 pub use roots::{are_roots, root_of, subvolume_roots};

@@ -38,7 +38,7 @@ impl From<AllocError> for QuotaFault {
     }
 }
 
-/// Quota, as its items tell it, or the first of the rules `quota` and `limits` that they break.
+/// Quota, as its items tell it, or the first of the rules `quota` and `limits` that they break, unless memory is refused.
 pub fn read_quota(
     alloc: Global,
     subvolumes: &[RootPart],

@@ -2,19 +2,16 @@
 ghost use Rattle.std.specs.Prelude.{◌≡◌, ◌==◌, ◌||◌, ℕ, not, IfOk};
 ghost use Rattle.std.specs.List.{list_all};
 ghost use Rattle.qg_image.specs.Table.{has_key, value_at};
-ghost use Rattle.qg_image.specs.ItemMeaning.{is_subvolume_number};
 ghost use Rattle.qg_verdict.specs.StateOf.{subvolume_roots};
 ghost use Rattle.qg_verdict.specs.Verdict.{are_roots};
 ghost use Rattle.qg_rules.specs.Roots.{is_alone};
 
 use qg_image::RootPart;
 use qg_items::RootItem;
-use qg_items::tree::{EXTENT_TREE, FIRST_FREE, QUOTA_TREE, TOP_LEVEL};
+use qg_items::tree::{EXTENT_TREE, QUOTA_TREE, TOP_LEVEL};
 use qg_num::{NoMemory, RootId, Sequence};
+use qg_parts::is_subvolume_number;
 use std::alloc::Global;
-
-// The first number past those of subvolumes.
-const SUBVOLUMES_END: u64 = 1 << 48;
 
 /// Whether the trees that must be there are, and no others than are served (rule `root`).
 #[tactic(auto, unfolding(qg_verdict::specs::Verdict::are_roots))]
@@ -27,7 +24,7 @@ pub fn are_roots(parts: &[RootPart]) -> bool
         && is_alone(parts)
 }
 
-/// The ROOT_ITEM of a tree.
+/// The ROOT_ITEM of a tree; None where there is no such tree.
 pub fn root_of(tree: RootId, parts: &[RootPart]) -> Option<RootItem>
     ensures { result ≡ value_at tree parts.now }
 {
@@ -39,13 +36,13 @@ pub fn root_of(tree: RootId, parts: &[RootPart]) -> Option<RootItem>
     None
 }
 
-/// The ROOT_ITEMs of subvolumes, in the order of the items.
+/// The ROOT_ITEMs of subvolumes, in the order of the items, unless memory is refused.
 pub fn subvolume_roots(alloc: Global, parts: &[RootPart]) -> Result<Sequence<RootPart>, NoMemory>
     ensures { IfOk result (λ roots. roots ≡ subvolume_roots parts.now) }
 {
     let mut roots = Sequence::new(alloc);
     for part in parts {
-        if is_subvolume_number(part.0) {
+        if is_subvolume_number(part.0.value()) {
             roots.push(*part)?;
         }
     }
@@ -62,14 +59,5 @@ fn has_root(tree: u64, parts: &[RootPart]) -> bool
 fn is_alone(parts: &[RootPart]) -> bool
     ensures { result ≡ is_alone parts.now }
 {
-    parts.iter().all(|part| part.0.value() == TOP_LEVEL || !is_subvolume_number(part.0))
-}
-
-// Whether a subvolume may have the number.
-#[tactic(auto, unfolding(qg_image::specs::ItemMeaning::is_subvolume_number))]
-fn is_subvolume_number(tree: RootId) -> bool
-    ensures { result ≡ is_subvolume_number tree }
-{
-    let number = tree.value();
-    number == TOP_LEVEL || FIRST_FREE <= number && number < SUBVOLUMES_END
+    parts.iter().all(|part| part.0.value() == TOP_LEVEL || !is_subvolume_number(part.0.value()))
 }

@@ -105,16 +105,17 @@ fn quota_of_one_subvolume(rt: HostRuntime) {
     let alloc = rt.alloc();
     let two = [root(5), root(256)];
     let parts = [status(), plain(), free()];
-    assert!(rt; quota_fault(alloc, &two, &parts) == Some(QuotaFault::Rule(Rule::Quota)));
+    let broken = Some(QuotaFault::Rule(Rule::Quota));
+    assert_eq!(rt; quota_fault(alloc, &two, &parts), broken);
     for (what, parts, wanted) in [
-        ("fresh", parts.as_slice(), true),
-        ("no status", [plain(), free()].as_slice(), false),
-        ("no counters", [status(), free()].as_slice(), false),
-        ("no limits", [status(), plain()].as_slice(), false),
-        ("the status alone", [status()].as_slice(), false),
+        ("fresh", parts.as_slice(), None),
+        ("no status", [plain(), free()].as_slice(), broken),
+        ("no counters", [status(), free()].as_slice(), broken),
+        ("no limits", [status(), plain()].as_slice(), broken),
+        ("the status alone", [status()].as_slice(), broken),
     ] {
         let fault = quota_fault(alloc, &[root(5)], parts);
-        assert_eq!(rt; fault.is_none(), wanted, "{what}");
+        assert_eq!(rt; fault, wanted, "{what}");
     }
 }
 
@@ -136,7 +137,8 @@ fn quota_that_breaks_a_rule(rt: HostRuntime) {
         ("a group more", more.as_slice()),
         ("a relation", related.as_slice()),
     ] {
-        assert!(rt; quota_fault(alloc, &[root(5)], parts).is_some(), "{what}");
+        let fault = quota_fault(alloc, &[root(5)], parts);
+        assert_eq!(rt; fault, Some(QuotaFault::Rule(Rule::Quota)), "{what}");
     }
 }
 

@@ -14,3 +14,4 @@ pub mod Firsts
 pub mod Counted
 pub mod Listed
 pub mod Both
+pub mod Given

@@ -8,7 +8,7 @@ use Rattle.std.proofs.lemmas.List.Folds.{list_any_at}
 use Rattle.qg_image.specs.Table.{with_number}
 use Rattle.qg_state.specs.declared.element.Element.{Element}
 use Rattle.qg_state.proofs.Contained.{none_contained, contains_here, contains_later, contains_cases}
-use Rattle.qg_space.specs.Holding.{Holding, is_that_run, has_run, with_run, without_run, has_slot, without_slot}
+use Rattle.qg_space.specs.Holding.{Holding, is_one_of, is_that_run, has_run, with_run, without_run, without_runs, has_slot, without_slot}
 
 -- ---- tests
 
@@ -137,6 +137,27 @@ Contains-without_run address bytes runs x = (into, back) where
   back : Contains runs x × (x ≢ record { address = address; bytes = bytes }) → Contains (without_run address bytes runs) x
   back has = contains_filter (λ run. not (is_that_run address bytes run)) runs x has.0
       (not_from_false (is_that_run address bytes x) (false_from_ne_true (is_that_run address bytes x) (λ is. has.1 (that_run address bytes x is))))
+
+-- a run is one of some extents where they contain it
+pub Contains-is_one_of : (extents : List Element) (run : Element) → (is_one_of extents run ≡ true) ↔ Contains extents run
+Contains-is_one_of extents run = (into, λ has. passes_one that extents run has (is_that run.address run.bytes)) where
+  that : Element → Bool
+  that extent = is_that_run extent.address extent.bytes run
+
+  into : is_one_of extents run ≡ true → Contains extents run
+  into is = let found = one_passes that extents is in subst (λ x. Contains extents x) (sym (that_run found.0.address found.0.bytes run found.2)) found.1
+
+-- runs without some contain all others
+pub Contains-without_runs : (gone runs : List Element) (x : Element) → Contains (without_runs gone runs) x ↔ (Contains runs x × (Contains gone x → ⊥))
+Contains-without_runs gone runs x = (into, back) where
+  into : Contains (without_runs gone runs) x → Contains runs x × (Contains gone x → ⊥)
+  into has =
+      let found = filter_contains (λ run. not (is_one_of gone run)) runs x has in
+      (found.0, λ went. true≢false (sym ((Contains-is_one_of gone x).1 went) ∙ not-true (is_one_of gone x) found.1))
+
+  back : Contains runs x × (Contains gone x → ⊥) → Contains (without_runs gone runs) x
+  back has = contains_filter (λ run. not (is_one_of gone run)) runs x has.0
+      (not_from_false (is_one_of gone x) (false_from_ne_true (is_one_of gone x) (λ is. has.1 ((Contains-is_one_of gone x).0 is))))
 
 -- ---- slots
 

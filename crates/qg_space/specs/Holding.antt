@@ -60,6 +60,14 @@ with_run run (first ∷ later) = if nat_le run.address first.address then run �
 abbrev pub without_run : ℕ → ℕ → List Element → List Element
 without_run address bytes runs = filter (λ run. not (is_that_run address bytes run)) runs
 
+-- a run is one of some extents, whole
+abbrev pub is_one_of : List Element → Element → Bool
+is_one_of extents run = list_any (λ (extent : Element). is_that_run extent.address extent.bytes run) extents
+
+-- runs without each of some
+abbrev pub without_runs : List Element → List Element → List Element
+without_runs gone runs = filter (λ run. not (is_one_of gone run)) runs
+
 -- ---- slots
 
 -- a node slot is free

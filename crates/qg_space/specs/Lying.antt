@@ -1,12 +1,12 @@
 -- How what is held lies, as it is kept (this project's own). Addresses and lengths are in bytes.
-use Rattle.std.specs.Prelude.{◌≡◌, ℕ, ◌+◌, ◌≤◌, Bool, ◌||◌, true, false, not, List, [], ◌∷◌, map, length, take, if◌then◌else◌, IsTrue}
+use Rattle.std.specs.Prelude.{◌≡◌, ℕ, ◌+◌, ◌≤◌, Bool, ◌&&◌, ◌||◌, true, false, not, List, [], ◌∷◌, map, length, take, if◌then◌else◌, IsTrue}
 use Rattle.std.specs.List.{AllWithin, filter, count_by}
 use Rattle.qg_super.specs.declared.sizes.Sizes.{Sizes}
 use Rattle.qg_super.specs.Places.{data_begin, is_run, is_served, slot_at}
 use Rattle.qg_state.specs.declared.element.Element.{Element}
 use Rattle.qg_space.specs.Run.{Run}
 use Rattle.qg_space.specs.declared.slots.Slot.{Slot}
-use Rattle.qg_space.specs.Holding.{Holding}
+use Rattle.qg_space.specs.Holding.{Holding, is_one_of}
 
 -- ---- runs
 
@@ -24,6 +24,14 @@ held_of runs = extents_of (filter (λ run. run.held) runs)
 -- a run that the last commit holds too
 abbrev pub with_held : Run → Run
 with_held run = record run { held = true }
+
+-- a run that the present state doesn't hold where it is one of some extents
+abbrev pub given_back : List Element → Run → Run
+given_back extents run = record run { present = run.present && not (is_one_of extents run.extent) }
+
+-- the present state or the last commit holds a run
+abbrev pub is_used : Run → Bool
+is_used run = run.present || run.held
 
 -- the run of an extent that both hold
 abbrev pub run_of_both : Element → Run

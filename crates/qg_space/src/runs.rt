@@ -1,12 +1,13 @@
 // Runs of sectors that the present state or the last commit holds.
 ghost use Rattle.std.specs.Prelude.{◌≡◌, ℕ, ◌+◌, ◌*◌, ◌<◌, ◌≤◌, ◌%◌, ◌&&◌, ◌≢◌, map, length, take, slice_index_or, IsTrue, IfOk, OnOk, OnErr};
-ghost use Rattle.std.specs.List.{AllWithin, filter, list_any};
+ghost use Rattle.std.specs.List.{All, AllWithin, Contains, filter, list_any};
+ghost use Rattle.std.specs.List.Sorted.{IsNonDecreasingBy};
 ghost use Rattle.qg_super.specs.declared.sizes.Sizes.{Sizes};
 ghost use Rattle.qg_super.specs.Places.{is_served, data_begin, sector};
 ghost use Rattle.qg_state.specs.declared.element.Element.{Element};
 ghost use Rattle.qg_space.specs.Run.{Run};
-ghost use Rattle.qg_space.specs.Holding.{AscendApart, is_clear, first_clear, is_that_run, with_run, without_run};
-ghost use Rattle.qg_space.specs.Lying.{LieApart, extents_of, present_of, held_of, with_held, run_of_both, end_of_last, IsFront, SameBefore};
+ghost use Rattle.qg_space.specs.Holding.{AscendApart, is_clear, first_clear, is_that_run, with_run, without_run, without_runs};
+ghost use Rattle.qg_space.specs.Lying.{LieApart, extents_of, present_of, held_of, given_back, is_used, with_held, run_of_both, end_of_last, IsFront, SameBefore};
 
 use crate::run::Run;
 use qg_num::Address;
@@ -41,8 +42,8 @@ pub(crate) fn runs_of_both(
 }
 
 /// How many runs begin before an address.
-pub(crate) fn runs_before(sizes: &Sizes, runs: &[Run], at: Address) -> usize
-    requires { LieApart sizes.now data_begin runs.now }
+pub(crate) fn runs_before(runs: &[Run], at: Address) -> usize
+    requires { IsNonDecreasingBy (λ run. run.extent.address) runs.now }
     ensures bound { result ≤ length runs.now }
     ensures before { AllWithin (λ run. run.extent.address < at) runs.now 0 result }
     ensures others { AllWithin (λ run. at ≤ run.extent.address) runs.now result (length runs.now) }
@@ -125,7 +126,7 @@ pub(crate) fn put_run(
     ensures before { IfOk result (λ place. SameBefore place runs.old.items runs.new.items) }
     ensures err { OnErr result (runs.new.items ≡ runs.old.items) }
 {
-    let place = runs_before(sizes, runs, extent.address);
+    let place = runs_before(runs, extent.address);
     runs.insert(place, Run::new(&extent, true, false))?;
     Ok(place)
 }
@@ -140,7 +141,7 @@ pub(crate) fn take_out_run(sizes: &Sizes, runs: &mut Vec<Run>, at: Address, byte
     ensures held { held_of runs.new.items ≡ held_of runs.old.items }
     ensures before { SameBefore result runs.old.items runs.new.items }
 {
-    let place = runs_before(sizes, runs, at);
+    let place = runs_before(runs, at);
     if runs[place].is_held() {
         runs[place].set_present(false);
     } else {
@@ -149,12 +150,70 @@ pub(crate) fn take_out_run(sizes: &Sizes, runs: &mut Vec<Run>, at: Address, byte
     place
 }
 
+/// Takes some runs from the present state. Each stays while the last commit holds it. So many of the first runs were packed, and the
+/// answer is how many are.
+pub(crate) fn take_out_runs(
+    sizes: &Sizes,
+    runs: &mut Vec<Run>,
+    packed: usize,
+    extents: &[Element],
+) -> usize
+    requires served { IsTrue (is_served sizes.now) }
+    requires apart { LieApart sizes.now data_begin runs.old.items }
+    requires front { IsFront runs.old.items packed }
+    requires there { All (Contains (present_of runs.old.items)) extents.now }
+    ensures apart { LieApart sizes.now data_begin runs.new.items }
+    ensures present { present_of runs.new.items ≡ without_runs extents.now (present_of runs.old.items) }
+    ensures held { held_of runs.new.items ≡ held_of runs.old.items }
+    ensures front { IsFront runs.new.items result }
+{
+    match extents {
+        [] => packed,
+        [one] => packed.min(take_out_run(sizes, runs, one.address, one.bytes)),
+        _ => {
+            take_out_many(sizes, runs, extents);
+            packed_runs(sizes, runs, 0)
+        }
+    }
+}
+
+/// Takes some runs from the present state, by one pass over all. Each stays while the last commit holds it.
+fn take_out_many(sizes: &Sizes, runs: &mut Vec<Run>, extents: &[Element])
+    requires apart { LieApart sizes.now data_begin runs.old.items }
+    requires there { All (Contains (present_of runs.old.items)) extents.now }
+    ensures apart { LieApart sizes.now data_begin runs.new.items }
+    ensures present { present_of runs.new.items ≡ without_runs extents.now (present_of runs.old.items) }
+    ensures held { held_of runs.new.items ≡ held_of runs.old.items }
+{
+    give_back(sizes, runs, extents);
+    keep_used(runs);
+}
+
+/// The present state holds some runs no more.
+fn give_back(sizes: &Sizes, runs: &mut [Run], extents: &[Element])
+    requires apart { LieApart sizes.now data_begin runs.old }
+    requires there { All (Contains (present_of runs.old)) extents.now }
+    ensures { runs.new ≡ map (given_back extents.now) runs.old }
+{
+    for extent in extents {
+        let place = runs_before(runs, extent.address);
+        runs[place].set_present(false);
+    }
+}
+
+/// Drops the runs that neither the present state nor the last commit holds.
+fn keep_used(runs: &mut Vec<Run>)
+    ensures { runs.new.items ≡ filter is_used runs.old.items }
+{
+    runs.retain(|run| run.is_present() || run.is_held());
+}
+
 /// Whether the present state holds a run of so many bytes, whole.
 pub(crate) fn has_run(sizes: &Sizes, runs: &[Run], at: Address, bytes: u64) -> bool
     requires { LieApart sizes.now data_begin runs.now }
     ensures { result ≡ list_any (is_that_run at bytes) (present_of runs.now) }
 {
-    let place = runs_before(sizes, runs, at);
+    let place = runs_before(runs, at);
     match runs.get(place) {
         Some(run) => is_present(run, at, bytes),
         None => false,

@@ -5,11 +5,8 @@ ghost use Rattle.qg_super.specs.Places.{is_served, is_slot, slot_at};
 ghost use Rattle.qg_space.specs.Lying.{slots_where, is_unused, committed_slot};
 
 use qg_num::{Address, Sequence};
-use qg_super::Sizes;
+use qg_super::{SLOTS_BEGIN, Sizes};
 use std::alloc::{AllocError, Global};
-
-/// Where the node slots begin, in bytes.
-const SLOTS_BEGIN: u64 = 1048576;
 
 /// A node slot, by what holds it.
 #[derive(Clone, Copy, Debug)]
@@ -33,17 +30,6 @@ pub(crate) fn unused_slots(alloc: Global, slots: u64) -> Result<Vec<Slot>, Alloc
     ensures { IfOk result (λ made. made.items ≡ replicate slots (record { present = false; held = false })) }
 {
     vec![in alloc; Slot::UNUSED; slots as usize]
-}
-
-/// Whether an address is that of a slot.
-#[tactic(auto, unfolding(qg_super::specs::Places::is_slot))]
-pub(crate) fn is_slot(sizes: &Sizes, at: Address) -> bool
-    requires { IsTrue (is_served sizes.now) }
-    ensures { result ≡ is_slot sizes.now at }
-{
-    SLOTS_BEGIN <= at.value()
-        && (at.value() - SLOTS_BEGIN) % sizes.nodesize == 0
-        && (at.value() - SLOTS_BEGIN) / sizes.nodesize < sizes.slots
 }
 
 /// The number of the slot at an address.

@@ -1,17 +1,18 @@
 // What is free of an image.
 ghost use Rattle.std.specs.Prelude.{◌≡◌, ◌*◌, ◌<◌, ◌==◌, min, take, length, IfOk, IfSome, IfNone, IsOk, OnOk, OnErr, IsTrue};
-ghost use Rattle.std.specs.List.{IsDistinct, list_all};
+ghost use Rattle.std.specs.List.{All, Contains, IsDistinct, list_all};
 ghost use Rattle.qg_super.specs.Places.{data_begin, is_served, sector, slot_at};
 ghost use Rattle.qg_image.specs.Table.{with_number};
-ghost use Rattle.qg_space.specs.Holding.{nothing_held, AscendApart, is_free_run, first_run, has_run, with_run, without_run, is_free_slot, first_slot, free_list, free_slots, has_slot, without_slot};
+ghost use Rattle.qg_space.specs.Holding.{nothing_held, AscendApart, is_free_run, first_run, has_run, with_run, without_run, without_runs, is_free_slot, first_slot, free_list, free_slots, has_slot, without_slot};
 
 use crate::run::Run;
 use crate::runs::{
     commit_runs, first_gap, has_run, packed_runs, put_run, runs_of_both, take_out_run,
+    take_out_runs,
 };
 use crate::slots::{
-    Slot, address_of, commit_slots, count_unused, first_unused, first_unused_slots, is_slot,
-    number_of, unused_slots,
+    Slot, address_of, commit_slots, count_unused, first_unused, first_unused_slots, number_of,
+    unused_slots,
 };
 use qg_num::{Address, NoMemory, Sequence};
 use qg_state::Element;
@@ -114,6 +115,16 @@ impl Space {
         self.packed = self.packed.min(place);
     }
 
+    /// The present state gives back some runs, each whole as it was taken. Each is free once the last commit doesn't hold it either. More
+    /// than one go by one pass over all.
+    pub fn give_runs(&mut self, extents: &[Element])
+        requires { All (Contains self.old.runs) extents.now }
+        ensures { self.new ≡ record self.old { runs = without_runs extents.now self.old.runs } }
+    {
+        let sizes = self.sizes;
+        self.packed = take_out_runs(&sizes, &mut self.runs, self.packed, extents);
+    }
+
     /// Whether the present state has a run of so many sectors, whole as it was taken.
     pub fn has_run(&self, at: Address, sectors: u64) -> bool
         ensures { result ≡ has_run self.now at (sectors * sector) }
@@ -180,7 +191,7 @@ impl Space {
     pub fn has_slot(&self, at: Address) -> bool
         ensures { result ≡ has_slot self.now at }
     {
-        is_slot(&self.sizes, at) && self.slots[number_of(&self.sizes, at)].present
+        self.sizes.is_slot(at) && self.slots[number_of(&self.sizes, at)].present
     }
 
     /// How many slots are free.

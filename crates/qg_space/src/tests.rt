@@ -1,7 +1,8 @@
-ghost use Rattle.std.specs.Prelude.{◌≡◌, IfOk};
+ghost use Rattle.std.specs.Prelude.{◌≡◌, IfOk, IsTrue};
+ghost use Rattle.std.specs.List.{Contains};
 
 use crate::Space;
-use qg_num::{Address, NoMemory};
+use qg_num::{Address, NoMemory, Sequence};
 use qg_state::Element;
 use std::alloc::Global;
 use std::test::Fail;
@@ -40,6 +41,24 @@ fn give(space: &mut Space, first: u64, sectors: u64) -> bool {
     has
 }
 
+// Whether a run is there.
+fn is_there(space: &Space, extent: &Element) -> bool
+    ensures { IsTrue result → Contains space.now.runs extent.now }
+{
+    extent.bytes % 4096 == 0 && space.has_run(extent.address, extent.bytes / 4096)
+}
+
+// Gives back runs at once, if each is there.
+fn give_all(space: &mut Space, extents: &[Element]) -> bool {
+    for extent in extents {
+        if !is_there(space, extent) {
+            return false;
+        }
+    }
+    space.give_runs(extents);
+    true
+}
+
 // Gives back a slot, if it is there.
 fn give_slot(space: &mut Space, at: u64) -> bool {
     let at = Address::new(at);
@@ -58,6 +77,32 @@ fn four_runs(alloc: Global) -> Result<Space, NoMemory> {
     }
     space.committed();
     Ok(space)
+}
+
+// Runs by their first sectors, and how many sectors they have. The last commit holds the first four.
+const SIX_RUNS: [(u64, u64); 6] = [(0, 3), (3, 2), (5, 4), (9, 1), (10, 2), (12, 3)];
+
+// The present state holds all six, and the last sector is free.
+fn six_runs(alloc: Global) -> Result<Space, NoMemory> {
+    let mut space = four_runs(alloc)?;
+    take(&mut space, 2)?;
+    take(&mut space, 3)?;
+    Ok(space)
+}
+
+// Gives back those of the six runs that are to go, at once.
+fn give_those(alloc: Global, space: &mut Space, goes: [bool; 6]) -> Result<bool, NoMemory> {
+    let mut extents = Sequence::new(alloc);
+    for number in 0..6 {
+        let (first, sectors) = SIX_RUNS[number];
+        if goes[number] {
+            extents.push(Element {
+                address: sector(first),
+                bytes: sectors.wrapping_mul(4096),
+            })?;
+        }
+    }
+    Ok(give_all(space, extents.as_slice()))
 }
 
 // Both the present state and the last commit hold the first sector, and the third and fourth.
@@ -221,5 +266,36 @@ fn runs_of_both_are_free_at_the_next_commit(rt: HostRuntime) -> Result<(), Fail>
     space.committed();
     assert_eq!(rt; space.first_run(3), Some(sector(1)));
     assert!(rt; give(&mut space, 0, 1));
+    Ok(())
+}
+
+#[test]
+fn runs_given_back_at_once_wait_for_the_commit_where_it_holds_them(
+    rt: HostRuntime,
+) -> Result<(), Fail> {
+    let alloc = rt.alloc();
+    // Which of the six runs go, how many sectors are wanted, and the first sector of what is free then: before the commit, and after it.
+    let cases = [
+        // From the midst.
+        ([false, false, true, false, true, false], 2u64, 10u64, 5u64),
+        // The first.
+        ([true, false, false, false, false, true], 3, 12, 0),
+        // The last.
+        ([false, false, false, true, false, true], 1, 12, 9),
+        // All.
+        ([true, true, true, true, true, true], 6, 10, 0),
+        // One.
+        ([false, true, false, false, false, false], 1, 15, 3),
+        ([false, false, false, false, true, false], 2, 10, 10),
+        // None.
+        ([false, false, false, false, false, false], 1, 15, 15),
+    ];
+    for (goes, sectors, before, after) in cases {
+        let mut space = six_runs(alloc)?;
+        assert!(rt; give_those(alloc, &mut space, goes)?);
+        assert_eq!(rt; space.first_run(sectors), Some(sector(before)));
+        space.committed();
+        assert_eq!(rt; space.first_run(sectors), Some(sector(after)));
+    }
     Ok(())
 }

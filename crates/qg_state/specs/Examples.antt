@@ -66,7 +66,7 @@ state_of subvolumes layout groups pairs = record {
   layout = layout;
   quota = Some (record { groups = map (λ g. (g, group)) groups; pairs = pairs });
   pending = [];
-  held = record { nodes = []; extents = []; records = [] };
+  held = record { nodes = []; others = []; extents = []; records = [] };
 }
 
 abbrev pub quota_of : List ℕ → List (ℕ × ℕ) → Quota
@@ -219,6 +219,7 @@ fresh = record {
   pending = [];
   held = record {
     nodes = 1048576 ∷ 1064960 ∷ 1081344 ∷ 1097728 ∷ [];
+    others = 1048576 ∷ 1064960 ∷ 1081344 ∷ [];
     extents = [];
     records = RootOf 2 ∷ RootOf 5 ∷ RootOf 8 ∷ NodeOf 1097728 0 ∷ ReferenceTo 1097728 (KeyedBlock 5) ∷ Status ∷ InfoOf 5 ∷ LimitOf 5 ∷ [];
   };

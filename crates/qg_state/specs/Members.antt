@@ -21,13 +21,14 @@ unfoldable pub is_below : Quota → ℕ → ℕ → Bool
 is_below quota from to = leads quota.pairs (length quota.pairs) from to
 
 -- the members of a group: the numbers S of the kept groups 0/S that are the group or lead to it, each once; the number of a subvolume that
--- is gone is a member by the same rule
+-- is gone is a member by the same rule (this project's own)
 unfoldable pub members : Quota → ℕ → List ℕ
 members quota group = filter (λ sub. (level_of_group sub == 0) && is_below quota sub group) (keys_of quota.groups)
 
 abbrev pub is_member : Quota → ℕ → ℕ → Bool
 is_member quota group sub = list_any (λ member. member == sub) (members quota group)
 
--- the next subvolume's number: one more than the greatest of 255, the subvolumes' numbers and the ids of level-0 groups
+-- the next subvolume's number (this project's own): one more than the greatest of 255, the subvolumes' numbers and the ids of level-0
+-- groups
 unfoldable pub next_subvolume : List ℕ → List ℕ → ℕ
 next_subvolume subvolumes groups = fold max (fold max 255 subvolumes) (filter (λ group. level_of_group group == 0) groups) + 1

@@ -12,10 +12,11 @@ copies_on_write = false
 abbrev pub records_references : Bool
 records_references = false
 
--- Subvolumes besides the top-level one are served. Until then a ROOT_ITEM of one, or none of the quota tree, is refused.
+-- Subvolumes besides the top-level one are served. Until then a ROOT_ITEM of one is refused.
 abbrev pub serves_subvolumes : Bool
 serves_subvolumes = false
 
--- Groups besides those of subvolumes, limits, relations and quota being off are served. Until then a quota item of them is refused.
+-- Groups besides those of subvolumes, limits, relations and quota being off are served. Until then a quota item of them, or no ROOT_ITEM
+-- of the quota tree, is refused.
 abbrev pub serves_groups : Bool
 serves_groups = false

@@ -34,10 +34,11 @@ pub record Accepted : Type 0 where
   pub copies : ℕ
   pub touched : ℕ
 
--- what the last commit holds: the addresses of its nodes, those of the root, extent and quota trees among them; its data extents; and
--- what the items of those three trees name
+-- what the last commit holds: the addresses of its nodes; the addresses of the nodes of the root, extent and quota trees, which are among
+-- `nodes`; its data extents; and what the items of those three trees name
 pub record Committed : Type 0 where
   pub nodes : List ℕ
+  pub others : List ℕ
   pub extents : List Element
   pub records : List Record
 

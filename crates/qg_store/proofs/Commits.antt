@@ -1,11 +1,13 @@
 -- What the machine does at a commit, told by what is kept.
-use Rattle.std.proofs.Common.{◌≡◌, ◌<◌, ◌≤◌, Bool, true, false, List, [], ◌∷◌, length, None, Some, Option, refl, sym, ap, subst, ◌∙◌, arith}
+use Rattle.std.proofs.Common.{◌≡◌, ℕ, ◌<◌, ◌≤◌, Bool, true, false, List, [], ◌∷◌, length, None, Some, Option, refl, sym, ap, subst, ◌∙◌, arith}
 use Rattle.std.specs.Prelude.{MatchBool, MatchOption, if◌then◌else◌, nat_lt}
 use Rattle.std.specs.Bool.{then_some}
 use Rattle.std.proofs.lemmas.Bool.{lt-ltb, le-ltb}
-use Rattle.qg_device.specs.History.{Event}
+use Rattle.qg_device.specs.History.{Event, Wrote, content}
+use Rattle.qg_disk.proofs.Sizes.{length-overlay}
 use Rattle.qg_num.specs.declared.answer.Answer.{Answer}
 use Rattle.qg_num.specs.declared.answer.Answer.TheVariants as answer
+use Rattle.qg_num.specs.declared.command.Command.{Command}
 use Rattle.qg_num.specs.declared.command.Command.TheVariants as command
 use Rattle.qg_num.specs.declared.refusal.Refusal.{Refusal}
 use Rattle.qg_num.specs.declared.refusal.Refusal.TheVariants as why
@@ -14,7 +16,7 @@ use Rattle.qg_machine.specs.Refusals.{is_pending, last_generation, no_generation
 use Rattle.qg_machine.specs.Step.{Commits, Step}
 use Rattle.qg_machine.specs.Step as machine
 use Rattle.qg_store.specs.declared.kept.Kept.{Kept}
-use Rattle.qg_store.specs.Answering.{Commands}
+use Rattle.qg_store.specs.Answering.{Answered, Commands}
 use Rattle.qg_store.specs.Keeping.{IsKeptOf}
 
 -- ---- what is refused
@@ -89,3 +91,14 @@ does_refuse kept state events history keeps told some late = record {
   told = told;
   made = refl;
 }
+
+-- ---- over any disk
+
+-- what is answered over a disk that tells is answered over any
+pub answered : {old : State} {command : Command} {reply : Answer} {kept : Kept} {before : List Event} {history : Option (List Event)}
+    → Commands old command reply kept before history → Answered old command reply kept
+answered does = record { new = does.new; commits = does.commits; step = does.step; keeps = does.keeps }
+
+-- there is a disk of any length
+pub so_long : (size : ℕ) → (events : List Event) × (size ≤ length (content events))
+so_long size = (Wrote size (0 ∷ []) ∷ [], omega (arith, length-overlay size (0 ∷ []) []))

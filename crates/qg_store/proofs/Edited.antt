@@ -1,23 +1,16 @@
 -- What is kept once files are others. Addresses and lengths are in bytes.
-use Rattle.std.proofs.Common.{◌≡◌, ℕ, ◌+◌, ◌%◌, ◌^◌, ◌<◌, ◌≤◌, List, ◌++◌, None, map, sym, ap, subst, ◌∙◌, arith, inl, inr}
-use Rattle.std.specs.Prelude.{◌↔◌, nat_le}
+use Rattle.std.proofs.Common.{◌≡◌, ℕ, ◌+◌, ◌^◌, ◌<◌, ◌≤◌, List, None, map, sym, ap, subst, ◌∙◌, arith, inl, inr}
+use Rattle.std.specs.Prelude.{◌↔◌}
 use Rattle.std.specs.List.{All, Contains, count_by}
-use Rattle.std.proofs.lemmas.Bool.{and_parts, cases_lt}
-use Rattle.std.proofs.lemmas.List.Elements.{All-contains, All-contains_itself, All-weaker, Contains-append_left, Contains-append_right}
+use Rattle.std.proofs.lemmas.Bool.{cases_lt}
 use Rattle.qg_num.specs.declared.piece.Piece.{Piece}
-use Rattle.qg_super.specs.Places.{is_run, sector}
 use Rattle.qg_super.specs.SuperText.{sizes_of}
-use Rattle.qg_super.proofs.Runs.{WholeRun-is_run}
 use Rattle.qg_image.specs.declared.file.File.{File}
-use Rattle.qg_image.specs.Table.{value_at}
 use Rattle.qg_state.specs.declared.element.Element.{Element}
 use Rattle.qg_state.specs.Reach.{extent_of}
-use Rattle.qg_verdict.specs.Verdict.{longest_extent, same_extent, space_failure}
-use Rattle.qg_machine.specs.FileChange.{pieces_or_none}
+use Rattle.qg_verdict.specs.Verdict.{same_extent, space_failure}
 use Rattle.qg_rules.specs.Writable.{AreWritableFiles, IsFileBy}
-use Rattle.qg_files.specs.Split.{IsSplit}
 use Rattle.qg_check.specs.IsImage.{extents_in}
-use Rattle.qg_reach.proofs.Members.{contains_map}
 use Rattle.qg_named.specs.Named.{AreNamed, named_count}
 use Rattle.qg_named.proofs.Names.{contained_exactly_named, named_few}
 use Rattle.qg_space.specs.Holding.{Holding, free_slots}
@@ -28,7 +21,6 @@ use Rattle.qg_store.proofs.Counted.{listed_some, some_listed}
 use Rattle.qg_store.proofs.HeldNamed.{free_slots-beside}
 use Rattle.qg_store.proofs.Light.{few_named, light}
 use Rattle.qg_store.proofs.Spaced.{AreSpaced, AreSpaced-space, space-AreSpaced}
-use Rattle.qg_store.proofs.WrittenFiles.{told_named}
 
 -- runs are held just where pieces name them
 pub kept_held : (old : Kept) → IsKept old → HoldsNamed old.space old.named
@@ -107,38 +99,6 @@ edited_apart old more files gone come kept exchange has_more known =
       each = λ x has. spaced.each x (was x has);
       apart = λ x y has has'. spaced.apart x y (was x has) (was y has');
     })
-
--- ---- pieces of a file
-
--- their extents are whole sectors
-pub pieces_whole : (old : Kept) (ino : ℕ) → IsKept old → All (λ (piece : Piece). piece.extent_bytes % sector ≡ 0) (pieces_or_none (value_at ino old.files))
-pieces_whole old ino kept = All-weaker (Contains pieces) (λ (piece : Piece). piece.extent_bytes % sector ≡ 0) one pieces (All-contains_itself pieces) where
-  pieces : List Piece
-  pieces = pieces_or_none (value_at ino old.files)
-
-  one : (piece : Piece) → Contains pieces piece → piece.extent_bytes % sector ≡ 0
-  one piece has =
-      let extent = extent_of piece in
-      let named = told_named ino old.files extent (contains_map extent_of pieces piece has) in
-      let sizes = sizes_of old.superblock in
-      let is = (AreSpaced-space sizes (extents_named old.files) kept.apart).each extent named in
-      (WholeRun-is_run sizes extent.address extent.bytes (and_parts (is_run sizes extent.address extent.bytes) (nat_le extent.bytes longest_extent) is).0).whole
-
--- what is said of all pieces is true of those that go
-all_gone : (P : Piece → Type 0) (from to : ℕ) (pieces gone rests : List Piece) → IsSplit from to pieces gone rests → All P pieces → All P gone
-all_gone P from to pieces gone rests split all = All-weaker (Contains gone) P one gone (All-contains_itself gone) where
-  one : (piece : Piece) → Contains gone piece → P piece
-  one piece has =
-      All-contains P pieces piece all
-      (subst (λ (ps : List Piece). Contains ps piece) (sym split.old)
-      (Contains-append_left (split.front ++ gone) split.back piece (Contains-append_right split.front gone piece has)))
-
--- so the extents of those that go, as they were read, are whole sectors too
-pub gone_whole : (old : Kept) (ino from to : ℕ) (read gone rests : List Piece) → IsKept old → read ≡ gone → IsSplit from to (pieces_or_none (value_at ino old.files)) gone rests
-    → All (λ (piece : Piece). piece.extent_bytes % sector ≡ 0) read
-gone_whole old ino from to read gone rests kept is split =
-    let Whole : Piece → Type 0 = λ piece. piece.extent_bytes % sector ≡ 0 in
-    subst (All Whole) (sym is) (all_gone Whole from to (pieces_or_none (value_at ino old.files)) gone rests split (pieces_whole old ino kept))
 
 -- ---- what is kept fits together again
 

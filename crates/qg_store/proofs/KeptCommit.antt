@@ -26,8 +26,8 @@ use Rattle.qg_space.specs.Holding.{Holding, is_free_slot}
 use Rattle.qg_space.proofs.Agreements.{is_free_slot-state}
 use Rattle.qg_laid.specs.declared.laying.Laid.{Laid}
 use Rattle.qg_check.specs.IsImage.{extents_in}
-use Rattle.qg_laid.specs.Anew.{one_group}
-use Rattle.qg_laid.specs.Trees.{AreFor, AreTreesLaid, IsCommitOf, IsLaidState, nodes_laid, stamp_after}
+use Rattle.qg_laid.specs.Anew.{one_group, stamp_after}
+use Rattle.qg_laid.specs.Trees.{AreFor, AreTreesLaid, IsCommitOf, IsLaidState, nodes_laid}
 use Rattle.qg_commit.specs.Calls.{with_commit}
 use Rattle.qg_store.specs.declared.kept.Kept.{Kept}
 use Rattle.qg_store.specs.Answering.{Commands}

@@ -17,6 +17,13 @@ pub record Does (old : State) (command : Command) (answer : Answer) (kept : Kept
   pub step : Step old command answer [] new
   pub keeps : IsKeptOf kept new
 
+-- the machine answers a command so, and what is kept is that of the state that it comes to
+pub record Answered (old : State) (command : Command) (answer : Answer) (kept : Kept) : Type 0 where
+  pub new : State
+  pub commits : List State
+  pub step : Step old command answer commits new
+  pub keeps : IsKeptOf kept new
+
 -- the machine answers a command so, what is kept is that of the state that it comes to, and the disk was made to hold what it commits
 pub record Commands (old : State) (command : Command) (answer : Answer) (kept : Kept) (before : List Event) (history : Option (List Event)) : Type 0 where
   pub new : State

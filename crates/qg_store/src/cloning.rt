@@ -19,10 +19,11 @@ use crate::cutting::cut_for;
 use crate::kept::Kept;
 use crate::putting::{add_names, drop_names};
 use crate::weight::need_of;
-use crate::writing::{LARGEST_SIZE, MOST_PENDING};
+use crate::writing::MOST_PENDING;
 use qg_files::{Split, take_range};
 use qg_items::tree::TOP_LEVEL;
 use qg_num::{Answer, Generation, Ino, NoMemory, Pieces, Refusal, RootId};
+use qg_rules::LARGEST_SIZE;
 use qg_subvol::pieces;
 use qg_super::SECTOR;
 
@@ -207,7 +208,12 @@ fn put_taken(
     // What is taken and what rests is named first, so that no piece that goes is the last one to name it.
     add_names(&mut kept.named, taken.as_slice())?;
     add_names(&mut kept.named, split.rests.as_slice())?;
-    drop_names(&mut kept.named, &mut kept.space, split.gone.as_slice());
+    drop_names(
+        kept.alloc,
+        &mut kept.named,
+        &mut kept.space,
+        split.gone.as_slice(),
+    )?;
     kept.weight = weight;
     kept.pending += 1;
     Ok(())

@@ -1,5 +1,5 @@
 // What is pending is committed.
-ghost use Rattle.std.specs.Prelude.{◌≡◌, ◌⊎◌, ◌==◌, ◌<◌, ◌≤◌, ◌+◌, ◌*◌, ◌^◌, ◌||◌, List, Some, IfOk, IfErr, IsTrue};
+ghost use Rattle.std.specs.Prelude.{◌≡◌, ◌⊎◌, ◌==◌, ◌<◌, ◌≤◌, ◌+◌, ◌*◌, ◌^◌, ◌||◌, List, Some, length, IfOk, IfErr, IsTrue};
 ghost use Rattle.std.specs.List.{IsDistinct, list_all};
 ghost use Rattle.qg_device.specs.Cause.{HasCause};
 ghost use Rattle.qg_device.specs.History.{Event, content};
@@ -12,7 +12,7 @@ ghost use Rattle.qg_space.specs.Holding.{is_free_slot};
 ghost use Rattle.qg_check.specs.IsImage.{extents_in};
 ghost use Rattle.qg_laid.specs.Trees.{AreEnough, AreTreesLaid, IsCommitOf, nodes_laid};
 ghost use Rattle.qg_commit.specs.Calls.{GoesOn, with_commit};
-ghost use Rattle.qg_store.specs.Answering.{Commands, is_commit, is_unchanging};
+ghost use Rattle.qg_store.specs.Answering.{Answered, Commands, is_commit, is_unchanging};
 ghost use Rattle.qg_store.specs.Committing.{KeepsCommit};
 ghost use Rattle.qg_store.specs.Keeping.{IsKept, IsKeptOf};
 
@@ -34,6 +34,8 @@ pub(crate) fn commit<D: Disk>(kept: &mut Kept, disk: &mut D) -> Result<Answer, B
     ensures kept { IfOk result (λ answer. IsKept kept.new) }
     ensures step { (state : State) (events : List Event) → IsKeptOf kept.old state → D.history disk.old ≡ Some events
         → IfOk result (λ answer. Commands state Commit answer kept.new events (D.history disk.new)) }
+    ensures does { (state : State) → IsKeptOf kept.old state → IfOk result (λ answer. Answered state Commit answer kept.new) }
+    ensures idle { kept.old.pending ≡ 0 → disk.new ≡ disk.old }
     ensures later { (events : List Event) → D.history disk.old ≡ Some events → GoesOn events (D.history disk.new) }
     ensures refused { IfOk result (λ answer. IsTrue (is_unchanging answer) → (kept.new ≡ kept.old) × (disk.new ≡ disk.old)) }
     ensures told { IfOk result (λ answer. IsTrue (is_commit answer || is_unchanging answer)) }
@@ -78,7 +80,8 @@ fn write_trees<D: Disk>(kept: &Kept, disk: &mut D, slots: &[Address]) -> Result<
         kept.now.group.counters kept.now.group.stamp slots.now laid) }
     ensures calls { (events : List Event) → D.history disk.old ≡ Some events
         → IfOk result (λ laid. D.history disk.new ≡ Some (with_commit laid.superblock (nodes_laid laid) events)) }
-    ensures committed { (events : List Event) (state : State) → D.history disk.old ≡ Some events → IsKeptOf kept.now state
+    ensures committed { (events : List Event) (state : State) → total_bytes (sizes_of kept.now.superblock) ≤ length (content events)
+        → IsKeptOf kept.now state
         → IfOk result (λ laid. IsCommitOf state laid kept.now.files (content (with_commit laid.superblock (nodes_laid laid) events))) }
     ensures later { (events : List Event) → D.history disk.old ≡ Some events → GoesOn events (D.history disk.new) }
     ensures no_less { D.size disk.old ≤ D.size disk.new }

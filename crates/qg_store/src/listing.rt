@@ -1,5 +1,5 @@
 // A file's pieces are listed.
-ghost use Rattle.std.specs.Prelude.{◌≡◌, IfOk};
+ghost use Rattle.std.specs.Prelude.{IfOk};
 ghost use Rattle.qg_num.specs.declared.command.Command.TheVariants.{Ls};
 ghost use Rattle.qg_state.specs.State.{State};
 ghost use Rattle.qg_store.specs.Answering.{Does};
@@ -7,9 +7,8 @@ ghost use Rattle.qg_store.specs.Keeping.{IsKept, IsKeptOf};
 
 use crate::kept::Kept;
 use qg_items::tree::TOP_LEVEL;
-use qg_num::{Answer, Ino, NoMemory, Piece, Pieces, Refusal, RootId};
+use qg_num::{Answer, Ino, NoMemory, Pieces, Refusal, RootId};
 use qg_subvol::pieces;
-use std::alloc::Global;
 
 /// A file's size in bytes and its pieces, or why they are not told.
 pub(crate) fn list(kept: &Kept, sub: RootId, ino: Ino) -> Result<Answer, NoMemory>
@@ -22,22 +21,11 @@ pub(crate) fn list(kept: &Kept, sub: RootId, ino: Ino) -> Result<Answer, NoMemor
     match pieces(&kept.files, ino) {
         None => Ok(Answer::Refused(Refusal::NoFile)),
         Some(file) => {
-            let pieces = copied(kept.alloc, file.pieces.as_slice())?;
+            let pieces = Pieces::from_slice(kept.alloc, file.pieces.as_slice())?;
             Ok(Answer::File {
                 size: file.size,
                 pieces,
             })
         }
     }
-}
-
-// Some pieces, as a list of its own.
-fn copied(alloc: Global, pieces: &[Piece]) -> Result<Pieces, NoMemory>
-    ensures { IfOk result (λ copy. copy ≡ pieces.now) }
-{
-    let mut copy = Pieces::new(alloc);
-    for piece in pieces {
-        copy.push(*piece)?;
-    }
-    Ok(copy)
 }

@@ -1,14 +1,13 @@
 // A range is written, and what is held and counted follows.
-ghost use Rattle.std.specs.Prelude.{◌≡◌, ◌+◌, ◌%◌, ◌^◌, ◌<◌, ◌≤◌, length, map, OnOk, IsTrue};
-ghost use Rattle.std.specs.List.{All, count_by};
-ghost use Rattle.qg_super.specs.Places.{sector};
+ghost use Rattle.std.specs.Prelude.{◌≡◌, ◌+◌, ◌^◌, ◌<◌, ◌≤◌, length, map, OnOk, IsTrue};
+ghost use Rattle.std.specs.List.{count_by};
 ghost use Rattle.qg_image.specs.Table.{value_at};
 ghost use Rattle.qg_state.specs.declared.element.Element.{Element};
 ghost use Rattle.qg_state.specs.Reach.{extent_of};
 ghost use Rattle.qg_verdict.specs.Verdict.{same_extent};
 ghost use Rattle.qg_machine.specs.FileChange.{pieces_or_none};
 ghost use Rattle.qg_files.specs.Split.{IsSplit};
-ghost use Rattle.qg_named.specs.Named.{HasOneMore, named_count};
+ghost use Rattle.qg_named.specs.Named.{named_count};
 ghost use Rattle.qg_space.specs.Holding.{free_slots, is_free_run};
 ghost use Rattle.qg_store.specs.Held.{HasMore, HoldsNamed, SameBesideRuns};
 ghost use Rattle.qg_store.specs.Keeping.{IsKept, files_weight, need_of};
@@ -17,10 +16,12 @@ ghost use Rattle.qg_store.specs.Writing.{IsWritable, IsWritten, files_written};
 use crate::kept::Kept;
 use qg_files::Split;
 use qg_named::Named;
-use qg_num::{Address, Generation, Ino, NoMemory, Piece};
+use qg_num::{Address, Generation, Ino, NoMemory, Piece, Sequence};
+use qg_reach::extent_of;
 use qg_space::Space;
 use qg_state::Element;
 use qg_super::SECTOR;
+use std::alloc::Global;
 
 /// Puts one new extent, which is free, in a range of a file, and takes its run; of the pieces that go, the last one that names an extent
 /// gives its run back.
@@ -54,7 +55,12 @@ pub(crate) fn put_extent(
     // What a rest names is added first, so that no piece that goes is the last one to name it.
     kept.named.add(&extent)?;
     add_names(&mut kept.named, split.rests.as_slice())?;
-    drop_names(&mut kept.named, &mut kept.space, split.gone.as_slice());
+    drop_names(
+        kept.alloc,
+        &mut kept.named,
+        &mut kept.space,
+        split.gone.as_slice(),
+    )?;
     kept.weight = weight;
     kept.pending += 1;
     Ok(())
@@ -66,42 +72,34 @@ pub(crate) fn add_names(named: &mut Named, pieces: &[Piece]) -> Result<(), NoMem
     ensures { OnOk result (HasMore named.old named.new (map extent_of pieces.now)) }
 {
     for piece in pieces {
-        named.add(&Element {
-            address: piece.extent,
-            bytes: piece.extent_bytes,
-        })?;
+        named.add(&extent_of(piece))?;
     }
     Ok(())
 }
 
-/// Each of some pieces names its extent no more. Where none does any more, the present state gives the run back.
-pub(crate) fn drop_names(named: &mut Named, space: &mut Space, pieces: &[Piece])
+/// Each of some pieces names its extent no more. The runs of those that none names any more are given back at once.
+pub(crate) fn drop_names(
+    alloc: Global,
+    named: &mut Named,
+    space: &mut Space,
+    pieces: &[Piece],
+) -> Result<(), NoMemory>
     requires named { (extent : Element) → count_by (same_extent extent) (map extent_of pieces.now) ≤ named_count named.old extent }
     requires held { HoldsNamed space.old named.old }
-    requires whole { All (λ piece. piece.extent_bytes % sector ≡ 0) pieces.now }
-    ensures less { HasMore named.new named.old (map extent_of pieces.now) }
-    ensures held { HoldsNamed space.new named.new }
-    ensures beside { SameBesideRuns space.old space.new }
+    ensures less { OnOk result (HasMore named.new named.old (map extent_of pieces.now)) }
+    ensures held { OnOk result (HoldsNamed space.new named.new) }
+    ensures beside { OnOk result (SameBesideRuns space.old space.new) }
 {
+    let mut unnamed = Sequence::new(alloc);
     for piece in pieces {
-        drop_name(named, space, piece);
+        let extent = Element {
+            address: piece.extent,
+            bytes: piece.extent_bytes,
+        };
+        if named.drop_one(&extent) {
+            unnamed.push(extent)?;
+        }
     }
-}
-
-/// A piece names its extent no more. Where none does any more, the present state gives the run back.
-fn drop_name(named: &mut Named, space: &mut Space, piece: &Piece)
-    requires named { 0 < named_count named.old (extent_of piece.now) }
-    requires held { HoldsNamed space.old named.old }
-    requires whole { piece.now.extent_bytes % sector ≡ 0 }
-    ensures less { HasOneMore named.new named.old (extent_of piece.now) }
-    ensures held { HoldsNamed space.new named.new }
-    ensures beside { SameBesideRuns space.old space.new }
-{
-    let extent = Element {
-        address: piece.extent,
-        bytes: piece.extent_bytes,
-    };
-    if named.drop_one(&extent) {
-        space.give_run(extent.address, extent.bytes / SECTOR);
-    }
+    space.give_runs(unnamed.as_slice());
+    Ok(())
 }

@@ -14,10 +14,11 @@ use crate::cutting::Cut;
 use crate::kept::Kept;
 use crate::putting::{add_names, drop_names};
 use crate::weight::{PIECE_BYTES, need_of};
-use crate::writing::{LARGEST_SIZE, MOST_PENDING};
+use crate::writing::MOST_PENDING;
 use qg_files::{Split, split_range};
 use qg_items::tree::TOP_LEVEL;
 use qg_num::{Answer, Generation, Ino, NoMemory, Refusal, RootId};
+use qg_rules::LARGEST_SIZE;
 use qg_subvol::pieces;
 use qg_super::SECTOR;
 
@@ -109,7 +110,12 @@ fn resize(kept: &mut Kept, ino: Ino, size: u64, split: &Split, weight: u64) -> R
     add_names(&mut kept.named, split.rests.as_slice())?;
     let generation = Generation::new(kept.superblock.generation.value() + 1);
     qg_subvol::truncate(&mut kept.files, generation, ino, size)?;
-    drop_names(&mut kept.named, &mut kept.space, split.gone.as_slice());
+    drop_names(
+        kept.alloc,
+        &mut kept.named,
+        &mut kept.space,
+        split.gone.as_slice(),
+    )?;
     kept.weight = weight;
     kept.pending += 1;
     Ok(())

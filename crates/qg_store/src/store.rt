@@ -13,9 +13,9 @@ ghost use Rattle.qg_state.specs.State.{State};
 ghost use Rattle.qg_verdict.specs.StateOf.{StateOf};
 ghost use Rattle.qg_verdict.specs.Verdict.{verdict};
 ghost use Rattle.qg_commit.specs.Calls.{GoesOn};
-ghost use Rattle.qg_commit.specs.Opened.{IsOpened};
+ghost use Rattle.qg_commit.specs.Opened.{IsOpened, IsOpening};
 ghost use Rattle.qg_commit.specs.Opening.{IsRefusal, IsUntouched};
-ghost use Rattle.qg_store.specs.Answering.{Commands, comes_to_disk, is_commit, is_unchanging};
+ghost use Rattle.qg_store.specs.Answering.{Answered, Commands, comes_to_disk, is_commit, is_unchanging};
 ghost use Rattle.qg_store.specs.Keeping.{IsKept, IsKeptOf};
 ghost use Rattle.qg_store.specs.Stored.{IsStoreOf, Stops, sizes_stored};
 
@@ -68,6 +68,7 @@ impl Store {
             → IfOk result (λ store. IsOpened events (D.history disk.new)) }
         ensures unwritten { (events : List Event) → D.history disk.old ≡ Some events
             → IfErr result (λ fault. IsUntouched fault (D.history disk.new) (Synced ∷ events)) }
+        ensures touches { (events : List Event) → D.history disk.old ≡ Some events → IsOpening events (D.history disk.new) }
         ensures later { (events : List Event) → D.history disk.old ≡ Some events → GoesOn events (D.history disk.new) }
 
         // Over any disk.
@@ -106,11 +107,14 @@ impl Store {
             → IfOk result (λ answer. Commands state command.now answer self.new.kept events (D.history disk.new)) }
         ensures later { (events : List Event) → D.history disk.old ≡ Some events → GoesOn events (D.history disk.new) }
 
-        // Over any disk: what is refused or asked changes nothing, and only a commit comes to the disk.
+        // Over any disk the answer is the machine's. What is refused or asked changes nothing, and only a commit of something comes to the disk.
+        ensures does { (state : State) → IsStoreOf self.old state
+            → IfOk result (λ answer. Answered state command.now answer self.new.kept) }
         ensures running { IfOk result (λ answer. (self.old.stopped ≡ None) × (self.new.stopped ≡ None)) }
         ensures unchanged { IfOk result (λ answer. IsTrue (is_unchanging answer) → self.new ≡ self.old) }
         ensures untouched { IfOk result (λ answer. is_commit answer ≡ false → disk.new ≡ disk.old) }
         ensures apart { comes_to_disk command.now ≡ false → disk.new ≡ disk.old }
+        ensures idle { self.old.kept.pending ≡ 0 → disk.new ≡ disk.old }
 
         // After a stop nothing is done any more.
         ensures stops { IfErr result (λ stop. Stops stop self.old self.new) }
@@ -167,10 +171,12 @@ fn answer<D: Disk>(kept: &mut Kept, disk: &mut D, command: &Command) -> Result<A
     ensures kept { IfOk result (λ answer. IsKept kept.new) }
     ensures step { (state : State) (events : List Event) → IsKeptOf kept.old state → D.history disk.old ≡ Some events
         → IfOk result (λ answer. Commands state command.now answer kept.new events (D.history disk.new)) }
+    ensures does { (state : State) → IsKeptOf kept.old state → IfOk result (λ answer. Answered state command.now answer kept.new) }
     ensures later { (events : List Event) → D.history disk.old ≡ Some events → GoesOn events (D.history disk.new) }
     ensures unchanged { IfOk result (λ answer. IsTrue (is_unchanging answer) → kept.new ≡ kept.old) }
     ensures untouched { IfOk result (λ answer. is_commit answer ≡ false → disk.new ≡ disk.old) }
     ensures apart { comes_to_disk command.now ≡ false → disk.new ≡ disk.old }
+    ensures idle { kept.old.pending ≡ 0 → disk.new ≡ disk.old }
     ensures no_image { IfErr result (λ fault. (fault ≡ BlockFault.Disk) ⊎ (fault ≡ BlockFault.NoMemory)) }
     ensures sizes { sizes_of kept.new.superblock ≡ sizes_of kept.old.superblock }
     ensures no_less { D.size disk.old ≤ D.size disk.new }
@@ -188,7 +194,7 @@ fn answer<D: Disk>(kept: &mut Kept, disk: &mut D, command: &Command) -> Result<A
             to_off,
         } => Ok(clone(kept, *sub, *ino, *off, *len, *to_sub, *to_ino, *to_off)?),
         Command::Truncate { sub, ino, size } => Ok(truncate(kept, *sub, *ino, *size)?),
-        Command::Unlink { sub, ino } => Ok(unlink(kept, *sub, *ino)),
+        Command::Unlink { sub, ino } => Ok(unlink(kept, *sub, *ino)?),
         Command::Commit => commit(kept, disk),
         Command::Show => Ok(show(kept.alloc, &kept.group)?),
         Command::Ls { sub, ino } => Ok(list(kept, *sub, *ino)?),

@@ -1,5 +1,5 @@
 // A file is taken away.
-ghost use Rattle.std.specs.Prelude.{◌≡◌, ◌^◌, ◌≤◌, ◌<◌, true, is_some, IfNone, IsTrue};
+ghost use Rattle.std.specs.Prelude.{◌≡◌, ◌^◌, ◌≤◌, ◌<◌, true, is_some, IfNone, IfOk, OnOk, IsTrue};
 ghost use Rattle.qg_num.specs.declared.command.Command.TheVariants.{Unlink};
 ghost use Rattle.qg_image.specs.Table.{value_at, without_key};
 ghost use Rattle.qg_state.specs.State.{State};
@@ -13,28 +13,28 @@ use crate::putting::drop_names;
 use crate::weight::{INODE_BYTES, PIECE_BYTES, need_of};
 use crate::writing::MOST_PENDING;
 use qg_items::tree::TOP_LEVEL;
-use qg_num::{Answer, Ino, Refusal, RootId};
+use qg_num::{Answer, Ino, NoMemory, Refusal, RootId};
 use qg_subvol::pieces;
 
-/// Takes a file away, or refuses to. It takes no memory.
-pub(crate) fn unlink(kept: &mut Kept, sub: RootId, ino: Ino) -> Answer
+/// Takes a file away, or refuses to.
+pub(crate) fn unlink(kept: &mut Kept, sub: RootId, ino: Ino) -> Result<Answer, NoMemory>
     requires kept { IsKept kept.old }
-    ensures kept { IsKept kept.new }
-    ensures step { (state : State) → IsKeptOf kept.old state → Does state (Unlink sub ino) result kept.new }
-    ensures unchanged { IsTrue (is_unchanging result) → kept.new ≡ kept.old }
+    ensures kept { IfOk result (λ answer. IsKept kept.new) }
+    ensures step { (state : State) → IsKeptOf kept.old state → IfOk result (λ answer. Does state (Unlink sub ino) answer kept.new) }
+    ensures unchanged { IfOk result (λ answer. IsTrue (is_unchanging answer) → kept.new ≡ kept.old) }
     ensures superblock { kept.new.superblock ≡ kept.old.superblock }
 {
     if let Some(why) = refusal_of_unlink(kept, sub, ino) {
-        return Answer::Refused(why);
+        return Ok(Answer::Refused(why));
     }
     let weight = weight_without(kept, ino);
     let need = need_of(kept.superblock.nodesize, weight);
     let free = kept.space.free_slots();
     if free < need {
-        return Answer::Refused(Refusal::NoNodes { free, need });
+        return Ok(Answer::Refused(Refusal::NoNodes { free, need }));
     }
-    take_away(kept, ino, weight);
-    Answer::Done
+    take_away(kept, ino, weight)?;
+    Ok(Answer::Done)
 }
 
 // Why a file may not be taken away, before the free slots are counted.
@@ -70,21 +70,27 @@ fn weight_without(kept: &Kept, ino: Ino) -> u64
 }
 
 // Takes a file away; of its pieces, the last one that names an extent gives its run back.
-fn take_away(kept: &mut Kept, ino: Ino, weight: u64)
+fn take_away(kept: &mut Kept, ino: Ino, weight: u64) -> Result<(), NoMemory>
     requires kept { IsKept kept.old }
     requires there { is_some (value_at ino kept.old.files) ≡ true }
     requires weight { weight ≡ files_weight (without_key ino kept.old.files) }
     requires reserved { need_of kept.old.superblock.nodesize weight ≤ free_slots kept.old.space }
     requires few { kept.old.pending < 65536 }
-    ensures edited { IsEdited kept.old (without_key ino kept.old.files) kept.new }
-    ensures kept { IsKept kept.new }
+    ensures edited { OnOk result (IsEdited kept.old (without_key ino kept.old.files) kept.new) }
+    ensures kept { OnOk result (IsKept kept.new) }
     ensures superblock { kept.new.superblock ≡ kept.old.superblock }
 {
     let Some(file) = pieces(&kept.files, ino) else {
         unreachable!()
     };
-    drop_names(&mut kept.named, &mut kept.space, file.pieces.as_slice());
+    drop_names(
+        kept.alloc,
+        &mut kept.named,
+        &mut kept.space,
+        file.pieces.as_slice(),
+    )?;
     qg_subvol::unlink(&mut kept.files, ino);
     kept.weight = weight;
     kept.pending += 1;
+    Ok(())
 }

@@ -5,18 +5,24 @@ ghost use Rattle.qg_state.specs.Need.{file_bytes};
 ghost use Rattle.qg_store.specs.Keeping.{files_weight, need_of};
 
 use qg_image::File;
+use qg_items::{
+    EXTENT_DATA_BYTES, INODE_ITEM_BYTES, QGROUP_INFO_BYTES, QGROUP_LIMIT_BYTES,
+    QGROUP_STATUS_BYTES, ROOT_ITEM_BYTES,
+};
+use qg_node::{HEADER_BYTES, ITEM_HEADER_BYTES};
 use qg_num::{Ino, NoMemory};
 
 /// What an INODE_ITEM takes of a leaf, and what an EXTENT_DATA takes.
-pub(crate) const INODE_BYTES: u64 = 25 + 160;
+pub(crate) const INODE_BYTES: u64 = (ITEM_HEADER_BYTES + INODE_ITEM_BYTES) as u64;
 
-pub(crate) const PIECE_BYTES: u64 = 25 + 53;
+pub(crate) const PIECE_BYTES: u64 = (ITEM_HEADER_BYTES + EXTENT_DATA_BYTES) as u64;
 
 /// What the items of the root and quota trees take.
-const OTHER_BYTES: u64 = 3 * (25 + 439) + (25 + 32) + 2 * (25 + 40);
-
-/// The bytes of a node that its items and pointers cannot take.
-const NODE_HEADER: u64 = 101;
+const OTHER_BYTES: u64 = (6 * ITEM_HEADER_BYTES
+    + 3 * ROOT_ITEM_BYTES
+    + QGROUP_STATUS_BYTES
+    + QGROUP_INFO_BYTES
+    + QGROUP_LIMIT_BYTES) as u64;
 
 /// The most that files in memory can take.
 const MOST: u64 = 1 << 62;
@@ -53,6 +59,6 @@ pub(crate) fn need_of(nodesize: u32, weight: u64) -> u64
     requires light { weight ≤ 2 ^ 63 }
     ensures { result ≡ need_of nodesize weight }
 {
-    let capacity = u64::from(nodesize) - NODE_HEADER;
+    let capacity = u64::from(nodesize) - HEADER_BYTES as u64;
     8 * ((weight + OTHER_BYTES + (capacity - 1)) / capacity) + 40
 }

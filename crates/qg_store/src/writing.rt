@@ -14,13 +14,9 @@ use crate::putting::put_extent;
 use crate::weight::need_of;
 use qg_items::tree::TOP_LEVEL;
 use qg_num::{Answer, Ino, NoMemory, Refusal, RootId};
+use qg_reach::LONGEST_EXTENT;
+use qg_rules::LARGEST_SIZE;
 use qg_super::SECTOR;
-
-/// The largest size of a file, in bytes.
-pub(crate) const LARGEST_SIZE: u64 = 1 << 40;
-
-/// The longest data extent, in bytes.
-const LONGEST_EXTENT: u64 = 134217728;
 
 /// The most file commands that may be pending.
 pub(crate) const MOST_PENDING: u64 = 65536;

@@ -1,4 +1,4 @@
--- What the text of a superblock and the reading of bytes are to each other.
+-- What the text of a superblock and the reading of bytes are to each other (this project's own).
 use Rattle.std.specs.Prelude.{◌≡◌, ℕ, ◌^◌, ◌<◌, List, Some}
 use Rattle.qg_super.specs.declared.superblock.Super.{Super}
 use Rattle.qg_super.specs.SuperText.{IsSuperText, super_read}

@@ -10,6 +10,7 @@ use Rattle.qg_super.specs.declared.sizes.Sizes.{Sizes}
 use Rattle.qg_super.specs.declared.superblock.Super.{Super}
 use Rattle.qg_super.specs.Places.{total_bytes, is_served}
 
+-- the sizes that a superblock tells: the bytes of a node, the node slots, the data sectors
 abbrev pub sizes_of : Super → Sizes
 sizes_of super = record { nodesize = super.nodesize; slots = super.slots; sectors = super.sectors }
 

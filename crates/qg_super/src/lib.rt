@@ -10,7 +10,7 @@ mod text;
 
 pub use choice::choose;
 pub use laws::round_trips;
-pub use places::{DATA_BEGIN, FIRST_PLACE, SECOND_PLACE, SECTOR, SUPER_BYTES};
+pub use places::{DATA_BEGIN, FIRST_PLACE, SECOND_PLACE, SECTOR, SLOTS_BEGIN, SUPER_BYTES};
 pub use sizes::Sizes;
 pub use superblock::Super;
 pub use text::{read_super, write_super};

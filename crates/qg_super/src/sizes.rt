@@ -1,4 +1,5 @@
-use crate::places::{DATA_BEGIN, SECTOR};
+use crate::places::{DATA_BEGIN, SECTOR, SLOTS_BEGIN};
+use qg_num::Address;
 
 /// How large an image is (this project's own).
 #[derive(Clone, Copy, Debug, PartialEq, Eq)]
@@ -13,7 +14,7 @@ pub struct Sizes {
 
 impl Sizes {
     ghost use Rattle.std.specs.Prelude.{◌≡◌, IsTrue};
-    ghost use Rattle.qg_super.specs.Places.{is_served, total_bytes};
+    ghost use Rattle.qg_super.specs.Places.{is_served, is_slot, total_bytes};
 
     /// Whether images of these sizes are served: a nodesize of 4096 with at most 16128 slots or of 16384 with at most 4032, at
     /// least 64 slots, from 16 to 16777216 sectors (this project's own).
@@ -34,5 +35,19 @@ impl Sizes {
         ensures { result ≡ total_bytes self.now }
     {
         DATA_BEGIN + self.sectors * SECTOR
+    }
+
+    /// Whether an address is that of a node slot (this project's own).
+    #[tactic(auto, unfolding(crate::specs::Places::is_slot))]
+    pub fn is_slot(&self, address: Address) -> bool
+        requires { IsTrue (is_served self.now) }
+        ensures { result ≡ is_slot self.now address }
+    {
+        let place = address.value();
+        if place < SLOTS_BEGIN {
+            return false;
+        }
+        let offset = place - SLOTS_BEGIN;
+        offset % self.nodesize == 0 && offset / self.nodesize < self.slots
     }
 }

@@ -21,11 +21,12 @@ abbrev pub node_among : List Node → ℕ → Option Node
 node_among [] address = None
 node_among (node ∷ nodes) address = if (header_of node).address == address then Some node else node_among nodes address
 
--- what a walk finds where there are these nodes and no others
+-- what a walk finds at an address where this node lies, or none
 abbrev pub found_in : Option Node → ℕ → Result Node Failure
 found_in None address = Err (Broken rule.Slot address)
 found_in (Some node) address = Ok node
 
+-- what a walk finds where there are these nodes and no others
 abbrev pub found_among : List Node → ℕ → Result Node Failure
 found_among nodes address = found_in (node_among nodes address) address
 

@@ -1,4 +1,4 @@
--- One level of a tree that is built: its nodes, from left to right.
+-- One level of a tree that is built: its nodes, from left to right (on-disk format, "B-tree"; how full they are is this project's own).
 use Rattle.std.specs.Prelude.{◌≡◌, ℕ, ◌+◌, ◌*◌, ◌≤◌, List, [], ◌∷◌, ◌++◌, length, map, take, drop}
 use Rattle.std.specs.List.{flat_map, sum_by, AllByRecursion}
 use Rattle.qg_num.specs.declared.key.Key.{Key}
@@ -17,6 +17,7 @@ first_key (key ∷ keys) = key
 abbrev pub pointer_to : Node → Pointer
 pointer_to node = record { key = first_key (own_keys node); child = (header_of node).address; generation = (header_of node).generation }
 
+-- where a node lies, in bytes
 abbrev pub address_of : Node → ℕ
 address_of node = (header_of node).address
 

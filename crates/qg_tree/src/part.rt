@@ -1,6 +1,8 @@
 // What a level of a tree is made of: items, or pointers to the level below.
 use crate::cut::Weighed;
-use qg_node::{Header, Item, Node, Pointer, Pointers, copy_items};
+use qg_node::{
+    Header, ITEM_HEADER_BYTES, Item, Node, POINTER_BYTES, Pointer, Pointers, copy_items,
+};
 use qg_num::NoMemory;
 use std::alloc::Global;
 
@@ -34,7 +36,7 @@ impl Weighed for Item {
     ghost weight = { item_bytes };
 
     fn weight(&self) -> u64 {
-        25 + self.body.len() as u64
+        (ITEM_HEADER_BYTES + self.body.len()) as u64
     }
 }
 
@@ -58,7 +60,7 @@ impl Weighed for Pointer {
     ghost weight = { λ _. 33 };
 
     fn weight(&self) -> u64 {
-        33
+        POINTER_BYTES as u64
     }
 }
 

@@ -7,7 +7,7 @@ ghost use Rattle.qg_tree.specs.Row.{first_key, pointer_to, PutsRow};
 
 use crate::cut::{first_cut, total};
 use crate::part::Part;
-use qg_node::{Header, Item, Node, Pointer, Pointers};
+use qg_node::{HEADER_BYTES, Header, Keyed, Node, Pointer, Pointers};
 use qg_num::{Address, Generation, Key, NoMemory, RootId, Sequence};
 use std::alloc::Global;
 
@@ -54,7 +54,7 @@ pub(crate) fn put_row<T: Part>(
     ensures { IfOk result (λ pointers.
         PutsRow T.own T.weight level.now.nodesize level.now.owner level.now.generation level.now.level slots.now parts.now nodes.old nodes.new pointers) }
 {
-    let room = (level.nodesize - 101) as u64;
+    let room = (level.nodesize as usize - HEADER_BYTES) as u64;
     let mut left = parts;
     let mut weight = total(parts);
     let mut pointers = Pointers::new(alloc);
@@ -91,8 +91,8 @@ fn pointer_to(node: &Node) -> Pointer
     ensures { result ≡ pointer_to node.now }
 {
     let (key, header) = match node {
-        Node::Leaf { header, items } => (first_item_key(items.as_slice()), header),
-        Node::Inner { header, pointers } => (first_pointer_key(pointers.as_slice()), header),
+        Node::Leaf { header, items } => (first_key(items.as_slice()), header),
+        Node::Inner { header, pointers } => (first_key(pointers.as_slice()), header),
     };
     Pointer {
         key,
@@ -107,20 +107,12 @@ const NO_KEY: Key = Key {
     offset: 0,
 };
 
-fn first_item_key(items: &[Item]) -> Key
-    ensures { result ≡ first_key (map (λ item. item.key) items.now) }
+// The key of the first of some items or pointers; all zero where there is none.
+fn first_key<T: Keyed>(list: &[T]) -> Key
+    ensures { result ≡ first_key (map T.key_of list.now) }
 {
-    match items {
+    match list {
         [] => NO_KEY,
-        [item, ..] => item.key,
-    }
-}
-
-fn first_pointer_key(pointers: &[Pointer]) -> Key
-    ensures { result ≡ first_key (map (λ pointer. pointer.key) pointers.now) }
-{
-    match pointers {
-        [] => NO_KEY,
-        [pointer, ..] => pointer.key,
+        [first, ..] => first.key(),
     }
 }

@@ -27,7 +27,7 @@ fresh_state sizes others root = as_committed others (record {
   layout = (root, fresh_leaf root) ∷ [];
   quota = Some (record { groups = (TOP_LEVEL, fresh_group sizes) ∷ []; pairs = [] });
   pending = [];
-  held = record { nodes = []; extents = []; records = [] };
+  held = record { nodes = []; others = []; extents = []; records = [] };
 })
 
 -- the state is fresh for the sizes, its nodes in any slots

@@ -92,9 +92,11 @@ extent_root super image = value_at EXTENT_TREE (roots_in super image)
 abbrev pub quota_root : Super → List ℕ → Option RootItem
 quota_root super image = value_at QUOTA_TREE (roots_in super image)
 
+-- what the items of the extent tree say
 unfoldable pub extent_parts : Super → List ℕ → List ExtentPart
 extent_parts super image = filter_map extent_part (of_tree (items_of_root Extents super image) (extent_root super image))
 
+-- what the items of the quota tree say
 unfoldable pub quota_parts : Super → List ℕ → List QuotaPart
 quota_parts super image = filter_map quota_part (of_tree (items_of_root Quotas super image) (quota_root super image))
 
@@ -118,6 +120,7 @@ layout_in super image =
 
 -- ---- subvolumes
 
+-- the subvolume with this ROOT_ITEM
 abbrev pub subvolume_in : Super → List ℕ → RootItem → Subvolume
 subvolume_in super image root = record {
   files = unwrap_or (files_of super.generation (items_of_root Files super image root)) [];
@@ -125,17 +128,20 @@ subvolume_in super image root = record {
   last_snapshot = root.last_snapshot;
 }
 
+-- the subvolumes by number
 unfoldable pub subvolumes_in : Super → List ℕ → List (ℕ × Subvolume)
 subvolumes_in super image = map (λ entry. (entry.0, subvolume_in super image entry.1)) (subvolume_roots (roots_in super image))
 
 -- ---- quota
 
+-- a group's counters, where the item tells them
 abbrev pub info_told : QuotaPart → Option (ℕ × QgroupInfo)
 info_told (Status status) = None
 info_told (Info group info) = Some (group, info)
 info_told (Limits group limit) = None
 info_told (Relation group other) = None
 
+-- a group's limits, where the item tells them
 abbrev pub limit_told : QuotaPart → Option (ℕ × QgroupLimit)
 limit_told (Status status) = None
 limit_told (Info group info) = None
@@ -156,6 +162,7 @@ max_rfer_told limit = then_some (limit.flags % 2 == 1) limit.max_rfer
 abbrev pub max_excl_told : QgroupLimit → Option ℕ
 max_excl_told limit = then_some (limit.flags / 2 % 2 == 1) limit.max_excl
 
+-- the group with these counters and limits
 abbrev pub group_told : QgroupInfo → Option QgroupLimit → Group
 group_told info limit = record {
   counters = record { rfer = info.rfer; excl = info.excl };
@@ -186,7 +193,7 @@ other_nodes super image =
 
 -- what a commit of a state holds, the root, extent and quota trees having these nodes: the items of those trees are what the state has
 abbrev pub committed_by : List ℕ → State → Committed
-committed_by others state = record { nodes = others ++ keys_of state.layout; extents = present_extents state; records = present_records state }
+committed_by others state = record { nodes = others ++ keys_of state.layout; others = others; extents = present_extents state; records = present_records state }
 
 -- the same state, holding what a commit of it holds
 abbrev pub as_committed : List ℕ → State → State
@@ -201,7 +208,7 @@ state_in super image = as_committed (other_nodes super image) (record {
   layout = layout_in super image;
   quota = quota_in super image;
   pending = [];
-  held = record { nodes = []; extents = []; records = [] };
+  held = record { nodes = []; others = []; extents = []; records = [] };
 })
 
 -- the state that an image stands for

@@ -60,7 +60,8 @@ are_mirrored (Some first) (Some second) = not (first.generation == second.genera
 
 -- ---- the root tree
 
--- the extent tree and the top-level subvolume are there; as long as no others are served, the quota tree is, and no other
+-- the extent tree and the top-level subvolume are there; as long as not all groups are served the quota tree is there; as long as no
+-- other subvolumes are served there is none
 unfoldable pub are_roots : List (ℕ × RootItem) → Bool
 are_roots roots =
     has_key EXTENT_TREE roots && has_key TOP_LEVEL roots

@@ -1,9 +1,10 @@
 // Why a walk came to no end.
 ghost use Rattle.std.specs.Prelude.{◌≡◌};
 ghost use Rattle.qg_walk.specs.Fault.{fault_of_disk};
-ghost use Rattle.qg_walk.specs.declared.fault.WalkFault.TheVariants.{NoMemory};
+ghost use Rattle.qg_walk.specs.declared.fault.WalkFault.TheVariants as walk;
 
 use qg_disk::DiskFault;
+use qg_num::NoMemory;
 use qg_verdict::Failure;
 use std::alloc::{AllocError, AllocFailed};
 
@@ -29,8 +30,16 @@ impl From<DiskFault> for WalkFault {
     }
 }
 
+impl From<NoMemory> for WalkFault {
+    ghost from_gives = { λ _ end. end ≡ walk.NoMemory };
+
+    fn from(_: NoMemory) -> Self {
+        WalkFault::NoMemory
+    }
+}
+
 impl From<AllocError> for WalkFault {
-    ghost from_gives = { λ _ end. end ≡ NoMemory };
+    ghost from_gives = { λ _ end. end ≡ walk.NoMemory };
 
     fn from(_: AllocError) -> Self {
         WalkFault::NoMemory
@@ -38,7 +47,7 @@ impl From<AllocError> for WalkFault {
 }
 
 impl<T: Drop> From<AllocFailed<T>> for WalkFault {
-    ghost from_gives = { λ _ end. end ≡ NoMemory };
+    ghost from_gives = { λ _ end. end ≡ walk.NoMemory };
 
     fn from(_: AllocFailed<T>) -> Self {
         WalkFault::NoMemory

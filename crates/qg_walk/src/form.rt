@@ -6,14 +6,11 @@ ghost use Rattle.qg_verdict.specs.Walk.{begins_at, ends_before, is_told, is_gene
 ghost use Rattle.qg_walk.specs.Standing.{form_failure};
 
 use crate::keys;
-use qg_node::Node;
+use qg_node::{HEADER_BYTES, Node};
 use qg_num::{Address, Generation, Key, Rule};
 use qg_parts::TreePart;
 use qg_super::Super;
 use qg_verdict::{Expected, Failure};
-
-// How many bytes a node's header takes.
-const HEADER_BYTES: usize = 101;
 
 /// The first of the rules from `depth` to `shape` that a node breaks, which was read at an address.
 #[tactic(auto, unfolding(qg_verdict::specs::Walk::way_failure))]

@@ -2,7 +2,7 @@
 ghost use Rattle.std.specs.Prelude.{◌≡◌, ◌≤◌, List, length, Some, IfOk, IsTrue};
 ghost use Rattle.qg_device.specs.Cause.{HasCause};
 ghost use Rattle.qg_device.specs.History.{Event, content};
-ghost use Rattle.qg_super.specs.Places.{is_served, is_slot, total_bytes};
+ghost use Rattle.qg_super.specs.Places.{is_served, total_bytes};
 ghost use Rattle.qg_super.specs.SuperText.{sizes_of};
 ghost use Rattle.qg_verdict.specs.Walk.{node_found};
 ghost use Rattle.qg_verdict.specs.Failure.{rule_of};
@@ -15,12 +15,9 @@ use crate::WalkFault;
 use qg_disk::Disk;
 use qg_node::{Node, NodeFault, ReadFault, read_node};
 use qg_num::{Address, Rule};
-use qg_super::{Sizes, Super};
+use qg_super::Super;
 use qg_verdict::Failure;
 use std::alloc::Global;
-
-// Where the node slots begin, in bytes.
-const SLOTS_BEGIN: u64 = 1048576;
 
 /// The node in the slot at an address, read over a buffer of a node's size, or the first rule that is broken there.
 pub(crate) fn node_at<D: Disk>(
@@ -40,7 +37,7 @@ pub(crate) fn node_at<D: Disk>(
     ensures size { D.size disk.new ≡ D.size disk.old }
     ensures cause { HasCause WalkFault.Disk (D.faults disk.old) (D.faults disk.new) result }
 {
-    if !is_slot(superblock.sizes(), address) {
+    if !superblock.sizes().is_slot(address) {
         return Err(broken(Rule::Slot, address));
     }
     disk.read(address.value(), buffer)?;
@@ -49,20 +46,6 @@ pub(crate) fn node_at<D: Disk>(
         Err(ReadFault::Bad(fault)) => Err(broken(rule_of(fault), address)),
         Err(ReadFault::NoMemory) => Err(WalkFault::NoMemory),
     }
-}
-
-/// Whether an address is that of a node slot.
-#[tactic(auto, unfolding(qg_super::specs::Places::is_slot))]
-fn is_slot(sizes: Sizes, address: Address) -> bool
-    requires { IsTrue (is_served sizes) }
-    ensures { result ≡ is_slot sizes address }
-{
-    let place = address.value();
-    if place < SLOTS_BEGIN {
-        return false;
-    }
-    let offset = place - SLOTS_BEGIN;
-    offset % sizes.nodesize == 0 && offset / sizes.nodesize < sizes.slots
 }
 
 /// The rule that bytes break as a node.

@@ -1,5 +1,5 @@
-use Rattle.qg_bytes.specs.Fields.{u16_at, u16_bytes, u32_at, u32_bytes, u64_at, u64_bytes}
-use Rattle.qg_bytes.proofs.Numbers.{u16_bytes-u16_at, u32_bytes-u32_at, u64_bytes-u64_at}
+use Rattle.qg_bytes.specs.Fields.{u32_at, u32_bytes, u64_at, u64_bytes}
+use Rattle.qg_bytes.proofs.Numbers.{u32_bytes-u32_at, u64_bytes-u64_at}
 use Rattle.qg_bytes.proofs.Written.{put_same}
 use Rattle.qg_bytes.proofs.laws.writes_back.Goals as goal
 
@@ -8,6 +8,3 @@ returns-clause-u64 c = λ place bytes are within. put_same place 8 (u64_bytes (u
 
 pub returns-clause-u32 : goal.returns-clause-u32
 returns-clause-u32 c = λ place bytes are within. put_same place 4 (u32_bytes (u32_at place bytes)) bytes (u32_bytes-u32_at place bytes are within)
-
-pub returns-clause-u16 : goal.returns-clause-u16
-returns-clause-u16 c = λ place bytes are within. put_same place 2 (u16_bytes (u16_at place bytes)) bytes (u16_bytes-u16_at place bytes are within)

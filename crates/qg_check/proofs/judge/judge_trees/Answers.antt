@@ -1,5 +1,5 @@
 use Rattle.std.proofs.Common.{◌≡◌, ℕ, ◌+◌, ◌*◌, true, List, [], ◌∷◌, ◌++◌, length, None, Some, map, refl, sym, ap, ◌∙◌, subst}
-use Rattle.std.specs.Prelude.{IsTrue, Result, Ok, IfOk}
+use Rattle.std.specs.Prelude.{IsTrue}
 use Rattle.std.specs.List.{All, flat_map, list_all}
 use Rattle.std.specs.List.Sorted.{IsStrictlyIncreasing}
 use Rattle.qg_super.specs.declared.sizes.Sizes.{Sizes}
@@ -15,14 +15,10 @@ use Rattle.qg_state.specs.Space.{present_extents}
 use Rattle.qg_verdict.specs.StateOf.{state_in}
 use Rattle.qg_verdict.specs.Verdict.{counts_failure, extent_set, space_failure}
 use Rattle.qg_reach.specs.Sets.{HaveSame}
-use Rattle.qg_num.specs.declared.fault.NoMemory.{NoMemory}
-use Rattle.qg_walk.specs.declared.fault.WalkFault.{WalkFault}
-use Rattle.qg_check.specs.Stages.{given_of}
 use Rattle.qg_check.specs.declared.judge.Read.{Read}
 use Rattle.qg_check.specs.Counted.{CountAll}
 use Rattle.qg_check.specs.Trees.{AreRead}
 use Rattle.qg_check.proofs.Staging.{tells_first, pass_first, tells_same, fails_handed}
-use Rattle.qg_check.proofs.Said.{given_ok}
 use Rattle.qg_check.proofs.SlotsOf.{same_slots}
 use Rattle.qg_check.proofs.StateRead.{present_read, quota_read, quota_of_state, count_read, kept_read}
 use Rattle.qg_check.proofs.judge.judge_trees.Goals as goal
@@ -41,29 +37,27 @@ same_sum sizes sizes' nodes nodes' a b h k l = rw (h, k, l) refl
 quota_state : (super : Super) (bytes : List ℕ) (read : Read) → AreRead super bytes read → counts_failure (state_in super bytes) (state_in super bytes).quota ≡ counts_failure (state_in super bytes) (Some read.quotas.quota)
 quota_state super bytes read are = ap (counts_failure (state_in super bytes)) (quota_of_state super bytes ∙ quota_read super bytes read are)
 
--- ---- answers that could only want memory
+-- ---- lists that were asked for
 
 -- the extents that were asked for
-named_by : (answer : Result (List Element) NoMemory) (handed : Result (List Element) WalkFault) (extents : List Element) (slice files : List (ℕ × File)) → handed ≡ given_of answer → handed ≡ Ok extents
-    → IfOk answer (λ list. list ≡ named slice) → slice ≡ files → extents ≡ named files
-named_by answer handed extents slice files is ok holds same = given_ok (λ (list : List Element). list ≡ named slice) answer extents (sym is ∙ ok) holds ∙ ap named same
+named_by : (extents : List Element) (slice files : List (ℕ × File)) → extents ≡ named slice → slice ≡ files → extents ≡ named files
+named_by extents slice files is same = is ∙ ap named same
 
 -- slots that ascend and are the same as the nodes'
 record AreOnce (slots nodes : List ℕ) : Type 0 where
   same : HaveSame slots nodes
   ascending : IsStrictlyIncreasing slots
 
-once_by : (answer : Result (List ℕ) NoMemory) (handed : Result (List ℕ) WalkFault) (slots slice nodes : List ℕ) → handed ≡ given_of answer → handed ≡ Ok slots
-    → IfOk answer (λ list. HaveSame list slice) → IfOk answer IsStrictlyIncreasing → slice ≡ nodes → AreOnce slots nodes
-once_by answer handed slots slice nodes is ok holds up same = record {
-  same = subst (λ (list : List ℕ). HaveSame slots list) same (given_ok (λ (list : List ℕ). HaveSame list slice) answer slots (sym is ∙ ok) holds);
-  ascending = given_ok IsStrictlyIncreasing answer slots (sym is ∙ ok) up;
+once_by : (slots slice nodes : List ℕ) → HaveSame slots slice → IsStrictlyIncreasing slots → slice ≡ nodes → AreOnce slots nodes
+once_by slots slice nodes holds up same = record {
+  same = subst (λ (list : List ℕ). HaveSame slots list) same holds;
+  ascending = up;
 }
 
 pub returns-in_err-judge_extents-clause-failure : goal.returns-in_err-judge_extents-clause-failure
 returns-in_err-judge_extents-clause-failure c = λ bytes are.
     let super = c.args.superblock in
-    let extents = named_by c.extents_of.result c.given.result c.in_ok-extents.extents c.as_slice.result.now c.args.read.subvolume.files c.given.ensures c.in_ok-extents.was c.extents_of.ensures c.as_slice.ensures in
+    let extents = named_by c.in_ok-extents.extents c.as_slice.result.now c.args.read.subvolume.files c.in_ok-extents.ensures c.as_slice.ensures in
     let same = same_space (sizes_of super) c.sizes-sizes.result (extent_set (present_extents (state_in super bytes))) c.as_slice-2.result.now c.sizes-sizes.ensures
     (c.as_slice-2.ensures ∙ extents ∙ ap extent_set (sym (present_read super bytes c.args.read are))) in
     fails_handed c.from_residual-in_err-judge_extents.result c.in_err-judge_extents.field-0.0 _ c.from_residual-in_err-judge_extents.ensures.1
@@ -73,7 +67,7 @@ pub reached_bytes-bytes-requires-clause-slots : goal.reached_bytes-bytes-require
 reached_bytes-bytes-requires-clause-slots c =
     let super = c.args.superblock in
     let nodes = c.args.read.subvolume.nodes in
-    let once = once_by c.each_once.result c.given-2.result c.in_ok-nodes.nodes c.as_slice-3.result.now nodes c.given-2.ensures c.in_ok-nodes.was c.each_once.ensures.same c.each_once.ensures.ascending c.as_slice-3.ensures in
+    let once = once_by c.in_ok-nodes.nodes c.as_slice-3.result.now nodes c.in_ok-nodes.ensures.same c.in_ok-nodes.ensures.ascending c.as_slice-3.ensures in
     let same = subst (λ (list : List ℕ). HaveSame list nodes) (sym c.as_slice-4.ensures) once.same in
     subst (λ (sizes : Sizes). All (λ slot. IsTrue (is_slot sizes slot)) c.as_slice-4.result.now) (sym c.sizes-sizes.ensures) (same_slots (sizes_of super) c.as_slice-4.result.now nodes same c.requires.slots)
 
@@ -100,8 +94,8 @@ returns-in_err-judge_counts-clause-failure c = λ bytes are.
     let nodes = c.in_ok-nodes.nodes in
     let extents = c.in_ok-extents.extents in
     let fault = c.in_err-judge_counts.field-0.0 in
-    let told = named_by c.extents_of.result c.given.result extents c.as_slice.result.now read.subvolume.files c.given.ensures c.in_ok-extents.was c.extents_of.ensures c.as_slice.ensures in
-    let once = once_by c.each_once.result c.given-2.result nodes c.as_slice-3.result.now read.subvolume.nodes c.given-2.ensures c.in_ok-nodes.was c.each_once.ensures.same c.each_once.ensures.ascending c.as_slice-3.ensures in
+    let told = named_by extents c.as_slice.result.now read.subvolume.files c.in_ok-extents.ensures c.as_slice.ensures in
+    let once = once_by nodes c.as_slice-3.result.now read.subvolume.nodes c.in_ok-nodes.ensures.same c.in_ok-nodes.ensures.ascending c.as_slice-3.ensures in
     let space = same_space (sizes_of super) c.sizes-sizes.result extents c.as_slice-2.result.now c.sizes-sizes.ensures c.as_slice-2.ensures ∙ c.in_ok-judge_extents.ensures.failure in
     let sum = c.reached_bytes-bytes.ensures ∙ same_sum (sizes_of super) c.sizes-sizes.result nodes c.as_slice-4.result.now extents c.as_slice-5.result.now c.sizes-sizes.ensures c.as_slice-4.ensures c.as_slice-5.ensures in
     let facts = counted super bytes read nodes extents c.reached_bytes-bytes.result are c.requires.groups c.requires.served c.requires.slots once told space sum in
@@ -110,10 +104,10 @@ returns-in_err-judge_counts-clause-failure c = λ bytes are.
 
 -- the end of the function: the extents, and the slots
 told_at : (c : goal.After-drop-subvolume-2) → c.in_ok-extents.extents ≡ named c.args.read.subvolume.files
-told_at c = named_by c.extents_of.result c.given.result c.in_ok-extents.extents c.as_slice.result.now c.args.read.subvolume.files c.given.ensures c.in_ok-extents.was c.extents_of.ensures c.as_slice.ensures
+told_at c = named_by c.in_ok-extents.extents c.as_slice.result.now c.args.read.subvolume.files c.in_ok-extents.ensures c.as_slice.ensures
 
 once_at : (c : goal.After-drop-subvolume-2) → AreOnce c.in_ok-nodes.nodes c.args.read.subvolume.nodes
-once_at c = once_by c.each_once.result c.given-2.result c.in_ok-nodes.nodes c.as_slice-3.result.now c.args.read.subvolume.nodes c.given-2.ensures c.in_ok-nodes.was c.each_once.ensures.same c.each_once.ensures.ascending c.as_slice-3.ensures
+once_at c = once_by c.in_ok-nodes.nodes c.as_slice-3.result.now c.args.read.subvolume.nodes c.in_ok-nodes.ensures.same c.in_ok-nodes.ensures.ascending c.as_slice-3.ensures
 
 pub returns-clause-failure : goal.returns-clause-failure
 returns-clause-failure c = λ bytes are.
@@ -128,10 +122,8 @@ returns-clause-failure c = λ bytes are.
     pass_first _ _ facts.space ∙ pass_first _ _ counts
 
 -- and the nodes of the other trees
-others_at : (c : goal.After-drop-subvolume-2) → c.in_ok-given.field-0 ≡ c.args.read.trees.nodes ++ c.args.read.extent_nodes ++ c.args.read.quotas.nodes
-others_at c =
-    let read = c.args.read in
-    given_ok (λ (list : List ℕ). list ≡ read.trees.nodes ++ read.extent_nodes ++ read.quotas.nodes) c.joined.result c.in_ok-given.field-0 (sym c.given-3.ensures ∙ c.in_ok-given.was) c.joined.ensures
+others_at : (c : goal.After-drop-subvolume-2) → c.in_ok-joined.field-0 ≡ c.args.read.trees.nodes ++ c.args.read.extent_nodes ++ c.args.read.quotas.nodes
+others_at c = c.in_ok-joined.ensures
 
 pub returns-clause-image : goal.returns-clause-image
 returns-clause-image c = λ bytes are.

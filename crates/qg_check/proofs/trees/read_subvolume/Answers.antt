@@ -1,23 +1,17 @@
-use Rattle.std.proofs.Common.{◌≡◌, ℕ, List, Option, refl, sym, ◌∙◌, subst}
-use Rattle.std.specs.Prelude.{Result, Ok, IfOk}
-use Rattle.std.specs.Bool.{then_some}
+use Rattle.std.proofs.Common.{◌≡◌, ℕ, List, refl, sym, ◌∙◌, subst}
 use Rattle.qg_device.specs.History.{content}
-use Rattle.qg_image.specs.declared.file.File.{File}
 use Rattle.qg_image.specs.declared.part.FilePart.{FilePart}
 use Rattle.qg_image.specs.ItemMeaning.{file_part}
-use Rattle.qg_image.specs.FilesOf.{are_files, files_in, file_parts}
+use Rattle.qg_image.specs.FilesOf.{file_parts}
 use Rattle.qg_verdict.specs.declared.expected.Expected.{Expected}
 use Rattle.qg_verdict.specs.declared.tree.Tree.TheVariants.{Files}
 use Rattle.qg_verdict.specs.StateOf.{items_of_root, nodes_of_root, level_in}
 use Rattle.qg_verdict.specs.Walk.{node_found, root_told}
-use Rattle.qg_num.specs.declared.fault.NoMemory.{NoMemory}
 use Rattle.qg_items.specs.declared.root.RootItem.{RootItem}
 use Rattle.qg_super.specs.declared.superblock.Super.{Super}
-use Rattle.qg_walk.specs.declared.fault.WalkFault.{WalkFault}
-use Rattle.qg_check.specs.Stages.{given_of}
 use Rattle.qg_walk.specs.IsWalk.{IsWalk}
 use Rattle.qg_parts.proofs.Keys.{files_ascending}
-use Rattle.qg_check.proofs.Said.{tree_read, given_ok, is_none}
+use Rattle.qg_check.proofs.Said.{tree_read, is_none}
 use Rattle.qg_check.proofs.Found.{items_under-nodes}
 use Rattle.qg_check.proofs.FitFiles.{files_fit}
 use Rattle.qg_check.proofs.Passing.{files_by}
@@ -41,24 +35,17 @@ parts_of : (super : Super) (image : List ℕ) (root : RootItem) (parts : List Fi
     → file_parts (items_of_root Files super image root) ≡ parts
 parts_of super image root parts nodes walk = tree_read Files file_part super image root parts nodes walk
 
--- the files that were asked for
-found_of : (answer : Result (Option (List (ℕ × File))) NoMemory) (handed : Result (Option (List (ℕ × File))) WalkFault) (found : Option (List (ℕ × File))) (slice : List FilePart) → handed ≡ given_of answer → handed ≡ Ok found
-    → IfOk answer (λ files. files ≡ then_some (are_files slice) (files_in slice)) → found ≡ then_some (are_files slice) (files_in slice)
-found_of answer handed found slice is ok holds = given_ok (λ (files : Option (List (ℕ × File))). files ≡ then_some (are_files slice) (files_in slice)) answer found (sym is ∙ ok) holds
-
 pub returns-in_default-clause-failure : goal.returns-in_default-clause-failure
 returns-in_default-clause-failure g c = λ events told.
     let walk = walk_of c.args.superblock.now (content events) c.args.root.now c.root_told.result c.in_ok-walked.walked.parts c.in_ok-walked.walked.nodes c.root_told.ensures (c.in_ok-walked.ensures.found events told) in
     let parts = parts_of c.args.superblock.now (content events) c.args.root.now c.in_ok-walked.walked.parts c.in_ok-walked.walked.nodes walk in
-    let read = found_of c.read_files.result c.given.result c.in_ok-files.field-0 c.in_ok-walked.walked.parts c.given.ensures c.in_ok-files.was c.read_files.ensures in
-    rw (c.broken.ensures, walk.sound, parts, files_none c.in_ok-walked.walked.parts (sym (is_none c.in_ok-files.field-0 c.in_default.not-Some) ∙ read)) refl
+    rw (c.broken.ensures, walk.sound, parts, files_none c.in_ok-walked.walked.parts (sym (is_none c.in_ok-files.field-0 c.in_default.not-Some) ∙ c.in_ok-files.ensures)) refl
 
 pub returns-clause-failure : goal.returns-clause-failure
 returns-clause-failure g c = λ events told.
     let walk = walk_of c.args.superblock.now (content events) c.args.root.now c.root_told.result c.in_ok-walked.walked.parts c.in_ok-walked.walked.nodes c.root_told.ensures (c.in_ok-walked.ensures.found events told) in
     let parts = parts_of c.args.superblock.now (content events) c.args.root.now c.in_ok-walked.walked.parts c.in_ok-walked.walked.nodes walk in
-    let files = files_read c.in_ok-walked.walked.parts c.in-Some.files
-    (sym c.in-Some.is ∙ found_of c.read_files.result c.given.result c.in_ok-files.field-0 c.in_ok-walked.walked.parts c.given.ensures c.in_ok-files.was c.read_files.ensures) in
+    let files = files_read c.in_ok-walked.walked.parts c.in-Some.files (sym c.in-Some.is ∙ c.in_ok-files.ensures) in
     rw (walk.sound, parts, files.are) refl
 
 pub returns-clause-tree : goal.returns-clause-tree
@@ -68,8 +55,7 @@ returns-clause-tree g c = λ events told.
     let root = c.args.root.now in
     let items = items_of_root Files super image root in
     let walk = walk_of super image root c.root_told.result c.in_ok-walked.walked.parts c.in_ok-walked.walked.nodes c.root_told.ensures (c.in_ok-walked.ensures.found events told) in
-    let files = files_read c.in_ok-walked.walked.parts c.in-Some.files
-    (sym c.in-Some.is ∙ found_of c.read_files.result c.given.result c.in_ok-files.field-0 c.in_ok-walked.walked.parts c.given.ensures c.in_ok-files.was c.read_files.ensures) in
+    let files = files_read c.in_ok-walked.walked.parts c.in-Some.files (sym c.in-Some.is ∙ c.in_ok-files.ensures) in
     record {
       files = files_of_held super.generation items c.in_ok-walked.walked.parts c.in-Some.files walk.held (parts_of super image root c.in_ok-walked.walked.parts c.in_ok-walked.walked.nodes walk) files;
       placed = walk.placed;
@@ -85,6 +71,5 @@ pub returns-clause-files : goal.returns-clause-files
 returns-clause-files g c =
     let generation = c.args.superblock.now.generation in
     let parts = c.in_ok-walked.walked.parts in
-    let files = files_read parts c.in-Some.files
-    (sym c.in-Some.is ∙ found_of c.read_files.result c.given.result c.in_ok-files.field-0 parts c.given.ensures c.in_ok-files.was c.read_files.ensures) in
+    let files = files_read parts c.in-Some.files (sym c.in-Some.is ∙ c.in_ok-files.ensures) in
     files_fit generation parts c.in-Some.files (files_ascending parts c.in_ok-walked.ensures.ascending) (files_by generation parts c.in_ok-walked.ensures.held) files.are files.is

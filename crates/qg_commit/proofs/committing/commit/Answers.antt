@@ -35,7 +35,7 @@ returns-in-Ok-clause-placed g c = λ slot has.
     laid-placed parts.superblock.now parts.root.now parts.files.now parts.extents.now parts.counters.now parts.stamp c.args.slots.now c.in_ok-laid.laid c.in_ok-laid.ensures.trees slot has
 
 pub returns-in-Ok-clause-committed : goal.returns-in-Ok-clause-committed
-returns-in-Ok-clause-committed g c = λ events old before group told is.
+returns-in-Ok-clause-committed g c = λ events old before group enough is.
     let parts = c.args.parts.now in
     let laid = c.in_ok-laid.laid in
     let trees = c.in_ok-laid.ensures.trees in
@@ -43,8 +43,6 @@ returns-in-Ok-clause-committed g c = λ events old before group told is.
     let are = laid-AreCommittable parts.superblock.now parts.root.now parts.files.now parts.extents.now parts.counters.now parts.stamp c.args.slots.now laid trees
     c.requires.parts.superblock c.requires.slots c.requires.parts.room.apart in
     let read : All (IsReadBack laid.superblock.nodesize) (nodes_laid laid) = subst (λ (n : ℕ). All (IsReadBack n) (nodes_laid laid)) size c.in-Ok.ensures.read in
-    let enough : total_bytes (sizes_of parts.superblock.now) ≤ length (content events) =
-    subst (λ (n : ℕ). total_bytes (sizes_of parts.superblock.now) ≤ n) (g.met.D.Disk.sized c.args.disk.now events told) c.requires.long in
     let long : total_bytes (sizes_of laid.superblock) ≤ length (content events) =
     subst (λ (sizes : Sizes). total_bytes sizes ≤ length (content events)) (sym (ap sizes_of trees.leads)) enough in
     let has = with_commit-HasCommit laid.superblock (nodes_laid laid) events c.in_ok-laid.ensures.superblock long are read in

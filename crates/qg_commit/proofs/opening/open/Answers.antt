@@ -1,9 +1,10 @@
-use Rattle.std.proofs.Common.{ap, ◌∙◌}
+use Rattle.std.proofs.Common.{ap, inl, ◌∙◌}
 use Rattle.std.specs.Prelude.{◌∷◌}
 use Rattle.qg_device.specs.History.{Synced, content, with_event}
 use Rattle.qg_verdict.specs.Verdict.{verdict}
 use Rattle.qg_commit.proofs.Refused.{refused_by}
 use Rattle.qg_commit.proofs.Goings.{goes-kept, goes-on, goes-same, goes-sync}
+use Rattle.qg_commit.proofs.Touched.{looked-kept, looked-sync, opening-kept, opening-written}
 use Rattle.qg_commit.proofs.opening.open.Goals as goal
 use Rattle.qg_commit.proofs.opening.open.Goals.{in-Some+in_ok-write_place, in_default}
 
@@ -31,4 +32,29 @@ returns-clause-later g c = λ events told.
     elim c.match-image.branch [
       | in-Some+in_ok-write_place w ↦ goes-kept events _ _ (goes-on events _ _ read (λ between told'. w.write_place.ensures.later between told')) (ap g.D.Disk.history w.disk-is)
       | in_default w ↦ goes-kept events _ _ read (ap g.D.Disk.history w.disk-is)
+    ]
+
+-- what is done to the disk, whatever comes of it
+pub returns-in_err-sync-clause-touches : goal.returns-in_err-sync-clause-touches
+returns-in_err-sync-clause-touches g c = λ events told. inl (looked-sync events _ _ c.sync.result told c.sync.ensures.event)
+
+pub returns-in_err-image-clause-touches : goal.returns-in_err-image-clause-touches
+returns-in_err-image-clause-touches g c = λ events told.
+    inl (looked-kept events _ _ (looked-sync events _ _ c.sync.result told c.sync.ensures.event) c.read_image.ensures.history)
+
+pub returns-in_err-write_place-clause-touches : goal.returns-in_err-write_place-clause-touches
+returns-in_err-write_place-clause-touches g c = λ events told.
+    let synced = c.in_ok-sync.ensures.event ∙ ap (with_event Synced) told in
+    opening-written events c.in_ok-image.image c.in-Some.place _ (c.in_ok-image.ensures.image (Synced ∷ events) synced) c.in-Some.is
+    (c.write_place.ensures.touches (Synced ∷ events) (c.read_image.ensures.history ∙ synced))
+
+pub returns-clause-touches : goal.returns-clause-touches
+returns-clause-touches g c = λ events told.
+    let synced = c.in_ok-sync.ensures.event ∙ ap (with_event Synced) told in
+    elim c.match-image.branch [
+      | in-Some+in_ok-write_place w ↦ opening-kept events _ _
+          (opening-written events c.in_ok-image.image w.in-Some.place _ (c.in_ok-image.ensures.image (Synced ∷ events) synced) w.in-Some.is
+          (w.write_place.ensures.touches (Synced ∷ events) (c.read_image.ensures.history ∙ synced)))
+          (ap g.D.Disk.history w.disk-is)
+      | in_default w ↦ inl (looked-kept events _ _ (looked-sync events _ _ c.sync.result told c.sync.ensures.event) (ap g.D.Disk.history w.disk-is ∙ c.read_image.ensures.history))
     ]

@@ -1,5 +1,7 @@
 -- Each call of the disk goes on from what was done before.
+use Rattle.std.proofs.Common.{inr}
 use Rattle.qg_commit.proofs.Goings.{goes-same, goes-sync, goes-write}
+use Rattle.qg_commit.proofs.Touched.{writing-sync, writing-write}
 use Rattle.qg_commit.proofs.opening.write_place.Goals as goal
 
 pub returns-in_err-write_at-clause-later : goal.returns-in_err-write_at-clause-later
@@ -13,3 +15,16 @@ returns-in_err-sync-clause-later g c = λ events told.
 pub returns-clause-later : goal.returns-clause-later
 returns-clause-later g c = λ events told.
     goes-sync events _ _ c.sync.result (goes-write events _ _ c.write_at.result c.args.place _ (goes-same events _ told) c.write_at.ensures.event) c.sync.ensures.event
+
+-- what the two calls leave
+pub returns-in_err-write_at-clause-touches : goal.returns-in_err-write_at-clause-touches
+returns-in_err-write_at-clause-touches g c = λ events told.
+    writing-write c.args.superblock.now c.args.place events _ _ _ c.write_at.result c.write_super.ensures told c.write_at.ensures.event
+
+pub returns-in_err-sync-clause-touches : goal.returns-in_err-sync-clause-touches
+returns-in_err-sync-clause-touches g c = λ events told.
+    inr (writing-sync c.args.superblock.now c.args.place events _ _ _ _ c.sync.result c.write_super.ensures told c.in_ok-write_at.ensures.event c.sync.ensures.event)
+
+pub returns-clause-touches : goal.returns-clause-touches
+returns-clause-touches g c = λ events told.
+    inr (writing-sync c.args.superblock.now c.args.place events _ _ _ _ c.sync.result c.write_super.ensures told c.in_ok-write_at.ensures.event c.sync.ensures.event)

@@ -63,3 +63,6 @@ returns-in-None-clause-sizes g c = (λ is. absurd cc, λ asks. absurd (formless 
 
 pub returns-in-None-clause-settled : goal.returns-in-None-clause-settled
 returns-in-None-clause-settled g c = λ sizes asks sink disk. absurd (formless g c sizes asks.ask)
+
+pub returns-in-None-clause-make_ends : goal.returns-in-None-clause-make_ends
+returns-in-None-clause-make_ends g c = λ sizes ask. absurd (formless g c sizes ask)

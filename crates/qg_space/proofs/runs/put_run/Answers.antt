@@ -1,10 +1,17 @@
-use Rattle.std.proofs.Common.{ap, ◌∙◌, length, arith}
+use Rattle.std.proofs.Common.{ap, ◌∙◌, length, subst, sym, arith}
 use Rattle.std.specs.List.{insert}
+use Rattle.std.specs.List.Sorted.{IsNonDecreasingBy}
+use Rattle.qg_super.specs.Places.{data_begin}
 use Rattle.qg_space.specs.Run.{Run}
+use Rattle.qg_space.proofs.Apart.{addresses_rise}
 use Rattle.qg_space.proofs.Edits.{IsPut, clear_fits, put_kept}
 use Rattle.qg_space.proofs.Fronts.{same_before_put}
 use Rattle.qg_space.proofs.runs.put_run.Goals as goal
 use Rattle.qg_space.proofs.runs.put_run.Goals.{In_ok-insert}
+
+pub runs_before-place-requires : goal.runs_before-place-requires
+runs_before-place-requires c =
+    subst (IsNonDecreasingBy (λ (run : Run). run.extent.address)) (sym c.deref.ensures.value) (addresses_rise c.args.sizes.now data_begin c.args.runs.now.items c.requires.apart)
 
 pub new-requires : goal.new-requires
 new-requires c = clear_fits c.args.sizes.now c.args.runs.now.items c.args.extent c.requires.served c.requires.clear

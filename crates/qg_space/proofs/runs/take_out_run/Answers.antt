@@ -1,11 +1,18 @@
-use Rattle.std.proofs.Common.{refl, sym, ap, ◌∙◌, arith}
+use Rattle.std.proofs.Common.{refl, subst, sym, ap, ◌∙◌, arith}
+use Rattle.std.specs.List.Sorted.{IsNonDecreasingBy}
 use Rattle.std.proofs.Math.ListN.{set}
 use Rattle.std.proofs.lemmas.List.{get_or_read}
+use Rattle.qg_super.specs.Places.{data_begin}
 use Rattle.qg_space.specs.Run.{Run}
+use Rattle.qg_space.proofs.Apart.{addresses_rise}
 use Rattle.qg_space.proofs.Edits.{IsTakenOut, found_in, taken_by_mark, taken_by_removal}
 use Rattle.qg_space.proofs.Fronts.{same_before_mark, same_before_removal}
 use Rattle.qg_space.proofs.runs.take_out_run.Goals as goal
 use Rattle.qg_space.proofs.runs.take_out_run.Goals.{After-remove}
+
+pub runs_before-place-requires : goal.runs_before-place-requires
+runs_before-place-requires c =
+    subst (IsNonDecreasingBy (λ (run : Run). run.extent.address)) (sym c.deref.ensures.value) (addresses_rise c.args.sizes.now data_begin c.args.runs.now.items c.requires.apart)
 
 pub index-requires : goal.index-requires
 index-requires c =

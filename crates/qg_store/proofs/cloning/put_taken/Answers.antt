@@ -8,7 +8,7 @@ use Rattle.qg_store.specs.Cloning.{files_cloned}
 use Rattle.qg_store.specs.Held.{HasMore}
 use Rattle.qg_store.specs.Keeping.{IsKept}
 use Rattle.qg_store.proofs.ClonedFiles.{by_cloned, writable_cloned}
-use Rattle.qg_store.proofs.Edited.{edited_apart, edited_named, gone_named, gone_whole, kept_edited, more_held}
+use Rattle.qg_store.proofs.Edited.{edited_apart, edited_named, gone_named, kept_edited, more_held}
 use Rattle.qg_store.proofs.KeptCloned.{cloned_known, exchange_cloned, rests_room, taken_room}
 use Rattle.qg_store.proofs.Light.{next_fits}
 use Rattle.qg_store.proofs.More.{more_both, more_read}
@@ -64,11 +64,6 @@ drop_names-requires-clause-held c =
     more_held old c.add_names-2.new.named (map extent_of taken ++ map extent_of split.rests) c.requires.kept (has_more (goal.at.drop_names-requires-clause-held c).In_ok-add_names-2)
     (cloned_known old c.args.off c.args.len taken c.args.to_ino c.args.to_off split.gone split.rests c.requires.taken c.requires.split)
 
-pub drop_names-requires-clause-whole : goal.drop_names-requires-clause-whole
-drop_names-requires-clause-whole c =
-    gone_whole c.args.kept.now c.args.to_ino c.args.to_off (c.args.to_off + c.args.len) c.as_slice-3.result.now c.args.split.now.gone c.args.split.now.rests c.requires.kept c.as_slice-3.ensures
-    c.requires.split
-
 pub returns-clause-kept : goal.returns-clause-kept
 returns-clause-kept c =
     let old = c.args.kept.now in
@@ -85,7 +80,7 @@ returns-clause-kept c =
     let come = map extent_of taken ++ map extent_of split.rests in
     let exchange = exchange_cloned old off len taken ino to_off split.gone split.rests c.requires.kept c.requires.split in
     let more_named = has_more (goal.at.returns-clause-kept c).In_ok-add_names-2 in
-    let less = more_read now.named more c.as_slice-3.result.now split.gone c.as_slice-3.ensures c.drop_names.ensures.less in
+    let less = more_read now.named more c.as_slice-3.result.now split.gone c.as_slice-3.ensures c.in_ok-drop_names.ensures.less in
     let are = edited_named old more now.named files gone come c.requires.kept exchange more_named less in
     let known = cloned_known old off len taken ino to_off split.gone split.rests c.requires.taken c.requires.split in
     let apart = edited_apart old more files gone come c.requires.kept exchange more_named known in
@@ -94,4 +89,4 @@ returns-clause-kept c =
     let Kept' : List (ℕ × File) → Type 0 = λ cloned. IsKept (record old { files = cloned; space = now.space; named = now.named; weight = c.args.weight; pending = old.pending + 1 }) in
     subst Kept' (sym is)
     (kept_edited old now.space now.named c.args.weight files c.requires.kept (writable_cloned old off len taken ino to_off c.requires.kept c.requires.range c.requires.taken)
-    (by_cloned old off len taken ino to_off c.requires.kept c.requires.taken) c.requires.weight c.requires.reserved c.drop_names.ensures.beside c.drop_names.ensures.held are apart)
+    (by_cloned old off len taken ino to_off c.requires.kept c.requires.taken) c.requires.weight c.requires.reserved c.in_ok-drop_names.ensures.beside c.in_ok-drop_names.ensures.held are apart)

@@ -24,7 +24,7 @@ returns-clause-trees g c =
     c.commit.ensures.trees)
 
 pub returns-clause-committed : goal.returns-clause-committed
-returns-clause-committed g c = λ events state told keeps.
+returns-clause-committed g c = λ events state long keeps.
     let kept = c.args.kept.now in
     let extents : c.as_slice-3.result.now ≡ extents_in kept.files = c.as_slice-3.ensures ∙ c.in_ok-extents.ensures ∙ ap extents_in c.as_slice.ensures in
     let For : List (ℕ × File) → List Element → Type 0 =
@@ -36,4 +36,4 @@ returns-clause-committed g c = λ events state told keeps.
     in
     IfOk-weaker c.commit.result _ _
     (λ laid commits. subst (λ (files : List (ℕ × File)). IsCommitOf state laid files (content (with_commit laid.superblock (nodes_laid laid) events))) c.as_slice-2.ensures (commits is'))
-    (c.commit.ensures.committed events state (subvolume_of kept) kept.group told)
+    (c.commit.ensures.committed events state (subvolume_of kept) kept.group long)

@@ -13,7 +13,7 @@ use Rattle.qg_store.specs.Writing.{files_written}
 use Rattle.qg_store.proofs.HeldNamed.{beside_taken, beside_then}
 use Rattle.qg_store.proofs.Light.{next_fits}
 use Rattle.qg_store.proofs.Counted.{one_most}
-use Rattle.qg_store.proofs.Edited.{edited_named, gone_named, gone_whole, kept_room}
+use Rattle.qg_store.proofs.Edited.{edited_named, gone_named, kept_room}
 use Rattle.qg_store.proofs.KeptWritten.{exchange_written, extent_at, kept_written, taken_held, written_apart}
 use Rattle.qg_store.proofs.More.{more_first, more_read}
 use Rattle.qg_store.proofs.putting.put_extent.Goals as goal
@@ -58,10 +58,6 @@ drop_names-requires-clause-held c =
     let is = taken old.space c.take_run.new.self c.args.run c.args.len (eqb-true (c.args.len % sector) 0 c.requires.range.len_aligned) c.in_ok-take_run.ensures.ok in
     taken_held old c.take_run.new.self c.add_names.new.named c.args.ino c.args.off c.args.len c.args.run split.gone split.rests c.requires.kept c.requires.split has_more is
 
-pub drop_names-requires-clause-whole : goal.drop_names-requires-clause-whole
-drop_names-requires-clause-whole c =
-    gone_whole c.args.kept.now c.args.ino c.args.off (c.args.off + c.args.len) c.as_slice-2.result.now c.args.split.now.gone c.args.split.now.rests c.requires.kept c.as_slice-2.ensures c.requires.split
-
 pub returns-clause-kept : goal.returns-clause-kept
 returns-clause-kept c =
     let old = c.args.kept.now in
@@ -73,8 +69,8 @@ returns-clause-kept c =
     let now = c.drop_names.new in
     let has_more = more old.named c.add.new.self c.add_names.new.named c.as_slice.result.now split.rests (extent_at run len) c.as_slice.ensures c.in_ok-add.ensures.ok c.in_ok-add_names.ensures in
     let is = taken old.space c.take_run.new.self run len (eqb-true (len % sector) 0 c.requires.range.len_aligned) c.in_ok-take_run.ensures.ok in
-    let less = more_read now.named c.add_names.new.named c.as_slice-2.result.now split.gone c.as_slice-2.ensures c.drop_names.ensures.less in
-    let beside = beside_then old.space c.take_run.new.self now.space (beside_taken old.space c.take_run.new.self (with_run (extent_at run len) old.space.runs) is) c.drop_names.ensures.beside in
+    let less = more_read now.named c.add_names.new.named c.as_slice-2.result.now split.gone c.as_slice-2.ensures c.in_ok-drop_names.ensures.less in
+    let beside = beside_then old.space c.take_run.new.self now.space (beside_taken old.space c.take_run.new.self (with_run (extent_at run len) old.space.runs) is) c.in_ok-drop_names.ensures.beside in
     let are =
     edited_named old c.add_names.new.named now.named (files_written (old.superblock.generation + 1) ino off len run old.files) (map extent_of split.gone) (extent_at run len ∷ map extent_of split.rests)
     c.requires.kept (exchange_written old ino off len run split.gone split.rests c.requires.kept c.requires.split) has_more less
@@ -86,4 +82,4 @@ returns-clause-kept c =
     in
     let Kept' : List (ℕ × File) → Type 0 = λ written. IsKept (record old { files = written; space = now.space; named = now.named; weight = c.args.weight; pending = old.pending + 1 }) in
     subst Kept' (sym files)
-    (kept_written old now.space now.named c.args.weight ino off len run c.requires.kept c.requires.range c.requires.free c.requires.weight c.requires.reserved beside c.drop_names.ensures.held are apart)
+    (kept_written old now.space now.named c.args.weight ino off len run c.requires.kept c.requires.range c.requires.free c.requires.weight c.requires.reserved beside c.in_ok-drop_names.ensures.held are apart)

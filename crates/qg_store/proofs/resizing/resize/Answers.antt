@@ -6,7 +6,7 @@ use Rattle.qg_space.specs.Holding.{Holding}
 use Rattle.qg_store.specs.Editing.{files_cut}
 use Rattle.qg_store.specs.Keeping.{IsKept}
 use Rattle.qg_store.proofs.CutFiles.{by_cut, cut_changed, exchange_cut, rests_known, writable_cut}
-use Rattle.qg_store.proofs.Edited.{edited_apart, edited_named, gone_named, gone_whole, kept_edited, kept_room, more_held}
+use Rattle.qg_store.proofs.Edited.{edited_apart, edited_named, gone_named, kept_edited, kept_room, more_held}
 use Rattle.qg_store.proofs.Light.{next_fits}
 use Rattle.qg_store.proofs.More.{more_read}
 use Rattle.qg_store.proofs.resizing.resize.Goals as goal
@@ -36,15 +36,11 @@ drop_names-requires-clause-held c =
     more_held old c.add_names.new.named (map extent_of split.rests) c.requires.kept has_more
     (rests_known c.args.ino c.args.size old.files split.gone split.rests c.requires.split)
 
-pub drop_names-requires-clause-whole : goal.drop_names-requires-clause-whole
-drop_names-requires-clause-whole c =
-    gone_whole c.args.kept.now c.args.ino c.args.size c.requires.split.top c.as_slice-2.result.now c.args.split.now.gone c.args.split.now.rests c.requires.kept c.as_slice-2.ensures c.requires.split.split
-
 pub returns-clause-edited : goal.returns-clause-edited
 returns-clause-edited c =
     let old = c.args.kept.now in
     let next = c.new-generation.ensures ∙ ap (λ (n : ℕ). n + 1) c.value.ensures in
-    let beside = c.drop_names.ensures.beside in
+    let beside = c.in_ok-drop_names.ensures.beside in
     record {
       superblock = refl;
       root = refl;
@@ -73,7 +69,7 @@ returns-clause-kept c =
     let come = map extent_of split.rests in
     let exchange = exchange_cut generation ino size old.files split.gone split.rests c.requires.kept.files.ascending c.requires.split in
     let has_more = more_read old.named c.add_names.new.named c.as_slice.result.now split.rests c.as_slice.ensures c.in_ok-add_names.ensures in
-    let less = more_read now.named c.add_names.new.named c.as_slice-2.result.now split.gone c.as_slice-2.ensures c.drop_names.ensures.less in
+    let less = more_read now.named c.add_names.new.named c.as_slice-2.result.now split.gone c.as_slice-2.ensures c.in_ok-drop_names.ensures.less in
     let are = edited_named old c.add_names.new.named now.named files gone come c.requires.kept exchange has_more less in
     let apart = edited_apart old c.add_names.new.named files gone come c.requires.kept exchange has_more (rests_known ino size old.files split.gone split.rests c.requires.split) in
     let Kept' : List (ℕ × File) → Type 0 = λ cut. IsKept (record old { files = cut; space = now.space; named = now.named; weight = c.args.weight; pending = old.pending + 1 }) in
@@ -83,4 +79,4 @@ returns-clause-kept c =
     in
     subst Kept' (sym is)
     (kept_edited old now.space now.named c.args.weight files c.requires.kept (writable_cut generation ino size old.files c.requires.aligned c.requires.near c.requires.there c.requires.kept.files)
-    (by_cut generation ino size old.files c.requires.there c.requires.kept.by) c.requires.weight c.requires.reserved c.drop_names.ensures.beside c.drop_names.ensures.held are apart)
+    (by_cut generation ino size old.files c.requires.there c.requires.kept.by) c.requires.weight c.requires.reserved c.in_ok-drop_names.ensures.beside c.in_ok-drop_names.ensures.held are apart)

@@ -1,6 +1,7 @@
-use Rattle.std.proofs.Common.{◌≡◌, true, subst, sym}
+use Rattle.std.proofs.Common.{◌≡◌, [], Some, refl, true, subst, sym}
 use Rattle.qg_grammar.specs.ScriptText.{is_in_grammar}
-use Rattle.qg_store.specs.Answering.{Commands}
+use Rattle.qg_store.specs.Answering.{Answered, Commands}
+use Rattle.qg_store.proofs.Commits.{answered}
 use Rattle.qg_store.proofs.Served.{inode_told, target_told}
 use Rattle.qg_store.proofs.Shown.{does_show}
 use Rattle.qg_store.proofs.store.answer.Goals as goal
@@ -29,3 +30,9 @@ returns-in_ok-show-in-Show-clause-step g c = λ state events keeps told.
     let history = g.D.Disk.history c.args.disk.now in
     subst (λ command. Commands state command shown c.args.kept.now events history) (sym c.in-Show.is)
     (does_show c.args.kept.now state shown events history keeps told c.in_ok-show-in-Show.ensures)
+
+pub returns-in_ok-show-in-Show-clause-does : goal.returns-in_ok-show-in-Show-clause-does
+returns-in_ok-show-in-Show-clause-does g c = λ state keeps.
+    let shown = c.in_ok-show-in-Show.field-0 in
+    subst (λ command. Answered state command shown c.args.kept.now) (sym c.in-Show.is)
+    (answered (does_show c.args.kept.now state shown [] (Some []) keeps refl c.in_ok-show-in-Show.ensures))

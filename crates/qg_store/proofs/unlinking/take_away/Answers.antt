@@ -1,14 +1,12 @@
-use Rattle.std.proofs.Common.{◌≡◌, ℕ, ◌+◌, ◌%◌, List, [], ◌∙◌, Option, Some, ap, map, subst, sym}
-use Rattle.std.specs.List.{All}
+use Rattle.std.proofs.Common.{◌≡◌, ℕ, ◌+◌, List, [], ◌∙◌, Option, Some, ap, map, subst, sym}
 use Rattle.qg_num.specs.declared.piece.Piece.{Piece}
-use Rattle.qg_super.specs.Places.{sector}
 use Rattle.qg_image.specs.declared.file.File.{File}
 use Rattle.qg_image.specs.Table.{value_at, without_key}
 use Rattle.qg_state.specs.Reach.{extent_of}
 use Rattle.qg_state.proofs.Contained.{none_contained}
 use Rattle.qg_machine.specs.FileChange.{pieces_or_none}
 use Rattle.qg_store.specs.Keeping.{IsKept}
-use Rattle.qg_store.proofs.Edited.{edited_apart, edited_named, gone_named, kept_edited, kept_held, pieces_whole}
+use Rattle.qg_store.proofs.Edited.{edited_apart, edited_named, gone_named, kept_edited, kept_held}
 use Rattle.qg_store.proofs.LeftFiles.{by_left, exchange_left, writable_left}
 use Rattle.qg_store.proofs.More.{more_none, more_read}
 use Rattle.qg_store.proofs.unlinking.take_away.Goals as goal
@@ -27,13 +25,6 @@ drop_names-requires-clause-named c =
 pub drop_names-requires-clause-held : goal.drop_names-requires-clause-held
 drop_names-requires-clause-held c = kept_held c.args.kept.now c.requires.kept
 
-pub drop_names-requires-clause-whole : goal.drop_names-requires-clause-whole
-drop_names-requires-clause-whole c =
-    let old = c.args.kept.now in
-    let Whole : List Piece → Type 0 = λ pieces. All (λ (piece : Piece). piece.extent_bytes % sector ≡ 0) pieces in
-    subst Whole (sym (gone (value_at c.args.ino old.files) c.in-Some.file.now c.as_slice.result.now (sym c.in-Some.ensures) c.as_slice.ensures))
-    (pieces_whole old c.args.ino c.requires.kept)
-
 pub returns-clause-kept : goal.returns-clause-kept
 returns-clause-kept c =
     let old = c.args.kept.now in
@@ -43,7 +34,7 @@ returns-clause-kept c =
     let all = pieces_or_none (value_at ino old.files) in
     let exchange = exchange_left ino old.files c.requires.kept.files.ascending in
     let less =
-    more_read now.named old.named c.as_slice.result.now all (gone (value_at ino old.files) c.in-Some.file.now c.as_slice.result.now (sym c.in-Some.ensures) c.as_slice.ensures) c.drop_names.ensures.less
+    more_read now.named old.named c.as_slice.result.now all (gone (value_at ino old.files) c.in-Some.file.now c.as_slice.result.now (sym c.in-Some.ensures) c.as_slice.ensures) c.in_ok-drop_names.ensures.less
     in
     let are = edited_named old old.named now.named files (map extent_of all) [] c.requires.kept exchange (more_none old.named) less in
     let apart =
@@ -52,4 +43,4 @@ returns-clause-kept c =
     let Kept' : List (ℕ × File) → Type 0 = λ left. IsKept (record old { files = left; space = now.space; named = now.named; weight = c.args.weight; pending = old.pending + 1 }) in
     subst Kept' (sym c.unlink.ensures.value)
     (kept_edited old now.space now.named c.args.weight files c.requires.kept (writable_left ino old.files c.requires.kept.files)
-    (by_left (old.superblock.generation + 1) ino old.files c.requires.kept.by) c.requires.weight c.requires.reserved c.drop_names.ensures.beside c.drop_names.ensures.held are apart)
+    (by_left (old.superblock.generation + 1) ino old.files c.requires.kept.by) c.requires.weight c.requires.reserved c.in_ok-drop_names.ensures.beside c.in_ok-drop_names.ensures.held are apart)

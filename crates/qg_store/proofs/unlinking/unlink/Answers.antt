@@ -28,4 +28,4 @@ returns-then-free-need-clause-step c = λ state keeps.
 pub returns-clause-step : goal.returns-clause-step
 returns-clause-step c = λ state keeps.
     unlinks c.args.kept.now c.take_away.new.kept state c.args.sub c.args.ino c.free_slots-free.result c.need_of-need.result
-    (may (goal.at.returns-clause-step c).After-free_slots-free state keeps) c.if-free-need.false c.take_away.ensures.edited c.take_away.ensures.kept
+    (may (goal.at.returns-clause-step c).After-free_slots-free state keeps) c.if-free-need.false c.in_ok-take_away.ensures.edited c.in_ok-take_away.ensures.kept
