@@ -5,7 +5,8 @@ use Rattle.std.specs.List.{AllByRecursion}
 use Rattle.qg_num.specs.declared.counters.Which.TheVariants.{Rfer, Excl}
 use Rattle.qg_state.specs.declared.quota.Group.{Group}
 use Rattle.qg_state.specs.declared.quota.Quota.{Quota}
-use Rattle.qg_state.specs.State.{State}
+use Rattle.qg_state.specs.State.{Layout}
+use Rattle.qg_state.specs.Members.{Hierarchy, hierarchy_of}
 use Rattle.qg_verdict.specs.declared.failure.Failure.{Failure}
 use Rattle.qg_verdict.specs.Failure.{first_failure}
 use Rattle.qg_verdict.specs.Verdict.{counted, counts_failure, group_failure}
@@ -20,13 +21,14 @@ pub record HaveJudged (bytes count : ℕ) (groups : List (ℕ × Group)) : Type 
   pub left : first_failure (map (judged bytes) groups) ≡ first_failure (map (judged bytes) (drop count groups))
 
 -- where all groups count so much, that is how each is judged
-judged_is : (state : State) (quota : Quota) (bytes : ℕ) (groups : List (ℕ × Group)) → AllByRecursion (CountsAs state quota bytes) groups → map (group_failure state quota) groups ≡ map (judged bytes) groups
-judged_is state quota bytes [] all = refl
-judged_is state quota bytes (entry ∷ groups) all = rw (all.0.referenced_is, all.0.exclusive_is, judged_is state quota bytes groups all.1) refl
+judged_is : (layout : Layout) (hierarchy : Hierarchy) (bytes : ℕ) (groups : List (ℕ × Group)) → AllByRecursion (CountsAs layout hierarchy bytes) groups
+    → map (group_failure layout hierarchy) groups ≡ map (judged bytes) groups
+judged_is layout hierarchy bytes [] all = refl
+judged_is layout hierarchy bytes (entry ∷ groups) all = rw (all.0.referenced_is, all.0.exclusive_is, judged_is layout hierarchy bytes groups all.1) refl
 
-pub counts_judged : (state : State) (quota : Quota) (bytes : ℕ) → CountAll state quota bytes → counts_failure state (Some quota) ≡ first_failure (map (judged bytes) quota.groups)
+pub counts_judged : (layout : Layout) (quota : Quota) (bytes : ℕ) → CountAll layout quota bytes → counts_failure layout (Some quota) ≡ first_failure (map (judged bytes) quota.groups)
 unfolding counts_failure
-counts_judged state quota bytes all = ap first_failure (judged_is state quota bytes quota.groups all.each)
+counts_judged layout quota bytes all = ap first_failure (judged_is layout (hierarchy_of quota) bytes quota.groups all.each)
 
 pub HaveJudged-none : (bytes : ℕ) (groups : List (ℕ × Group)) → HaveJudged bytes 0 groups
 HaveJudged-none bytes groups = record { left = refl }

@@ -27,7 +27,7 @@ use Rattle.qg_super.specs.SuperText.{sizes_of}
 use Rattle.qg_image.specs.Below.{inner_pointers, items_below, joined, leaf_items, nodes_below}
 use Rattle.qg_image.specs.ItemMeaning.{when}
 use Rattle.qg_image.specs.declared.part.ExtentPart.{ExtentPart}
-use Rattle.qg_state.specs.State.{State, node_at}
+use Rattle.qg_state.specs.State.{Layout, node_at}
 use Rattle.qg_state.specs.Reach.{level_of}
 use Rattle.qg_state.proofs.Contained.{none_contained, contains_here, contains_cases}
 use Rattle.qg_verdict.specs.declared.failure.Failure.{Failure}
@@ -36,9 +36,9 @@ use Rattle.qg_verdict.specs.declared.tree.Tree.TheVariants.{Files}
 use Rattle.qg_verdict.specs.declared.expected.Expected.{Expected}
 use Rattle.qg_verdict.specs.Walk.{in_slot, node_found}
 use Rattle.qg_verdict.specs.ItemsUnder.{is_way, items_under, nodes_of, nodes_under}
-use Rattle.qg_verdict.specs.StateOf.{level_in}
+use Rattle.qg_verdict.specs.ImageState.{level_in}
 use Rattle.qg_reach.proofs.Reached.{address_of, FindsEach, LieWhereFound, nodes_below_found}
-use Rattle.qg_reach.proofs.Layouts.{AgreeByAddress, LieWhereFound-layout, layout_of, node_at-layout}
+use Rattle.qg_reach.proofs.Layouts.{AgreeByAddress, LieWhereFound-layout, layout_by, node_at-layout}
 use Rattle.qg_reach.proofs.Counting.{HasNodes}
 
 -- ---- where a node lies
@@ -276,28 +276,28 @@ level_found super image address node is = rw (ok_found (node_found super image a
 -- the nodes below a root of an image stand below it in their layout
 layout_below : (super : Super) (image : List ℕ) (root : ℕ) (parts : List ExtentPart) (nodes : List Node)
     → nodes_below (nodes_of (node_found super image)) (level_in super image root) root ≡ Some nodes
-    → nodes_below (node_at (layout_of parts nodes)) (level_of (node_at (layout_of parts nodes) root)) root ≡ Some nodes
+    → nodes_below (node_at (layout_by parts nodes)) (level_of (node_at (layout_by parts nodes) root)) root ≡ Some nodes
 layout_below super image root parts nodes are =
     let found = nodes_of (node_found super image) in
     let level = level_in super image root in
     let lie = LieWhereFound-image super image in
     let finds = FindsEach-below found level root nodes lie are in
     let alike = AgreeByAddress-found found nodes finds in
-    let there : FindsEach (node_at (layout_of parts nodes)) nodes = record { each = λ node has. node_at-layout parts nodes node alike has } in
+    let there : FindsEach (node_at (layout_by parts nodes)) nodes = record { each = λ node has. node_at-layout parts nodes node alike has } in
     let first = first_below found level root nodes are in
-    let here = subst (λ a. node_at (layout_of parts nodes) a ≡ Some first.node) (lie.found root first.node first.is) (there.each first.node first.has) in
+    let here = subst (λ a. node_at (layout_by parts nodes) a ≡ Some first.node) (lie.found root first.node first.is) (there.each first.node first.has) in
     let same = ap level_of here ∙ sym (level_found super image root first.node first.is) in
-    subst (λ n. nodes_below (node_at (layout_of parts nodes)) n root ≡ Some nodes) (sym same)
-    (nodes_below_found found (node_at (layout_of parts nodes)) level root nodes lie there are)
+    subst (λ n. nodes_below (node_at (layout_by parts nodes)) n root ≡ Some nodes) (sym same)
+    (nodes_below_found found (node_at (layout_by parts nodes)) level root nodes lie there are)
 
-pub HasNodes-image : (super : Super) (image : List ℕ) (state : State) (root : RootItem) (expected : Expected) (parts : List ExtentPart) (nodes : List Node)
-    → state.layout ≡ layout_of parts nodes → nodes_under Files super (node_found super image) (level_in super image root.bytenr) expected root.bytenr ≡ Some nodes
-    → HasNodes state root.bytenr nodes
-HasNodes-image super image state root expected parts nodes kept under =
+pub HasNodes-image : (super : Super) (image : List ℕ) (layout : Layout) (root : RootItem) (expected : Expected) (parts : List ExtentPart) (nodes : List Node)
+    → layout.nodes ≡ layout_by parts nodes → nodes_under Files super (node_found super image) (level_in super image root.bytenr) expected root.bytenr ≡ Some nodes
+    → HasNodes layout root.bytenr nodes
+HasNodes-image super image layout root expected parts nodes kept under =
     let found = nodes_of (node_found super image) in
     let are = when_some (is_way Files super (node_found super image) expected root.bytenr) (nodes_below found (level_in super image root.bytenr) root.bytenr) nodes under in
     record {
-      lie = subst (λ layout. LieWhereFound (node_at layout)) (sym kept) (LieWhereFound-layout parts nodes);
-      below = subst (λ layout. nodes_below (node_at layout) (level_of (node_at layout root.bytenr)) root.bytenr ≡ Some nodes) (sym kept)
+      lie = subst (λ placed. LieWhereFound (node_at placed)) (sym kept) (LieWhereFound-layout parts nodes);
+      below = subst (λ placed. nodes_below (node_at placed) (level_of (node_at placed root.bytenr)) root.bytenr ≡ Some nodes) (sym kept)
           (layout_below super image root.bytenr parts nodes are);
     }

@@ -10,10 +10,10 @@ use Rattle.qg_items.specs.declared.quota.QgroupInfo.{QgroupInfo}
 use Rattle.qg_image.specs.Table.{has_key, keys_of, value_at}
 use Rattle.qg_image.specs.declared.part.QuotaPart.{QuotaPart}
 use Rattle.qg_image.specs.declared.part.QuotaPart.TheVariants.{Status, Info, Limits, Relation}
-use Rattle.qg_verdict.specs.StateOf.{info_told, limit_told, group_told, quota_told}
+use Rattle.qg_verdict.specs.ImageState.{info_told, limit_told, group_told, quota_told}
 use Rattle.qg_verdict.specs.Verdict.{is_status_part, fits_quota, is_served_number, is_served_group, is_quota, are_few}
 use Rattle.qg_verdict.specs.declared.failure.Failure.TheVariants.{Broken}
-use Rattle.qg_verdict.specs.Failure.{first_failure, kept}
+use Rattle.qg_verdict.specs.Failure.{first_failure, unless}
 use Rattle.qg_parts.specs.Keys.{quota_key}
 use Rattle.qg_rules.specs.Quota.{quota_rule}
 use Rattle.qg_check.proofs.Ascending.{IsLess, ascending_behind, greater_behind, not_itself}
@@ -34,10 +34,10 @@ quota_rule_kept subvolumes parts none = cases (is_quota subvolumes parts) (are_f
 
 -- and one that is broken is told
 pub quota_rule_told : (subvolumes : List ℕ) (parts : List QuotaPart) (broken : Rule) (address : ℕ) → quota_rule subvolumes parts ≡ Some broken
-    → first_failure (None ∷ kept (is_quota subvolumes parts) rule.Quota address ∷ kept (are_few parts) rule.Limits address ∷ []) ≡ Some (Broken broken address)
+    → first_failure (None ∷ unless (is_quota subvolumes parts) rule.Quota address ∷ unless (are_few parts) rule.Limits address ∷ []) ≡ Some (Broken broken address)
 quota_rule_told subvolumes parts broken address told = cases (is_quota subvolumes parts) (are_few parts) told where
   cases : (quota few : Bool) → cond quota (cond few None (Some rule.Limits)) (Some rule.Quota) ≡ Some broken
-      → first_failure (None ∷ kept quota rule.Quota address ∷ kept few rule.Limits address ∷ []) ≡ Some (Broken broken address)
+      → first_failure (None ∷ unless quota rule.Quota address ∷ unless few rule.Limits address ∷ []) ≡ Some (Broken broken address)
   cases true true h = absurd cc
   cases true false h = let is : rule.Limits ≡ broken = cc in ap (λ (r : Rule). Some (Broken r address)) is
   cases false few h = let is : rule.Quota ≡ broken = cc in ap (λ (r : Rule). Some (Broken r address)) is

@@ -11,7 +11,7 @@ use Rattle.qg_image.specs.ItemMeaning.{quota_part_stamps}
 use Rattle.qg_image.specs.Table.{keys_of}
 use Rattle.qg_state.specs.declared.quota.Group.{Group}
 use Rattle.qg_state.specs.declared.quota.Quota.{Quota}
-use Rattle.qg_verdict.specs.StateOf.{quota_told}
+use Rattle.qg_verdict.specs.ImageState.{quota_told}
 use Rattle.qg_verdict.specs.Verdict.{is_quota}
 use Rattle.qg_verdict.specs.Walk.{are_by, tells_generation}
 use Rattle.qg_parts.specs.Keys.{quota_key}

@@ -12,7 +12,7 @@ use Rattle.qg_image.specs.declared.part.QuotaPart.{QuotaPart}
 use Rattle.qg_image.specs.FilesOf.{is_file_item}
 use Rattle.qg_image.specs.ItemMeaning.{is_subvolume_number, some_passes, root_part, root_part_stamps, quota_part, quota_part_stamps, file_part, file_part_stamps}
 use Rattle.qg_verdict.specs.declared.tree.Tree.TheVariants.{Roots, Quotas, Files}
-use Rattle.qg_verdict.specs.StateOf.{subvolume_roots}
+use Rattle.qg_verdict.specs.ImageState.{subvolume_roots}
 use Rattle.qg_verdict.specs.Walk.{are_by, is_item_of, tells_generation}
 use Rattle.qg_walk.specs.Held.{AreHeld}
 

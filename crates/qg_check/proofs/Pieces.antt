@@ -20,7 +20,7 @@ use Rattle.qg_image.specs.FilesOf.{are_files, file_in, files_in, inodes_in, is_i
 use Rattle.qg_image.specs.ItemMeaning.{file_part}
 use Rattle.qg_image.specs.Table.{has_key, value_at}
 use Rattle.qg_state.specs.declared.element.Element.{Element}
-use Rattle.qg_state.specs.Reach.{extent_of, piece_told, pieces_of}
+use Rattle.qg_state.specs.Reach.{extent_of, piece_of_part, pieces_of}
 use Rattle.qg_state.proofs.Contained.{none_contained, contains_here, contains_later, contains_cases}
 use Rattle.qg_verdict.specs.Verdict.{extent_set}
 use Rattle.qg_reach.specs.Sets.{HaveSame}
@@ -70,7 +70,7 @@ one_keyed n (entry ∷ entries) has = elim (cases_eq entry.0 n) [
 -- ---- pieces by items and by parts
 
 abbrev item_piece : Item → Option Piece
-item_piece item = option_and_then piece_told (file_part item)
+item_piece item = option_and_then piece_of_part (file_part item)
 
 named_by_items : (nodes : List Node) → flat_map extents_named nodes ≡ map extent_of (filter_map item_piece (flat_map own_items nodes))
 unfolding pieces_of
@@ -82,18 +82,18 @@ named_by_items (node ∷ nodes) =
     ∙ sym (map-append extent_of front back)
     ∙ ap (map extent_of) (sym (filter_map-append item_piece (own_items node) (flat_map own_items nodes)))
 
-pieces_by_parts : (items : List Item) (parts : List FilePart) → map file_part items ≡ map (λ part. Some part) parts → filter_map item_piece items ≡ filter_map piece_told parts
+pieces_by_parts : (items : List Item) (parts : List FilePart) → map file_part items ≡ map (λ part. Some part) parts → filter_map item_piece items ≡ filter_map piece_of_part parts
 pieces_by_parts [] [] said = refl
 pieces_by_parts [] (part ∷ parts) said = absurd cc
 pieces_by_parts (item ∷ items) [] said = absurd cc
 pieces_by_parts (item ∷ items) (part ∷ parts) said =
     let first : file_part item ≡ Some part = cc in
     let rest : map file_part items ≡ map (λ part. Some part) parts = cc in
-    ap (λ told. cons_option (option_and_then piece_told told) (filter_map item_piece items)) first ∙ ap (cons_option (piece_told part)) (pieces_by_parts items parts rest)
+    ap (λ told. cons_option (option_and_then piece_of_part told) (filter_map item_piece items)) first ∙ ap (cons_option (piece_of_part part)) (pieces_by_parts items parts rest)
 
 -- ---- pieces by files
 
-told_of_file : (ino : ℕ) (part : FilePart) (piece : Piece) → piece_in ino part ≡ Some piece → piece_told part ≡ Some piece
+told_of_file : (ino : ℕ) (part : FilePart) (piece : Piece) → piece_in ino part ≡ Some piece → piece_of_part part ≡ Some piece
 told_of_file ino (Inode other inode) piece is = absurd cc
 told_of_file ino (PieceOf other own) piece is = passed (other == ino) is where
   passed : (test : Bool) → then_some test own ≡ Some piece → Some own ≡ Some piece
@@ -104,7 +104,7 @@ told_of_file ino (PieceOf other own) piece is = passed (other == ino) is where
 abbrev HasFile : List FilePart → Piece → Type 0
 HasFile parts piece = (file : ℕ × File) × Contains (files_in parts) file × Contains file.1.pieces piece
 
-has_file : (parts : List FilePart) (part : FilePart) (piece : Piece) → list_all (is_owned parts) parts ≡ true → Contains parts part → piece_told part ≡ Some piece → HasFile parts piece
+has_file : (parts : List FilePart) (part : FilePart) (piece : Piece) → list_all (is_owned parts) parts ≡ true → Contains parts part → piece_of_part part ≡ Some piece → HasFile parts piece
 has_file parts (Inode ino inode) piece owned has is = absurd cc
 has_file parts (PieceOf ino own) piece owned has is =
     let its = All-contains (λ part. is_owned parts part ≡ true) parts (PieceOf ino own) (AllPass-from_list_all (is_owned parts) parts owned) has in
@@ -117,23 +117,23 @@ has_file parts (PieceOf ino own) piece owned has is =
 abbrev extents_of_files : List (ℕ × File) → List Element
 extents_of_files files = flat_map (λ file. map extent_of file.1.pieces) files
 
-named_by_files : (parts : List FilePart) → are_files parts ≡ true → HaveSame (extents_of_files (files_in parts)) (map extent_of (filter_map piece_told parts))
+named_by_files : (parts : List FilePart) → are_files parts ≡ true → HaveSame (extents_of_files (files_in parts)) (map extent_of (filter_map piece_of_part parts))
 unfolding are_files
 named_by_files parts are = record { into = into; back = back } where
-  into : (extent : Element) → Contains (extents_of_files (files_in parts)) extent → Contains (map extent_of (filter_map piece_told parts)) extent
+  into : (extent : Element) → Contains (extents_of_files (files_in parts)) extent → Contains (map extent_of (filter_map piece_of_part parts)) extent
   into extent has =
       let file = one_flat_mapped (λ (file : ℕ × File). map extent_of file.1.pieces) (files_in parts) extent has in
       let entry = one_mapped (λ (entry : ℕ × InodeItem). (entry.0, file_in parts entry)) (inodes_in parts) file.0 file.1 in
       let piece = one_mapped extent_of file.0.1.pieces extent file.2 in
       let own = subst (λ (f : ℕ × File). Contains f.1.pieces piece.0) (sym entry.2) piece.1 in
       let part = one_given (piece_in entry.0.0) parts piece.0 own in
-      subst (λ e. Contains (map extent_of (filter_map piece_told parts)) e) piece.2
-      (contains_map extent_of (filter_map piece_told parts) piece.0 (contains_given piece_told parts part.0 piece.0 part.1 (told_of_file entry.0.0 part.0 piece.0 part.2)))
+      subst (λ e. Contains (map extent_of (filter_map piece_of_part parts)) e) piece.2
+      (contains_map extent_of (filter_map piece_of_part parts) piece.0 (contains_given piece_of_part parts part.0 piece.0 part.1 (told_of_file entry.0.0 part.0 piece.0 part.2)))
 
-  back : (extent : Element) → Contains (map extent_of (filter_map piece_told parts)) extent → Contains (extents_of_files (files_in parts)) extent
+  back : (extent : Element) → Contains (map extent_of (filter_map piece_of_part parts)) extent → Contains (extents_of_files (files_in parts)) extent
   back extent has =
-      let piece = one_mapped extent_of (filter_map piece_told parts) extent has in
-      let part = one_given piece_told parts piece.0 piece.1 in
+      let piece = one_mapped extent_of (filter_map piece_of_part parts) extent has in
+      let part = one_given piece_of_part parts piece.0 piece.1 in
       let owned = (and_parts (list_all (is_owned parts) parts) (list_all (is_inode parts) (inodes_in parts)) are).0 in
       let file = has_file parts part.0 piece.0 owned part.1 part.2 in
       contains_flat_map (λ (file : ℕ × File). map extent_of file.1.pieces) (files_in parts) file.0 extent file.1
@@ -144,7 +144,7 @@ pub pieces_same : (nodes : List Node) (items : List Item) (parts : List FilePart
     → map file_part items ≡ map (λ part. Some part) parts → are_files parts ≡ true → files ≡ files_in parts
     → HaveSame (flat_map (λ file. map extent_of file.1.pieces) files) (flat_map extents_named nodes)
 pieces_same nodes items parts files own said are told =
-    let named : flat_map extents_named nodes ≡ map extent_of (filter_map piece_told parts) =
+    let named : flat_map extents_named nodes ≡ map extent_of (filter_map piece_of_part parts) =
     named_by_items nodes ∙ ap (λ list. map extent_of (filter_map item_piece list)) (sym own) ∙ ap (map extent_of) (pieces_by_parts items parts said) in
     subst (λ list. HaveSame (extents_of_files list) (flat_map extents_named nodes)) (sym told)
     (subst (HaveSame (extents_of_files (files_in parts))) (sym named) (named_by_files parts are))

@@ -10,7 +10,7 @@ use Rattle.qg_image.specs.Table.{value_at}
 use Rattle.qg_verdict.specs.declared.tree.Tree.{Tree}
 use Rattle.qg_verdict.specs.declared.tree.Tree.TheVariants.{Roots, Quotas}
 use Rattle.qg_verdict.specs.Walk.{root_expected, root_told}
-use Rattle.qg_verdict.specs.StateOf.{roots_in, tree_items, items_of_root, quota_parts}
+use Rattle.qg_verdict.specs.ImageState.{roots_in, tree_items, items_of_root, quota_parts}
 use Rattle.qg_walk.specs.IsWalk.{IsWalk}
 
 -- the parts are what is said, and nothing was left out

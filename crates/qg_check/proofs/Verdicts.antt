@@ -11,12 +11,12 @@ use Rattle.qg_state.specs.Space.{present_extents}
 use Rattle.qg_verdict.specs.declared.failure.Failure.{Failure}
 use Rattle.qg_verdict.specs.declared.failure.Failure.TheVariants.{Broken}
 use Rattle.qg_verdict.specs.declared.tree.Tree.TheVariants.{Roots, Extents}
-use Rattle.qg_verdict.specs.Failure.{first_failure, kept}
+use Rattle.qg_verdict.specs.Failure.{first_failure, unless}
 use Rattle.qg_verdict.specs.Walk.{root_expected, tree_failure}
-use Rattle.qg_verdict.specs.StateOf.{super_in, super_of, state_in, roots_in, subvolume_roots}
-use Rattle.qg_verdict.specs.Verdict.{verdict, image_failure, are_mirrored, are_roots, most_subvolumes, root_failure, quota_failure, subvolume_failure, space_failure, counts_failure, extent_set}
+use Rattle.qg_verdict.specs.ImageState.{super_in, super_of, state_in, roots_in, subvolume_roots}
+use Rattle.qg_verdict.specs.Verdict.{verdict, image_failure, are_mirrored, are_roots, most_subvolumes, root_failure, quota_failure, subvolume_failure, space_failure, counts_failure, extent_set, places_failure, roots_failure, together_failure}
 use Rattle.qg_check.specs.declared.trees.Trees.{Trees}
-use Rattle.qg_check.specs.Stages.{places_failure, roots_failure, extents_failure, trees_failure}
+use Rattle.qg_check.specs.Stages.{extents_failure, trees_failure}
 use Rattle.qg_check.specs.Trees.{AreTrees}
 
 -- ---- several failures
@@ -25,22 +25,16 @@ pub alone : (a : Option Failure) → first_failure (a ∷ []) ≡ a
 alone (Some a) = refl
 alone None = refl
 
-in_parts : (a b c d e : Option Failure) (rest : List (Option Failure)) → first_failure (a ∷ b ∷ c ∷ d ∷ e ∷ rest)
-    ≡ first_failure (first_failure (a ∷ b ∷ []) ∷ first_failure (c ∷ d ∷ e ∷ []) ∷ first_failure rest ∷ [])
-in_parts (Some a) b c d e rest = refl
-in_parts None (Some b) c d e rest = refl
-in_parts None None (Some c) d e rest = refl
-in_parts None None None (Some d) e rest = refl
-in_parts None None None None (Some e) rest = refl
-in_parts None None None None None rest = sym (alone (first_failure rest))
+in_parts : (a b : Option Failure) (rest : List (Option Failure)) → first_failure (a ∷ b ∷ rest) ≡ first_failure (a ∷ b ∷ first_failure rest ∷ [])
+in_parts (Some a) b rest = refl
+in_parts None (Some b) rest = refl
+in_parts None None rest = sym (alone (first_failure rest))
 
-last_parts : (a b c d e : Option Failure) → first_failure (a ∷ b ∷ first_failure (c ∷ []) ∷ d ∷ None ∷ e ∷ []) ≡ first_failure (a ∷ b ∷ c ∷ first_failure (d ∷ e ∷ []) ∷ [])
-last_parts (Some a) b c d e = refl
-last_parts None (Some b) c d e = refl
-last_parts None None (Some c) d e = refl
-last_parts None None None (Some d) e = refl
-last_parts None None None None (Some e) = refl
-last_parts None None None None None = refl
+last_parts : (a b c d : Option Failure) → first_failure (a ∷ b ∷ first_failure (c ∷ []) ∷ d ∷ []) ≡ first_failure (a ∷ b ∷ c ∷ d ∷ [])
+last_parts (Some a) b c d = refl
+last_parts None (Some b) c d = refl
+last_parts None None (Some c) d = refl
+last_parts None None None d = refl
 
 -- ---- the verdict
 
@@ -54,39 +48,28 @@ unfolding verdict
 verdict_some image super chosen = rw chosen refl
 
 -- the rules behind the root tree's
+abbrev pub rest_failures : Super → List ℕ → List (Option Failure)
+rest_failures super image =
+    root_failure Extents super image (value_at 2 (roots_in super image)) ∷ quota_failure super image (roots_in super image) (value_at 8 (roots_in super image))
+    ∷ first_failure (map (λ entry. subvolume_failure super image entry.1) (subvolume_roots (roots_in super image))) ∷ together_failure super image ∷ []
+
 abbrev pub rest_failure : Super → List ℕ → Option Failure
-rest_failure super image =
-    let roots = roots_in super image in
-    let state = state_in super image in
-    first_failure
-    (root_failure Extents super image (value_at 2 roots)
-    ∷ quota_failure super image roots (value_at 8 roots)
-    ∷ first_failure (map (λ entry. subvolume_failure super image entry.1) (subvolume_roots roots))
-    ∷ space_failure (sizes_of super) (extent_set (present_extents state))
-    ∷ None
-    ∷ counts_failure state state.quota
-    ∷ [])
+rest_failure super image = first_failure (rest_failures super image)
 
 pub image_failure_parts : (super : Super) (image : List ℕ) → image_failure super image
     ≡ first_failure (places_failure super (super_in image first_place) (super_in image second_place) (length image) ∷ roots_failure super image ∷ rest_failure super image ∷ [])
 unfolding image_failure
 image_failure_parts super image =
-    in_parts (kept (nat_le (total_bytes (sizes_of super)) (length image)) rule.Length (length image)) (kept (are_mirrored (super_in image first_place) (super_in image second_place)) rule.Mirror second_place)
-    (tree_failure Roots super image (root_expected None None) super.root) (kept (are_roots (roots_in super image)) rule.Root super.root)
-    (kept (nat_le (length (subvolume_roots (roots_in super image))) most_subvolumes) rule.Limits super.root)
-    (root_failure Extents super image (value_at 2 (roots_in super image)) ∷ quota_failure super image (roots_in super image) (value_at 8 (roots_in super image))
-    ∷ first_failure (map (λ entry. subvolume_failure super image entry.1) (subvolume_roots (roots_in super image)))
-    ∷ space_failure (sizes_of super) (extent_set (present_extents (state_in super image))) ∷ None ∷ counts_failure (state_in super image) (state_in super image).quota ∷ [])
+    in_parts (places_failure super (super_in image first_place) (super_in image second_place) (length image)) (roots_failure super image) (rest_failures super image)
 
 -- those are the trees' where the root tree names them
 pub rest_failure_trees : (super : Super) (image : List ℕ) (trees : Trees) → AreTrees super image trees → rest_failure super image ≡ trees_failure super image trees
 rest_failure_trees super image trees are =
-    let space = space_failure (sizes_of super) (extent_set (present_extents (state_in super image))) in
-    let counts = counts_failure (state_in super image) (state_in super image).quota in
-    same_rest space counts
+    same_rest (together_failure super image)
     (ap (root_failure Extents super image) are.named.extent_tree)
     (ap (quota_failure super image (roots_in super image)) are.named.quota_tree)
     (ap (λ (entries : List (ℕ × RootItem)). first_failure (map (λ entry. subvolume_failure super image entry.1) entries)) are.named.only)
-    ∙ last_parts (extents_failure super image trees.extents) (quota_failure super image (roots_in super image) (Some trees.quotas)) (subvolume_failure super image trees.files) space counts where
-      same_rest : {a a' b b' s s' : Option Failure} (d e : Option Failure) → a ≡ a' → b ≡ b' → s ≡ s' → first_failure (a ∷ b ∷ s ∷ d ∷ None ∷ e ∷ []) ≡ first_failure (a' ∷ b' ∷ s' ∷ d ∷ None ∷ e ∷ [])
-      same_rest d e h k l = rw (h, k, l) refl
+    ∙ last_parts (extents_failure super image trees.extents) (quota_failure super image (roots_in super image) (Some trees.quotas)) (subvolume_failure super image trees.files)
+    (together_failure super image) where
+      same_rest : {a a' b b' s s' : Option Failure} (d : Option Failure) → a ≡ a' → b ≡ b' → s ≡ s' → first_failure (a ∷ b ∷ s ∷ d ∷ []) ≡ first_failure (a' ∷ b' ∷ s' ∷ d ∷ [])
+      same_rest d h k l = rw (h, k, l) refl

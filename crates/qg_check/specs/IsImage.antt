@@ -2,6 +2,7 @@
 use Rattle.std.specs.Prelude.{◌≡◌, ◌≤◌, ℕ, All, List, [], ◌∷◌, ◌++◌, map, None, Some, IsTrue}
 use Rattle.std.specs.List.{flat_map, list_all}
 use Rattle.std.specs.List.Sorted.{IsStrictlyIncreasing}
+use Rattle.qg_node.specs.declared.node.Node.{Node}
 use Rattle.qg_items.specs.declared.tree.TheConstants.{TOP_LEVEL}
 use Rattle.qg_super.specs.declared.superblock.Super.{Super}
 use Rattle.qg_super.specs.Places.{first_place, is_slot, second_place}
@@ -13,32 +14,32 @@ use Rattle.qg_state.specs.Reach.{extent_of}
 use Rattle.qg_state.specs.State.{State, Placed}
 use Rattle.qg_state.specs.Space.{present_extents}
 use Rattle.qg_verdict.specs.declared.tree.Tree.TheVariants.{Files}
-use Rattle.qg_verdict.specs.StateOf.{as_committed, nodes_of_root, roots_in, state_in, subvolume_roots, super_in, super_of}
+use Rattle.qg_verdict.specs.ImageState.{as_committed, other_nodes, nodes_of_root, roots_in, state_in, subvolume_roots, super_in, super_of, addresses_of}
 use Rattle.qg_verdict.specs.Verdict.{IsSound, extent_set, space_failure}
 use Rattle.qg_reach.specs.Sets.{HaveSame}
 use Rattle.qg_rules.specs.Writable.{AreWritableFiles, IsFileBy}
 use Rattle.qg_check.specs.Stale.{stale_place}
-use Rattle.qg_check.specs.Trees.{addresses_of}
 use Rattle.qg_check.specs.declared.image.Image.{Image}
 use Rattle.qg_check.specs.declared.judge.Read.{Read}
 
--- the state that it stands for, where the subvolume's nodes are these
-abbrev pub state_kept : Image → List (ℕ × Placed) → State
-state_kept image layout = as_committed image.others (record {
+-- the state that it stands for, where the subvolume's nodes are these, and those of the other trees
+abbrev pub state_kept : Image → List (ℕ × Placed) → List Node → State
+state_kept image layout others = as_committed others (record {
   sizes = sizes_of image.superblock;
   generation = image.superblock.generation;
   subvolumes = (TOP_LEVEL, record { files = image.files; root = image.root.bytenr; last_snapshot = image.root.last_snapshot }) ∷ [];
   layout = layout;
   quota = Some image.quota;
   pending = [];
-  held = record { nodes = []; others = []; extents = []; records = [] };
+  held = record { nodes = []; others = []; extents = [] };
 })
 
 -- this is kept of bytes with this superblock: the state that they stand for, the only subvolume, and where its nodes and extents lie
-pub record IsKept (super : Super) (bytes : List ℕ) (image : Image) : Type 0 where
+pub record StandsFor (super : Super) (bytes : List ℕ) (image : Image) : Type 0 where
   pub same : image.superblock ≡ super
   pub only : subvolume_roots (roots_in super bytes) ≡ (TOP_LEVEL, image.root) ∷ []
-  pub state : state_in super bytes ≡ state_kept image (state_in super bytes).layout
+  pub state : state_in super bytes ≡ state_kept image (state_in super bytes).layout (other_nodes super bytes)
+  pub others : image.others ≡ addresses_of (other_nodes super bytes)
   pub nodes : HaveSame image.nodes (addresses_of (nodes_of_root Files super bytes image.root))
   pub ascending : IsStrictlyIncreasing image.nodes
   pub extents : image.extents ≡ extent_set (present_extents (state_in super bytes))
@@ -48,7 +49,7 @@ pub record IsImage (bytes : List ℕ) (image : Image) : Type 0 where
   pub sound : IsSound bytes
   pub chosen : super_of bytes ≡ Some image.superblock
   pub stale : image.stale ≡ stale_place (super_in bytes first_place) (super_in bytes second_place)
-  pub kept : IsKept image.superblock bytes image
+  pub kept : StandsFor image.superblock bytes image
 
 -- ---- over any disk
 

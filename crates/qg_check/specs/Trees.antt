@@ -15,20 +15,16 @@ use Rattle.qg_state.specs.declared.quota.Group.{Group}
 use Rattle.qg_state.specs.declared.quota.Quota.{Quota}
 use Rattle.qg_rules.specs.Writable.{IsFileBy}
 use Rattle.qg_verdict.specs.declared.tree.Tree.TheVariants.{Extents, Quotas, Files}
-use Rattle.qg_verdict.specs.StateOf.{root_nodes, roots_in, subvolume_roots, items_of_root, nodes_of_root, quota_told}
+use Rattle.qg_verdict.specs.ImageState.{addresses_of, root_nodes, roots_in, subvolume_roots, items_of_root, nodes_of_root, quota_told}
 use Rattle.qg_node.specs.declared.node.Node.{Node}
 use Rattle.qg_verdict.specs.Walk.{node_found, root_told}
-use Rattle.qg_verdict.specs.StateOf.{level_in}
+use Rattle.qg_verdict.specs.ImageState.{level_in}
 use Rattle.qg_verdict.specs.ItemsUnder.{nodes_under}
 use Rattle.qg_verdict.specs.Verdict.{are_roots}
 use Rattle.qg_check.specs.declared.judge.Read.{Read}
 use Rattle.qg_check.specs.declared.trees.Trees.{Trees}
 use Rattle.qg_check.specs.declared.trees.QuotaTree.{QuotaTree}
 use Rattle.qg_check.specs.declared.trees.FileTree.{FileTree}
-
--- where nodes lie
-abbrev pub addresses_of : List Node → List ℕ
-addresses_of nodes = map (λ node. (header_of node).address) nodes
 
 -- some roots are those of these trees, and of no other subvolume
 pub record AreNamed (roots : List (ℕ × RootItem)) (extents quotas files : RootItem) : Type 0 where

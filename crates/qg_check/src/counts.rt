@@ -2,7 +2,7 @@
 ghost use Rattle.std.specs.Prelude.{◌≡◌, ◌∷◌, [], Some, IsErrOf, IsTrue};
 ghost use Rattle.qg_super.specs.Places.{is_served};
 ghost use Rattle.qg_num.specs.declared.counters.Which.TheVariants.{Rfer, Excl};
-ghost use Rattle.qg_state.specs.State.{State};
+ghost use Rattle.qg_state.specs.State.{Layout};
 ghost use Rattle.qg_verdict.specs.Failure.{first_failure};
 ghost use Rattle.qg_verdict.specs.Verdict.{counted, counts_failure, space_failure};
 ghost use Rattle.qg_walk.specs.Fault.{FailsAs};
@@ -29,7 +29,7 @@ pub(crate) fn judge_extents(sizes: &Sizes, extents: &[Element]) -> Result<(), Wa
 
 /// Judges the stored counters of groups, where each of them counts so many bytes, referenced and exclusive.
 pub(crate) fn judge_counts(quota: &Quota, bytes: u64) -> Result<(), WalkFault>
-    ensures failure { (state : State) → CountAll state quota.now bytes → FailsAs result (counts_failure state (Some quota.now)) }
+    ensures failure { (layout : Layout) → CountAll layout quota.now bytes → FailsAs result (counts_failure layout (Some quota.now)) }
     ensures no_disk { IsErrOf result WalkFault.Disk → ⊥ }
 {
     for entry in quota.groups.as_slice() {

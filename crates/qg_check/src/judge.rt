@@ -6,9 +6,9 @@ ghost use Rattle.qg_super.specs.Places.{is_served, is_slot};
 ghost use Rattle.qg_super.specs.SuperText.{sizes_of};
 ghost use Rattle.qg_image.specs.Table.{keys_of};
 ghost use Rattle.qg_walk.specs.Fault.{FailsAs};
-ghost use Rattle.qg_check.specs.Stages.{together_failure};
+ghost use Rattle.qg_verdict.specs.Verdict.{together_failure};
 ghost use Rattle.qg_check.specs.Trees.{AreRead};
-ghost use Rattle.qg_check.specs.IsImage.{IsKept, Keeps};
+ghost use Rattle.qg_check.specs.IsImage.{StandsFor, Keeps};
 
 use crate::Image;
 use crate::counts::{judge_counts, judge_extents};
@@ -35,7 +35,7 @@ pub(crate) fn judge_trees(alloc: Global, superblock: Super, read: Read) -> Resul
     requires slots { IsTrue (list_all (is_slot (sizes_of superblock)) read.subvolume.nodes) }
     requires groups { keys_of read.quotas.quota.groups ≡ TOP_LEVEL ∷ [] }
     ensures failure { (bytes : List ℕ) → AreRead superblock bytes read → FailsAs result (together_failure superblock bytes) }
-    ensures image { (bytes : List ℕ) → AreRead superblock bytes read → IfOk result (λ image. IsKept superblock bytes image) }
+    ensures image { (bytes : List ℕ) → AreRead superblock bytes read → IfOk result (λ image. StandsFor superblock bytes image) }
     ensures superblock { IfOk result (λ image. image.superblock ≡ superblock) }
     ensures keeps { IfOk result (λ image. Keeps superblock read image) }
     ensures no_disk { IsErrOf result WalkFault.Disk → ⊥ }

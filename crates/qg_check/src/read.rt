@@ -5,11 +5,11 @@ ghost use Rattle.qg_device.specs.Cause.{HasCause};
 ghost use Rattle.qg_device.specs.History.{Event, content};
 ghost use Rattle.qg_super.specs.Places.{is_served, is_slot, total_bytes};
 ghost use Rattle.qg_super.specs.SuperText.{is_super, sizes_of};
-ghost use Rattle.qg_verdict.specs.Verdict.{verdict};
+ghost use Rattle.qg_verdict.specs.Verdict.{verdict, places_failure};
 ghost use Rattle.qg_walk.specs.Fault.{FailsAs};
-ghost use Rattle.qg_check.specs.Stages.{places_failure, trees_failure};
+ghost use Rattle.qg_check.specs.Stages.{trees_failure};
 ghost use Rattle.qg_check.specs.Trees.{AreTrees};
-ghost use Rattle.qg_check.specs.IsImage.{IsEditable, IsImage, IsKept};
+ghost use Rattle.qg_check.specs.IsImage.{IsEditable, IsImage, StandsFor};
 
 use crate::Image;
 use crate::judge::{Read, judge_trees};
@@ -22,7 +22,7 @@ use qg_walk::WalkFault;
 use std::alloc::Global;
 
 /// Reads an image: what it stands for where it is sound, else the first rule that it breaks, or the first stored counter that is not the
-/// direct count (this project's own). It reads each node once and writes nothing.
+/// direct count (this project's own). It writes nothing.
 pub fn read_image<D: Disk>(alloc: Global, disk: &mut D) -> Result<Image, WalkFault>
     ensures failure { (events : List Event) → D.history disk.old ≡ Some events → FailsAs result (verdict (content events)) }
     ensures image { (events : List Event) → D.history disk.old ≡ Some events
@@ -74,7 +74,7 @@ fn read_trees<D: Disk>(
     ensures failure { (events : List Event) → D.history disk.old ≡ Some events → AreTrees superblock (content events) trees
         → FailsAs result (trees_failure superblock (content events) trees) }
     ensures image { (events : List Event) → D.history disk.old ≡ Some events → AreTrees superblock (content events) trees
-        → IfOk result (λ image. IsKept superblock (content events) image) }
+        → IfOk result (λ image. StandsFor superblock (content events) image) }
     ensures superblock { IfOk result (λ image. image.superblock ≡ superblock) }
     ensures editable { IsTrue (is_super superblock) → IsTrue (list_all (is_slot (sizes_of superblock)) trees.nodes)
         → trees.files.last_snapshot ≤ superblock.generation → IfOk result (λ image. IsEditable image) }

@@ -9,11 +9,11 @@ ghost use Rattle.qg_node.specs.Nodes.{is_ascending};
 ghost use Rattle.qg_parts.specs.Keys.{root_key};
 ghost use Rattle.qg_verdict.specs.declared.tree.Tree.TheVariants.{Extents};
 ghost use Rattle.qg_verdict.specs.Walk.{root_told};
-ghost use Rattle.qg_verdict.specs.StateOf.{nodes_of_root, roots_in};
-ghost use Rattle.qg_verdict.specs.Verdict.{are_roots, quota_failure, subvolume_failure};
+ghost use Rattle.qg_verdict.specs.ImageState.{nodes_of_root, roots_in, addresses_of};
+ghost use Rattle.qg_verdict.specs.Verdict.{are_roots, quota_failure, subvolume_failure, roots_failure};
 ghost use Rattle.qg_walk.specs.Fault.{FailsAs};
-ghost use Rattle.qg_check.specs.Stages.{roots_failure, extents_failure};
-ghost use Rattle.qg_check.specs.Trees.{AreFitFiles, AreNamed, AreTrees, HasOneGroup, IsQuotaTree, IsFileTree, addresses_of};
+ghost use Rattle.qg_check.specs.Stages.{extents_failure};
+ghost use Rattle.qg_check.specs.Trees.{AreFitFiles, AreNamed, AreTrees, HasOneGroup, IsQuotaTree, IsFileTree};
 
 use qg_disk::Disk;
 use qg_image::{ExtentPart, FileList, FilePart, QuotaPart, RootPart};

@@ -21,7 +21,8 @@ use Rattle.qg_super.specs.SuperText.{is_super}
 use Rattle.qg_super.proofs.Served.{SizesFit-is_served}
 use Rattle.qg_contents.proofs.Bodies.{item-fits, root_text-AreBytes, status_text-AreBytes, info_text-AreBytes, limit_text-AreBytes}
 use Rattle.qg_contents.specs.Written.{item_of_root}
-use Rattle.qg_commit.specs.Fresh.{fresh_leaf_of, fresh_root, root_items, quota_items, fresh_super, fresh_nodes}
+use Rattle.qg_verdict.specs.IsFresh.{fresh_leaf}
+use Rattle.qg_commit.specs.Fresh.{fresh_root, root_items, quota_items, fresh_super, fresh_nodes}
 use Rattle.qg_commit.specs.Calls.{IsWritable}
 use Rattle.qg_commit.proofs.FreshImage.{ReadsBack}
 use Rattle.qg_commit.proofs.Slots.{node_size_bounds}
@@ -37,7 +38,7 @@ fresh-is_super sizes served =
 -- ---- the nodes
 
 fresh_leaf-IsNode : (size owner address : ℕ) (items : List Item) → 101 + items_bytes items ≤ size
-    → is_ascending (map (λ item. item.key) items) ≡ true → IsNode size (fresh_leaf_of owner address items)
+    → is_ascending (map (λ item. item.key) items) ≡ true → IsNode size (fresh_leaf owner address items)
 fresh_leaf-IsNode size owner address items fits ascending = record { levelled = refl; ascending = ascending; fits = fits }
 
 root_items-bytes : (extents files quotas : ℕ) → items_bytes (root_items extents files quotas) ≡ 1392
@@ -60,17 +61,17 @@ no_items-ascending = refl
 
 -- each of the four is a node of the format
 root_leaf-IsNode : (n address extents files quotas : ℕ) → IsNodeSize n
-    → IsNode n (fresh_leaf_of 1 address (root_items extents files quotas))
+    → IsNode n (fresh_leaf 1 address (root_items extents files quotas))
 root_leaf-IsNode n address extents files quotas size =
     let bounds = node_size_bounds n size in
     fresh_leaf-IsNode n 1 address (root_items extents files quotas) (omega (arith, root_items-bytes extents files quotas)) (root_items-ascending extents files quotas)
 
-quota_leaf-IsNode : (n address : ℕ) → IsNodeSize n → IsNode n (fresh_leaf_of 8 address (quota_items n))
+quota_leaf-IsNode : (n address : ℕ) → IsNodeSize n → IsNode n (fresh_leaf 8 address (quota_items n))
 quota_leaf-IsNode n address size =
     let bounds = node_size_bounds n size in
     fresh_leaf-IsNode n 8 address (quota_items n) (omega (arith, quota_items-bytes n)) (quota_items-ascending n)
 
-empty_leaf-IsNode : (n owner address : ℕ) → IsNodeSize n → IsNode n (fresh_leaf_of owner address [])
+empty_leaf-IsNode : (n owner address : ℕ) → IsNodeSize n → IsNode n (fresh_leaf owner address [])
 empty_leaf-IsNode n owner address size =
     let bounds = node_size_bounds n size in
     let none : items_bytes [] ≡ 0 = refl in
@@ -86,18 +87,18 @@ fresh-writable sizes served =
     let extents = empty_leaf-IsNode n 2 (slot_at sizes 1) fit.node_size in
     let files = empty_leaf-IsNode n 5 (slot_at sizes 2) fit.node_size in
     let quotas = quota_leaf-IsNode n (slot_at sizes 3) fit.node_size in
-    let root_writable : IsWritable n (fresh_leaf_of 1 (slot_at sizes 0) (root_items (slot_at sizes 1) (slot_at sizes 2) (slot_at sizes 3))) =
+    let root_writable : IsWritable n (fresh_leaf 1 (slot_at sizes 0) (root_items (slot_at sizes 1) (slot_at sizes 2) (slot_at sizes 3))) =
     record { node_of_format = root; ends = omega arith } in
-    let extents_writable : IsWritable n (fresh_leaf_of 2 (slot_at sizes 1) []) = record { node_of_format = extents; ends = omega arith } in
-    let files_writable : IsWritable n (fresh_leaf_of 5 (slot_at sizes 2) []) = record { node_of_format = files; ends = omega arith } in
-    let quotas_writable : IsWritable n (fresh_leaf_of 8 (slot_at sizes 3) (quota_items n)) = record { node_of_format = quotas; ends = omega arith } in
+    let extents_writable : IsWritable n (fresh_leaf 2 (slot_at sizes 1) []) = record { node_of_format = extents; ends = omega arith } in
+    let files_writable : IsWritable n (fresh_leaf 5 (slot_at sizes 2) []) = record { node_of_format = files; ends = omega arith } in
+    let quotas_writable : IsWritable n (fresh_leaf 8 (slot_at sizes 3) (quota_items n)) = record { node_of_format = quotas; ends = omega arith } in
     (root_writable, (extents_writable, (files_writable, (quotas_writable, tt))))
 
 -- ---- what is read again
 
 -- the numbers of a leaf and of its items fit
 leaf-NodeFits : (owner address : ℕ) (items : List Item) → owner < 2 ^ 64 → address < 2 ^ 64 → AllByRecursion ItemFits items
-    → NodeFits (fresh_leaf_of owner address items)
+    → NodeFits (fresh_leaf owner address items)
 leaf-NodeFits owner address items owned placed items_fit =
     (record { address = placed; generation = lit< tt; owner = owned; level = lit< tt }, All-from_recursion ItemFits items items_fit)
 

@@ -1,26 +1,38 @@
 -- The nodes of trees that were laid out for a commit: they lie apart in the slots that were given, and a commit may write them.
-use Rattle.std.proofs.Common.{◌≡◌, ℕ, ◌+◌, true, List, [], ◌∷◌, ◌++◌, map, length, take, drop, sym, ap, subst, ◌∙◌, append_assoc, length-append}
+use Rattle.std.proofs.Common.{◌≡◌, ℕ, ◌+◌, ◌<◌, ◌≤◌, ◌^◌, true, List, [], ◌∷◌, ◌++◌, map, length, take, drop, get_or, sym, ap, subst, ◌∙◌, append_assoc, length-append, arith}
 use Rattle.std.specs.Prelude.{◌==◌, IsTrue, All}
 use Rattle.std.specs.List.{AllByRecursion, Contains, IsDistinct}
 use Rattle.std.specs.List.Sorted.{IsPermutation}
 use Rattle.std.proofs.lemmas.List.{drop-drop, take-append-drop}
-use Rattle.std.proofs.lemmas.List.Elements.{All-from_recursion, Contains-append_left}
+use Rattle.std.proofs.lemmas.List.Elements.{All-contains, All-from_recursion, Contains-append_left, Contains-get_or}
 use Rattle.std.proofs.lemmas.List.Sorted.{Contains-permutation, IsPermutation-append_comm, IsPermutation-append_right, IsPermutation-map, IsPermutation-trans}
+use Rattle.qg_device.specs.History.{content}
 use Rattle.qg_num.specs.declared.counters.Counters.{Counters}
 use Rattle.qg_node.specs.declared.node.Node.{Node}
 use Rattle.qg_node.specs.Nodes.{header_of}
-use Rattle.qg_node.specs.NodeText.{IsNode}
+use Rattle.qg_node.specs.NodeText.{IsNode, IsNodeSize}
+use Rattle.qg_node.specs.Fits.{NodeFits}
+use Rattle.qg_node.proofs.Again.{text_again}
 use Rattle.qg_items.specs.declared.root.RootItem.{RootItem}
+use Rattle.qg_super.specs.declared.sizes.Sizes.{Sizes}
 use Rattle.qg_super.specs.declared.superblock.Super.{Super}
-use Rattle.qg_super.specs.Places.{is_slot}
+use Rattle.qg_super.specs.Places.{is_slot, total_bytes}
 use Rattle.qg_super.specs.SuperText.{is_super, sizes_of}
 use Rattle.qg_image.specs.declared.file.File.{File}
 use Rattle.qg_state.specs.declared.element.Element.{Element}
+use Rattle.qg_state.specs.declared.quota.Group.{Group}
+use Rattle.qg_state.specs.State.{State, Subvolume}
 use Rattle.qg_tree.specs.Build.{IsMadeFor}
 use Rattle.qg_laid.specs.declared.laying.Laid.{Laid}
-use Rattle.qg_laid.specs.Trees.{AreTreesLaid, nodes_laid}
+use Rattle.qg_laid.specs.declared.laying.Parts.{Parts}
+use Rattle.qg_laid.specs.Holds.{HasCommit}
+use Rattle.qg_laid.specs.Trees.{ArePartsOf, AreTreesLaid, AreTreesOf, CanBeLaid, IsCommitOf, nodes_laid}
+use Rattle.qg_laid.proofs.Enough.{node_size}
+use Rattle.qg_commit.specs.Calls.{IsReadBack, with_commit}
+use Rattle.qg_commit.specs.Laying.{IsLaying}
+use Rattle.qg_commit.proofs.Slots.{node_size_bounds}
 use Rattle.qg_commit.proofs.Placed.{moved-AreCommittable, placed-append, placed-AreCommittable}
-use Rattle.qg_commit.proofs.Written.{address_of, AreCommittable}
+use Rattle.qg_commit.proofs.Written.{address_of, with_commit-HasCommit, AreCommittable}
 
 -- ---- lists
 
@@ -52,6 +64,13 @@ lie_both slots front back first second = placed-append slots front back first se
 made_format : (nodesize owner generation : ℕ) (nodes : List Node) → AllByRecursion (IsMadeFor nodesize owner generation) nodes → AllByRecursion (IsNode nodesize) nodes
 made_format nodesize owner generation [] all = tt
 made_format nodesize owner generation (node ∷ nodes) all = (all.0.node_of_format, made_format nodesize owner generation nodes all.1)
+
+made_fit : (nodesize owner generation : ℕ) (nodes : List Node) → AllByRecursion (IsMadeFor nodesize owner generation) nodes → AllByRecursion NodeFits nodes
+made_fit nodesize owner generation [] all = tt
+made_fit nodesize owner generation (node ∷ nodes) all = (all.0.fits, made_fit nodesize owner generation nodes all.1)
+
+small : (size : ℕ) → IsNodeSize size → size < 2 ^ 32
+small size is = let bounds = node_size_bounds size is in omega arith
 
 -- ---- the nodes of a commit
 
@@ -111,3 +130,41 @@ module _ (committed : Super) (root : RootItem) (files : List (ℕ × File)) (ext
         apart = are.apart;
       } in
       subst (λ (super : Super). AreCommittable super (nodes_laid laid)) (sym trees.leads) same
+
+  fitting : All NodeFits in_slots
+  fitting =
+      let next = committed.generation + 1 in
+      let n = committed.nodesize in
+      let first = both_all NodeFits own empty (made_fit n 5 next own trees.file_tree.stands.made) (made_fit n 2 next empty trees.extent_tree.stands.made) in
+      let second = both_all NodeFits (own ++ empty) quotas first (made_fit n 8 next quotas trees.quota_tree.stands.made) in
+      let all = both_all NodeFits (own ++ empty ++ quotas) laid.roots.nodes second (made_fit n 1 next laid.roots.nodes trees.root_tree.stands.made) in
+      All-from_recursion NodeFits in_slots all
+
+  -- each is read from its text
+  pub laid-IsReadBack : IsNodeSize committed.nodesize → All (IsReadBack committed.nodesize) (nodes_laid laid)
+  laid-IsReadBack size = λ k d below.
+      let nodes = nodes_laid laid in
+      let has = Contains-permutation nodes in_slots (get_or nodes k d) moved (Contains-get_or nodes k d below) in
+      All-contains (IsReadBack committed.nodesize) in_slots (get_or nodes k d) each has where
+        each : All (IsReadBack committed.nodesize) in_slots
+        each = λ k d below. text_again committed.nodesize (get_or in_slots k d) (small committed.nodesize size) (fitting k d below) (formed k d below)
+
+-- ---- what was laid out
+
+pub laid-IsLaying : (parts : Parts) (slots : List ℕ) (laid : Laid) → is_super laid.superblock ≡ true → AreTreesOf parts slots laid → CanBeLaid parts slots
+    → All (λ slot. IsTrue (is_slot (sizes_of parts.superblock.now) slot)) slots
+    → ((old : State) (before : Subvolume) (group : Group) (image : List ℕ) → ArePartsOf old before group parts slots → HasCommit laid.superblock (nodes_laid laid) image → IsCommitOf old laid parts.files.now image)
+    → IsLaying parts slots laid
+laid-IsLaying parts slots laid superblock trees can are_slots stands = record {
+  superblock = superblock;
+  trees = trees;
+  placed = laid-placed parts.superblock.now parts.root.now parts.files.now parts.extents.now parts.counters.now parts.stamp slots laid trees;
+  committed = λ events old before group enough is.
+      let super = parts.superblock.now in
+      let are = laid-AreCommittable super parts.root.now parts.files.now parts.extents.now parts.counters.now parts.stamp slots laid trees can.superblock are_slots can.room.apart in
+      let read = laid-IsReadBack super parts.root.now parts.files.now parts.extents.now parts.counters.now parts.stamp slots laid trees (node_size super can.superblock) in
+      let same : laid.superblock.nodesize ≡ super.nodesize = ap (λ (s : Super). s.nodesize) trees.leads in
+      let long = subst (λ (sizes : Sizes). total_bytes sizes ≤ length (content events)) (sym (ap sizes_of trees.leads)) enough in
+      stands old before group (content (with_commit laid.superblock (nodes_laid laid) events)) is
+      (with_commit-HasCommit laid.superblock (nodes_laid laid) events superblock long are (subst (λ (n : ℕ). All (IsReadBack n) (nodes_laid laid)) (sym same) read));
+}

@@ -5,7 +5,7 @@ pub mod Ranges
 pub mod Written
 pub mod Moments
 pub mod Placed
-pub mod Goings
+pub mod Fronts
 pub mod LaidNodes
 pub mod CommitCalls
 pub mod ReadBack

@@ -1,7 +1,7 @@
 -- An image that was just made is fresh, and sound.
 use Rattle.std.proofs.Common.{◌≡◌, ℕ, ◌+◌, ◌-◌, ◌≤◌, ◌<◌, true, false, List, [], ◌∷◌, length, take, get_or, Some, Ok, refl, arith, lit<}
 use Rattle.std.specs.Prelude.{◌==◌, IsTrue, All}
-use Rattle.std.specs.List.{IsDistinct}
+use Rattle.std.specs.List.{AllByRecursion, IsDistinct}
 use Rattle.std.proofs.lemmas.Bool.{le-leb, ne_eqb}
 use Rattle.std.proofs.lemmas.List.{length-replicate}
 use Rattle.std.proofs.lemmas.List.Elements.{All-from_recursion, recursion_from_All}
@@ -17,12 +17,13 @@ use Rattle.qg_super.proofs.Served.{SizesFit, SizesFit-is_served}
 use Rattle.qg_super.proofs.Slots.{is_slot-slot_at}
 use Rattle.qg_verdict.specs.Walk.{node_found}
 use Rattle.qg_verdict.specs.IsFresh.{fresh_state}
-use Rattle.qg_commit.specs.Fresh.{fresh_super, fresh_nodes}
+use Rattle.qg_verdict.specs.OtherTrees.{IsOfFormat}
+use Rattle.qg_commit.specs.Fresh.{fresh_super, fresh_nodes, quota_items, root_items}
 use Rattle.qg_commit.specs.Calls.{IsReadBack, IsWritable, with_image}
 use Rattle.qg_laid.specs.Holds.{HasCommit}
 use Rattle.qg_commit.specs.Mkfs.{HoldsFreshImage}
 use Rattle.qg_commit.proofs.Slots.{node_size_bounds}
-use Rattle.qg_commit.proofs.FreshImage.{HasFresh, fresh-sound, fresh-StateOf}
+use Rattle.qg_commit.proofs.FreshImage.{HasFresh, fresh_others, fresh-AreOtherTrees, fresh-StateOf}
 use Rattle.qg_commit.proofs.FreshNodes.{fresh-is_super, fresh-writable, fresh-fit, fresh-ReadsBack}
 use Rattle.qg_commit.proofs.Written.{AreCommittable, with_commit-HasCommit}
 
@@ -67,6 +68,18 @@ fresh-IsReadBack sizes served =
     let writable = All-from_recursion (IsWritable sizes.nodesize) (fresh_nodes sizes) (fresh-writable sizes served) in
     λ k d below. text_again sizes.nodesize (get_or (fresh_nodes sizes) k d) (omega arith) (fits k d below) (writable k d below).node_of_format
 
+-- the leaves of the other trees are of the format
+fresh-formats : (sizes : Sizes) → is_served sizes ≡ true → AllByRecursion (IsOfFormat sizes.nodesize) (fresh_others sizes (slot_at sizes 0) (slot_at sizes 1) (slot_at sizes 2) (slot_at sizes 3))
+fresh-formats sizes served =
+    let fits = fresh-fit sizes served in
+    let are = fresh-writable sizes served in (
+      record { node_of_format = are.0.node_of_format; fits = fits.0 },
+      (
+        record { node_of_format = are.1.0.node_of_format; fits = fits.1.0 },
+        (record { node_of_format = are.1.1.1.0.node_of_format; fits = fits.1.1.1.0 }, tt),
+      ),
+    )
+
 -- what was done before the commit makes the disk as long as the image
 with_image-long : (sizes : Sizes) (before : List Event)
     → total_bytes sizes ≤ length (content (Wrote (total_bytes sizes - sector) (zeros sector) ∷ Cut 0 ∷ before))
@@ -100,18 +113,27 @@ made-HoldsFreshImage sizes before served =
       files_leaf = found.1.1.0;
       quotas_leaf = found.1.1.1.0;
     } in
+    let others = fresh_others sizes (slot_at sizes 0) (slot_at sizes 1) (slot_at sizes 2) (slot_at sizes 3) in
     record {
       events = with_image super (fresh_nodes sizes) before;
       told = refl;
       image = record {
-        sound = fresh-sound sizes image (slot_at sizes 0) (slot_at sizes 1) (slot_at sizes 2) (slot_at sizes 3) has back;
-        state = fresh_state sizes (slot_at sizes 0 ∷ slot_at sizes 1 ∷ slot_at sizes 3 ∷ []) (slot_at sizes 2);
+        state = fresh_state sizes others (slot_at sizes 2);
         stands = fresh-StateOf sizes image (slot_at sizes 0) (slot_at sizes 1) (slot_at sizes 2) (slot_at sizes 3) has back;
         fresh = record {
-          others = slot_at sizes 0 ∷ slot_at sizes 1 ∷ slot_at sizes 3 ∷ [];
           root = slot_at sizes 2;
+          roots = slot_at sizes 0;
+          root_items = root_items (slot_at sizes 1) (slot_at sizes 2) (slot_at sizes 3);
+          extents = slot_at sizes 1;
+          extent_items = [];
+          quotas = slot_at sizes 3;
+          quota_items = quota_items sizes.nodesize;
+          others = others;
+          leaves = refl;
           fresh = refl;
-          in_slots = rw slot2 (rw slot0 (rw slot1 (rw slot3 refl)));
+          trees = fresh-AreOtherTrees sizes (slot_at sizes 0) (slot_at sizes 1) (slot_at sizes 2) (slot_at sizes 3) back (fresh-formats sizes served);
+          apart = first_slots-IsDistinct sizes fit;
+          in_slots = rw slot0 (rw slot1 (rw slot2 (rw slot3 refl)));
         };
       };
     }

@@ -18,7 +18,7 @@ use Rattle.qg_super.specs.SuperText.{super_text, super_read, is_super, sizes_of}
 use Rattle.qg_super.proofs.SuperTexts.{length-super_text, super_read-super_text}
 use Rattle.qg_super.proofs.Served.{SizesFit, SizesFit-is_served, SuperFits-is_super}
 use Rattle.qg_verdict.specs.Walk.{node_found}
-use Rattle.qg_verdict.specs.StateOf.{super_in}
+use Rattle.qg_verdict.specs.ImageState.{super_in}
 use Rattle.qg_commit.specs.Calls.{IsReadBack, IsWritable, with_nodes, with_commit}
 use Rattle.qg_laid.specs.Holds.{HasCommit}
 use Rattle.qg_commit.proofs.Slots.{is_slot-IsBetween, slots-apart}

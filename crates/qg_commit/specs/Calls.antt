@@ -1,7 +1,7 @@
 -- The device calls that make an image and that commit to it (this project's own).
-use Rattle.std.specs.Prelude.{◌≡◌, ℕ, ◌+◌, ◌-◌, ◌^◌, ◌<◌, List, [], ◌∷◌, ◌++◌, Option, Some, Ok}
+use Rattle.std.specs.Prelude.{◌≡◌, ◌⊎◌, ℕ, ◌+◌, ◌-◌, ◌^◌, ◌<◌, ◌≤◌, List, [], ◌∷◌, ◌++◌, length, map, Option, Some, Ok}
 use Rattle.qg_bytes.specs.Fields.{zeros}
-use Rattle.qg_device.specs.History.{Event, Wrote, Cut, Synced}
+use Rattle.qg_device.specs.History.{Event, Wrote, Tore, Cut, Synced}
 use Rattle.qg_node.specs.declared.node.Node.{Node}
 use Rattle.qg_node.specs.Nodes.{header_of}
 use Rattle.qg_node.specs.NodeText.{node_text, IsNode}
@@ -9,6 +9,41 @@ use Rattle.qg_node.specs.Reading.{node_read}
 use Rattle.qg_super.specs.declared.superblock.Super.{Super}
 use Rattle.qg_super.specs.Places.{first_place, second_place, sector, total_bytes}
 use Rattle.qg_super.specs.SuperText.{super_text, sizes_of}
+
+-- ---- calls, and how far they came
+
+-- a call that a commit makes: bytes are written at a place, or what was done is made sure of
+pub data Call : Type 0 where
+  WriteAt : (at : ℕ) (bytes : List ℕ) → Call
+  Sync : Call
+
+-- what was done by then, where it was answered Ok
+abbrev pub with_call : Call → List Event → List Event
+with_call (WriteAt at bytes) events = Wrote at bytes ∷ events
+with_call Sync events = Synced ∷ events
+
+-- what was done once several were, one after the other
+abbrev pub with_calls : List Call → List Event → List Event
+with_calls [] events = events
+with_calls (call ∷ calls) events = with_calls calls (with_call call events)
+
+-- what was done where it failed: a write may leave any bytes in its range, no more than were asked; a sync does nothing
+abbrev pub FailsAfter : Call → List Event → List Event → Type 0
+FailsAfter (WriteAt at bytes) events after = (left : List ℕ) × (length left ≤ length bytes) × (after ≡ Tore at bytes left ∷ events)
+FailsAfter Sync events after = after ≡ events
+
+-- some of the calls were made, or all, from the first on in their order; the last of those made may have failed
+abbrev pub IsFront : List Call → List Event → List Event → Type 0
+IsFront [] events after = after ≡ events
+IsFront (call ∷ calls) events after = (after ≡ events) ⊎ (FailsAfter call events after ⊎ IsFront calls (with_call call events) after)
+
+-- that was done to a disk, and nothing else
+pub record MadeFront (calls : List Call) (events : List Event) (history : Option (List Event)) : Type 0 where
+  pub after : List Event
+  pub told : history ≡ Some after
+  pub front : IsFront calls events after
+
+-- ---- the calls of a commit
 
 -- a node that has a text of so many bytes, at an address from which a number of 64 bits can tell its end
 pub record IsWritable (nodesize : ℕ) (node : Node) : Type 0 where
@@ -20,16 +55,25 @@ abbrev pub IsReadBack : ℕ → Node → Type 0
 IsReadBack nodesize node = node_read (header_of node).address (node_text nodesize node) ≡ Ok node
 
 -- nodes are written into their slots, one after the other
-abbrev pub with_nodes : ℕ → List Node → List Event → List Event
-with_nodes nodesize [] events = events
-with_nodes nodesize (node ∷ nodes) events = with_nodes nodesize nodes (Wrote (header_of node).address (node_text nodesize node) ∷ events)
+abbrev pub node_calls : ℕ → List Node → List Call
+node_calls nodesize nodes = map (λ node. WriteAt (header_of node).address (node_text nodesize node)) nodes
 
 -- what was done is made sure of, and then the superblock is written at both places: a sync, the first, a sync, the second, a sync
-abbrev pub with_superblocks : Super → List Event → List Event
-with_superblocks super events =
-    Synced ∷ Wrote second_place (super_text second_place super) ∷ Synced ∷ Wrote first_place (super_text first_place super) ∷ Synced ∷ events
+abbrev pub superblock_calls : Super → List Call
+superblock_calls super =
+    Sync ∷ WriteAt first_place (super_text first_place super) ∷ Sync ∷ WriteAt second_place (super_text second_place super) ∷ Sync ∷ []
 
 -- a commit: the new nodes, a sync, the first superblock, a sync, the second superblock, a sync
+abbrev pub commit_calls : Super → List Node → List Call
+commit_calls super nodes = node_calls super.nodesize nodes ++ superblock_calls super
+
+-- what was done once they were made
+abbrev pub with_nodes : ℕ → List Node → List Event → List Event
+with_nodes nodesize nodes events = with_calls (node_calls nodesize nodes) events
+
+abbrev pub with_superblocks : Super → List Event → List Event
+with_superblocks super events = with_calls (superblock_calls super) events
+
 abbrev pub with_commit : Super → List Node → List Event → List Event
 with_commit super nodes events = with_superblocks super (with_nodes super.nodesize nodes events)
 
@@ -37,8 +81,3 @@ with_commit super nodes events = with_superblocks super (with_nodes super.nodesi
 abbrev pub with_image : Super → List Node → List Event → List Event
 with_image super nodes events =
     with_commit super nodes (Wrote (total_bytes (sizes_of super) - sector) (zeros sector) ∷ Cut 0 ∷ events)
-
--- a disk with this history was given nothing but more to do after these events
-pub record GoesOn (events : List Event) (history : Option (List Event)) : Type 0 where
-  pub more : List Event
-  pub told : history ≡ Some (more ++ events)

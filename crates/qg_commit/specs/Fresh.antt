@@ -2,17 +2,13 @@
 use Rattle.std.specs.Prelude.{ℕ, List, [], ◌∷◌}
 use Rattle.qg_node.specs.declared.item.Item.{Item}
 use Rattle.qg_node.specs.declared.node.Node.{Node}
-use Rattle.qg_node.specs.declared.node.Node.TheVariants.{Leaf}
 use Rattle.qg_items.specs.declared.tree.TheConstants.{ROOT_TREE, EXTENT_TREE, TOP_LEVEL, QUOTA_TREE}
 use Rattle.qg_items.specs.declared.root.RootItem.{RootItem}
 use Rattle.qg_super.specs.declared.sizes.Sizes.{Sizes}
 use Rattle.qg_super.specs.declared.superblock.Super.{Super}
 use Rattle.qg_super.specs.Places.{slot_at}
+use Rattle.qg_verdict.specs.IsFresh.{fresh_leaf}
 use Rattle.qg_contents.specs.Written.{items_of_roots, status_at, info_of, items_of_quota}
-
--- a leaf of generation 1
-abbrev pub fresh_leaf_of : ℕ → ℕ → List Item → Node
-fresh_leaf_of owner address items = Leaf (record { address = address; generation = 1; owner = owner; level = 0 }) items
 
 -- a tree of generation 1 whose root is a leaf at an address
 abbrev pub fresh_root : ℕ → RootItem
@@ -33,8 +29,8 @@ fresh_super sizes root = record { generation = 1; root = root; nodesize = sizes.
 -- the four leaves: the root tree, the extent tree, the top-level subvolume and the quota tree, in the first slots
 abbrev pub fresh_nodes : Sizes → List Node
 fresh_nodes sizes =
-    fresh_leaf_of ROOT_TREE (slot_at sizes 0) (root_items (slot_at sizes 1) (slot_at sizes 2) (slot_at sizes 3))
-    ∷ fresh_leaf_of EXTENT_TREE (slot_at sizes 1) []
-    ∷ fresh_leaf_of TOP_LEVEL (slot_at sizes 2) []
-    ∷ fresh_leaf_of QUOTA_TREE (slot_at sizes 3) (quota_items sizes.nodesize)
+    fresh_leaf ROOT_TREE (slot_at sizes 0) (root_items (slot_at sizes 1) (slot_at sizes 2) (slot_at sizes 3))
+    ∷ fresh_leaf EXTENT_TREE (slot_at sizes 1) []
+    ∷ fresh_leaf TOP_LEVEL (slot_at sizes 2) []
+    ∷ fresh_leaf QUOTA_TREE (slot_at sizes 3) (quota_items sizes.nodesize)
     ∷ []

@@ -1,5 +1,6 @@
 pub mod Fresh
 pub mod Calls
+pub mod Laying
 pub mod Mkfs
 pub mod Fault
 pub mod Opening

@@ -4,12 +4,10 @@ use Rattle.qg_device.specs.History.{Event, content}
 use Rattle.qg_super.specs.declared.sizes.Sizes.{Sizes}
 use Rattle.qg_state.specs.State.{State}
 use Rattle.qg_verdict.specs.StateOf.{StateOf}
-use Rattle.qg_verdict.specs.Verdict.{IsSound}
 use Rattle.qg_verdict.specs.IsFresh.{IsFresh}
 
 -- the image is sound, and its state is fresh for the sizes
 pub record IsFreshImage (sizes : Sizes) (image : List ℕ) : Type 0 where
-  pub sound : IsSound image
   pub state : State
   pub stands : StateOf image state
   pub fresh : IsFresh sizes state

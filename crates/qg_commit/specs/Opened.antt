@@ -3,7 +3,7 @@ use Rattle.std.specs.Prelude.{◌≡◌, ◌⊎◌, ℕ, List, ◌∷◌, Option
 use Rattle.qg_device.specs.History.{Event, Synced, content}
 use Rattle.qg_super.specs.declared.superblock.Super.{Super}
 use Rattle.qg_super.specs.Places.{first_place, second_place}
-use Rattle.qg_verdict.specs.StateOf.{super_in, super_of}
+use Rattle.qg_verdict.specs.ImageState.{super_in, super_of}
 use Rattle.qg_verdict.specs.Verdict.{IsSound}
 use Rattle.qg_check.specs.Stale.{stale_place}
 use Rattle.qg_commit.specs.Opening.{IsLookedAt, IsWriting, with_repair}

@@ -1,17 +1,15 @@
 // A commit.
-ghost use Rattle.std.specs.Prelude.{◌≡◌, ◌⊎◌, ◌≤◌, List, ℕ, Some, length, map, All, OnOk, IfOk, IfErr, IsTrue};
-ghost use Rattle.std.specs.List.{AllByRecursion, Contains};
+ghost use Rattle.std.specs.Prelude.{◌≡◌, ◌⊎◌, ◌≤◌, List, Some, length, All, OnOk, IfOk, IfErr, IsTrue};
+ghost use Rattle.std.specs.List.{AllByRecursion};
 ghost use Rattle.std.specs.Option.{option_map};
 ghost use Rattle.qg_device.specs.Cause.{HasCause};
-ghost use Rattle.qg_device.specs.History.{Event, content};
-ghost use Rattle.qg_node.specs.Nodes.{header_of};
+ghost use Rattle.qg_device.specs.History.{Event};
 ghost use Rattle.qg_node.specs.NodeText.{IsNodeSize};
 ghost use Rattle.qg_super.specs.Places.{is_slot, total_bytes};
 ghost use Rattle.qg_super.specs.SuperText.{is_super, sizes_of};
-ghost use Rattle.qg_state.specs.declared.quota.Group.{Group};
-ghost use Rattle.qg_state.specs.State.{State, Subvolume};
-ghost use Rattle.qg_laid.specs.Trees.{ArePartsOf, AreTreesOf, CanBeLaid, IsCommitOf, nodes_laid};
-ghost use Rattle.qg_commit.specs.Calls.{GoesOn, IsReadBack, IsWritable, with_commit};
+ghost use Rattle.qg_laid.specs.Trees.{CanBeLaid, nodes_laid};
+ghost use Rattle.qg_commit.specs.Calls.{IsWritable, MadeFront, commit_calls, with_commit};
+ghost use Rattle.qg_commit.specs.Laying.{IsLaying, StopsLaying};
 
 use crate::write::{write_nodes, write_superblocks};
 use qg_disk::{Disk, DiskFault};
@@ -21,7 +19,8 @@ use std::alloc::Global;
 
 /// Builds all trees anew in free slots and writes them, then the superblocks (this project's own).
 ///
-/// The only subvolume is the top-level one, and the commit starts from `parts` of it. `slots` are addresses of free slots, in bytes.
+/// The only subvolume is the top-level one, and the commit starts from `parts` of it. `slots` are addresses of free
+/// slots, in bytes.
 pub fn commit<D: Disk>(
     alloc: Global,
     disk: &mut D,
@@ -32,24 +31,14 @@ pub fn commit<D: Disk>(
     requires slots { All (λ slot. IsTrue (is_slot (sizes_of parts.now.superblock.now) slot)) slots.now }
     requires long { total_bytes (sizes_of parts.now.superblock.now) ≤ D.size disk.old }
 
-    // What was built, whatever the disk tells.
-    ensures superblock { IfOk result (λ laid. IsTrue (is_super laid.superblock)) }
-    ensures trees { IfOk result (λ laid. AreTreesOf parts.now slots.now laid) }
-    ensures placed { IfOk result (λ laid. (slot : ℕ)
-        → Contains (map (λ node. (header_of node).address) (nodes_laid laid)) slot → Contains slots.now slot) }
-
-    // Over a disk that tells what it holds: exactly these calls.
+    // What was laid out, and over a disk that tells what it holds exactly the calls that write it.
+    ensures laid { IfOk result (λ laid. IsLaying parts.now slots.now laid) }
     ensures calls { (events : List Event) → D.history disk.old ≡ Some events
         → IfOk result (λ laid. D.history disk.new ≡ Some (with_commit laid.superblock (nodes_laid laid) events)) }
 
-    // What these calls leave on a disk that is long enough, whatever was done to it.
-    ensures committed { (events : List Event) (old : State) (before : Subvolume) (group : Group)
-        → total_bytes (sizes_of parts.now.superblock.now) ≤ length (content events)
-        → IfOk result (λ laid. ArePartsOf old before group parts.now slots.now
-        → IsCommitOf old laid parts.now.files.now (content (with_commit laid.superblock (nodes_laid laid) events))) }
-
-    // Whatever it answers, nothing of what was done before is lost.
-    ensures later { (events : List Event) → D.history disk.old ≡ Some events → GoesOn events (D.history disk.new) }
+    // Where it does not end, nothing else was done than some of these calls, from the first on.
+    ensures stopped { (events : List Event) → D.history disk.old ≡ Some events
+        → IfErr result (λ fault. StopsLaying parts.now slots.now events (D.history disk.new)) }
 
     // Over any disk.
     ensures no_less { D.size disk.old ≤ D.size disk.new }
@@ -73,8 +62,8 @@ fn write_laid<D: Disk>(disk: &mut D, laid: &Laid, buffer: &mut [u8]) -> Result<(
     requires nodes { AllByRecursion (IsWritable (length buffer.old)) (nodes_laid laid.now) }
     ensures calls { OnOk result (D.history disk.new
         ≡ option_map (with_commit laid.now.superblock (nodes_laid laid.now)) (D.history disk.old)) }
-    ensures read { OnOk result (All (IsReadBack (length buffer.old)) (nodes_laid laid.now)) }
-    ensures later { (events : List Event) → D.history disk.old ≡ Some events → GoesOn events (D.history disk.new) }
+    ensures front { (events : List Event) → D.history disk.old ≡ Some events
+        → MadeFront (commit_calls laid.now.superblock (nodes_laid laid.now)) events (D.history disk.new) }
     ensures no_less { D.size disk.old ≤ D.size disk.new }
     ensures cause { HasCause DiskFault.Failed (D.faults disk.old) (D.faults disk.new) result }
 {

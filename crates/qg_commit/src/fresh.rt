@@ -2,7 +2,8 @@
 ghost use Rattle.std.specs.Prelude.{◌≡◌, ◌<◌, IfOk, IsTrue};
 ghost use Rattle.qg_super.specs.Places.{is_served, slot_at};
 ghost use Rattle.qg_contents.specs.Writable.{IsWritableRoot};
-ghost use Rattle.qg_commit.specs.Fresh.{fresh_root, quota_items, fresh_leaf_of, fresh_nodes};
+ghost use Rattle.qg_verdict.specs.IsFresh.{fresh_leaf};
+ghost use Rattle.qg_commit.specs.Fresh.{fresh_root, quota_items, fresh_nodes};
 
 use qg_contents::{quota_items, root_items};
 use qg_items::RootItem;
@@ -56,7 +57,7 @@ fn quotas(alloc: Global, nodesize: u64) -> Result<Items, NoMemory>
 
 // A leaf of generation 1.
 fn leaf(owner: u64, address: u64, items: Items) -> Node
-    ensures { result ≡ fresh_leaf_of owner address items }
+    ensures { result ≡ fresh_leaf owner address items }
 {
     let header = Header {
         address: Address::new(address),
@@ -67,8 +68,8 @@ fn leaf(owner: u64, address: u64, items: Items) -> Node
     Node::Leaf { header, items }
 }
 
-/// The nodes of a fresh image: the root tree, the extent tree, the top-level subvolume and the quota tree, a leaf each, in the first
-/// slots (this project's own).
+/// The nodes of a fresh image: the root tree, the extent tree, the top-level subvolume and the quota tree, a leaf each,
+/// in the first slots (this project's own).
 pub fn nodes_of(alloc: Global, sizes: Sizes) -> Result<Vec<Node>, NoMemory>
     requires { IsTrue (is_served sizes) }
     ensures { IfOk result (λ nodes. nodes.items ≡ fresh_nodes sizes) }

@@ -16,8 +16,8 @@ use qg_num::{Address, Generation};
 use qg_super::{SECTOR, Sizes, Super};
 use std::alloc::Global;
 
-/// Makes a fresh image of these sizes: generation 1, quota on, the top-level subvolume empty, its group with its counts and no limit
-/// (this project's own).
+/// Makes a fresh image of these sizes: generation 1, quota on, the top-level subvolume empty, its group with its counts
+/// and no limit (this project's own).
 pub fn mkfs<D: Disk>(alloc: Global, disk: &mut D, sizes: Sizes) -> Result<(), MkfsFault>
     // Sizes that are not served are refused before any call.
     ensures size { IsErrOf result MkfsFault.Size ↔ (is_served sizes ≡ false) }

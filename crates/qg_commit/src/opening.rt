@@ -6,7 +6,6 @@ ghost use Rattle.qg_super.specs.Places.{total_bytes};
 ghost use Rattle.qg_super.specs.SuperText.{is_super, sizes_of};
 ghost use Rattle.qg_verdict.specs.Verdict.{verdict};
 ghost use Rattle.qg_check.specs.IsImage.{IsEditable, IsImage};
-ghost use Rattle.qg_commit.specs.Calls.{GoesOn};
 ghost use Rattle.qg_commit.specs.Opened.{IsOpening};
 ghost use Rattle.qg_commit.specs.Opening.{IsRefusal, IsUntouched, IsWriting, with_repair};
 
@@ -16,10 +15,11 @@ use qg_disk::{Disk, DiskFault};
 use qg_super::{FIRST_PLACE, SECOND_PLACE, SUPER_BYTES, Super, write_super};
 use std::alloc::Global;
 
-/// Opens an image: what it stands for where it is sound, else the first rule that it breaks, or the first stored counter that is not the
-/// direct count (this project's own).
+/// Opens an image: what it stands for where it is sound, else the first rule that it breaks, or the first stored
+/// counter that is not the direct count (this project's own).
 ///
-/// Of a sound image the superblock place that does not hold the superblock that counts is written again; nothing else is written.
+/// Of a sound image the superblock place that does not hold the superblock that counts is written again; nothing else
+/// is written.
 pub fn open<D: Disk>(alloc: Global, disk: &mut D) -> Result<Image, OpenFault>
     // Over a disk that tells what it holds.
     ensures image { (events : List Event) → D.history disk.old ≡ Some events
@@ -31,7 +31,6 @@ pub fn open<D: Disk>(alloc: Global, disk: &mut D) -> Result<Image, OpenFault>
     ensures unwritten { (events : List Event) → D.history disk.old ≡ Some events
         → IfErr result (λ fault. IsUntouched fault (D.history disk.new) (Synced ∷ events)) }
     ensures touches { (events : List Event) → D.history disk.old ≡ Some events → IsOpening events (D.history disk.new) }
-    ensures later { (events : List Event) → D.history disk.old ≡ Some events → GoesOn events (D.history disk.new) }
 
     // Over any disk.
     ensures fits { IfOk result (λ image. IsTrue (is_super image.superblock)) }
@@ -55,7 +54,6 @@ fn write_place<D: Disk>(disk: &mut D, superblock: &Super, place: u64) -> Result<
         → OnOk result (D.history disk.new ≡ Some (with_repair superblock.now (Some place) events)) }
     ensures touches { (events : List Event) → D.history disk.old ≡ Some events
         → (D.history disk.new ≡ Some events) ⊎ IsWriting superblock.now place events (D.history disk.new) }
-    ensures later { (events : List Event) → D.history disk.old ≡ Some events → GoesOn events (D.history disk.new) }
     ensures no_less { D.size disk.old ≤ D.size disk.new }
     ensures cause { HasCause DiskFault.Failed (D.faults disk.old) (D.faults disk.new) result }
 {

@@ -1,12 +1,12 @@
 // The device calls of a commit.
-ghost use Rattle.std.specs.Prelude.{◌≡◌, ◌≤◌, List, length, All, Some, OnOk, IsTrue};
+ghost use Rattle.std.specs.Prelude.{◌≡◌, ◌≤◌, List, length, Some, OnOk, IsTrue};
 ghost use Rattle.std.specs.Option.{option_map};
 ghost use Rattle.std.specs.List.{AllByRecursion};
 ghost use Rattle.qg_device.specs.Cause.{HasCause};
 ghost use Rattle.qg_device.specs.History.{Event};
 ghost use Rattle.qg_node.specs.NodeText.{IsNodeSize};
 ghost use Rattle.qg_super.specs.SuperText.{is_super};
-ghost use Rattle.qg_commit.specs.Calls.{GoesOn, IsReadBack, IsWritable, with_commit, with_nodes, with_superblocks};
+ghost use Rattle.qg_commit.specs.Calls.{IsWritable, MadeFront, node_calls, superblock_calls, with_commit, with_nodes, with_superblocks};
 
 use qg_disk::{Disk, DiskFault};
 use qg_node::{Node, write_node};
@@ -22,8 +22,8 @@ pub fn write_nodes<D: Disk>(
     requires nodes { AllByRecursion (IsWritable (length buffer.old)) nodes.now }
     ensures calls { OnOk result (D.history disk.new
         ≡ option_map (with_nodes (length buffer.old) nodes.now) (D.history disk.old)) }
-    ensures read { OnOk result (All (IsReadBack (length buffer.old)) nodes.now) }
-    ensures later { (events : List Event) → D.history disk.old ≡ Some events → GoesOn events (D.history disk.new) }
+    ensures front { (events : List Event) → D.history disk.old ≡ Some events
+        → MadeFront (node_calls (length buffer.old) nodes.now) events (D.history disk.new) }
     ensures no_less { D.size disk.old ≤ D.size disk.new }
     ensures cause { HasCause DiskFault.Failed (D.faults disk.old) (D.faults disk.new) result }
 {
@@ -34,12 +34,14 @@ pub fn write_nodes<D: Disk>(
     Ok(())
 }
 
-/// Makes sure of what was done, and then writes the first superblock, and the second once the first is made sure of (this project's own).
+/// Makes sure of what was done, and then writes the first superblock, and the second once the first is made sure of
+/// (this project's own).
 pub fn write_superblocks<D: Disk>(disk: &mut D, superblock: &Super) -> Result<(), DiskFault>
     requires { IsTrue (is_super superblock.now) }
     ensures calls { OnOk result (D.history disk.new
         ≡ option_map (with_superblocks superblock.now) (D.history disk.old)) }
-    ensures later { (events : List Event) → D.history disk.old ≡ Some events → GoesOn events (D.history disk.new) }
+    ensures front { (events : List Event) → D.history disk.old ≡ Some events
+        → MadeFront (superblock_calls superblock.now) events (D.history disk.new) }
     ensures no_less { D.size disk.old ≤ D.size disk.new }
     ensures cause { HasCause DiskFault.Failed (D.faults disk.old) (D.faults disk.new) result }
 {
@@ -54,7 +56,8 @@ pub fn write_superblocks<D: Disk>(disk: &mut D, superblock: &Super) -> Result<()
     Ok(())
 }
 
-/// Writes new nodes, then the first superblock, then the second, each once what was before is made sure of (this project's own).
+/// Writes new nodes, then the first superblock, then the second, each once what was before is made sure of (this
+/// project's own).
 pub fn write_commit<D: Disk>(
     disk: &mut D,
     superblock: &Super,

@@ -9,7 +9,7 @@ use Rattle.qg_num.specs.declared.answer.Row.{Row}
 use Rattle.qg_num.specs.declared.piece.Piece.{Piece}
 use Rattle.qg_num.specs.declared.refusal.Refusal.{Refusal}
 use Rattle.qg_num.specs.declared.refusal.Refusal.TheVariants as refusal
-use Rattle.qg_grammar.specs.ScriptText.{then_number, then_word, group_text, then_group, which_text, limit_text}
+use Rattle.qg_grammar.specs.ScriptText.{then_number, then_word, group_text, then_group, which_text, maximum_text}
 
 -- a line with its newline
 abbrev pub line : List ℕ → List ℕ
@@ -45,7 +45,7 @@ refusal_text refusal.NoGeneration = codes "no generation"
 -- a group, its two counters and its two limits
 unfoldable pub row_text : Row → List ℕ
 row_text row =
-    group_text row.group ++ then_number row.counters.rfer ++ then_number row.counters.excl ++ then_word (limit_text row.max_rfer) ++ then_word (limit_text row.max_excl)
+    group_text row.group ++ then_number row.counters.rfer ++ then_number row.counters.excl ++ then_word (maximum_text row.max_rfer) ++ then_word (maximum_text row.max_excl)
 
 -- a piece's position and length, the address of its extent, and its offset there
 unfoldable pub piece_text : Piece → List ℕ

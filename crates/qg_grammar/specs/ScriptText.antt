@@ -46,9 +46,9 @@ which_text Rfer = codes "rfer"
 which_text Excl = codes "excl"
 
 -- a limit in bytes, or `none`
-abbrev pub limit_text : Option ℕ → List ℕ
-limit_text None = codes "none"
-limit_text (Some max) = decimal max
+abbrev pub maximum_text : Option ℕ → List ℕ
+maximum_text None = codes "none"
+maximum_text (Some max) = decimal max
 
 -- the groups that a snapshot's group is put into; without any the word is left out
 abbrev pub inherit_text : List ℕ → List ℕ
@@ -74,7 +74,7 @@ command_text (GroupCreate group) = codes "qgroup create" ++ then_group group
 command_text (GroupDestroy group) = codes "qgroup destroy" ++ then_group group
 command_text (Assign member parent) = codes "assign" ++ then_group member ++ then_group parent
 command_text (Remove member parent) = codes "remove" ++ then_group member ++ then_group parent
-command_text (Limit group which max) = codes "limit" ++ then_word (which_text which) ++ then_group group ++ then_word (limit_text max)
+command_text (Limit group which max) = codes "limit" ++ then_word (which_text which) ++ then_group group ++ then_word (maximum_text max)
 command_text Show = codes "show"
 command_text (Ls sub ino) = codes "ls" ++ then_number sub ++ then_number ino
 command_text (Owners address) = codes "owners" ++ then_number address

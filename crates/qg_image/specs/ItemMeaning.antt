@@ -43,8 +43,8 @@ abbrev pub ◌orelse◌ : {A : Type 0} → Option A → Option A → Option A
 None orelse y = y
 
 -- the item's key is (object, kind, offset)
-abbrev pub has_key : ℕ → ℕ → ℕ → Item → Bool
-has_key objectid kind offset item = (item.key.objectid == objectid) && (item.key.kind == kind) && (item.key.offset == offset)
+abbrev pub is_keyed : ℕ → ℕ → ℕ → Item → Bool
+is_keyed objectid kind offset item = (item.key.objectid == objectid) && (item.key.kind == kind) && (item.key.offset == offset)
 
 -- ---- subvolumes
 
@@ -57,7 +57,7 @@ piece_told position told =
 -- a file, by its INODE_ITEM, or a piece of one, by an EXTENT_DATA
 unfoldable pub file_part : Item → Option FilePart
 file_part item =
-    when (has_key item.key.objectid INODE_ITEM 0 item) (option_map (Inode item.key.objectid) (inode_read item.body))
+    when (is_keyed item.key.objectid INODE_ITEM 0 item) (option_map (Inode item.key.objectid) (inode_read item.body))
     orelse when (item.key.kind == EXTENT_DATA) (option_map (PieceOf item.key.objectid) (option_and_then (piece_told item.key.offset) (extent_data_read item.body)))
 
 -- the generations that an item tells
@@ -74,7 +74,7 @@ is_subvolume_number tree = (tree == TOP_LEVEL) || (nat_le FIRST_FREE tree && nat
 -- a tree's number and its ROOT_ITEM, whose refs is 1
 unfoldable pub root_part : Item → Option (ℕ × RootItem)
 root_part item =
-    when (has_key item.key.objectid ROOT_ITEM 0 item && ((item.key.objectid == EXTENT_TREE) || (item.key.objectid == QUOTA_TREE) || is_subvolume_number item.key.objectid))
+    when (is_keyed item.key.objectid ROOT_ITEM 0 item && ((item.key.objectid == EXTENT_TREE) || (item.key.objectid == QUOTA_TREE) || is_subvolume_number item.key.objectid))
     (option_and_then (λ root. then_some (root.refs == 1) (item.key.objectid, root)) (root_read item.body))
 
 -- the generations that a ROOT_ITEM tells
@@ -110,9 +110,9 @@ is_status status = (status.flags == 1) && (status.cursor == 0)
 -- the state of quota, a group's counters, its limits, or one end of a relation, whose body is empty
 unfoldable pub quota_part : Item → Option QuotaPart
 quota_part item =
-    when (has_key 0 QGROUP_STATUS 0 item) (option_and_then (λ status. then_some (is_status status) (Status status)) (status_read item.body))
-    orelse when (has_key 0 QGROUP_INFO item.key.offset item) (option_map (Info item.key.offset) (info_read item.body))
-    orelse when (has_key 0 QGROUP_LIMIT item.key.offset item) (option_and_then (λ limit. then_some (nat_le limit.flags 3) (Limits item.key.offset limit)) (limit_read item.body))
+    when (is_keyed 0 QGROUP_STATUS 0 item) (option_and_then (λ status. then_some (is_status status) (Status status)) (status_read item.body))
+    orelse when (is_keyed 0 QGROUP_INFO item.key.offset item) (option_map (Info item.key.offset) (info_read item.body))
+    orelse when (is_keyed 0 QGROUP_LIMIT item.key.offset item) (option_and_then (λ limit. then_some (nat_le limit.flags 3) (Limits item.key.offset limit)) (limit_read item.body))
     orelse when ((item.key.kind == QGROUP_RELATION) && (length item.body == 0)) (Some (Relation item.key.objectid item.key.offset))
 
 -- the generations that an item tells; limits and relations tell none

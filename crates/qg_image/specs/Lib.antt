@@ -4,3 +4,4 @@ pub mod IsShaped
 pub mod ItemMeaning
 pub mod FilesOf
 pub mod Examples
+pub mod ExamplesOfShape

@@ -16,27 +16,28 @@ use Rattle.qg_image.specs.FilesOf.{file_parts, is_file_item}
 use Rattle.qg_image.specs.ItemMeaning.{is_subvolume_number}
 use Rattle.qg_state.specs.declared.quota.Group.{Group}
 use Rattle.qg_state.specs.declared.quota.Quota.{Quota}
-use Rattle.qg_state.specs.State.{State, Subvolume, next_generation}
+use Rattle.qg_state.specs.State.{State, Subvolume, Layout, layout_of, next_generation}
+use Rattle.qg_state.specs.Members.{hierarchy_of}
 use Rattle.qg_state.specs.Counts.{bytes_of, direct_count, exclusive, referenced}
-use Rattle.qg_state.specs.Need.{present_records}
 use Rattle.qg_state.specs.Space.{is_free_slot, present_extents}
 use Rattle.qg_verdict.specs.declared.tree.Tree.TheVariants.{Files}
-use Rattle.qg_verdict.specs.StateOf.{as_committed}
+use Rattle.qg_verdict.specs.ImageState.{addresses_of, as_committed}
+use Rattle.qg_verdict.specs.OtherTrees.{AreOtherTrees}
 use Rattle.qg_verdict.specs.Walk.{is_generation, is_item_of}
 use Rattle.qg_machine.specs.GroupChange.{recounted, same_counters}
 use Rattle.qg_machine.specs.Layout.{but_for_root, is_other_slot, Rebuilds}
 use Rattle.qg_machine.specs.Step.{settled, Commits}
 use Rattle.qg_reach.specs.Sets.{HaveSame}
 use Rattle.qg_reach.proofs.Counting.{AreTold, AreTold-space, IsSingle, KeepSpace, exclusive_single, referenced_told}
-use Rattle.qg_reach.proofs.Layouts.{layout_of}
+use Rattle.qg_reach.proofs.Layouts.{layout_by}
 use Rattle.qg_reach.proofs.Members.{one_mapped}
 use Rattle.qg_reach.proofs.Reached.{extents_named}
-use Rattle.qg_tree.specs.Build.{node_among}
+use Rattle.qg_verdict.specs.Among.{node_among}
 use Rattle.qg_tree.specs.Row.{address_of}
 use Rattle.qg_check.proofs.Found.{items_below-nodes}
 use Rattle.qg_check.proofs.Pieces.{extents_told}
 use Rattle.qg_check.proofs.SlotsOf.{same_slots}
-use Rattle.qg_laid.proofs.Rebuilt.{all_contained, each_contained, in_slots, passes_all, rebuilt_laid, HasNodes-laid, IsLaidOut, IsWhole-laid}
+use Rattle.qg_laid.proofs.Rebuilt.{all_contained, each_contained, in_slots, passes_all, rebuilt_laid, root_laid, HasNodes-laid, IsLaidOut, IsRootLaid, IsWhole-laid}
 use Rattle.qg_laid.proofs.Slots.{AreInOrder, count_addresses, in_order, ordered_addresses, placed_apart}
 use Rattle.qg_laid.proofs.Sound.{state_laid}
 use Rattle.qg_laid.proofs.Told.{all_said, files_said, quota_laid, SayFiles}
@@ -58,11 +59,12 @@ group_counted group bytes generation no_rfer no_excl = cases (same_counters grou
       λ i. one_group (record { counters = record { rfer = rfer i; excl = excl i }; max_rfer = no_rfer i; max_excl = no_excl i; stamp = group.stamp })
   cases false is = λ i. one_group (record { counters = all_exclusive bytes; max_rfer = no_rfer i; max_excl = no_excl i; stamp = generation })
 
-recounted_by : (state : State) (group : Group) (generation : ℕ) (counters : Counters) → direct_count state (one_group group) 5 ≡ counters
-    → recounted state generation (one_group group) ≡ cond (same_counters group.counters counters) (one_group group) (one_group (record group { counters = counters; stamp = generation }))
+recounted_by : (layout : Layout) (group : Group) (generation : ℕ) (counters : Counters) → direct_count layout (hierarchy_of (one_group group)) 5 ≡ counters
+    → recounted layout generation (one_group group) ≡ cond (same_counters group.counters counters) (one_group group) (one_group (record group { counters = counters; stamp = generation }))
 unfolding recounted
-recounted_by state group generation counters is =
-    moved (same_counters group.counters (direct_count state (one_group group) 5)) (5, group) (5, record group { counters = direct_count state (one_group group) 5; stamp = generation })
+recounted_by layout group generation counters is =
+    moved (same_counters group.counters (direct_count layout (hierarchy_of (one_group group)) 5)) (5, group)
+    (5, record group { counters = direct_count layout (hierarchy_of (one_group group)) 5; stamp = generation })
     ∙ ap (λ (c : Counters). cond (same_counters group.counters c) (one_group group) (one_group (record group { counters = c; stamp = generation }))) is
   where
     moved : (same : Bool) (a b : ℕ × Group) → one_entry (cond same a b) ≡ cond same (one_entry a) (one_entry b)
@@ -73,7 +75,7 @@ recounted_by state group generation counters is =
 
 -- the state with its only subvolume's tree laid out anew
 abbrev pub laid_out_as : State → Subvolume → ℕ → List Node → State
-laid_out_as state subvolume root nodes = record state { subvolumes = (5, record subvolume { root = root }) ∷ []; layout = layout_of [] nodes }
+laid_out_as state subvolume root nodes = record state { subvolumes = (5, record subvolume { root = root }) ∷ []; layout = layout_by [] nodes }
 
 pub each_passes : {A : Type 0} (test : A → Bool) (xs : List A) → list_all test xs ≡ true → AllByRecursion (λ x. test x ≡ true) xs
 each_passes test [] all = tt
@@ -110,9 +112,9 @@ module _ (old : State) (before : Subvolume) (group : Group) (items : List Item) 
   moved = record before { root = root }
 
   say : SayFiles (next_generation old) items before.files
-  say = files_said (next_generation old) items before.files builds.held
+  say = files_said (next_generation old) items before.files builds.told
 
-  apart : IsDistinct (λ a b. a == b) (map address_of nodes)
+  pub apart : IsDistinct (λ a b. a == b) (map address_of nodes)
   apart = placed_apart nodes slots builds.built.placed builds.distinct
 
   abbrev is_laid : IsLaidOut laid_out moved old.sizes.nodesize (next_generation old) items slots nodes level
@@ -125,7 +127,7 @@ module _ (old : State) (before : Subvolume) (group : Group) (items : List Item) 
     };
     layout = refl;
     apart = apart;
-    files = builds.held;
+    files = builds.told;
   }
 
   pub Rebuilds-laid : Rebuilds old laid_out
@@ -135,6 +137,10 @@ module _ (old : State) (before : Subvolume) (group : Group) (items : List Item) 
     whole = IsWhole-laid laid_out moved old.sizes.nodesize (next_generation old) items slots nodes level is_laid;
     made = rebuilt_laid laid_out moved old.sizes.nodesize (next_generation old) items slots nodes level is_laid old refl (each_passes (is_free_slot old) slots builds.free);
   }
+
+  -- the root node in it
+  pub root_there : IsRootLaid (layout_by [] those) root level (next_generation old)
+  root_there = root_laid laid_out moved old.sizes.nodesize (next_generation old) items slots nodes level is_laid
 
   -- ---- what its group counts
 
@@ -166,68 +172,73 @@ module _ (old : State) (before : Subvolume) (group : Group) (items : List Item) 
       let own = items_below-nodes (node_among nodes) level root items those builds.built.held builds.built.reached.under in
       extents_told those items (file_parts items) before.files (extents_in before.files) own (all_said (next_generation old) items say.each) say.fit say.told refl
 
-  single : IsSingle laid_out (one_group group) moved
-  single = record { subvolumes = refl; groups = refl }
+  single : IsSingle (layout_of laid_out) (hierarchy_of (one_group group)) root
+  single = record { roots = refl; groups = refl }
 
-  referenced_laid : referenced laid_out (one_group group) 5 ≡ bytes_laid old before nodes
+  referenced_laid : referenced (layout_of laid_out) (hierarchy_of (one_group group)) 5 ≡ bytes_laid old before nodes
   referenced_laid =
       let told : AreTold those (in_order addresses) (extents_in before.files) = AreTold-space old.sizes those (in_order addresses) (extents_in before.files) keep ordered.same named in
       let has = HasNodes-laid laid_out moved old.sizes.nodesize (next_generation old) items slots nodes level is_laid in
-      referenced_told laid_out (one_group group) moved those (in_order addresses) (extents_in before.files) single has told
+      referenced_told (layout_of laid_out) (hierarchy_of (one_group group)) root those (in_order addresses) (extents_in before.files) single has told
       ∙ ap (λ (n : ℕ). old.sizes.nodesize * n + bytes_of (extents_in before.files)) (count_addresses those nodes builds.built.reached.same apart)
 
-  counted_laid : direct_count laid_out (one_group group) 5 ≡ all_exclusive (bytes_laid old before nodes)
+  counted_laid : direct_count (layout_of laid_out) (hierarchy_of (one_group group)) 5 ≡ all_exclusive (bytes_laid old before nodes)
   counted_laid =
-      let exclusive_laid : exclusive laid_out (one_group group) 5 ≡ bytes_laid old before nodes = exclusive_single laid_out (one_group group) moved single ∙ referenced_laid in
+      let exclusive_laid : exclusive (layout_of laid_out) (hierarchy_of (one_group group)) 5 ≡ bytes_laid old before nodes =
+      exclusive_single (layout_of laid_out) (hierarchy_of (one_group group)) root single ∙ referenced_laid in
       λ i. record { rfer = referenced_laid i; excl = exclusive_laid i }
 
   abbrev pub stamp : ℕ
   stamp = stamp_after group.counters (all_exclusive (bytes_laid old before nodes)) group.stamp (next_generation old)
 
-  quota_now : option_map (recounted laid_out (next_generation old)) old.quota ≡ Some (quota_laid stamp (bytes_laid old before nodes))
+  quota_now : option_map (recounted (layout_of laid_out) (next_generation old)) old.quota ≡ Some (quota_laid stamp (bytes_laid old before nodes))
   quota_now =
-      ap (λ (quota : Option Quota). option_map (recounted laid_out (next_generation old)) quota) one.counted
+      ap (λ (quota : Option Quota). option_map (recounted (layout_of laid_out) (next_generation old)) quota) one.counted
       ∙ ap (λ (quota : Quota). Some quota)
-      (recounted_by laid_out group (next_generation old) (all_exclusive (bytes_laid old before nodes)) counted_laid
+      (recounted_by (layout_of laid_out) group (next_generation old) (all_exclusive (bytes_laid old before nodes)) counted_laid
       ∙ group_counted group (bytes_laid old before nodes) (next_generation old) one.no_max_rfer one.no_max_excl)
 
   -- ---- the state that is committed
 
-  abbrev now : List ℕ → Sizes → ℕ → ℕ → ℕ → Option Quota → State
+  abbrev now : List Node → Sizes → ℕ → ℕ → ℕ → Option Quota → State
   now others sizes generation at snapshot quota = as_committed others (record {
     sizes = sizes;
     generation = generation;
     subvolumes = (5, record { files = before.files; root = at; last_snapshot = snapshot }) ∷ [];
-    layout = layout_of [] those;
+    layout = layout_by [] those;
     quota = quota;
     pending = [];
-    held = record { nodes = []; others = []; extents = []; records = [] };
+    held = record { nodes = []; others = []; extents = [] };
   })
 
-  settled_laid : (others : List ℕ) → as_committed others (settled laid_out)
-      ≡ now others old.sizes (next_generation old) root before.last_snapshot (option_map (recounted laid_out (next_generation old)) old.quota)
-  unfolding present_extents present_records
+  settled_laid : (others : List Node) → as_committed others (settled laid_out)
+      ≡ now others old.sizes (next_generation old) root before.last_snapshot (option_map (recounted (layout_of laid_out) (next_generation old)) old.quota)
+  unfolding present_extents
   settled_laid others = refl
 
-  same_now : (others : List ℕ) (sizes sizes' : Sizes) (generation generation' at at' snapshot snapshot' : ℕ) (quota quota' : Option Quota) → sizes ≡ sizes' → generation ≡ generation' → at ≡ at' → snapshot ≡ snapshot' → quota ≡ quota'
+  same_now : (others : List Node) (sizes sizes' : Sizes) (generation generation' at at' snapshot snapshot' : ℕ) (quota quota' : Option Quota) → sizes ≡ sizes' → generation ≡ generation' → at ≡ at' → snapshot ≡ snapshot' → quota ≡ quota'
       → now others sizes generation at snapshot quota ≡ now others sizes' generation' at' snapshot' quota'
   same_now others sizes sizes' generation generation' at at' snapshot snapshot' quota quota' a b c d e = λ i. now others (a i) (b i) (c i) (d i) (e i)
 
-  pub committed_laid : (super : Super) (subvolume : RootItem) (others : List ℕ) → Continues old before super subvolume → subvolume.bytenr ≡ root
+  pub committed_laid : (super : Super) (subvolume : RootItem) (others : List Node) → Continues old before super subvolume → subvolume.bytenr ≡ root
       → state_laid super others subvolume before.files those stamp (bytes_laid old before nodes) ≡ as_committed others (settled laid_out)
   committed_laid super subvolume others tells bytenr =
       same_now others (sizes_of super) old.sizes super.generation (next_generation old) subvolume.bytenr root subvolume.last_snapshot before.last_snapshot
-      (Some (quota_laid stamp (bytes_laid old before nodes))) (option_map (recounted laid_out (next_generation old)) old.quota)
+      (Some (quota_laid stamp (bytes_laid old before nodes))) (option_map (recounted (layout_of laid_out) (next_generation old)) old.quota)
       tells.sizes tells.generation bytenr tells.last_snapshot (sym quota_now)
       ∙ sym (settled_laid others)
 
   -- the machine comes from the old state to that of the image
-  pub Commits-laid : (super : Super) (subvolume : RootItem) (others : List ℕ) → Continues old before super subvolume → subvolume.bytenr ≡ root → IsTrue (list_all (is_other_slot old laid_out) others)
+  pub Commits-laid : (super : Super) (subvolume : RootItem) (others : List Node) → Continues old before super subvolume → subvolume.bytenr ≡ root
+      → IsTrue (list_all (is_other_slot old laid_out) (addresses_of others)) → IsDistinct (λ a b. a == b) (addresses_of others)
+      → AreOtherTrees (state_laid super others subvolume before.files those stamp (bytes_laid old before nodes)) others
       → Commits old (state_laid super others subvolume before.files those stamp (bytes_laid old before nodes))
-  Commits-laid super subvolume others tells bytenr free = record {
+  Commits-laid super subvolume others tells bytenr free apart_others trees = record {
     laid_out = laid_out;
     others = others;
     rebuilt = Rebuilds-laid;
     slots = free;
+    apart = apart_others;
+    trees = trees;
     committed = committed_laid super subvolume others tells bytenr;
   }

@@ -34,7 +34,7 @@ filled_roots nodesize (inr is) = rw is refl
 
 -- ---- what is left
 
-IsDistinct-back : (front back : List ℕ) → IsDistinct (λ a b. a == b) (front ++ back) → IsDistinct (λ a b. a == b) back
+pub IsDistinct-back : (front back : List ℕ) → IsDistinct (λ a b. a == b) (front ++ back) → IsDistinct (λ a b. a == b) back
 IsDistinct-back [] back apart = apart
 IsDistinct-back (n ∷ front) back apart = IsDistinct-back front back (IsDistinct-tail (λ a b. a == b) n (front ++ back) apart)
 

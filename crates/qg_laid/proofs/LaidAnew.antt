@@ -1,11 +1,12 @@
 -- Trees that were laid out one behind the other are those of a commit that builds all anew.
-use Rattle.std.proofs.Common.{◌≡◌, ℕ, ◌+◌, Bool, true, false, inl, inr, List, [], ◌∷◌, ◌++◌, length, take, drop, refl, sym, ap, subst, ◌∙◌, eq-eqb, arith, take-append-drop}
+use Rattle.std.proofs.Common.{◌≡◌, ℕ, ◌+◌, Bool, true, false, inl, inr, List, [], ◌∷◌, ◌++◌, map, length, take, drop, refl, sym, ap, subst, ◌∙◌, eq-eqb, arith, take-append-drop}
 use Rattle.std.specs.Prelude.{◌==◌, Some, None}
 use Rattle.std.specs.List.{AllByRecursion, Contains, IsDistinct, filter_map, list_all}
 use Rattle.std.proofs.lemmas.Bool.{and_parts, false≢true}
-use Rattle.std.proofs.lemmas.List.{length-take, take_all}
+use Rattle.std.proofs.lemmas.List.{append_assoc, length-take, take_all}
+use Rattle.std.proofs.lemmas.List.Sorted.{IsPermutation-append_comm, IsPermutation-map}
 use Rattle.std.proofs.lemmas.List.Elements.{Contains-append_right}
-use Rattle.std.proofs.lemmas.Map.Keys.{IsDistinct-head, IsDistinct-tail}
+use Rattle.std.proofs.lemmas.Map.Keys.{IsDistinct-IsPermutation}
 use Rattle.qg_node.specs.declared.item.Item.{Item}
 use Rattle.qg_node.specs.declared.node.Node.{Node}
 use Rattle.qg_num.specs.declared.counters.Counters.{Counters}
@@ -22,7 +23,6 @@ use Rattle.qg_state.specs.declared.quota.Group.{Group}
 use Rattle.qg_state.specs.declared.quota.Quota.{Quota}
 use Rattle.qg_state.specs.State.{State, Subvolume, next_generation}
 use Rattle.qg_state.specs.Space.{is_free_slot, present_extents}
-use Rattle.qg_state.proofs.Contained.{none_contained, contains_cases}
 use Rattle.qg_verdict.specs.declared.tree.Tree.{Tree}
 use Rattle.qg_verdict.specs.declared.tree.Tree.TheVariants.{Extents, Quotas, Roots}
 use Rattle.qg_verdict.specs.Walk.{is_item_of, is_owner}
@@ -30,31 +30,16 @@ use Rattle.qg_tree.specs.Build.{IsBuilt}
 use Rattle.qg_tree.proofs.Frame.{IsDistinct-front}
 use Rattle.qg_laid.specs.declared.laying.Laid.{Laid}
 use Rattle.qg_laid.specs.Anew.{all_exclusive, BuildsAnew, BuildsFiles, BuildsOther, bytes_laid, one_group, quota_parts_laid, roots_laid, stamp_after}
-use Rattle.qg_laid.specs.Trees.{AreFor, AreTreesLaid, IsCommitOf, IsLaidState, nodes_laid, root_of}
+use Rattle.qg_laid.specs.Trees.{AreFor, AreTreesLaid, IsCommitOf, IsLaidState, nodes_laid, root_item_laid}
 use Rattle.qg_laid.specs.Holds.{HasCommit}
-use Rattle.qg_laid.proofs.Anew.{anew-Commits, anew-StateOf, anew-held, anew-nodes, anew-sound, state_anew}
+use Rattle.qg_laid.proofs.Anew.{anew-Commits, anew-StateOf, anew-held, anew-nodes, anew-written, state_anew}
+use Rattle.qg_laid.proofs.Apart.{apart-at}
+use Rattle.qg_laid.proofs.Enough.{IsDistinct-back, LieFirst-more, LieFirst-placed}
+use Rattle.qg_laid.proofs.Slots.{flips}
+use Rattle.qg_tree.specs.Row.{address_of}
 use Rattle.qg_laid.proofs.Told.{quota_laid}
 
 -- ---- slots in front and behind
-
-apart-head : (n x : ℕ) (later : List ℕ) → IsDistinct (λ a b. a == b) (n ∷ later) → Contains later x → n ≡ x → ⊥
-apart-head n x later apart has same = absurd (go later (IsDistinct-head (λ a b. a == b) n later apart) has) where
-  go : (xs : List ℕ) → AllByRecursion (λ y. (n == y) ≡ false) xs → Contains xs x → ⊥
-  go [] all has = none_contained x has
-  go (y ∷ xs) all has = elim (contains_cases y xs x has) [
-    | inl is ↦ false≢true (sym all.0 ∙ eq-eqb n y (same ∙ sym is))
-    | inr later ↦ go xs all.1 later
-  ]
-
-pub apart-parts : (front back : List ℕ) (x : ℕ) → IsDistinct (λ a b. a == b) (front ++ back) → Contains back x → Contains front x → ⊥
-apart-parts [] back x apart behind before = none_contained x before
-apart-parts (n ∷ front) back x apart behind before = elim (contains_cases n front x before) [
-  | inl is ↦ apart-head n x (front ++ back) apart (Contains-append_right front back x behind) is
-  | inr later ↦ apart-parts front back x (IsDistinct-tail (λ a b. a == b) n (front ++ back) apart) behind later
-]
-
-pub apart-at : (slots : List ℕ) (n x : ℕ) → IsDistinct (λ a b. a == b) slots → Contains (drop n slots) x → Contains (take n slots) x → ⊥
-apart-at slots n x apart = apart-parts (take n slots) (drop n slots) x (subst (IsDistinct (λ a b. a == b)) (sym (take-append-drop n slots)) apart)
 
 pub contains-drop : (slots : List ℕ) (n x : ℕ) → Contains (drop n slots) x → Contains slots x
 contains-drop slots n x has = subst (λ (xs : List ℕ). Contains xs x) (take-append-drop n slots) (Contains-append_right (take n slots) (drop n slots) x has)
@@ -71,6 +56,9 @@ passes-drop p slots n all = (passes-parts p (take n slots) (drop n slots) (subst
 
 pub passes-take : (p : ℕ → Bool) (slots : List ℕ) (n : ℕ) → list_all p slots ≡ true → list_all p (take n slots) ≡ true
 passes-take p slots n all = (passes-parts p (take n slots) (drop n slots) (subst (λ (xs : List ℕ). list_all p xs ≡ true) (sym (take-append-drop n slots)) all)).0
+
+distinct-drop : (slots : List ℕ) (n : ℕ) → IsDistinct (λ a b. a == b) slots → IsDistinct (λ a b. a == b) (drop n slots)
+distinct-drop slots n apart = IsDistinct-back (take n slots) (drop n slots) (subst (IsDistinct (λ a b. a == b)) (sym (take-append-drop n slots)) apart)
 
 distinct-take : (slots : List ℕ) (n : ℕ) → IsDistinct (λ a b. a == b) slots → IsDistinct (λ a b. a == b) (take n slots)
 distinct-take slots n apart = IsDistinct-front (λ a b. a == b) (take n slots) (drop n slots) (subst (IsDistinct (λ a b. a == b)) (sym (take-append-drop n slots)) apart)
@@ -107,7 +95,7 @@ module _ (old : State) (before : Subvolume) (group : Group) (committed : Super) 
   files_built : BuildsFiles old before trees.file_tree.items (take (length laid.files.nodes) slots) laid.files.nodes laid.files.root laid.files.level
   files_built = record {
     built = rw (← size, ← next) (built-front committed.nodesize TOP_LEVEL (committed.generation + 1) trees.file_tree.items slots laid.files.nodes laid.files.root laid.files.level trees.file_tree.stands);
-    held = rw (← next, is.held) trees.file_tree.told;
+    told = rw (← next, is.held) trees.file_tree.told;
     distinct = distinct-take slots (length laid.files.nodes) is.apart;
     free = passes-take (is_free_slot old) slots (length laid.files.nodes) is.free;
     served = rw (← is.sizes) (SuperFits-is_super committed is.super).served;
@@ -116,12 +104,13 @@ module _ (old : State) (before : Subvolume) (group : Group) (committed : Super) 
 
   other_built : (tree : Tree) (owner : ℕ) (items : List Item) (those : List ℕ) (nodes : List Node) (from level : ℕ) → is_owner tree owner ≡ true
       → IsBuilt committed.nodesize owner (committed.generation + 1) items those nodes from level → list_all (is_item_of tree (committed.generation + 1)) items ≡ true
-      → list_all (is_free_slot old) those ≡ true → ((slot : ℕ) → Contains those slot → Contains behind slot)
+      → IsDistinct (λ a b. a == b) those → list_all (is_free_slot old) those ≡ true → ((slot : ℕ) → Contains those slot → Contains behind slot)
       → BuildsOther tree owner old items those (take (length laid.files.nodes) slots) nodes from level
-  other_built tree owner items those nodes from level owned built hold free within = record {
+  other_built tree owner items those nodes from level owned built hold distinct free within = record {
     built = rw (← size, ← next) built;
     owned = owned;
     hold = rw (← next) hold;
+    distinct = distinct;
     free = free;
     elsewhere = λ slot has front. apart-at slots (length laid.files.nodes) slot is.apart (within slot has) front;
   }
@@ -133,6 +122,22 @@ module _ (old : State) (before : Subvolume) (group : Group) (committed : Super) 
         ≡ quota_parts_laid (next_generation old) (all_exclusive (bytes_laid old before laid.files.nodes)) (stamp_after group.counters (all_exclusive (bytes_laid old before laid.files.nodes)) group.stamp (next_generation old))
     told = rw (trees.stamped, trees.counted, is.counters_kept, is.stamp_kept, ← next, ← size, is.held, ← is.named) refl
 
+  -- the nodes of the other trees lie one behind the other
+  others_apart : IsDistinct (λ a b. a == b) (map address_of (laid.roots.nodes ++ laid.extents.nodes ++ laid.quotas.nodes))
+  others_apart =
+      let roots = laid.roots.nodes in
+      let extents = laid.extents.nodes in
+      let quotas = laid.quotas.nodes in
+      let after_extents = drop (length extents) behind in
+      let after_quotas = drop (length quotas) after_extents in
+      let two = LieFirst-more extents quotas behind after_extents after_quotas (LieFirst-placed extents behind trees.extent_tree.stands.placed) (LieFirst-placed quotas after_extents trees.quota_tree.stands.placed) in
+      let three = LieFirst-more (extents ++ quotas) roots behind after_quotas (drop (length roots) after_quotas) two (LieFirst-placed roots after_quotas trees.root_tree.stands.placed) in
+      let whole = subst (IsDistinct (λ a b. a == b)) (sym three) (distinct-drop slots (length laid.files.nodes) is.apart) in
+      let front = IsDistinct-front (λ a b. a == b) (map address_of (extents ++ quotas ++ roots)) (drop (length roots) after_quotas) whole in
+      let moved = IsPermutation-map address_of (extents ++ quotas ++ roots) (roots ++ (extents ++ quotas)) (IsPermutation-append_comm (extents ++ quotas) roots) in
+      subst (λ (nodes : List Node). IsDistinct (λ a b. a == b) (map address_of nodes)) (sym (append_assoc roots extents quotas))
+      (IsDistinct-IsPermutation (λ a b. a == b) flips (map address_of (extents ++ quotas ++ roots)) (map address_of (roots ++ (extents ++ quotas))) moved front)
+
   abbrev laid-BuildsAnew : BuildsAnew old before group laid.superblock (nodes_laid laid)
   laid-BuildsAnew =
       let after_extents = drop (length laid.extents.nodes) behind in
@@ -140,12 +145,15 @@ module _ (old : State) (before : Subvolume) (group : Group) (committed : Super) 
       let free_behind = passes-drop (is_free_slot old) slots (length laid.files.nodes) is.free in
       let free_extents = passes-drop (is_free_slot old) behind (length laid.extents.nodes) free_behind in
       let free_quotas = passes-drop (is_free_slot old) after_extents (length laid.quotas.nodes) free_extents in
+      let apart_behind = distinct-drop slots (length laid.files.nodes) is.apart in
+      let apart_extents = distinct-drop behind (length laid.extents.nodes) apart_behind in
+      let apart_quotas = distinct-drop after_extents (length laid.quotas.nodes) apart_extents in
       let empty : trees.extent_tree.items ≡ [] = trees.extent_tree.told in
       record {
         one = is.one;
-        extents = root_of laid.extents (committed.generation + 1) 0;
-        subvolume = root_of laid.files (committed.generation + 1) root.last_snapshot;
-        quotas = root_of laid.quotas (committed.generation + 1) 0;
+        extents = root_item_laid laid.extents (committed.generation + 1) 0;
+        subvolume = root_item_laid laid.files (committed.generation + 1) root.last_snapshot;
+        quotas = root_item_laid laid.quotas (committed.generation + 1) 0;
         tells = record {
           sizes = ap sizes_of trees.leads ∙ is.sizes;
           generation = ap (λ (super : Super). super.generation) trees.leads ∙ next;
@@ -153,6 +161,7 @@ module _ (old : State) (before : Subvolume) (group : Group) (committed : Super) 
         };
         extents_made = next;
         subvolume_made = next;
+        subvolume_once = refl;
         quotas_made = next;
         file_items = trees.file_tree.items;
         file_slots = take (length laid.files.nodes) slots;
@@ -162,12 +171,12 @@ module _ (old : State) (before : Subvolume) (group : Group) (committed : Super) 
         extent_nodes = laid.extents.nodes;
         empty = other_built Extents EXTENT_TREE [] behind laid.extents.nodes laid.extents.root laid.extents.level refl
             (subst (λ (items : List Item). IsBuilt committed.nodesize EXTENT_TREE (committed.generation + 1) items behind laid.extents.nodes laid.extents.root laid.extents.level) empty trees.extent_tree.stands)
-            refl free_behind (λ slot has. has);
+            refl apart_behind free_behind (λ slot has. has);
         quota_items = trees.quota_tree.items;
         quota_slots = after_extents;
         quota_nodes = laid.quotas.nodes;
         counts = other_built Quotas QUOTA_TREE trees.quota_tree.items after_extents laid.quotas.nodes laid.quotas.root laid.quotas.level refl trees.quota_tree.stands trees.quota_tree.allowed
-            free_extents (λ slot has. contains-drop behind (length laid.extents.nodes) slot has);
+            apart_extents free_extents (λ slot has. contains-drop behind (length laid.extents.nodes) slot has);
         counted = counted;
         root_items = trees.root_tree.items;
         root_slots = after_quotas;
@@ -175,8 +184,9 @@ module _ (old : State) (before : Subvolume) (group : Group) (committed : Super) 
         root_level = laid.roots.level;
         roots = rw (ap (λ (super : Super). super.root) trees.leads)
             (other_built Roots ROOT_TREE trees.root_tree.items after_quotas laid.roots.nodes laid.roots.root laid.roots.level refl trees.root_tree.stands trees.root_tree.allowed
-            free_quotas (λ slot has. contains-drop behind (length laid.extents.nodes) slot (contains-drop after_extents (length laid.quotas.nodes) slot has)));
-        named = trees.root_tree.told ∙ ap (λ (own : RootItem). roots_laid (root_of laid.extents (committed.generation + 1) 0) own (root_of laid.quotas (committed.generation + 1) 0)) trees.own_root;
+            apart_quotas free_quotas (λ slot has. contains-drop behind (length laid.extents.nodes) slot (contains-drop after_extents (length laid.quotas.nodes) slot has)));
+        named = trees.root_tree.told ∙ ap (λ (own : RootItem). roots_laid (root_item_laid laid.extents (committed.generation + 1) 0) own (root_item_laid laid.quotas (committed.generation + 1) 0)) trees.own_root;
+        apart = others_apart;
         all = refl;
       }
 
@@ -215,9 +225,9 @@ module _ (old : State) (before : Subvolume) (group : Group) (committed : Super) 
     -- an image that holds them is what the machine's commit leaves
     pub laid-IsCommitOf : IsCommitOf old laid files image
     laid-IsCommitOf = record {
-      sound = anew-sound old before group laid.superblock (nodes_laid laid) image laid-BuildsAnew has;
       state = state_laid;
       stands = anew-StateOf old before group laid.superblock (nodes_laid laid) image laid-BuildsAnew has;
       commits = anew-Commits old before group laid.superblock (nodes_laid laid) image laid-BuildsAnew has;
+      written = anew-written old before group laid.superblock (nodes_laid laid) image laid-BuildsAnew has;
       laid_so = laid-IsLaidState;
     }

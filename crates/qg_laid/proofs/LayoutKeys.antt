@@ -11,9 +11,9 @@ use Rattle.qg_image.specs.Table.{keys_of, with_value}
 use Rattle.qg_image.specs.declared.part.ExtentPart.{ExtentPart}
 use Rattle.qg_state.specs.State.{Placed}
 use Rattle.qg_state.proofs.Contained.{none_contained, contains_here, contains_later, contains_cases}
-use Rattle.qg_verdict.specs.StateOf.{placed}
+use Rattle.qg_verdict.specs.ImageState.{placed}
 use Rattle.qg_reach.specs.Sets.{HaveSame}
-use Rattle.qg_reach.proofs.Layouts.{layout_of, with_nodes}
+use Rattle.qg_reach.proofs.Layouts.{layout_by, with_nodes}
 use Rattle.qg_reach.proofs.Members.{same_moved, same_on}
 use Rattle.qg_tree.specs.Row.{address_of}
 
@@ -38,7 +38,7 @@ put-into false false n value entry entries behind m later has = elim (contains_c
   ]
 ]
 
-with_value-into : {A : Type 0} (n : ℕ) (value : A) (table : List (ℕ × A)) (m : ℕ) → Contains (keys_of (with_value n value table)) m → (n ≡ m) ⊎ Contains (keys_of table) m
+pub with_value-into : {A : Type 0} (n : ℕ) (value : A) (table : List (ℕ × A)) (m : ℕ) → Contains (keys_of (with_value n value table)) m → (n ≡ m) ⊎ Contains (keys_of table) m
 with_value-into n value [] m has = contains_cases n [] m has
 with_value-into n value (entry ∷ entries) m has =
     put-into (nat_lt n entry.0) (entry.0 == n) n value entry entries (with_value n value entries) m (with_value-into n value entries m) has
@@ -131,7 +131,7 @@ only_later : {A : Type 0} (xs : List A) (x : A) → Contains [] x ⊎ Contains x
 only_later xs x (inl none) = absurd (none_contained x none)
 only_later xs x (inr has) = has
 
-pub layout-keys : (parts : List ExtentPart) (nodes : List Node) → HaveSame (keys_of (layout_of parts nodes)) (map address_of nodes)
+pub layout-keys : (parts : List ExtentPart) (nodes : List Node) → HaveSame (keys_of (layout_by parts nodes)) (map address_of nodes)
 layout-keys parts nodes = record {
   into = λ m has. only_later (map address_of nodes) m (nodes-into parts [] nodes m has);
   back = λ m has. nodes-back parts [] nodes m has;
@@ -142,17 +142,17 @@ nodes-ascend parts layout [] up = up
 nodes-ascend parts layout (node ∷ nodes) up =
     nodes-ascend parts (with_value (address_of node) (placed parts node) layout) nodes (with_value-ascends 0 (address_of node) (placed parts node) layout (omega arith) up)
 
-pub layout-ascends : (parts : List ExtentPart) (nodes : List Node) → IsStrictlyIncreasing (keys_of (layout_of parts nodes))
-layout-ascends parts nodes = increasing 0 (keys_of (layout_of parts nodes)) (nodes-ascend parts [] nodes tt)
+pub layout-ascends : (parts : List ExtentPart) (nodes : List Node) → IsStrictlyIncreasing (keys_of (layout_by parts nodes))
+layout-ascends parts nodes = increasing 0 (keys_of (layout_by parts nodes)) (nodes-ascend parts [] nodes tt)
 
 -- ---- the same nodes in another order
 
 pub same-addresses : (those nodes : List Node) → IsPermutation those nodes → HaveSame (map address_of those) (map address_of nodes)
 same-addresses those nodes same = same_moved (map address_of those) (map address_of nodes) (IsPermutation-map address_of those nodes same)
 
-pub layout-addresses : (parts : List ExtentPart) (those nodes : List Node) → IsPermutation those nodes → HaveSame (keys_of (layout_of parts those)) (map address_of nodes)
+pub layout-addresses : (parts : List ExtentPart) (those nodes : List Node) → IsPermutation those nodes → HaveSame (keys_of (layout_by parts those)) (map address_of nodes)
 layout-addresses parts those nodes same =
-    same_on (keys_of (layout_of parts those)) (map address_of those) (map address_of nodes) (layout-keys parts those) (same-addresses those nodes same)
+    same_on (keys_of (layout_by parts those)) (map address_of those) (map address_of nodes) (layout-keys parts those) (same-addresses those nodes same)
 
 pub same-append : {A : Type 0} (xs ys xs' ys' : List A) → HaveSame xs xs' → HaveSame ys ys' → HaveSame (xs ++ ys) (xs' ++ ys')
 same-append {A} xs ys xs' ys' first second = record {

@@ -1,10 +1,13 @@
 pub mod TreesIn
 pub mod Slots
+pub mod Apart
 pub mod Told
 pub mod Sound
 pub mod Rebuilt
 pub mod Commits
 pub mod LayoutKeys
+pub mod LayoutNodes
+pub mod Others
 pub mod Anew
 pub mod Enough
 pub mod LaidAnew

@@ -16,22 +16,24 @@ use Rattle.qg_node.specs.NodeText.{IsNode}
 use Rattle.qg_image.specs.FilesOf.{files_of}
 use Rattle.qg_image.specs.Table.{keys_of, value_at, with_value}
 use Rattle.qg_state.specs.declared.element.Element.{Element}
-use Rattle.qg_state.specs.State.{State, Subvolume, Placed, node_at, next_generation}
-use Rattle.qg_state.specs.Reach.{is_among, is_reached, reach, reach_of, reaches}
+use Rattle.qg_state.specs.State.{State, Subvolume, Placed, layout_of, node_at, next_generation}
+use Rattle.qg_state.specs.Reach.{is_among, is_reached, level_of, reach, reach_of, reaches}
 use Rattle.qg_state.specs.Space.{is_free_slot}
 use Rattle.qg_state.proofs.Contained.{none_contained, contains_here, contains_later, contains_cases}
 use Rattle.qg_verdict.specs.declared.tree.Tree.TheVariants.{Files}
-use Rattle.qg_verdict.specs.StateOf.{placed}
-use Rattle.qg_machine.specs.Layout.{super_to_come, is_rebuilt_node, IsReached, IsTreeOf, IsWhole}
+use Rattle.qg_verdict.specs.ImageState.{placed}
+use Rattle.qg_machine.specs.Layout.{found_in, super_to_come, is_rebuilt_node, IsReached, IsTreeOf, IsWhole}
 use Rattle.qg_reach.proofs.Counting.{HasNodes, reach_of_root_nodes}
-use Rattle.qg_reach.proofs.Layouts.{AgreeByAddress, layout_of, node_at-layout, with_nodes, LieWhereFound-layout}
+use Rattle.qg_reach.proofs.Layouts.{AgreeByAddress, layout_by, node_at-layout, with_nodes, LieWhereFound-layout}
 use Rattle.qg_reach.proofs.Members.{contains_flat_map, contains_map}
 use Rattle.qg_reach.proofs.Reached.{elements_of, extents_named, LieWhereFound}
-use Rattle.qg_tree.specs.Build.{node_among, IsMadeFor}
+use Rattle.qg_check.proofs.Found.{first_below}
+use Rattle.qg_tree.specs.Build.{IsMadeFor}
+use Rattle.qg_verdict.specs.Among.{node_among}
 use Rattle.qg_tree.specs.Row.{address_of}
 use Rattle.qg_tree.proofs.Frame.{all_found}
 use Rattle.qg_laid.proofs.LayoutKeys.{layout-ascends}
-use Rattle.qg_laid.proofs.TreesIn.{AreLaid, IsBuiltFor, IsTreeOf-built, nodes_laid}
+use Rattle.qg_laid.proofs.TreesIn.{AreLaid, IsBuiltFor, IsTreeOf-built, laid_there, level_laid, nodes_laid, root_stands}
 
 -- ---- lists and tables
 
@@ -67,7 +69,7 @@ all_with_nodes P layout (node ∷ nodes) each all =
     (all_with P (address_of node) (placed [] node) layout (each node (contains_here node nodes)) all)
 
 -- what holds of each node at its address holds of their layout
-all_laid : (P : ℕ × Placed → Type 0) (nodes : List Node) → ((node : Node) → Contains nodes node → P (address_of node, placed [] node)) → AllByRecursion P (layout_of [] nodes)
+all_laid : (P : ℕ × Placed → Type 0) (nodes : List Node) → ((node : Node) → Contains nodes node → P (address_of node, placed [] node)) → AllByRecursion P (layout_by [] nodes)
 all_laid P nodes each = all_with_nodes P [] nodes each tt
 
 any_among : (elements : List Element) (element : Element) → Contains elements element → is_among element.address elements ≡ true
@@ -82,11 +84,18 @@ four_hold a b c d ha hb hc hd = rw (ha, hb, hc, hd) refl
 
 -- ---- the layout
 
+-- the node at the root's address has this level and generation
+pub record IsRootLaid (layout : List (ℕ × Placed)) (root level generation : ℕ) : Type 0 where
+  pub node : Node
+  pub is : node_at layout root ≡ Some node
+  pub stands : (header_of node).level ≡ level
+  pub made : (header_of node).generation ≡ generation
+
 -- the only subvolume's tree was built of the items of its files, and is the layout
 pub record IsLaidOut (state : State) (subvolume : Subvolume) (nodesize generation : ℕ) (items : List Item) (slots : List ℕ) (nodes : List Node) (level : ℕ) : Type 0 where
   pub alone : state.subvolumes ≡ (5, subvolume) ∷ []
   pub built : IsBuiltFor Files (super_to_come state) nodesize 5 generation items slots nodes subvolume.root level
-  pub layout : state.layout ≡ layout_of [] built.built.reached.those
+  pub layout : state.layout ≡ layout_by [] built.built.reached.those
   pub apart : IsDistinct (λ a b. a == b) (map address_of nodes)
   pub files : files_of (next_generation state) items ≡ Some subvolume.files
 
@@ -107,40 +116,44 @@ module _ (state : State) (subvolume : Subvolume) (nodesize generation : ℕ) (it
   alike : AgreeByAddress those
   alike = record { agree = λ a b has has' same. same_Some a b (sym (found a has) ∙ ap (node_among nodes) same ∙ found b has') }
 
-  laid : AreLaid state.layout nodes
+  pub laid : AreLaid state.layout nodes
   laid =
       subst (λ (layout : List (ℕ × Placed)). AreLaid layout nodes) (sym is.layout)
-      (all_contained (λ (node : Node). node_at (layout_of [] those) (address_of node) ≡ Some node) nodes (λ node has. node_at-layout [] those node alike (back node has)))
+      (all_contained (λ (node : Node). node_at (layout_by [] those) (address_of node) ≡ Some node) nodes (λ node has. node_at-layout [] those node alike (back node has)))
 
-  pub HasNodes-laid : HasNodes state subvolume.root those
+  pub HasNodes-laid : HasNodes (layout_of state) subvolume.root those
   HasNodes-laid = record {
     lie = subst (λ (layout : List (ℕ × Placed)). LieWhereFound (node_at layout)) (sym is.layout) (LieWhereFound-layout [] those);
     below = nodes_laid Files (super_to_come state) state.layout nodesize 5 generation items slots nodes subvolume.root level is.built laid;
   }
 
-  reach_laid : reach state 5 ≡ flat_map (elements_of state.sizes.nodesize) those
+  roots_are : (layout_of state).roots ≡ (5, subvolume.root) ∷ []
+  roots_are = ap (map (λ (entry : ℕ × Subvolume). (entry.0, entry.1.root))) is.alone
+
+  reach_laid : reach (layout_of state) 5 ≡ flat_map (elements_of state.sizes.nodesize) those
   unfolding reach
-  reach_laid = ap (λ (subvolumes : List (ℕ × Subvolume)). reach_of state (value_at 5 subvolumes)) is.alone ∙ reach_of_root_nodes state subvolume.root those HasNodes-laid
+  reach_laid = ap (λ (roots : List (ℕ × ℕ)). reach_of (layout_of state) (value_at 5 roots)) roots_are ∙ reach_of_root_nodes (layout_of state) subvolume.root those HasNodes-laid
 
   -- the subvolume reaches each of the nodes
-  reaches_laid : (node : Node) → Contains those node → reaches state 5 (address_of node) ≡ true
+  reaches_laid : (node : Node) → Contains those node → reaches (layout_of state) 5 (address_of node) ≡ true
   reaches_laid node has =
       let size = state.sizes.nodesize in
       let element : Element = record { address = address_of node; bytes = size } in
       let contained = contains_flat_map (elements_of size) those node element has (contains_here element (extents_named node)) in
       ap (is_among (address_of node)) reach_laid ∙ any_among (flat_map (elements_of size) those) element contained
 
-  is_reached_laid : (node : Node) → Contains those node → is_reached state (address_of node) ≡ true
+  is_reached_laid : (node : Node) → Contains those node → is_reached (layout_of state) (address_of node) ≡ true
   is_reached_laid node has =
-      ap (λ (subvolumes : List (ℕ × Subvolume)). list_any (λ sub. reaches state sub (address_of node)) (keys_of subvolumes)) is.alone
+      ap (λ (roots : List (ℕ × ℕ)). list_any (λ sub. reaches (layout_of state) sub (address_of node)) (keys_of roots)) roots_are
       ∙ ap (λ (reached : Bool). reached || false) (reaches_laid node has)
 
-  made : (node : Node) → Contains those node → IsMadeFor nodesize 5 generation node
+  pub made : (node : Node) → Contains those node → IsMadeFor nodesize 5 generation node
   made node has = each_contained (IsMadeFor nodesize 5 generation) nodes node is.built.built.made (into node has)
 
   reached : (node : Node) → Contains those node → IsReached state (address_of node, placed [] node)
   reached node has = record {
     node_of_format = subst (λ (size : ℕ). IsNode size node) (sym is.built.allows.same) (made node has).node_of_format;
+    fits = (made node has).fits;
     placed = refl;
     reached = is_reached_laid node has;
   }
@@ -153,6 +166,15 @@ module _ (state : State) (subvolume : Subvolume) (nodesize generation : ℕ) (it
         trees = subst (λ (subvolumes : List (ℕ × Subvolume)). AllByRecursion (λ entry. IsTreeOf state entry.1) subvolumes) (sym is.alone) (tree, tt);
         reached = subst (λ (layout : List (ℕ × Placed)). AllByRecursion (IsReached state) layout) (sym is.layout) (all_laid (IsReached state) those reached);
       }
+
+  -- the root
+  pub root_laid : IsRootLaid state.layout subvolume.root level generation
+  root_laid =
+      let has = HasNodes-laid in
+      let first = first_below (node_at state.layout) (level_of (node_at state.layout subvolume.root)) subvolume.root those has.below in
+      let at = root_stands Files (super_to_come state) nodesize 5 generation items slots nodes subvolume.root level is.built (found_in state.layout) (laid_there state.layout nodes laid) in
+      let stood = level_laid state.layout level subvolume.root at in
+      record { node = first.node; is = first.is; stands = sym (ap level_of first.is) ∙ stood; made = (made first.node first.has).made }
 
   -- ---- the slots that it took
 
@@ -168,11 +190,11 @@ module _ (state : State) (subvolume : Subvolume) (nodesize generation : ℕ) (it
       let here = made node has in
       let open_slot = each_contained (λ (slot : ℕ). is_free_slot old slot ≡ true) slots (address_of node) free (in_slots node has) in
       let stamped = eq-eqb (header_of node).generation (next_generation old) (here.made ∙ next) in
-      let owned = subst (λ (owner : ℕ). reaches state owner (address_of node) ≡ true) (sym here.owned) (reaches_laid node has) in
-      four_hold (is_free_slot old (address_of node)) ((header_of node).generation == next_generation old) true (reaches state (header_of node).owner (address_of node)) open_slot stamped refl owned
+      let owned = subst (λ (owner : ℕ). reaches (layout_of state) owner (address_of node) ≡ true) (sym here.owned) (reaches_laid node has) in
+      four_hold (is_free_slot old (address_of node)) ((header_of node).generation == next_generation old) true (reaches (layout_of state) (header_of node).owner (address_of node)) open_slot stamped refl owned
 
   -- each node lies in a slot that was free, and is of the generation to come
   pub rebuilt_laid : (old : State) → generation ≡ next_generation old → AllByRecursion (λ slot. is_free_slot old slot ≡ true) slots → list_all (is_rebuilt_node old state) state.layout ≡ true
   rebuilt_laid old next free =
       ap (list_all (is_rebuilt_node old state)) is.layout
-      ∙ passes_all (is_rebuilt_node old state) (layout_of [] those) (all_laid (λ entry. is_rebuilt_node old state entry ≡ true) those (rebuilt old next free))
+      ∙ passes_all (is_rebuilt_node old state) (layout_by [] those) (all_laid (λ entry. is_rebuilt_node old state entry ≡ true) those (rebuilt old next free))

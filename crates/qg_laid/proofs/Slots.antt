@@ -108,7 +108,7 @@ distinct_in_order given apart = record {
   long = length_permutation given (in_order given) (moved_in_order given);
 }
 
-flips : (a b : ℕ) → (a == b) ≡ (b == a)
+pub flips : (a b : ℕ) → (a == b) ≡ (b == a)
 flips a b = grind (arith, nat_tests)
 
 -- the addresses of nodes that lie apart, in whatever order the nodes are told

@@ -20,29 +20,30 @@ use Rattle.qg_image.specs.FilesOf.{are_files, file_parts, files_of}
 use Rattle.qg_image.specs.Table.{keys_of}
 use Rattle.qg_state.specs.declared.element.Element.{Element}
 use Rattle.qg_state.specs.declared.quota.Quota.{Quota}
-use Rattle.qg_state.specs.State.{Placed, State, Subvolume}
+use Rattle.qg_state.specs.State.{Placed, State, Subvolume, layout_of}
 use Rattle.qg_state.specs.Counts.{bytes_of}
 use Rattle.qg_state.specs.Space.{present_extents}
 use Rattle.qg_verdict.specs.declared.failure.Failure.{Failure}
 use Rattle.qg_verdict.specs.declared.tree.Tree.TheVariants.{Extents, Files, Quotas, Roots}
-use Rattle.qg_verdict.specs.Failure.{first_failure, kept}
+use Rattle.qg_verdict.specs.Failure.{first_failure, unless}
 use Rattle.qg_verdict.specs.Walk.{node_found, root_expected, root_told, tree_failure}
 use Rattle.qg_verdict.specs.ItemsUnder.{is_way, nodes_of}
-use Rattle.qg_verdict.specs.StateOf.{as_committed, extent_parts, items_of_root, layout_in, level_in, nodes_of_root, other_nodes, quota_in, quota_parts, roots_in, state_in, subvolume_roots, subvolumes_in, super_in, super_of, StateOf}
-use Rattle.qg_verdict.specs.Verdict.{are_few, are_roots, counts_failure, extent_set, is_quota, most_subvolumes, quota_failure, space_failure, subvolume_failure, IsSound}
-use Rattle.qg_reach.proofs.Layouts.{layout_in-nodes, layout_of}
+use Rattle.qg_verdict.specs.ImageState.{as_committed, extent_parts, items_of_root, layout_in, level_in, nodes_of_root, other_nodes, quota_in, quota_parts, roots_in, state_in, subvolume_roots, subvolumes_in, super_in, super_of, addresses_of}
+use Rattle.qg_verdict.specs.StateOf.{StateOf}
+use Rattle.qg_verdict.specs.Verdict.{are_few, are_roots, counts_failure, extent_set, is_quota, most_subvolumes, quota_failure, space_failure, subvolume_failure, IsSound, places_failure, roots_failure, together_failure}
+use Rattle.qg_reach.proofs.Layouts.{layout_in-nodes, layout_by}
 use Rattle.qg_reach.proofs.Counting.{KeepSpace}
 use Rattle.qg_reach.proofs.Reached.{FindsEach}
 use Rattle.qg_tree.specs.Row.{address_of}
 use Rattle.qg_check.specs.declared.judge.Read.{Read}
 use Rattle.qg_check.specs.Counted.{CountAll}
-use Rattle.qg_check.specs.Stages.{extents_failure, places_failure, roots_failure, together_failure}
-use Rattle.qg_check.specs.Trees.{addresses_of, AreNamed, AreRead, AreTrees}
+use Rattle.qg_check.specs.Stages.{extents_failure}
+use Rattle.qg_check.specs.Trees.{AreNamed, AreRead, AreTrees}
 use Rattle.qg_check.proofs.Counters.{counts_judged, judged}
 use Rattle.qg_check.proofs.Found.{FindsEach-below, LieWhereFound-image}
 use Rattle.qg_check.proofs.Said.{quota_parts_of}
 use Rattle.qg_check.proofs.SlotsOf.{same_slots}
-use Rattle.qg_check.proofs.StateRead.{count_read, others_read, present_read, quota_of_state, quota_read, subvolume_kept, subvolumes_read}
+use Rattle.qg_check.proofs.StateRead.{count_read, present_read, quota_of_state, quota_read, subvolume_kept, subvolumes_read}
 use Rattle.qg_check.proofs.Verdicts.{image_failure_parts, rest_failure, rest_failure_trees, verdict_some}
 use Rattle.qg_laid.specs.Holds.{IsTreeIn}
 use Rattle.qg_laid.proofs.Slots.{AreInOrder, count_addresses, found_slots, in_order, ordered_addresses}
@@ -78,17 +79,16 @@ pub record HasTrees (super : Super) (image : List ℕ) (extents quotas subvolume
   pub counted : bytes ≡ super.nodesize * length file_nodes + bytes_of (extents_in files)
   pub told : filter_map quota_part quota_items ≡ quota_parts_laid super.generation (all_exclusive bytes) stamp
 
--- the state of such an image: these are the addresses of the nodes of the root, extent and quota trees, the subvolume's root, and its
--- nodes
-abbrev pub state_laid : Super → List ℕ → RootItem → List (ℕ × File) → List Node → ℕ → ℕ → State
+-- the state of such an image: these are the nodes of the root, extent and quota trees, the subvolume's ROOT_ITEM, and its nodes
+abbrev pub state_laid : Super → List Node → RootItem → List (ℕ × File) → List Node → ℕ → ℕ → State
 state_laid super others subvolume files nodes stamp bytes = as_committed others (record {
   sizes = sizes_of super;
   generation = super.generation;
   subvolumes = (5, record { files = files; root = subvolume.bytenr; last_snapshot = subvolume.last_snapshot }) ∷ [];
-  layout = layout_of [] nodes;
+  layout = layout_by [] nodes;
   quota = Some (quota_laid stamp bytes);
   pending = [];
-  held = record { nodes = []; others = []; extents = []; records = [] };
+  held = record { nodes = []; others = []; extents = [] };
 })
 
 -- ---- parts that fail nowhere
@@ -132,7 +132,7 @@ super_laid super image has = rw (has.first, has.second) (chosen_same super)
 
 -- ---- small steps
 
-kept_so : (test : Bool) (broken : Rule) (address : ℕ) → test ≡ true → kept test broken address ≡ None
+kept_so : (test : Bool) (broken : Rule) (address : ℕ) → test ≡ true → unless test broken address ≡ None
 kept_so test broken address h = rw h refl
 
 when_given : {A : Type 0} (test : Bool) (given : Option A) (x : A) → when test given ≡ Some x → given ≡ Some x
@@ -142,11 +142,11 @@ when_given false given x h = absurd cc
 judged_well : (stamp bytes : ℕ) → first_failure (map (judged bytes) (quota_laid stamp bytes).groups) ≡ None
 judged_well stamp bytes = rw (eq-eqb bytes bytes refl) refl
 
-both_laid : (parts parts' : List ExtentPart) (nodes nodes' : List Node) → parts ≡ parts' → nodes ≡ nodes' → layout_of parts nodes ≡ layout_of parts' nodes'
-both_laid parts parts' nodes nodes' h k = ap (λ (p : List ExtentPart). layout_of p nodes) h ∙ ap (λ (n : List Node). layout_of parts' n) k
+both_laid : (parts parts' : List ExtentPart) (nodes nodes' : List Node) → parts ≡ parts' → nodes ≡ nodes' → layout_by parts nodes ≡ layout_by parts' nodes'
+both_laid parts parts' nodes nodes' h k = ap (λ (p : List ExtentPart). layout_by p nodes) h ∙ ap (λ (n : List Node). layout_by parts' n) k
 
 -- a state that was just committed
-abbrev committed : Super → List ℕ → List (ℕ × Subvolume) → List (ℕ × Placed) → Option Quota → State
+abbrev committed : Super → List Node → List (ℕ × Subvolume) → List (ℕ × Placed) → Option Quota → State
 committed super others subvolumes layout quota = as_committed others (record {
   sizes = sizes_of super;
   generation = super.generation;
@@ -154,18 +154,18 @@ committed super others subvolumes layout quota = as_committed others (record {
   layout = layout;
   quota = quota;
   pending = [];
-  held = record { nodes = []; others = []; extents = []; records = [] };
+  held = record { nodes = []; others = []; extents = [] };
 })
 
 state_parts : (super : Super) (image : List ℕ) → state_in super image ≡ committed super (other_nodes super image) (subvolumes_in super image) (layout_in super image) (quota_in super image)
 unfolding state_in
 state_parts super image = refl
 
-same_state : (super : Super) (others others' : List ℕ) (subvolumes : List (ℕ × Subvolume)) (subvolume : Subvolume) (layout layout' : List (ℕ × Placed)) (quota : Option Quota) (quota' : Quota)
+same_state : (super : Super) (others others' : List Node) (subvolumes : List (ℕ × Subvolume)) (subvolume : Subvolume) (layout layout' : List (ℕ × Placed)) (quota : Option Quota) (quota' : Quota)
     → others ≡ others' → subvolumes ≡ (5, subvolume) ∷ [] → layout ≡ layout' → quota ≡ Some quota'
     → committed super others subvolumes layout quota ≡ committed super others' ((5, subvolume) ∷ []) layout' (Some quota')
 same_state super others others' subvolumes subvolume layout layout' quota quota' a b c d =
-    ap (λ (o : List ℕ). committed super o subvolumes layout quota) a
+    ap (λ (o : List Node). committed super o subvolumes layout quota) a
     ∙ ap (λ (s : List (ℕ × Subvolume)). committed super others' s layout quota) b
     ∙ ap (λ (l : List (ℕ × Placed)). committed super others' ((5, subvolume) ∷ []) l quota) c
     ∙ ap (λ (q : Option Quota). committed super others' ((5, subvolume) ∷ []) layout' q) d
@@ -227,23 +227,23 @@ module _ (super : Super) (image : List ℕ) (extents quotas subvolume : RootItem
       let many = count_addresses trees.file_tree.those trees.file_nodes trees.file_tree.same trees.apart in
       ap (λ (n : ℕ). super.nodesize * n + bytes_of (extents_in files)) many ∙ sym trees.counted
 
-  count_all : CountAll (state_in super image) (quota_laid stamp trees.bytes) trees.bytes
+  count_all : CountAll (layout_of (state_in super image)) (quota_laid stamp trees.bytes) trees.bytes
   count_all =
-      subst (CountAll (state_in super image) (quota_laid stamp trees.bytes)) bytes_are
+      subst (CountAll (layout_of (state_in super image)) (quota_laid stamp trees.bytes)) bytes_are
       (count_read super image read (in_order addresses) (extents_in files) are refl keep ordered.same refl)
 
-  counts_pass : counts_failure (state_in super image) (state_in super image).quota ≡ None
+  counts_pass : counts_failure (layout_of (state_in super image)) (state_in super image).quota ≡ None
   counts_pass =
-      ap (counts_failure (state_in super image)) (quota_of_state super image ∙ quota_read super image read are)
-      ∙ counts_judged (state_in super image) (quota_laid stamp trees.bytes) trees.bytes count_all
+      ap (counts_failure (layout_of (state_in super image))) (quota_of_state super image ∙ quota_read super image read are)
+      ∙ counts_judged (layout_of (state_in super image)) (quota_laid stamp trees.bytes) trees.bytes count_all
       ∙ judged_well stamp trees.bytes
 
   -- ---- no rule is broken
 
   roots_pass : roots_failure super image ≡ None
   roots_pass =
-      three_none (tree_failure Roots super image (root_expected None None) super.root) (kept (are_roots (roots_in super image)) rule.Root super.root)
-      (kept (nat_le (length (subvolume_roots (roots_in super image))) most_subvolumes) rule.Limits super.root) trees.root_tree.walked
+      three_none (tree_failure Roots super image (root_expected None None) super.root) (unless (are_roots (roots_in super image)) rule.Root super.root)
+      (unless (nat_le (length (subvolume_roots (roots_in super image))) most_subvolumes) rule.Limits super.root) trees.root_tree.walked
       (kept_so (are_roots (roots_in super image)) rule.Root super.root named.are)
       (kept_so (nat_le (length (subvolume_roots (roots_in super image))) most_subvolumes) rule.Limits super.root
       (ap (λ (roots : List (ℕ × RootItem)). nat_le (length roots) most_subvolumes) named.only))
@@ -256,21 +256,21 @@ module _ (super : Super) (image : List ℕ) (extents quotas subvolume : RootItem
       quota_parts_of super image quotas named.quota_tree ∙ ap (λ (own : List Item). filter_map quota_part own) trees.quota_tree.items_are ∙ trees.told in
       let only : subvolumes ≡ 5 ∷ [] = ap (λ (roots : List (ℕ × RootItem)). keys_of roots) named.only in
       let keeps : is_quota subvolumes parts ≡ true = ap (λ (subs : List ℕ). is_quota subs parts) only ∙ ap (is_quota (5 ∷ [])) told ∙ quota_laid_keeps super.generation stamp trees.bytes in
-      three_none (tree_failure Quotas super image (root_told quotas) quotas.bytenr) (kept (is_quota subvolumes parts) rule.Quota quotas.bytenr) (kept (are_few parts) rule.Limits quotas.bytenr)
+      three_none (tree_failure Quotas super image (root_told quotas) quotas.bytenr) (unless (is_quota subvolumes parts) rule.Quota quotas.bytenr) (unless (are_few parts) rule.Limits quotas.bytenr)
       trees.quota_tree.walked (kept_so (is_quota subvolumes parts) rule.Quota quotas.bytenr keeps)
       (kept_so (are_few parts) rule.Limits quotas.bytenr (ap are_few told ∙ quota_laid_few super.generation stamp trees.bytes))
 
   subvolume_pass : subvolume_failure super image subvolume ≡ None
   subvolume_pass =
       let fit = are_files (file_parts (items_of_root Files super image subvolume)) in
-      both_none (tree_failure Files super image (root_told subvolume) subvolume.bytenr) (kept fit rule.File subvolume.bytenr) trees.file_tree.walked
+      both_none (tree_failure Files super image (root_told subvolume) subvolume.bytenr) (unless fit rule.File subvolume.bytenr) trees.file_tree.walked
       (kept_so fit rule.File subvolume.bytenr (ap (λ (own : List Item). are_files (file_parts own)) trees.file_tree.items_are ∙ say.fit))
 
   together_pass : together_failure super image ≡ None
   together_pass =
       let state = state_in super image in
-      both_none (space_failure (sizes_of super) (extent_set (present_extents state))) (counts_failure state state.quota)
-      (ap (λ (named : List Element). space_failure (sizes_of super) (extent_set named)) (present_read super image read are) ∙ trees.space) counts_pass
+      three_none (space_failure (sizes_of super) (extent_set (present_extents state))) None (counts_failure (layout_of state) state.quota)
+      (ap (λ (named : List Element). space_failure (sizes_of super) (extent_set named)) (present_read super image read are) ∙ trees.space) refl counts_pass
 
   pub laid_sound : IsSound image
   laid_sound =
@@ -288,21 +288,24 @@ module _ (super : Super) (image : List ℕ) (extents quotas subvolume : RootItem
   unfolding extent_parts
   no_parts = rw (named.extent_tree, trees.extent_tree.items_are) refl
 
-  layout_laid : layout_in super image ≡ layout_of [] trees.file_tree.those
+  layout_laid : layout_in super image ≡ layout_by [] trees.file_tree.those
   layout_laid =
       let nodes : flat_map (λ entry. nodes_of_root Files super image entry.1) (subvolume_roots (roots_in super image)) ≡ trees.file_tree.those =
       ap (λ (roots : List (ℕ × RootItem)). flat_map (λ entry. nodes_of_root Files super image entry.1) roots) named.only
       ∙ append-nil (nodes_of_root Files super image subvolume) ∙ trees.file_tree.nodes_are in
       layout_in-nodes super image ∙ both_laid (extent_parts super image) [] _ trees.file_tree.those no_parts nodes
 
-  abbrev pub others : List ℕ
-  others = addresses_of trees.root_tree.those ++ addresses_of trees.extent_tree.those ++ addresses_of trees.quota_tree.those
+  abbrev pub others : List Node
+  others = trees.root_tree.those ++ trees.extent_tree.those ++ trees.quota_tree.those
+
+  others_laid : other_nodes super image ≡ others
+  others_laid = rw (named.extent_tree, named.quota_tree, trees.root_tree.nodes_are, trees.extent_tree.nodes_are, trees.quota_tree.nodes_are) refl
 
   pub laid_state : state_in super image ≡ state_laid super others subvolume files trees.file_tree.those stamp trees.bytes
   laid_state =
       state_parts super image
-      ∙ same_state super (other_nodes super image) others (subvolumes_in super image) (subvolume_kept read) (layout_in super image) (layout_of [] trees.file_tree.those) (quota_in super image)
-      (quota_laid stamp trees.bytes) (others_read super image read are) (subvolumes_read super image read are) layout_laid (quota_read super image read are)
+      ∙ same_state super (other_nodes super image) others (subvolumes_in super image) (subvolume_kept read) (layout_in super image) (layout_by [] trees.file_tree.those) (quota_in super image)
+      (quota_laid stamp trees.bytes) others_laid (subvolumes_read super image read are) layout_laid (quota_read super image read are)
 
   pub laid_StateOf : StateOf image (state_laid super others subvolume files trees.file_tree.those stamp trees.bytes)
-  laid_StateOf = record { super = super; chosen = super_laid super image has; stands = sym laid_state }
+  laid_StateOf = record { sound = laid_sound; super = super; chosen = super_laid super image has; stands = sym laid_state }

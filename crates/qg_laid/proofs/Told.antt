@@ -21,9 +21,9 @@ use Rattle.qg_image.specs.ItemMeaning.{file_part, file_part_stamps, is_subvolume
 use Rattle.qg_state.specs.declared.quota.Quota.{Quota}
 use Rattle.qg_verdict.specs.declared.tree.Tree.TheVariants.{Files, Quotas, Roots}
 use Rattle.qg_verdict.specs.Walk.{node_found, root_expected, root_told}
-use Rattle.qg_verdict.specs.StateOf.{level_in, quota_told, roots_in}
+use Rattle.qg_verdict.specs.ImageState.{level_in, quota_told, roots_in, addresses_of}
 use Rattle.qg_verdict.specs.Verdict.{are_few, are_roots, is_quota}
-use Rattle.qg_check.specs.Trees.{addresses_of, AreNamed, IsFileTree, IsQuotaTree}
+use Rattle.qg_check.specs.Trees.{AreNamed, IsFileTree, IsQuotaTree}
 use Rattle.qg_check.proofs.Found.{items_under-nodes}
 use Rattle.qg_laid.specs.Holds.{IsTreeIn}
 use Rattle.qg_laid.specs.Anew.{all_exclusive, roots_laid, quota_parts_laid}
@@ -40,7 +40,7 @@ read_served place bytes super read = (SuperFits-is_super super (super_writes_bac
 
 -- ---- the root tree
 
-AreNamed-laid : (extents files quotas : RootItem) → AreNamed (roots_laid extents files quotas) extents quotas files
+pub AreNamed-laid : (extents files quotas : RootItem) → AreNamed (roots_laid extents files quotas) extents quotas files
 unfolding are_roots is_subvolume_number
 AreNamed-laid extents files quotas = record { are = refl; extent_tree = refl; quota_tree = refl; only = refl }
 
@@ -58,7 +58,7 @@ abbrev pub quota_laid : ℕ → ℕ → Quota
 quota_laid stamp bytes =
     record { groups = (5, record { counters = all_exclusive bytes; max_rfer = None; max_excl = None; stamp = stamp }) ∷ []; pairs = [] }
 
-quota_laid_told : (generation stamp bytes : ℕ) → quota_laid stamp bytes ≡ quota_told (quota_parts_laid generation (all_exclusive bytes) stamp)
+pub quota_laid_told : (generation stamp bytes : ℕ) → quota_laid stamp bytes ≡ quota_told (quota_parts_laid generation (all_exclusive bytes) stamp)
 unfolding quota_told
 quota_laid_told generation stamp bytes = refl
 

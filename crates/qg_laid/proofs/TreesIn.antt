@@ -21,13 +21,13 @@ use Rattle.qg_verdict.specs.declared.failure.Failure.{Failure}
 use Rattle.qg_verdict.specs.declared.tree.Tree.{Tree}
 use Rattle.qg_verdict.specs.declared.tree.Tree.TheVariants.{Files}
 use Rattle.qg_verdict.specs.declared.expected.Expected.{Expected}
-use Rattle.qg_verdict.specs.Failure.{first_failure, kept}
+use Rattle.qg_verdict.specs.Failure.{first_failure, unless}
 use Rattle.qg_verdict.specs.Walk.{is_generation, is_item_of, is_owner, is_told, way_failure, shape_failure, node_failure, node_found, pointers_failure, found_failure, walk_failure, deepest, root_expected, tree_failure}
 use Rattle.qg_verdict.specs.ItemsUnder.{is_way, items_under, nodes_under, nodes_of}
-use Rattle.qg_verdict.specs.StateOf.{level_in, tree_items, tree_nodes}
+use Rattle.qg_verdict.specs.ImageState.{level_in, tree_items, tree_nodes}
 use Rattle.qg_machine.specs.Layout.{found_in, super_to_come, IsTreeOf}
-use Rattle.qg_tree.specs.Build.{node_among, found_among, Allows, IsBuilt}
-use Rattle.qg_tree.specs.Build as build
+use Rattle.qg_tree.specs.Build.{Allows, IsBuilt}
+use Rattle.qg_verdict.specs.Among.{node_among, found_among, found_there}
 use Rattle.qg_tree.specs.Row.{address_of}
 use Rattle.qg_tree.proofs.Frame.{Judge, Keeps, neither, none_of_two, under_kept, walk_kept}
 use Rattle.qg_tree.proofs.Reached.{nodes_kept}
@@ -49,7 +49,7 @@ there_among found (first ∷ nodes) address node there h = cases (address_of fir
       subst (λ (n : Node). found address ≡ Ok n) (same_Some first node h) at
   cases false is later h = later h
 
-among : (here : Option Node) (address : ℕ) (node : Node) → build.found_in here address ≡ Ok node → here ≡ Some node
+pub among : (here : Option Node) (address : ℕ) (node : Node) → found_there here address ≡ Ok node → here ≡ Some node
 among None address node h = absurd cc
 among (Some other) address node h = let same : other ≡ node = cc in ap (λ (n : Node). Some n) same
 
@@ -64,7 +64,7 @@ walk_there judge found nodes there depth expected address none =
 
 -- ---- what is expected of a root may be left open
 
-four_kept : (a b c d : Bool) (p q r s : Rule) (address : ℕ) → first_failure (kept a p address ∷ kept b q address ∷ kept c r address ∷ kept d s address ∷ []) ≡ None
+four_kept : (a b c d : Bool) (p q r s : Rule) (address : ℕ) → first_failure (unless a p address ∷ unless b q address ∷ unless c r address ∷ unless d s address ∷ []) ≡ None
     → (a ≡ true) × (b ≡ true) × (c ≡ true) × (d ≡ true)
 four_kept true true true true p q r s address h = (refl, refl, refl, refl)
 four_kept false b c d p q r s address h = absurd cc
@@ -72,7 +72,7 @@ four_kept true false c d p q r s address h = absurd cc
 four_kept true true false d p q r s address h = absurd cc
 four_kept true true true false p q r s address h = absurd cc
 
-three_kept : (b c : Bool) (p q r s : Rule) (address : ℕ) → b ≡ true → c ≡ true → first_failure (kept true p address ∷ kept b q address ∷ kept c r address ∷ kept true s address ∷ []) ≡ None
+three_kept : (b c : Bool) (p q r s : Rule) (address : ℕ) → b ≡ true → c ≡ true → first_failure (unless true p address ∷ unless b q address ∷ unless c r address ∷ unless true s address ∷ []) ≡ None
 three_kept b c p q r s address hb hc = rw (hb, hc) refl
 
 three_none : (a b c : Option Failure) → first_failure (a ∷ b ∷ c ∷ []) ≡ None → (a ≡ None) × (b ≡ None) × (c ≡ None)
@@ -118,14 +118,14 @@ way_opened tree super level generation address node none =
 node_way : (tree : Tree) (super : Super) (expected : Expected) (address : ℕ) (node : Node) → node_failure tree super expected address node ≡ None → way_failure tree super expected address node ≡ None
 unfolding node_failure
 node_way tree super expected address node none =
-    (three_none (way_failure tree super expected address node) (shape_failure super.nodesize expected address node) (kept (list_all (is_item_of tree super.generation) (own_items node)) rule.Item address) none).0
+    (three_none (way_failure tree super expected address node) (shape_failure super.nodesize expected address node) (unless (list_all (is_item_of tree super.generation) (own_items node)) rule.Item address) none).0
 
 node_opened : (tree : Tree) (super : Super) (level generation address : ℕ) (node : Node) → node_failure tree super (root_expected (Some level) (Some generation)) address node ≡ None
     → node_failure tree super (root_expected None None) address node ≡ None
 unfolding node_failure
 node_opened tree super level generation address node none =
     let told = root_expected (Some level) (Some generation) in
-    let items = kept (list_all (is_item_of tree super.generation) (own_items node)) rule.Item address in
+    let items = unless (list_all (is_item_of tree super.generation) (own_items node)) rule.Item address in
     let parts = three_none (way_failure tree super told address node) (shape_failure super.nodesize told address node) items none in
     none_of_three (way_failure tree super (root_expected None None) address node) (shape_failure super.nodesize told address node) items
     (way_opened tree super level generation address node parts.0) parts.1 parts.2
@@ -298,13 +298,17 @@ module _ (tree : Tree) (super : Super) (nodesize owner generation : ℕ) (items 
   pub IsTreeIn-open : IsTreeIn tree super image (root_expected None None) root items nodes
   IsTreeIn-open = in_image (root_expected None None) (stands_open tree super nodesize owner generation items slots nodes root level is (node_found super image) found_each)
 
+  pub those_open : IsTreeIn-open.those ≡ is.built.reached.those
+  unfolding in_image IsTreeIn-open
+  those_open = refl
+
 -- ---- in a layout
 
 -- the layout has each of the nodes at its address
 abbrev pub AreLaid : List (ℕ × Placed) → List Node → Type 0
 AreLaid layout nodes = AllByRecursion (λ node. node_at layout (address_of node) ≡ Some node) nodes
 
-laid_there : (layout : List (ℕ × Placed)) (nodes : List Node) → AreLaid layout nodes → AreThere (found_in layout) nodes
+pub laid_there : (layout : List (ℕ × Placed)) (nodes : List Node) → AreLaid layout nodes → AreThere (found_in layout) nodes
 laid_there layout [] laid = tt
 laid_there layout (node ∷ nodes) laid = (here (address_of node) node laid.0, laid_there layout nodes laid.1) where
   here : (address : ℕ) (node : Node) → node_at layout address ≡ Some node → found_in layout address ≡ Ok node
@@ -323,7 +327,7 @@ laid_at layout address node found = elim (nothing_or (node_at layout address)) [
       rw some.1 (ap (λ (n : Node). Some n) same)
 ]
 
-level_laid : (layout : List (ℕ × Placed)) (level root : ℕ) → IsRootAt (found_in layout) level root → level_of (node_at layout root) ≡ level
+pub level_laid : (layout : List (ℕ × Placed)) (level root : ℕ) → IsRootAt (found_in layout) level root → level_of (node_at layout root) ≡ level
 level_laid layout level root at = rw (laid_at layout root at.node at.is) at.stands
 
 -- it is a subvolume's tree

@@ -20,6 +20,7 @@ use Rattle.qg_state.specs.Counts.{bytes_of}
 use Rattle.qg_state.specs.Space.{is_free_slot}
 use Rattle.qg_verdict.specs.declared.tree.Tree.{Tree}
 use Rattle.qg_verdict.specs.declared.tree.Tree.TheVariants.{Extents, Quotas, Roots}
+use Rattle.qg_verdict.specs.ImageState.{addresses_of}
 use Rattle.qg_verdict.specs.Verdict.{space_failure}
 use Rattle.qg_verdict.specs.Walk.{is_item_of, is_owner}
 use Rattle.qg_check.specs.IsImage.{extents_in}
@@ -65,7 +66,7 @@ pub record IsOne (state : State) (subvolume : Subvolume) (group : Group) : Type 
 -- a tree was built of the items of its files, in slots that are free
 pub record BuildsFiles (state : State) (subvolume : Subvolume) (items : List Item) (slots : List ℕ) (nodes : List Node) (root level : ℕ) : Type 0 where
   pub built : IsBuilt state.sizes.nodesize TOP_LEVEL (next_generation state) items slots nodes root level
-  pub held : files_of (next_generation state) items ≡ Some subvolume.files
+  pub told : files_of (next_generation state) items ≡ Some subvolume.files
   pub distinct : IsDistinct (λ a b. a == b) slots
   pub free : IsTrue (list_all (is_free_slot state) slots)
   pub served : IsTrue (is_served state.sizes)
@@ -88,11 +89,12 @@ pub record BuildsOther (tree : Tree) (owner : ℕ) (old : State) (items : List I
   pub built : IsBuilt old.sizes.nodesize owner (next_generation old) items slots nodes root level
   pub owned : IsTrue (is_owner tree owner)
   pub hold : IsTrue (list_all (is_item_of tree (next_generation old)) items)
+  pub distinct : IsDistinct (λ a b. a == b) slots
   pub free : IsTrue (list_all (is_free_slot old) slots)
   pub elsewhere : (slot : ℕ) → Contains slots slot → Contains file_slots slot → ⊥
 
--- the four trees of a commit were built, and the superblock and the ROOT_ITEMs say where their roots lie, how high they stand, and what the
--- subvolume takes
+-- the four trees of a commit were built, each node in a slot of its own, and the superblock and the ROOT_ITEMs say where their roots lie, how
+-- high they stand, and what the subvolume takes
 pub record BuildsAnew (old : State) (before : Subvolume) (group : Group) (super : Super) (nodes : List Node) : Type 0 where
   pub one : IsOne old before group
   pub extents : RootItem
@@ -101,6 +103,7 @@ pub record BuildsAnew (old : State) (before : Subvolume) (group : Group) (super 
   pub tells : Continues old before super subvolume
   pub extents_made : extents.generation ≡ next_generation old
   pub subvolume_made : subvolume.generation ≡ next_generation old
+  pub subvolume_once : subvolume.refs ≡ 1
   pub quotas_made : quotas.generation ≡ next_generation old
   pub file_items : List Item
   pub file_slots : List ℕ
@@ -122,4 +125,5 @@ pub record BuildsAnew (old : State) (before : Subvolume) (group : Group) (super 
   pub root_level : ℕ
   pub roots : BuildsOther Roots ROOT_TREE old root_items root_slots file_slots root_nodes super.root root_level
   pub named : filter_map root_part root_items ≡ roots_laid extents subvolume quotas
+  pub apart : IsDistinct (λ a b. a == b) (addresses_of (root_nodes ++ extent_nodes ++ quota_nodes))
   pub all : nodes ≡ root_nodes ++ extent_nodes ++ quota_nodes ++ file_nodes

@@ -12,7 +12,7 @@ use Rattle.qg_verdict.specs.declared.tree.Tree.{Tree}
 use Rattle.qg_verdict.specs.declared.expected.Expected.{Expected}
 use Rattle.qg_verdict.specs.Walk.{node_found, tree_failure}
 use Rattle.qg_verdict.specs.ItemsUnder.{items_under, nodes_under}
-use Rattle.qg_verdict.specs.StateOf.{super_in, level_in, tree_items, tree_nodes}
+use Rattle.qg_verdict.specs.ImageState.{super_in, level_in, tree_items, tree_nodes}
 
 -- an image has this superblock at both places, is as long as it says, and has these nodes where they lie
 pub record HasCommit (super : Super) (nodes : List Node) (image : List ℕ) : Type 0 where

@@ -1,6 +1,7 @@
 -- The four trees that a commit builds, one behind the other in free slots (this project's own).
 use Rattle.std.specs.Prelude.{◌≡◌, ◌↔◌, ℕ, ◌+◌, ◌*◌, ◌^◌, ◌≤◌, true, None, List, Some, [], ◌∷◌, ◌++◌, map, length, drop, ◌==◌, IsTrue}
 use Rattle.std.specs.List.{All, Contains, IsDistinct, filter_map, list_all, sum_by}
+use Rattle.std.specs.List.Sorted.{IsPermutation}
 use Rattle.qg_num.specs.declared.counters.Counters.{Counters}
 use Rattle.qg_node.specs.declared.item.Item.{Item}
 use Rattle.qg_node.specs.declared.node.Node.{Node}
@@ -19,7 +20,7 @@ use Rattle.qg_state.specs.Need.{file_bytes, nodes_filled}
 use Rattle.qg_state.specs.State.{State, Subvolume}
 use Rattle.qg_state.specs.Space.{is_free_slot, present_extents}
 use Rattle.qg_verdict.specs.StateOf.{StateOf}
-use Rattle.qg_verdict.specs.Verdict.{IsSound, space_failure}
+use Rattle.qg_verdict.specs.Verdict.{space_failure}
 use Rattle.qg_rules.specs.Writable.{AreWritableFiles, IsFileBy}
 use Rattle.qg_check.specs.IsImage.{extents_in}
 use Rattle.qg_laid.specs.Anew.{IsOne, one_group, quota_parts_laid, roots_laid, stamp_after}
@@ -28,6 +29,7 @@ use Rattle.qg_verdict.specs.declared.tree.Tree.{Tree}
 use Rattle.qg_verdict.specs.declared.tree.Tree.TheVariants.{Extents, Files, Quotas, Roots}
 use Rattle.qg_verdict.specs.Walk.{is_item_of}
 use Rattle.qg_machine.specs.Step.{Commits}
+use Rattle.qg_machine.specs.Written.{new_nodes}
 use Rattle.qg_tree.specs.declared.building.Built.{Built}
 use Rattle.qg_tree.specs.Build.{IsBuilt}
 use Rattle.qg_laid.specs.declared.laying.Laid.{Laid}
@@ -66,8 +68,8 @@ pub record IsTreeOfItems (tree : Tree) (owner nodesize generation : ℕ) (Tell :
   pub told : Tell items
 
 -- a tree's ROOT_ITEM
-abbrev pub root_of : Built → ℕ → ℕ → RootItem
-root_of built generation last_snapshot =
+abbrev pub root_item_laid : Built → ℕ → ℕ → RootItem
+root_item_laid built generation last_snapshot =
     record { generation = generation; bytenr = built.root; last_snapshot = last_snapshot; refs = 1; level = built.level }
 
 -- what the items of the root tree tell
@@ -97,9 +99,9 @@ pub record AreTreesLaid (committed : Super) (root : RootItem) (files : List (ℕ
   pub quota_tree : IsTreeOfItems Quotas QUOTA_TREE committed.nodesize (committed.generation + 1) (QuotaTells (committed.generation + 1) laid.counters laid.stamp)
       (drop (length laid.extents.nodes) (drop (length laid.files.nodes) slots)) laid.quotas
   pub root_tree : IsTreeOfItems Roots ROOT_TREE committed.nodesize (committed.generation + 1)
-      (RootsTell (root_of laid.extents (committed.generation + 1) 0) laid.root (root_of laid.quotas (committed.generation + 1) 0))
+      (RootsTell (root_item_laid laid.extents (committed.generation + 1) 0) laid.root (root_item_laid laid.quotas (committed.generation + 1) 0))
       (drop (length laid.quotas.nodes) (drop (length laid.extents.nodes) (drop (length laid.files.nodes) slots))) laid.roots
-  pub own_root : laid.root ≡ root_of laid.files (committed.generation + 1) root.last_snapshot
+  pub own_root : laid.root ≡ root_item_laid laid.files (committed.generation + 1) root.last_snapshot
   pub leads : laid.superblock ≡ record committed { generation = committed.generation + 1; root = laid.roots.root }
   pub counted : laid.counters
       ≡ record { rfer = committed.nodesize * length laid.files.nodes + bytes_of extents; excl = committed.nodesize * length laid.files.nodes + bytes_of extents }
@@ -140,10 +142,11 @@ pub record IsLaidState (laid : Laid) (files : List (ℕ × File)) (state : State
   pub held_nodes : (slot : ℕ) → Contains state.held.nodes slot ↔ Contains (map (λ node. (header_of node).address) (nodes_laid laid)) slot
   pub held_extents : state.held.extents ≡ present_extents state
 
--- the image is sound, and the machine comes by a commit from the old state to the one that the image stands for, which is this
+-- the machine comes by a commit from the old state to the one that the image stands for, which is this; the nodes laid out are those that the
+-- last commit did not hold
 pub record IsCommitOf (old : State) (laid : Laid) (files : List (ℕ × File)) (image : List ℕ) : Type 0 where
-  pub sound : IsSound image
   pub state : State
   pub stands : StateOf image state
   pub commits : Commits old state
+  pub written : IsPermutation (nodes_laid laid) (new_nodes old.held state)
   pub laid_so : IsLaidState laid files state

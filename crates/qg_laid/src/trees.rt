@@ -7,7 +7,7 @@ ghost use Rattle.qg_state.specs.Need.{file_bytes, nodes_filled};
 ghost use Rattle.qg_verdict.specs.declared.tree.Tree.TheVariants.{Extents, Files, Quotas, Roots};
 ghost use Rattle.qg_rules.specs.Writable.{AreWritableFiles, IsFileBy};
 ghost use Rattle.qg_contents.specs.Writable.{IsRootBy, IsWritableRoot};
-ghost use Rattle.qg_laid.specs.Trees.{AreEnough, FilesTell, IsTreeOfItems, NoItems, QuotaTells, RootsTell, root_of};
+ghost use Rattle.qg_laid.specs.Trees.{AreEnough, FilesTell, IsTreeOfItems, NoItems, QuotaTells, RootsTell, root_item_laid};
 
 use qg_contents::{file_items, quota_items, root_items};
 use qg_image::File;
@@ -124,7 +124,7 @@ pub(crate) struct NamedRoots {
 pub(crate) fn root_of(built: &Built, next: Generation, last_snapshot: Generation) -> RootItem
     requires copied { last_snapshot ≤ next }
     requires level { built.now.level ≤ 7 }
-    ensures value { result ≡ root_of built.now next last_snapshot }
+    ensures value { result ≡ root_item_laid built.now next last_snapshot }
     ensures writable { IsWritableRoot result × IsRootBy next result }
 {
     // A proof knows a number's range once it is read.

@@ -119,7 +119,8 @@ truncate_change state sub ino size file = record {
 abbrev pub unlink_change : State → ℕ → ℕ → File → FileChange
 unlink_change state sub ino file = record { sub = sub; files = without_key ino (files_in_sub state sub); amount = 0; pieces = length file.pieces }
 
--- what a file command does; none where it is no file command, finds no run or, but for a clone, finds no file
+-- what a file command does; none where it is no file command, a write finds no run, or a truncate or an unlink finds no file. What a clone or
+-- a write of a file that is not there would do is told too: whether it is done is the refusals' to say
 unfoldable pub file_change : State → Command → Option FileChange
 file_change state (Write sub ino off len) = option_map (write_change state sub ino off len) (first_run state len)
 file_change state (Clone sub ino off len to_sub to_ino to_off) = Some (clone_change state sub ino off len to_sub to_ino to_off)

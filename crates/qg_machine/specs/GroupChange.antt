@@ -7,7 +7,8 @@ use Rattle.qg_num.specs.declared.counters.Which.TheVariants.{Rfer, Excl}
 use Rattle.qg_image.specs.Table.{value_at, with_value, without_key}
 use Rattle.qg_state.specs.declared.quota.Quota.{Quota}
 use Rattle.qg_state.specs.declared.quota.Group.{Group}
-use Rattle.qg_state.specs.State.{State}
+use Rattle.qg_state.specs.State.{Layout}
+use Rattle.qg_state.specs.Members.{Hierarchy, hierarchy_of}
 use Rattle.qg_state.specs.Counts.{direct_count}
 
 -- a group that is made in this generation: nothing counted, no limit
@@ -74,11 +75,11 @@ abbrev pub same_counters : Counters → Counters → Bool
 same_counters a b = (a.rfer == b.rfer) && (a.excl == b.excl)
 
 -- the group with its direct count; the stamp is that of the commit where the count differs from the stored one
-abbrev pub recounted_group : State → Quota → ℕ → ℕ × Group → ℕ × Group
-recounted_group state quota generation entry =
-    if same_counters entry.1.counters (direct_count state quota entry.0) then entry
-    else (entry.0, record entry.1 { counters = direct_count state quota entry.0; stamp = generation })
+abbrev pub recounted_group : Layout → Hierarchy → ℕ → ℕ × Group → ℕ × Group
+recounted_group layout hierarchy generation entry =
+    if same_counters entry.1.counters (direct_count layout hierarchy entry.0) then entry
+    else (entry.0, record entry.1 { counters = direct_count layout hierarchy entry.0; stamp = generation })
 
 -- each group with its direct count
-unfoldable pub recounted : State → ℕ → Quota → Quota
-recounted state generation quota = record quota { groups = map (recounted_group state quota generation) quota.groups }
+unfoldable pub recounted : Layout → ℕ → Quota → Quota
+recounted layout generation quota = record quota { groups = map (recounted_group layout (hierarchy_of quota) generation) quota.groups }

@@ -1,34 +1,31 @@
 -- Which layouts of nodes the machine may come to: slots and the cut of trees are its only free choices (this project's own).
-use Rattle.std.specs.Prelude.{◌≡◌, ℕ, ◌≤◌, Bool, ◌&&◌, ◌||◌, not, List, length, map, Option, Some, None, Result, Ok, Err, ◌==◌, IsTrue}
+use Rattle.std.specs.Prelude.{◌≡◌, ℕ, ◌≤◌, Bool, ◌&&◌, ◌||◌, not, List, length, map, Some, None, Result, ◌==◌, IsTrue}
 use Rattle.std.specs.List.{list_all, list_any, filter, AllByRecursion}
 use Rattle.std.specs.List.Sorted.{IsStrictlyIncreasing}
-use Rattle.qg_num.specs.declared.rule.Rule.TheVariants as rule
 use Rattle.qg_node.specs.declared.item.Item.{Item}
 use Rattle.qg_node.specs.declared.node.Node.{Node}
 use Rattle.qg_node.specs.Nodes.{header_of}
 use Rattle.qg_node.specs.NodeText.{IsNode}
+use Rattle.qg_node.specs.Fits.{NodeFits}
 use Rattle.qg_super.specs.declared.superblock.Super.{Super}
 use Rattle.qg_super.specs.Places.{is_slot}
 use Rattle.qg_image.specs.Table.{value_at, has_key, keys_of}
 use Rattle.qg_image.specs.FilesOf.{files_of}
-use Rattle.qg_state.specs.Stage.{copies_on_write}
-use Rattle.qg_state.specs.State.{State, Subvolume, Placed, node_at, next_generation}
+use Rattle.qg_state.specs.Stage.{edits_other_trees}
+use Rattle.qg_state.specs.State.{State, Subvolume, Placed, layout_of, node_at, next_generation}
 use Rattle.qg_state.specs.Reach.{level_of, reaches, is_reached, owners}
 use Rattle.qg_state.specs.Space.{is_free_slot}
 use Rattle.qg_verdict.specs.declared.failure.Failure.{Failure}
-use Rattle.qg_verdict.specs.declared.failure.Failure.TheVariants.{Broken}
 use Rattle.qg_verdict.specs.declared.tree.Tree.TheVariants.{Files}
 use Rattle.qg_verdict.specs.Walk.{root_expected, node_failure, walk_failure, deepest}
 use Rattle.qg_verdict.specs.ItemsUnder.{items_under}
+use Rattle.qg_verdict.specs.Among.{found_there}
 
 -- ---- a state whose layout is that of its files
 
 -- what the layout has at an address
 abbrev pub found_in : List (ℕ × Placed) → ℕ → Result Node Failure
-found_in layout address = there (node_at layout address) where
-  there : Option Node → Result Node Failure
-  there None = Err (Broken rule.Slot address)
-  there (Some node) = Ok node
+found_in layout address = found_there (node_at layout address) address
 
 -- the superblock that the next commit would write, its root left open
 abbrev pub super_to_come : State → Super
@@ -51,11 +48,12 @@ pub record IsTreeOf (state : State) (subvolume : Subvolume) : Type 0 where
       ≡ Some items
   pub files : files_of (next_generation state) items ≡ Some subvolume.files
 
--- a node of the layout is one of the format and stands under its address, and some subvolume reaches it
+-- a node of the layout is one of the format, its numbers fit their fields, it stands under its address, and some subvolume reaches it
 pub record IsReached (state : State) (entry : ℕ × Placed) : Type 0 where
   pub node_of_format : IsNode state.sizes.nodesize entry.1.node
+  pub fits : NodeFits entry.1.node
   pub placed : (header_of entry.1.node).address ≡ entry.0
-  pub reached : IsTrue (is_reached state entry.0)
+  pub reached : IsTrue (is_reached (layout_of state) entry.0)
 
 -- the layout is that of the files: it is a table (addresses ascend, each once), each subvolume has its tree, and there are no other nodes
 pub record IsWhole (state : State) : Type 0 where
@@ -66,22 +64,23 @@ pub record IsWhole (state : State) : Type 0 where
 -- ---- after a file command, by copy on write
 
 -- a node is another subvolume's too, or the last commit holds it
-abbrev pub is_kept : State → ℕ → ℕ → Bool
-is_kept state sub address = list_any (λ other. not (other == sub)) (owners state address) || list_any (λ node. node == address) state.held.nodes
+abbrev pub is_fixed : State → ℕ → ℕ → Bool
+is_fixed state sub address =
+    list_any (λ other. not (other == sub)) (owners (layout_of state) address) || list_any (λ node. node == address) state.held.nodes
 
 -- a node that stays is full exactly where it was or where its owner no longer reaches it
 abbrev pub is_full_after : State → Placed → ℕ → Bool
-is_full_after new placed address = placed.full || not (reaches new (header_of placed.node).owner address)
+is_full_after new placed address = placed.full || not (reaches (layout_of new) (header_of placed.node).owner address)
 
 -- a node that is edited where it lies has the owner and the generation that it had
 abbrev pub has_same_maker : Node → Node → Bool
 has_same_maker node other = ((header_of node).owner == (header_of other).owner) && ((header_of node).generation == (header_of other).generation)
 
--- a node that stays is full where it must be and has its maker; where it is kept it stays as it is
+-- a node that stays is full where it must be and has its maker; where it is fixed it stays as it is
 pub record StaysAs (old new : State) (sub : ℕ) (entry : ℕ × Placed) (placed : Placed) : Type 0 where
   pub full : placed.full ≡ is_full_after new entry.1 entry.0
   pub maker : IsTrue (has_same_maker placed.node entry.1.node)
-  pub kept : IsTrue (is_kept old sub entry.0) → placed.node ≡ entry.1.node
+  pub fixed : IsTrue (is_fixed old sub entry.0) → placed.node ≡ entry.1.node
 
 -- a node of the layout stays as it may; any node goes where nobody reaches it
 abbrev pub KeepsNode : State → State → ℕ → ℕ × Placed → Type 0
@@ -112,7 +111,7 @@ but_for_root entry = (entry.0, record entry.1 { root = 0 })
 abbrev pub is_rebuilt_node : State → State → ℕ × Placed → Bool
 is_rebuilt_node old new entry =
     is_free_slot old entry.0 && ((header_of entry.1.node).generation == next_generation old) && not entry.1.full
-    && reaches new (header_of entry.1.node).owner entry.0
+    && reaches (layout_of new) (header_of entry.1.node).owner entry.0
 
 -- all trees are built anew for the same files, and nothing else changes
 pub record Rebuilds (old new : State) : Type 0 where
@@ -123,9 +122,9 @@ pub record Rebuilds (old new : State) : Type 0 where
 
 -- ---- the other trees
 
--- the nodes of the root, extent and quota trees lie in slots that the layout leaves: free ones, or once these trees are edited by copy on
--- write such as nodes of these three trees had in the last commit
+-- a node of the root, extent or quota tree lies in a slot that the layout leaves: a free one, or once these trees are edited by copy on write
+-- one where one of them had a node in the last commit
 abbrev pub is_other_slot : State → State → ℕ → Bool
 is_other_slot old new address =
     is_slot old.sizes address && not (has_key address new.layout)
-    && (is_free_slot old address || (copies_on_write && list_any (λ node. node == address) old.held.others))
+    && (is_free_slot old address || (edits_other_trees && list_any (λ node. (header_of node).address == address) old.held.others))

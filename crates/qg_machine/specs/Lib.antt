@@ -2,6 +2,8 @@ pub mod FileChange
 pub mod GroupChange
 pub mod Refusals
 pub mod Layout
+pub mod Written
 pub mod Step
 pub mod Run
 pub mod Examples
+pub mod ExamplesOfCopies

@@ -14,7 +14,7 @@ use Rattle.qg_image.specs.declared.file.File.{File}
 use Rattle.qg_image.specs.FilesOf.{largest_size, is_aligned}
 use Rattle.qg_state.specs.Stage.{copies_on_write}
 use Rattle.qg_state.specs.declared.quota.Quota.{Quota}
-use Rattle.qg_state.specs.State.{State, Subvolume, has_subvolume, file_at, node_at, is_quota_on}
+use Rattle.qg_state.specs.State.{State, Subvolume, layout_of, has_subvolume, file_at, node_at, is_quota_on}
 use Rattle.qg_state.specs.Reach.{level_of, reach, distinct}
 use Rattle.qg_state.specs.Members.{level_of_group, next_subvolume}
 use Rattle.qg_state.specs.Limits.{over}
@@ -101,7 +101,7 @@ abbrev pub over_limit : State → ℕ → ℕ → Option Refusal
 over_limit state sub n = passed state.quota where
   passed : Option Quota → Option Refusal
   passed None = None
-  passed (Some quota) = option_map (λ found. why.Quota found.0 found.1) (over state quota sub n)
+  passed (Some quota) = option_map (λ found. why.Quota found.0 found.1) (over quota state.pending sub n)
 
 -- the groups that a snapshot is to be put into, one after the other: none of level 0, each there, none twice
 abbrev pub no_parents : State → List ℕ → List ℕ → Option Refusal
@@ -143,7 +143,7 @@ no_nodes_for state (Some change) = no_nodes state (change_need state change)
 
 -- how many nodes a subvolume reaches
 abbrev pub nodes_reached : State → ℕ → ℕ
-nodes_reached state sub = length (filter (λ element. has_key element.address state.layout) (distinct (reach state sub)))
+nodes_reached state sub = length (filter (λ element. has_key element.address state.layout) (distinct (reach (layout_of state) sub)))
 
 -- the nodes that a structural command may copy
 abbrev pub structural_copies : State → Command → ℕ

@@ -1,6 +1,6 @@
 -- One step of the machine: from a state a command may give this answer, make these commits, and leave this state (this project's own).
-use Rattle.std.specs.Prelude.{◌≡◌, ℕ, false, List, [], ◌∷◌, ◌++◌, map, Option, Some, None, IsTrue, MatchBool, MatchOption, if◌then◌else◌}
-use Rattle.std.specs.List.{filter, list_all}
+use Rattle.std.specs.Prelude.{◌≡◌, ℕ, false, List, [], ◌∷◌, ◌++◌, map, Option, Some, None, IsTrue, ◌==◌, MatchBool, MatchOption, if◌then◌else◌}
+use Rattle.std.specs.List.{IsDistinct, filter, list_all}
 use Rattle.std.specs.Option.{option_map}
 use Rattle.qg_num.specs.declared.answer.Answer.{Answer}
 use Rattle.qg_num.specs.declared.answer.Answer.TheVariants as answer
@@ -14,10 +14,11 @@ use Rattle.qg_image.specs.declared.file.File.{File}
 use Rattle.qg_state.specs.Stage.{copies_on_write}
 use Rattle.qg_state.specs.declared.quota.Group.{Group}
 use Rattle.qg_state.specs.declared.quota.Quota.{Quota}
-use Rattle.qg_state.specs.State.{State, Subvolume, Placed, Accepted, next_generation, node_at, file_at}
+use Rattle.qg_state.specs.State.{State, Subvolume, Placed, Accepted, layout_of, next_generation, node_at, file_at}
 use Rattle.qg_state.specs.Reach.{owners, is_reached}
 use Rattle.qg_state.specs.Space.{is_free_slot, first_run}
-use Rattle.qg_verdict.specs.StateOf.{as_committed}
+use Rattle.qg_verdict.specs.ImageState.{addresses_of, as_committed}
+use Rattle.qg_verdict.specs.OtherTrees.{AreOtherTrees}
 use Rattle.qg_machine.specs.FileChange.{FileChange, file_change}
 use Rattle.qg_machine.specs.GroupChange.{new_group, with_group, assigned, unassigned, destroyed, limited, inherited, quota_for, recounted}
 use Rattle.qg_machine.specs.Refusals.{refusal, is_pending, change_copies, change_need, number_to_come}
@@ -71,17 +72,19 @@ file_answer state _ = Some answer.Done
 abbrev pub settled : State → State
 settled state = record state {
   generation = next_generation state;
-  quota = option_map (recounted state (next_generation state)) state.quota;
+  quota = option_map (recounted (layout_of state) (next_generation state)) state.quota;
   pending = [];
 }
 
--- what was pending is committed, and the last commit is now the state itself; as long as a commit builds all trees anew, it may lay them out
--- in any way that is right
+-- what was pending is committed, and the last commit is now the state itself, with trees of roots, extents and quota that tell it, whose nodes
+-- lie each in a slot of its own; as long as a commit builds all trees anew, it may lay them out in any way that is right
 pub record Commits (old new : State) : Type 0 where
   pub laid_out : State
-  pub others : List ℕ
+  pub others : List Node
   pub rebuilt : MatchBool copies_on_write (laid_out ≡ old) (Rebuilds old laid_out)
-  pub slots : IsTrue (list_all (is_other_slot old laid_out) others)
+  pub slots : IsTrue (list_all (is_other_slot old laid_out) (addresses_of others))
+  pub apart : IsDistinct (λ a b. a == b) (addresses_of others)
+  pub trees : AreOtherTrees new others
   pub committed : new ≡ as_committed others (settled laid_out)
 
 -- the state after a commit of what is pending, and that commit; where nothing is, the same state and none
@@ -132,7 +135,7 @@ without_subvolume state sub = record state { subvolumes = without_key sub state.
 -- the nodes that some subvolume of a state reaches, each full where it was or where its owner no longer reaches it
 abbrev pub layout_left : State → List (ℕ × Placed)
 layout_left state =
-    map (λ entry. (entry.0, record entry.1 { full = is_full_after state entry.1 entry.0 })) (filter (λ entry. is_reached state entry.0) state.layout)
+    map (λ entry. (entry.0, record entry.1 { full = is_full_after state entry.1 entry.0 })) (filter (λ entry. is_reached (layout_of state) entry.0) state.layout)
 
 -- a deleted subvolume goes, with the nodes that nobody then reaches; its group stays
 abbrev pub deleted : State → ℕ → State
@@ -203,7 +206,7 @@ Does old (command.Unlink sub ino) reply commits new =
 Does old command.Commit reply commits new = (reply ≡ answer.Commit new.generation) × CommitsPending old commits new
 Does old command.Show reply commits new = (reply ≡ answer.Shown (rows_of old.quota)) × Stays old commits new
 Does old (command.Ls sub ino) reply commits new = (file_told (file_at old sub ino) ≡ Some reply) × Stays old commits new
-Does old (command.Owners address) reply commits new = (reply ≡ answer.Owners (owners old address)) × Stays old commits new
+Does old (command.Owners address) reply commits new = (reply ≡ answer.Owners (owners (layout_of old) address)) × Stays old commits new
 Does old structural reply commits new = DoesStructural old structural reply commits new
 
 -- a refused command answers the first of its refusals that holds, and changes nothing; any other is done

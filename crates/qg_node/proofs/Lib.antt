@@ -1,3 +1,4 @@
+pub mod Copied
 pub mod ReadingLoops
 pub mod Texts
 pub mod Filling

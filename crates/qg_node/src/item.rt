@@ -1,5 +1,7 @@
 // Items of a leaf.
-ghost use Rattle.std.specs.Prelude.{◌≡◌, ◌==◌, length, IfOk};
+ghost use Rattle.std.specs.Prelude.{◌≡◌, ◌==◌, length, All, IfOk};
+ghost use Rattle.qg_num.specs.Key.{IsKey};
+ghost use Rattle.qg_node.specs.Fits.{ItemFits};
 
 use qg_num::{Key, Sequence};
 use smallvec::SmallVec;
@@ -66,14 +68,22 @@ pub struct Item {
 impl Item {
     /// The same item once more.
     pub fn copy(&self, alloc: Global) -> Result<Item, AllocError>
-        ensures { IfOk result (λ copy. copy ≡ self.now) }
+        ensures copy { IfOk result (λ copy. copy ≡ self.now) }
+        ensures fits { IfOk result (λ copy. ItemFits copy) }
     {
-        let body = Body::from_slice(alloc, self.body.as_slice())?;
-        Ok(Item {
-            key: self.key,
-            body,
-        })
+        let key = fitting(self.key);
+        let bytes = self.body.as_slice();
+        let body = Body::from_slice(alloc, bytes)?;
+        Ok(Item { key, body })
     }
+}
+
+// A proof knows a number's range where it is handed over.
+fn fitting(key: Key) -> Key
+    ensures same { result ≡ key }
+    ensures fits { IsKey key }
+{
+    key
 }
 
 /// The items of a leaf, or of several.
@@ -81,7 +91,8 @@ pub type Items = Sequence<Item>;
 
 /// A copy of these items.
 pub fn copy_items(alloc: Global, items: &[Item]) -> Result<Items, AllocError>
-    ensures { IfOk result (λ copy. copy ≡ items.now) }
+    ensures copy { IfOk result (λ copy. copy ≡ items.now) }
+    ensures fit { IfOk result (λ copy. All ItemFits copy) }
 {
     let mut copy = Items::with_capacity(alloc, items.len())?;
     for item in items {

@@ -17,7 +17,7 @@ use Rattle.qg_image.specs.declared.part.FilePart.{FilePart}
 use Rattle.qg_image.specs.declared.part.FilePart.TheVariants.{Inode, PieceOf}
 use Rattle.qg_image.specs.declared.part.QuotaPart.{QuotaPart}
 use Rattle.qg_image.specs.declared.part.QuotaPart.TheVariants.{Status, Info, Limits, Relation}
-use Rattle.qg_image.specs.ItemMeaning.{when, ◌orelse◌, has_key, piece_told, is_status, root_part, quota_part, file_part}
+use Rattle.qg_image.specs.ItemMeaning.{when, ◌orelse◌, is_keyed, piece_told, is_status, root_part, quota_part, file_part}
 use Rattle.qg_parts.specs.Keys.{key_with, root_key, quota_key, file_key}
 use Rattle.qg_parts.specs.Said.{AreSaid}
 
@@ -40,7 +40,7 @@ option_map_some f (Some x) y is then = then x refl (same_Some (f x) y is)
 key_made : (key : Key) (objectid kind offset : ℕ) → key.objectid ≡ objectid → key.kind ≡ kind → key.offset ≡ offset → key_with objectid kind offset ≡ key
 key_made key objectid kind offset o k f = sym (λ i. record { objectid = o i; kind = k i; offset = f i })
 
-has_key_made : (objectid kind offset : ℕ) (item : Item) → has_key objectid kind offset item ≡ true → key_with objectid kind offset ≡ item.key
+has_key_made : (objectid kind offset : ℕ) (item : Item) → is_keyed objectid kind offset item ≡ true → key_with objectid kind offset ≡ item.key
 has_key_made objectid kind offset item h =
     let parts = and_parts _ _ h in
     let front = and_parts _ _ parts.0 in
@@ -55,19 +55,19 @@ root_keyed item part h =
     ap root_key (sym (then_some_parts _ (item.key.objectid, root) part is).1)
     ∙ has_key_made item.key.objectid ROOT_ITEM 0 item (and_parts _ _ given.0).0)
 
-status_keyed : (item : Item) (part : QuotaPart) → when (has_key 0 QGROUP_STATUS 0 item) (option_and_then (λ status. then_some (is_status status) (Status status)) (status_read item.body)) ≡ Some part → quota_key part ≡ item.key
+status_keyed : (item : Item) (part : QuotaPart) → when (is_keyed 0 QGROUP_STATUS 0 item) (option_and_then (λ status. then_some (is_status status) (Status status)) (status_read item.body)) ≡ Some part → quota_key part ≡ item.key
 status_keyed item part h =
     let given = when_parts _ _ part h in
     option_and_then_some _ (status_read item.body) part given.1
     (λ status read is. ap quota_key (sym (then_some_parts _ (Status status) part is).1) ∙ has_key_made 0 QGROUP_STATUS 0 item given.0)
 
-info_keyed : (item : Item) (part : QuotaPart) → when (has_key 0 QGROUP_INFO item.key.offset item) (option_map (Info item.key.offset) (info_read item.body)) ≡ Some part → quota_key part ≡ item.key
+info_keyed : (item : Item) (part : QuotaPart) → when (is_keyed 0 QGROUP_INFO item.key.offset item) (option_map (Info item.key.offset) (info_read item.body)) ≡ Some part → quota_key part ≡ item.key
 info_keyed item part h =
     let given = when_parts _ _ part h in
     option_map_some _ (info_read item.body) part given.1
     (λ info read is. ap quota_key (sym is) ∙ has_key_made 0 QGROUP_INFO item.key.offset item given.0)
 
-limits_keyed : (item : Item) (part : QuotaPart) → when (has_key 0 QGROUP_LIMIT item.key.offset item) (option_and_then (λ limit. then_some (nat_le limit.flags 3) (Limits item.key.offset limit)) (limit_read item.body)) ≡ Some part → quota_key part ≡ item.key
+limits_keyed : (item : Item) (part : QuotaPart) → when (is_keyed 0 QGROUP_LIMIT item.key.offset item) (option_and_then (λ limit. then_some (nat_le limit.flags 3) (Limits item.key.offset limit)) (limit_read item.body)) ≡ Some part → quota_key part ≡ item.key
 limits_keyed item part h =
     let given = when_parts _ _ part h in
     option_and_then_some _ (limit_read item.body) part given.1
@@ -86,7 +86,7 @@ quota_keyed item part h =
     (λ later. orelse_some _ _ part later (info_keyed item part)
     (λ last. orelse_some _ _ part last (limits_keyed item part) (relation_keyed item part)))
 
-inode_keyed : (item : Item) (part : FilePart) → when (has_key item.key.objectid INODE_ITEM 0 item) (option_map (Inode item.key.objectid) (inode_read item.body)) ≡ Some part → file_key part ≡ item.key
+inode_keyed : (item : Item) (part : FilePart) → when (is_keyed item.key.objectid INODE_ITEM 0 item) (option_map (Inode item.key.objectid) (inode_read item.body)) ≡ Some part → file_key part ≡ item.key
 inode_keyed item part h =
     let given = when_parts _ _ part h in
     option_map_some _ (inode_read item.body) part given.1

@@ -1,7 +1,7 @@
 // What the items of a subvolume's tree say.
 ghost use Rattle.std.specs.Prelude.{◌≡◌};
 ghost use Rattle.std.specs.Option.{option_map, option_and_then};
-ghost use Rattle.qg_image.specs.ItemMeaning.{when, has_key, piece_told, file_part, file_part_stamps};
+ghost use Rattle.qg_image.specs.ItemMeaning.{when, is_keyed, piece_told, file_part, file_part_stamps};
 ghost use Rattle.qg_items.specs.ItemReading.{inode_read, extent_data_read};
 ghost use Rattle.qg_items.specs.declared.kind.TheConstants.{INODE_ITEM};
 ghost use Rattle.qg_image.specs.declared.part.FilePart.TheVariants.{Inode, PieceOf};
@@ -47,7 +47,7 @@ fn file_part(item: &Item) -> Option<FilePart>
 }
 
 fn inode_part(item: &Item) -> Option<FilePart>
-    ensures { result ≡ when (has_key item.now.key.objectid INODE_ITEM 0 item.now) (option_map (Inode item.now.key.objectid) (inode_read item.now.body)) }
+    ensures { result ≡ when (is_keyed item.now.key.objectid INODE_ITEM 0 item.now) (option_map (Inode item.now.key.objectid) (inode_read item.now.body)) }
 {
     if item.key.kind != INODE_ITEM || item.key.offset != 0 {
         return None;

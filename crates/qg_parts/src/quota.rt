@@ -2,7 +2,7 @@
 ghost use Rattle.std.specs.Prelude.{◌≡◌, ◌==◌, ◌&&◌, Some, length, nat_le};
 ghost use Rattle.std.specs.Option.{option_map, option_and_then};
 ghost use Rattle.std.specs.Bool.{then_some};
-ghost use Rattle.qg_image.specs.ItemMeaning.{when, has_key, is_status, quota_part, quota_part_stamps};
+ghost use Rattle.qg_image.specs.ItemMeaning.{when, is_keyed, is_status, quota_part, quota_part_stamps};
 ghost use Rattle.qg_items.specs.ItemReading.{status_read, info_read, limit_read};
 ghost use Rattle.qg_items.specs.declared.kind.TheConstants.{QGROUP_STATUS, QGROUP_INFO, QGROUP_LIMIT};
 ghost use Rattle.qg_image.specs.declared.part.QuotaPart.TheVariants.{Status, Info, Limits, Relation};
@@ -54,7 +54,7 @@ fn quota_part(item: &Item) -> Option<QuotaPart>
 
 // The state of quota: it is on, and no rescan runs.
 fn status_part(item: &Item) -> Option<QuotaPart>
-    ensures { result ≡ when (has_key 0 QGROUP_STATUS 0 item.now)
+    ensures { result ≡ when (is_keyed 0 QGROUP_STATUS 0 item.now)
         (option_and_then (λ status. then_some (is_status status) (Status status)) (status_read item.now.body)) }
 {
     if item.key.objectid != 0 || item.key.kind != QGROUP_STATUS || item.key.offset != 0 {
@@ -68,7 +68,7 @@ fn status_part(item: &Item) -> Option<QuotaPart>
 }
 
 fn info_part(item: &Item) -> Option<QuotaPart>
-    ensures { result ≡ when (has_key 0 QGROUP_INFO item.now.key.offset item.now)
+    ensures { result ≡ when (is_keyed 0 QGROUP_INFO item.now.key.offset item.now)
         (option_map (Info item.now.key.offset) (info_read item.now.body)) }
 {
     if item.key.objectid != 0 || item.key.kind != QGROUP_INFO {
@@ -81,7 +81,7 @@ fn info_part(item: &Item) -> Option<QuotaPart>
 }
 
 fn limits_part(item: &Item) -> Option<QuotaPart>
-    ensures { result ≡ when (has_key 0 QGROUP_LIMIT item.now.key.offset item.now)
+    ensures { result ≡ when (is_keyed 0 QGROUP_LIMIT item.now.key.offset item.now)
         (option_and_then (λ limit. then_some (nat_le limit.flags 3) (Limits item.now.key.offset limit)) (limit_read item.now.body)) }
 {
     if item.key.objectid != 0 || item.key.kind != QGROUP_LIMIT {

@@ -1,27 +1,27 @@
 -- What was answered so far, turn by turn, and what follows at the end.
-use Rattle.std.proofs.Common.{◌≡◌, ◌⊎◌, inl, inr, ℕ, ◌+◌, ◌-◌, ◌≤◌, List, [], ◌∷◌, ◌++◌, length, take, true, false, Option, Some, None, refl, sym, ap, ◌∙◌, subst, arith, append_assoc}
+use Rattle.std.proofs.Common.{◌≡◌, ◌⊎◌, inl, inr, ℕ, ◌+◌, ◌-◌, ◌≤◌, List, [], ◌∷◌, ◌++◌, length, take, drop, true, false, Option, Some, None, refl, sym, ap, ◌∙◌, subst, arith, append_assoc}
 use Rattle.std.specs.List.{concat}
 use Rattle.std.specs.Io.KnownBytes.{append_known, IsAtEnd}
-use Rattle.std.proofs.Math.Seq.{take-append_seam, take-append-add}
+use Rattle.std.proofs.Math.Seq.{drop-append_seam, take-append_seam, take-append-add}
 use Rattle.std.proofs.lemmas.List.{append-nil, length-append, take-append-le}
 use Rattle.qg_device.specs.History.{Event}
 use Rattle.qg_edge.specs.Appended.{AppendsFront}
 use Rattle.qg_grammar.specs.ScriptText.{script_lines, longest_script}
 use Rattle.qg_script.specs.Feeding.{Feeding, IsTooLong, IsWithinLimit}
 use Rattle.qg_script.specs.Lines.{LosesLine, pending, CountsTaken}
-use Rattle.qg_state.specs.State.{State}
+use Rattle.qg_state.specs.State.{Committed, State}
 use Rattle.qg_machine.specs.Run.{Run}
-use Rattle.qg_commit.specs.Calls.{GoesOn}
 use Rattle.qg_commit.specs.Opened.{IsOpened}
-use Rattle.qg_store.specs.Making.{Makes}
+use Rattle.qg_store.specs.Making.{MadeCommits, Makes}
 use Rattle.qg_store.specs.Stored.{Stored, IsStoreOf}
-use Rattle.qg_store.proofs.Synced.{Makes-append, synced-Makes}
+use Rattle.qg_store.proofs.Synced.{Makes-append, held_after, synced-Makes}
 use Rattle.qg_program.specs.declared.status.Status.{Status}
 use Rattle.qg_program.specs.declared.status.Status.TheVariants as status
-use Rattle.qg_program.specs.Following.{Follows, MakesAll, MakesSome}
-use Rattle.qg_program.specs.Running.{IsTaken, PutsSome, PutsPart, ended_lines}
+use Rattle.qg_program.specs.Following.{Follows, FollowsPart, FollowsSome, FollowsUntil, MakesAll, StopsBefore}
+use Rattle.qg_program.specs.Running.{IsTaken, ended_lines}
 use Rattle.qg_program.specs.Turning.{Turns, TurnsPart, IsTurn, FailsToTurn}
 use Rattle.qg_program.proofs.EndedLines.{ended_lines-line, ended_lines-none}
+use Rattle.qg_store.proofs.HeldAfter.{held_after-append, turn-held}
 use Rattle.qg_program.proofs.Steps.{append_known-nil, put-snoc, run-snoc}
 
 some-injective : {a b : List ℕ} → Some a ≡ Some b → a ≡ b
@@ -49,7 +49,8 @@ pub record HasAnswered (state : State) (input : List ℕ) (opened : List Event) 
   pub stands : IsStoreOf store present
   pub events : List Event
   pub known : history ≡ Some events
-  pub made : Makes commits opened events
+  pub made : Makes state.held commits opened events
+  pub held : held_after state.held commits ≡ present.held
 
 -- at the beginning
 pub answered-none : (state : State) (input : List ℕ) (opened : List Event) (pend : Option (List ℕ)) (store : Stored) (history : Option (List Event)) (old : Option (List ℕ))
@@ -69,6 +70,7 @@ answered-none state input opened pend store history old told stands known = reco
   events = opened;
   known = known;
   made = refl;
+  held = refl;
 }
 
 -- a line that ended is one more in front
@@ -104,6 +106,12 @@ ahead-line : (input : List ℕ) (lines : List (List ℕ)) {line before after : L
 ahead-line input lines {line} {before} {after} ahead loses =
     ahead ∙ ap (λ (more : List (List ℕ)). lines ++ more) loses.first ∙ sym (append_assoc lines (line ∷ []) (script_lines after))
 
+-- commits of the present state behind those that led to it
+made-more : (state present : State) (first more : List State) (before mid after : List Event) → held_after state.held first ≡ present.held
+    → Makes state.held first before mid → Makes present.held more mid after → Makes state.held (first ++ more) before after
+made-more state present first more before mid after held made later =
+    Makes-append state.held first more before mid after made (subst (λ (held : Committed). Makes held more mid after) (sym held) later)
+
 answered-line : {state : State} {input after : List ℕ} {opened : List Event} {pend : Option (List ℕ)} {before store : Stored} {history told : Option (List Event)} {old mid new : Option (List ℕ)}
     → (so_far : HasAnswered state input opened pend before history old mid)
     → Turns so_far.present so_far.events so_far.left after store told mid new → HasAnswered state input opened (Some after) store told old new
@@ -123,9 +131,11 @@ answered-line {state} {input} {after} {opened} {pend} {before} {store} {history}
       ahead = ahead-line input so_far.lines so_far.ahead loses;
       limit = limit-line so_far.limit loses;
       stands = is.stands;
-      events = is.later;
-      known = is.told;
-      made = Makes-append so_far.commits is.commits opened so_far.events is.later so_far.made is.made;
+      events = is.made.after;
+      known = is.made.told;
+      made = made-more state so_far.present so_far.commits is.commits opened so_far.events is.made.after so_far.held so_far.made is.made.made;
+      held = held_after-append state.held so_far.commits is.commits ∙ ap (λ (held : Committed). held_after held is.commits) so_far.held
+          ∙ turn-held so_far.present line turns.reply is.commits is.new is.turn;
     }
 
 -- a turn that goes on
@@ -138,28 +148,14 @@ answered-more (Some after) so_far turns = answered-line so_far turns
 -- ---- the end
 
 -- what was committed, and nothing else, was done to the disk
-made-all : {commits : List State} {events opened after : List Event} {history : Option (List Event)} → IsOpened events (Some opened)
-    → history ≡ Some after → Makes commits opened after → MakesAll commits events history
-made-all {commits} {events} {opened} {after} {history} opens told made = record {
+made-all : {held : Committed} {commits : List State} {events opened after : List Event} {history : Option (List Event)} → IsOpened events (Some opened)
+    → history ≡ Some after → Makes held commits opened after → MakesAll held commits events history
+made-all {held} {commits} {events} {opened} {after} {history} opens told made = record {
   opened = opened;
   opens = opens;
-  after = after;
-  told = told;
-  made = made;
-  synced = synced-Makes commits opened after made;
+  made = record { after = after; told = told; made = made };
+  synced = synced-Makes held commits opened after made;
 }
-
--- and perhaps more
-made-first : {commits : List State} {events opened mid : List Event} {history : Option (List Event)} → IsOpened events (Some opened)
-    → Makes commits opened mid → GoesOn mid history → MakesSome commits events history
-made-first {commits} {events} {opened} {mid} {history} opens made more = inl (record {
-  opened = opened;
-  opens = opens;
-  mid = mid;
-  made = made;
-  synced = synced-Makes commits opened mid made;
-  more = more;
-})
 
 -- the turn that finds nothing left
 pub answered-all : {state : State} {input : List ℕ} {events opened : List Event} {pend : Option (List ℕ)} {before : Stored} {history told : Option (List Event)} {old mid new : Option (List ℕ)}
@@ -169,39 +165,60 @@ answered-all {state} {input} {events} {opened} {pend} {before} {history} {told} 
     let all : script_lines input ≡ so_far.lines =
     so_far.ahead ∙ ap (λ (bytes : List ℕ). so_far.lines ++ script_lines bytes) over.0 ∙ append-nil so_far.lines in
     record {
+      replies = so_far.replies;
       commits = so_far.commits;
-      answers = record {
-        replies = so_far.replies;
-        after = so_far.present;
-        run = subst (λ (lines : List (List ℕ)). Run state lines so_far.replies so_far.commits so_far.present) (sym all) so_far.run;
-        put = over.3 ∙ so_far.put;
-      };
+      after = so_far.present;
+      run = subst (λ (lines : List (List ℕ)). Run state lines so_far.replies so_far.commits so_far.present) (sym all) so_far.run;
+      put = over.3 ∙ so_far.put;
       made = made-all opens over.2 so_far.made;
     }
 
--- whole replies up to a fault
-answered-some : {state : State} {input : List ℕ} {opened : List Event} {pend : Option (List ℕ)} {before : Stored} {history : Option (List Event)} {old mid new : Option (List ℕ)}
-    → (so_far : HasAnswered state input opened pend before history old mid) → new ≡ mid
-    → PutsSome state (script_lines input) so_far.commits old new
-answered-some {state} {input} so_far same =
-    let front : take (length so_far.lines) (script_lines input) ≡ so_far.lines =
-    ap (take (length so_far.lines)) so_far.ahead ∙ take-append_seam so_far.lines (script_lines so_far.left) in
-    record {
-      count = length so_far.lines;
-      puts = record {
-        replies = so_far.replies;
-        after = so_far.present;
-        run = subst (λ (lines : List (List ℕ)). Run state lines so_far.replies so_far.commits so_far.present) (sym front) so_far.run;
-        put = same ∙ so_far.put;
-      };
-    }
-
--- a front of the last reply
-answered-part : {state : State} {input : List ℕ} {opened : List Event} {pend : Option (List ℕ)} {before store : Stored} {history told : Option (List Event)} {old mid new : Option (List ℕ)}
+-- the lines that were answered are the first of the script, and the others are those of what is left
+answered-front : {state : State} {input : List ℕ} {opened : List Event} {pend : Option (List ℕ)} {before : Stored} {history : Option (List Event)} {old mid : Option (List ℕ)}
     → (so_far : HasAnswered state input opened pend before history old mid)
-    → (turns : TurnsPart so_far.present so_far.events so_far.left store told mid new)
-    → PutsPart state (script_lines input) (so_far.commits ++ turns.replies.answered.commits) old new
-answered-part {state} {input} {opened} {pend} {before} {store} {history} {told} {old} {mid} {new} so_far turns =
+    → (take (length so_far.lines) (script_lines input) ≡ so_far.lines) × (drop (length so_far.lines) (script_lines input) ≡ script_lines so_far.left)
+answered-front so_far = (
+  ap (take (length so_far.lines)) so_far.ahead ∙ take-append_seam so_far.lines (script_lines so_far.left),
+  ap (drop (length so_far.lines)) so_far.ahead ∙ drop-append_seam so_far.lines (script_lines so_far.left),
+)
+
+-- whole replies up to a fault
+answered-some : {state : State} {input : List ℕ} {events opened : List Event} {pend : Option (List ℕ)} {before : Stored} {history told : Option (List Event)} {old mid new : Option (List ℕ)}
+    → (so_far : HasAnswered state input opened pend before history old mid) → IsOpened events (Some opened) → told ≡ Some so_far.events → new ≡ mid
+    → FollowsSome state (script_lines input) events told old new
+answered-some {state} so_far opens told same = record {
+  count = length so_far.lines;
+  follows = record {
+    replies = so_far.replies;
+    commits = so_far.commits;
+    after = so_far.present;
+    run = subst (λ (lines : List (List ℕ)). Run state lines so_far.replies so_far.commits so_far.present) (sym (answered-front so_far).0) so_far.run;
+    put = same ∙ so_far.put;
+    made = made-all opens told so_far.made;
+  };
+}
+
+-- and then perhaps calls of a commit
+answered-until : {state : State} {input : List ℕ} {events opened : List Event} {pend : Option (List ℕ)} {before : Stored} {history told : Option (List Event)} {old mid new : Option (List ℕ)}
+    → (so_far : HasAnswered state input opened pend before history old mid) → IsOpened events (Some opened)
+    → StopsBefore so_far.present (script_lines so_far.left) so_far.events told × (new ≡ mid) → FollowsUntil state (script_lines input) events told old new
+answered-until {state} {input} {events} {opened} {pend} {before} {history} {told} so_far opens stops = record {
+  count = length so_far.lines;
+  replies = so_far.replies;
+  commits = so_far.commits;
+  after = so_far.present;
+  run = subst (λ (lines : List (List ℕ)). Run state lines so_far.replies so_far.commits so_far.present) (sym (answered-front so_far).0) so_far.run;
+  put = stops.1 ∙ so_far.put;
+  mid = so_far.events;
+  made = made-all opens refl so_far.made;
+  stops = subst (λ (lines : List (List ℕ)). StopsBefore so_far.present lines so_far.events told) (sym (answered-front so_far).1) stops.0;
+}
+
+-- the sink failed: a front of the last reply
+failed-sink : {state : State} {input : List ℕ} {events opened : List Event} {pend : Option (List ℕ)} {before store : Stored} {history told : Option (List Event)} {old mid new : Option (List ℕ)}
+    → (so_far : HasAnswered state input opened pend before history old mid) → IsOpened events (Some opened)
+    → TurnsPart so_far.present so_far.events so_far.left store told mid new → Follows status.Sink state input events told old new
+failed-sink {state} {input} {events} {opened} {pend} {before} {store} {history} {told} {old} {mid} {new} so_far opens turns =
     let line = turns.replies.line in
     let is = turns.replies.answered in
     let lines = so_far.lines ++ line ∷ [] in
@@ -212,21 +229,11 @@ answered-part {state} {input} {opened} {pend} {before} {store} {history} {told} 
       count = length lines;
       replies = so_far.replies;
       last = turns.reply;
+      commits = so_far.commits ++ is.commits;
       after = is.new;
       run = subst (λ (answered : List (List ℕ)). Run state answered (so_far.replies ++ turns.reply ∷ []) (so_far.commits ++ is.commits) is.new) (sym front) run;
       put = subst (λ (held : Option (List ℕ)). AppendsFront held new turns.reply) so_far.put turns.put;
-    }
-
--- the sink failed
-failed-sink : {state : State} {input : List ℕ} {events opened : List Event} {pend : Option (List ℕ)} {before store : Stored} {history told : Option (List Event)} {old mid new : Option (List ℕ)}
-    → (so_far : HasAnswered state input opened pend before history old mid) → IsOpened events (Some opened)
-    → TurnsPart so_far.present so_far.events so_far.left store told mid new → Follows status.Sink state input events told old new
-failed-sink {state} {input} {events} {opened} so_far opens turns =
-    let is = turns.replies.answered in
-    record {
-      commits = so_far.commits ++ is.commits;
-      answers = answered-part so_far turns;
-      made = made-all opens is.told (Makes-append so_far.commits is.commits opened so_far.events is.later so_far.made is.made);
+      made = made-all opens is.made.told (made-more state so_far.present so_far.commits is.commits opened so_far.events is.made.after so_far.held so_far.made is.made.made);
     }
 
 -- ---- a script that is too long
@@ -269,42 +276,28 @@ answered-limit {input} {lines} {rest} feeding (Some left) told limit fed too_lon
     ]
 
 -- a turn that fails
-pub answered-failed : {state : State} {input : List ℕ} {events opened : List Event} {pend : Option (List ℕ)} {before : Stored} {history told : Option (List Event)} {old mid new : Option (List ℕ)}
-    → (end : Status) (feeding : Feeding) (left : Option (List ℕ)) (store : Stored) → (so_far : HasAnswered state input opened pend before history old mid)
+pub answered-failed : {state : State} {input : List ℕ} {events opened : List Event} {pend : Option (List ℕ)} {before : Stored} {history : Option (List Event)} {old mid : Option (List ℕ)}
+    → (end : Status) (feeding : Feeding) (left : Option (List ℕ)) (store : Stored) (told : Option (List Event)) (new : Option (List ℕ)) → (so_far : HasAnswered state input opened pend before history old mid)
     → IsOpened events (Some opened) → HasFed input feeding left → (end ≡ status.TooLong → IsTooLong feeding)
     → FailsToTurn end so_far.present so_far.events so_far.left (pending feeding left) store told mid new → Follows end state input events told old new
-answered-failed status.Sink feeding left store so_far opens fed too_long fails = failed-sink so_far opens fails
-answered-failed status.Source feeding left store so_far opens fed too_long fails = record {
-  commits = so_far.commits;
-  answers = answered-some so_far fails.1;
-  made = made-all opens fails.0 so_far.made;
-}
-answered-failed status.NoMemory feeding left store so_far opens fed too_long fails = record {
-  commits = so_far.commits;
-  answers = answered-some so_far fails.1;
-  made = made-first opens so_far.made fails.0;
-}
-answered-failed status.Disk feeding left store so_far opens fed too_long fails = record {
-  commits = so_far.commits;
-  answers = answered-some so_far fails.1;
-  made = made-first opens so_far.made fails.0;
-}
-answered-failed {state} {input} status.TooLong feeding left store so_far opens fed too_long fails =
+answered-failed status.Sink feeding left store told new so_far opens fed too_long fails = failed-sink so_far opens fails
+answered-failed status.Source feeding left store told new so_far opens fed too_long fails = answered-some so_far opens fails.0 fails.1
+answered-failed status.NoMemory feeding left store told new so_far opens fed too_long fails = inr (answered-until so_far opens fails)
+answered-failed status.Disk feeding left store told new so_far opens fed too_long fails = inr (answered-until so_far opens fails)
+answered-failed {state} {input} status.TooLong feeding left store told new so_far opens fed too_long fails =
     let lines = answered-limit feeding left fails.0 so_far.limit fed (too_long refl) in
     record {
+      replies = so_far.replies;
       commits = so_far.commits;
-      answers = record {
-        replies = so_far.replies;
-        after = so_far.present;
-        run = subst (λ (lines : List (List ℕ)). Run state lines so_far.replies so_far.commits so_far.present) (sym lines) so_far.run;
-        put = fails.2 ∙ so_far.put;
-      };
+      after = so_far.present;
+      run = subst (λ (lines : List (List ℕ)). Run state lines so_far.replies so_far.commits so_far.present) (sym lines) so_far.run;
+      put = fails.2 ∙ so_far.put;
       made = made-all opens fails.1 so_far.made;
     }
-answered-failed status.Done feeding left store so_far opens fed too_long fails = absurd fails
-answered-failed status.Words feeding left store so_far opens fed too_long fails = absurd fails
-answered-failed status.Image feeding left store so_far opens fed too_long fails = absurd fails
-answered-failed status.Sizes feeding left store so_far opens fed too_long fails = absurd fails
+answered-failed status.Done feeding left store told new so_far opens fed too_long fails = absurd fails
+answered-failed status.Words feeding left store told new so_far opens fed too_long fails = absurd fails
+answered-failed status.Image feeding left store told new so_far opens fed too_long fails = absurd fails
+answered-failed status.Sizes feeding left store told new so_far opens fed too_long fails = absurd fails
 
 -- ---- how many bytes were taken
 

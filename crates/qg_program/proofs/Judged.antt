@@ -3,10 +3,10 @@ use Rattle.std.proofs.Common.{◌≡◌, ◌⊎◌, ℕ, List, [], Option, Some,
 use Rattle.qg_device.specs.History.{Event, content}
 use Rattle.qg_super.specs.declared.superblock.Super.{Super}
 use Rattle.qg_state.specs.State.{State}
-use Rattle.qg_verdict.specs.StateOf.{StateOf, state_in, super_of}
+use Rattle.qg_verdict.specs.ImageState.{state_in, super_of}
+use Rattle.qg_verdict.specs.StateOf.{StateOf}
 use Rattle.qg_verdict.specs.Verdict.{IsSound, verdict}
 use Rattle.qg_verdict.specs.declared.failure.Failure.{Failure}
-use Rattle.qg_grammar.specs.ScriptText.{script_lines}
 use Rattle.qg_check.proofs.Verdicts.{verdict_none}
 use Rattle.qg_commit.specs.declared.fault.OpenFault.{OpenFault}
 use Rattle.qg_commit.specs.declared.fault.OpenFault.TheVariants as opening
@@ -15,13 +15,11 @@ use Rattle.qg_commit.specs.Opening.{IsLookedAt, IsUntouched}
 use Rattle.qg_program.specs.declared.status.Status.{Status}
 use Rattle.qg_program.specs.declared.status.Status.TheVariants as status
 use Rattle.qg_program.specs.Following.{Follows}
-use Rattle.qg_program.specs.Running.{PutsSome}
-use Rattle.qg_program.proofs.Steps.{append_known-nil}
 
 -- a sound image stands for a state
 state-found : (bytes : List ℕ) (found : Option Super) → super_of bytes ≡ found → IsSound bytes → (state : State) × StateOf bytes state
 state-found bytes None is sound = let broken = verdict_none bytes is in absurd cc
-state-found bytes (Some super) is sound = (state_in super bytes, record { super = super; chosen = is; stands = refl })
+state-found bytes (Some super) is sound = (state_in super bytes, record { sound = sound; super = super; chosen = is; stands = refl })
 
 pub state-sound : (bytes : List ℕ) → IsSound bytes → (state : State) × StateOf bytes state
 state-sound bytes sound = state-found bytes (super_of bytes) refl sound
@@ -40,19 +38,10 @@ pub looked-unsound : (events : List Event) (failure : Failure) (history : Option
 looked-unsound events failure history unsound (inl looked) = looked
 looked-unsound events failure history unsound (inr repairing) = let sound : verdict (content events) ≡ None = repairing.sound in absurd cc
 
--- no line was answered
-puts-none : (state : State) (lines : List (List ℕ)) (old new : Option (List ℕ)) → new ≡ old → PutsSome state lines [] old new
-puts-none state lines old new same = record {
-  count = 0;
-  puts = record { replies = []; after = state; run = (refl, refl); put = same ∙ append_known-nil old };
-}
-
 -- a sound image that was not opened: no line was answered, and nothing was committed
-pub follows-unopened : (end : Status) {state : State} {input : List ℕ} {events : List Event} {history : Option (List Event)} {old new : Option (List ℕ)}
+pub follows-unopened : (end : Status) (state : State) (input : List ℕ) {events : List Event} {history : Option (List Event)} {old new : Option (List ℕ)}
     → (end ≡ status.Disk) ⊎ (end ≡ status.NoMemory) → IsOpening events history → new ≡ old → Follows end state input events history old new
-follows-unopened end {state} {input} {events} {history} {old} {new} (inl is) touched same =
-    subst (λ (end : Status). Follows end state input events history old new) (sym is)
-    (record { commits = []; answers = puts-none state (script_lines input) old new same; made = inr (refl, touched) })
-follows-unopened end {state} {input} {events} {history} {old} {new} (inr is) touched same =
-    subst (λ (end : Status). Follows end state input events history old new) (sym is)
-    (record { commits = []; answers = puts-none state (script_lines input) old new same; made = inr (refl, touched) })
+follows-unopened end state input {events} {history} {old} {new} (inl is) touched same =
+    subst (λ (end : Status). Follows end state input events history old new) (sym is) (inl (record { touched = touched; silent = same }))
+follows-unopened end state input {events} {history} {old} {new} (inr is) touched same =
+    subst (λ (end : Status). Follows end state input events history old new) (sym is) (inl (record { touched = touched; silent = same }))

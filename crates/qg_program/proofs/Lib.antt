@@ -1,4 +1,3 @@
-pub mod Settled
 pub mod EndedLines
 pub mod Steps
 pub mod Answered

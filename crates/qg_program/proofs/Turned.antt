@@ -1,38 +1,39 @@
 -- A line is answered.
-use Rattle.std.proofs.Common.{◌≡◌, ℕ, List, [], Option, Some, None, refl, inl, inr}
+use Rattle.std.proofs.Common.{◌≡◌, ◌⊎◌, true, ℕ, List, [], Option, Some, None, refl, sym, subst, inl, inr}
+use Rattle.std.specs.Io.KnownBytes.{append_known}
 use Rattle.qg_device.specs.History.{Event}
 use Rattle.qg_num.specs.declared.answer.Answer.{Answer}
 use Rattle.qg_num.specs.declared.command.Command.{Command}
+use Rattle.qg_grammar.specs.ScriptText.{script_lines}
+use Rattle.qg_machine.specs.Run.{Asks}
 use Rattle.qg_grammar.specs.ReplyText.{reply_text, no_line}
-use Rattle.qg_script.specs.Lines.{TakesLine}
+use Rattle.qg_script.specs.Lines.{LosesLine, TakesLine}
 use Rattle.qg_script.specs.ServedLines.{IsServedLineOf}
 use Rattle.qg_state.specs.State.{State}
-use Rattle.qg_commit.specs.Calls.{GoesOn}
-use Rattle.qg_store.specs.Answering.{Commands}
+use Rattle.qg_store.specs.Answering.{AnswersOn, IsDoneSoFar}
 use Rattle.qg_store.specs.Stored.{Stored, IsStoreOf}
 use Rattle.qg_program.specs.declared.status.Status.{Status}
 use Rattle.qg_program.specs.declared.status.Status.TheVariants as status
+use Rattle.qg_program.specs.Following.{StopsBefore}
 use Rattle.qg_program.specs.Putting.{FailsToPut}
-use Rattle.qg_program.specs.Turning.{FailsToTurn, IsReply}
+use Rattle.qg_program.specs.Turning.{FailsToTurn, IsLineSoFar, IsReply, IsTurn}
 
 -- a command was done or refused
 pub reply-command : (old : State) (events : List Event) (line reply : List ℕ) (store : Stored) (history : Option (List Event)) (command : Command) (answer : Answer)
-    → IsServedLineOf line command → Commands old command answer store.kept events history → store.stopped ≡ None → reply ≡ reply_text answer
+    → IsServedLineOf line command → AnswersOn old command answer store.kept events history → store.stopped ≡ None → reply ≡ reply_text answer
     → IsReply old events line reply store history
 reply-command old events line reply store history command answer asked does running told = record {
-  new = does.new;
-  commits = does.commits;
+  new = does.1.new;
+  commits = does.0;
   turn = inl (record {
     command = command;
     answer = answer;
     asked = record { line_of = asked.line_of; served = asked.served };
-    step = does.step;
+    step = does.1.step;
     told = told;
   });
-  stands = record { running = running; keeps = does.keeps };
-  later = does.after;
-  told = does.told;
-  made = does.made;
+  stands = record { running = running; keeps = does.1.keeps };
+  made = does.2;
 }
 
 -- the line is no command's
@@ -48,15 +49,48 @@ reply-no_line old events line reply store history none stands known told = recor
     told = told;
   });
   stands = stands;
-  later = events;
-  told = known;
-  made = refl;
+  made = record { after = events; told = known; made = refl };
+}
+
+-- what the command of a line has done
+pub so_far-command : (old : State) (events : List Event) (line : List ℕ) (history : Option (List Event)) (command : Command)
+    → IsServedLineOf line command → IsDoneSoFar old command events history → IsLineSoFar old line events history
+so_far-command old events line history command asked (inl none) = inl none
+so_far-command old events line history command asked (inr starts) =
+    inr (subst (Asks line) starts.0 (record { line_of = asked.line_of; served = asked.served }), starts.1)
+
+-- a line that was taken is the first of those that are not answered any more
+stops-before : (old : State) (events : List Event) (before rest line : List ℕ) (history : Option (List Event)) → LosesLine before rest line
+    → IsLineSoFar old line events history → StopsBefore old (script_lines before) events history
+stops-before old events before rest line history loses (inl none) = inl none
+stops-before old events before rest line history loses (inr starts) =
+    inr (record { line = line; later = script_lines rest; first = loses.first; asked = starts.0; starts = starts.1 })
+
+-- where it was not answered
+pub fails-answer : (end : Status) (old : State) (events : List Event) (before : List ℕ) (taken after : Option (List ℕ)) (line : List ℕ) (store : Stored)
+    (history : Option (List Event)) (held : Option (List ℕ)) → TakesLine (Some before) taken line → IsLineSoFar old line events history
+    → (end ≡ status.Disk) ⊎ (end ≡ status.NoMemory) → FailsToTurn end old events before after store history held held
+fails-answer end old events before None after line store history held takes so_far ends = absurd takes
+fails-answer end old events before (Some rest) after line store history held takes so_far (inl is) =
+    subst (λ (end : Status). FailsToTurn end old events before after store history held held) (sym is) (stops-before old events before rest line history takes so_far, refl)
+fails-answer end old events before (Some rest) after line store history held takes so_far (inr is) =
+    subst (λ (end : Status). FailsToTurn end old events before after store history held held) (sym is) (stops-before old events before rest line history takes so_far, refl)
+
+-- where the reply was put
+pub turns-reply : (old : State) (events : List Event) (before : List ℕ) (taken : Option (List ℕ)) (line reply : List ℕ) (store : Stored)
+    (history : Option (List Event)) (held now : Option (List ℕ)) → TakesLine (Some before) taken line → IsReply old events line reply store history
+    → now ≡ append_known held reply → IsTurn true old events before taken store history held now
+turns-reply old events before None line reply store history held now takes is put = absurd takes
+turns-reply old events before (Some rest) line reply store history held now takes is put = record {
+  reply = reply;
+  replies = record { line = line; loses = takes; answered = is };
+  put = put;
 }
 
 -- where the reply was not put whole
 pub fails-reply : (end : Status) (old : State) (events : List Event) (before : List ℕ) (taken after : Option (List ℕ)) (line reply : List ℕ) (store : Stored)
     (history : Option (List Event)) (held now : Option (List ℕ)) → TakesLine (Some before) taken line → IsReply old events line reply store history
-    → GoesOn events history → FailsToPut end reply held now → FailsToTurn end old events before after store history held now
+    → IsLineSoFar old line events history → FailsToPut end reply held now → FailsToTurn end old events before after store history held now
 fails-reply end old events before None after line reply store history held now takes is later fails = absurd takes
 fails-reply status.Sink old events before (Some rest) after line reply store history held now takes is later fails = record {
   after = rest;
@@ -64,7 +98,7 @@ fails-reply status.Sink old events before (Some rest) after line reply store his
   replies = record { line = line; loses = takes; answered = is };
   put = fails;
 }
-fails-reply status.NoMemory old events before (Some rest) after line reply store history held now takes is later fails = (later, fails)
+fails-reply status.NoMemory old events before (Some rest) after line reply store history held now takes is later fails = (stops-before old events before rest line history takes later, fails)
 fails-reply status.Done old events before (Some rest) after line reply store history held now takes is later fails = absurd fails
 fails-reply status.Words old events before (Some rest) after line reply store history held now takes is later fails = absurd fails
 fails-reply status.Image old events before (Some rest) after line reply store history held now takes is later fails = absurd fails

@@ -1,5 +1,5 @@
 -- How a call of the program may end (this project's own).
-use Rattle.std.specs.Prelude.{ℕ, Bool, true, false}
+use Rattle.std.specs.Prelude.{◌≡◌, ℕ, Bool, true, false}
 use Rattle.qg_script.specs.declared.fault.LineFault.{LineFault}
 use Rattle.qg_script.specs.declared.fault.LineFault.TheVariants as fault
 use Rattle.qg_program.specs.declared.status.Status.{Status}
@@ -16,18 +16,6 @@ abbrev pub is_refused : Status → Bool
 is_refused Words = true
 is_refused Sizes = true
 is_refused _ = false
-
--- the end of a call that meets no fault and no refusal
-abbrev pub is_settled : Status → Bool
-is_settled Done = true
-is_settled NoMemory = true
-is_settled _ = false
-
--- the end of a run that meets no fault over an image that is refused
-abbrev pub is_told : Status → Bool
-is_told Image = true
-is_told NoMemory = true
-is_told _ = false
 
 -- the image was looked at whole and refused: some line was to be put
 abbrev pub is_judged : Status → Bool
@@ -85,3 +73,9 @@ abbrev pub is_runners : Status → Bool
 is_runners Words = false
 is_runners Sizes = false
 is_runners _ = true
+
+-- an end that tells of a fault has its cause
+pub record HasCauses (status : Status) (SourceFails SinkFails DiskFails : Type 0) : Type 0 where
+  pub source : status ≡ Source → SourceFails
+  pub sink : status ≡ Sink → SinkFails
+  pub disk : status ≡ Disk → DiskFails

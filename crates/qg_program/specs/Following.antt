@@ -1,45 +1,97 @@
--- What a run does to the disk and to the sink, side by side (this project's own).
-use Rattle.std.specs.Prelude.{◌≡◌, ◌⊎◌, ℕ, List, [], Option, Some}
+-- What a run does to the disk and to the sink, side by side (this project's own): the commits and the replies of a run of the machine over
+-- the script's lines.
+use Rattle.std.specs.Prelude.{◌≡◌, ◌⊎◌, ℕ, List, [], ◌∷◌, ◌++◌, take, drop, Option, Some}
+use Rattle.std.specs.List.{concat}
+use Rattle.std.specs.Io.KnownBytes.{append_known}
 use Rattle.qg_device.specs.History.{Event, synced}
-use Rattle.qg_state.specs.State.{State}
-use Rattle.qg_commit.specs.Calls.{GoesOn}
+use Rattle.qg_edge.specs.Appended.{AppendsFront}
+use Rattle.qg_num.specs.declared.command.Command.TheVariants.{Commit}
+use Rattle.qg_grammar.specs.ScriptText.{script_lines, longest_script}
+use Rattle.qg_state.specs.State.{Committed, State}
+use Rattle.qg_machine.specs.Run.{Asks, Run}
 use Rattle.qg_commit.specs.Opened.{IsOpened, IsOpening}
-use Rattle.qg_store.specs.Making.{AreSynced, Makes}
+use Rattle.qg_store.specs.Making.{AreSynced, MadeCommits, StartsCommit}
 use Rattle.qg_program.specs.declared.status.Status.{Status}
-use Rattle.qg_program.specs.declared.status.Status.TheVariants.{Disk, NoMemory}
-use Rattle.qg_program.specs.Running.{Answers}
+use Rattle.qg_program.specs.declared.status.Status.TheVariants.{Disk, Done, NoMemory, Sink, Source, TooLong}
+use Rattle.qg_program.specs.Running.{ended_lines}
 
--- the calls of opening, and then those of these commits, and no others; each commit made sure of what the disk holds three times, and the
--- third time that is the state committed
-pub record MakesAll (commits : List State) (events : List Event) (history : Option (List Event)) : Type 0 where
+-- ---- the disk
+
+-- The calls of opening, and then those of these commits, where so much was held before them, and no others. Each commit made sure of what the
+-- disk holds three times, and the third time that is the state committed.
+pub record MakesAll (held : Committed) (commits : List State) (events : List Event) (history : Option (List Event)) : Type 0 where
   pub opened : List Event
   pub opens : IsOpened events (Some opened)
-  pub after : List Event
-  pub told : history ≡ Some after
-  pub made : Makes commits opened after
-  pub synced : AreSynced commits (synced opened) (synced after)
+  pub made : MadeCommits held commits opened history
+  pub synced : AreSynced commits (synced opened) (synced made.after)
 
--- the same, and then perhaps some calls of a command that was not answered
-pub record MakesFirst (commits : List State) (events : List Event) (history : Option (List Event)) : Type 0 where
-  pub opened : List Event
-  pub opens : IsOpened events (Some opened)
-  pub mid : List Event
-  pub made : Makes commits opened mid
-  pub synced : AreSynced commits (synced opened) (synced mid)
-  pub more : GoesOn mid history
+-- the first of some lines asks for a commit, and the calls of one that the machine does came so far
+pub record BreaksOff (old : State) (lines : List (List ℕ)) (events : List Event) (history : Option (List Event)) : Type 0 where
+  pub line : List ℕ
+  pub later : List (List ℕ)
+  pub first : lines ≡ line ∷ later
+  pub asked : Asks line Commit
+  pub starts : StartsCommit old events history
 
--- so it is, or the image was not opened: what opening may do by then, and no commit
-abbrev pub MakesSome : List State → List Event → Option (List Event) → Type 0
-MakesSome commits events history = MakesFirst commits events history ⊎ ((commits ≡ []) × IsOpening events history)
+-- before some lines, which are not answered any more, nothing else was done to the disk, or calls of a commit for which the first asks
+abbrev pub StopsBefore : State → List (List ℕ) → List Event → Option (List Event) → Type 0
+StopsBefore old lines events history = (history ≡ Some events) ⊎ BreaksOff old lines events history
 
--- what a run does to the disk that makes these commits, by how it ended
-abbrev pub MakesBy : Status → List State → List Event → Option (List Event) → Type 0
-MakesBy NoMemory commits events history = MakesSome commits events history
-MakesBy Disk commits events history = MakesSome commits events history
-MakesBy _ commits events history = MakesAll commits events history
+-- ---- the lines
 
--- a run follows the machine: it puts the replies of a run of the machine, and makes the disk hold what that commits
-pub record Follows (status : Status) (state : State) (input : List ℕ) (events : List Event) (history : Option (List Event)) (old new : Option (List ℕ)) : Type 0 where
+-- these lines are answered from this state on; all replies were put, and the disk was made to hold what was committed
+pub record FollowsAll (state : State) (lines : List (List ℕ)) (events : List Event) (history : Option (List Event)) (old new : Option (List ℕ)) : Type 0 where
+  pub replies : List (List ℕ)
   pub commits : List State
-  pub answers : Answers status state input commits old new
-  pub made : MakesBy status commits events history
+  pub after : State
+  pub run : Run state lines replies commits after
+  pub put : new ≡ append_known old (concat replies)
+  pub made : MakesAll state.held commits events history
+
+-- so are some of these lines, from the first on
+pub record FollowsSome (state : State) (lines : List (List ℕ)) (events : List Event) (history : Option (List Event)) (old new : Option (List ℕ)) : Type 0 where
+  pub count : ℕ
+  pub follows : FollowsAll state (take count lines) events history old new
+
+-- some of these lines are answered, from the first on; all replies but the last were put, and a front of that one
+pub record FollowsPart (state : State) (lines : List (List ℕ)) (events : List Event) (history : Option (List Event)) (old new : Option (List ℕ)) : Type 0 where
+  pub count : ℕ
+  pub replies : List (List ℕ)
+  pub last : List ℕ
+  pub commits : List State
+  pub after : State
+  pub run : Run state (take count lines) (replies ++ last ∷ []) commits after
+  pub put : AppendsFront (append_known old (concat replies)) new last
+  pub made : MakesAll state.held commits events history
+
+-- some of these lines are answered, from the first on, and all their replies were put; the run stops before the others
+pub record FollowsUntil (state : State) (lines : List (List ℕ)) (events : List Event) (history : Option (List Event)) (old new : Option (List ℕ)) : Type 0 where
+  pub count : ℕ
+  pub replies : List (List ℕ)
+  pub commits : List State
+  pub after : State
+  pub run : Run state (take count lines) replies commits after
+  pub put : new ≡ append_known old (concat replies)
+  pub mid : List Event
+  pub made : MakesAll state.held commits events (Some mid)
+  pub stops : StopsBefore after (drop count lines) mid history
+
+-- the image was not opened: at most what opening does was done by then, and nothing was put
+pub record StaysUnopened (events : List Event) (history : Option (List Event)) (old new : Option (List ℕ)) : Type 0 where
+  pub touched : IsOpening events history
+  pub silent : new ≡ old
+
+-- ---- the run
+
+-- A run follows the machine from this state on over this input, by how it ended: over all lines where the input was read to its end; over those
+-- that end within the most bytes that a script may have, where it has more; over some lines up to a fault of the source; where the sink failed,
+-- with a front of the last reply. Where memory was refused or the disk failed, the image was not opened, or the run stops before some line.
+-- No run over a sound image ends in another way.
+abbrev pub Follows : Status → State → List ℕ → List Event → Option (List Event) → Option (List ℕ) → Option (List ℕ) → Type 0
+Follows Done state input events history old new = FollowsAll state (script_lines input) events history old new
+Follows TooLong state input events history old new = FollowsAll state (ended_lines (take longest_script input)) events history old new
+Follows Source state input events history old new = FollowsSome state (script_lines input) events history old new
+Follows Sink state input events history old new = FollowsPart state (script_lines input) events history old new
+Follows NoMemory state input events history old new = StaysUnopened events history old new ⊎ FollowsUntil state (script_lines input) events history old new
+Follows Disk state input events history old new = StaysUnopened events history old new ⊎ FollowsUntil state (script_lines input) events history old new
+Follows _ state input events history old new = ⊥

@@ -2,5 +2,5 @@ pub mod Words
 pub mod Ends
 pub mod Putting
 pub mod Running
-pub mod Turning
 pub mod Following
+pub mod Turning

@@ -1,11 +1,20 @@
 -- What a call puts (this project's own): what is put where a line could not be put whole, and what one says that puts one line alone.
-use Rattle.std.specs.Prelude.{◌≡◌, ℕ, List, Option, codes}
+use Rattle.std.specs.Prelude.{◌≡◌, ℕ, List, ◌∷◌, Option, Some, IsTrue, codes}
+use Rattle.std.specs.Option.{option_map}
 use Rattle.std.specs.Io.KnownBytes.{append_known}
+use Rattle.qg_device.specs.History.{Event, Synced}
 use Rattle.qg_edge.specs.Appended.{AppendsFront}
 use Rattle.qg_grammar.specs.ReplyText.{line}
 use Rattle.qg_grammar.specs.FailureText.{broken_text, differs_text}
 use Rattle.qg_verdict.specs.declared.failure.Failure.{Failure}
 use Rattle.qg_verdict.specs.declared.failure.Failure.TheVariants.{Broken, Differs}
+use Rattle.qg_super.specs.declared.sizes.Sizes.{Sizes}
+use Rattle.qg_super.specs.Places.{slot_at}
+use Rattle.qg_commit.specs.Calls.{with_image}
+use Rattle.qg_commit.specs.Fresh.{fresh_nodes, fresh_super}
+use Rattle.qg_commit.specs.Mkfs.{HoldsFreshImage}
+use Rattle.qg_commit.specs.Opening.{IsLookedAt}
+use Rattle.qg_program.specs.Ends.{is_judged, is_made}
 use Rattle.qg_program.specs.declared.status.Status.{Status}
 use Rattle.qg_program.specs.declared.status.Status.TheVariants.{Done, NoMemory, Image, Sink, Disk}
 
@@ -43,3 +52,16 @@ Refuses _ text old new = ⊥
 pub record PutsFailure (old new : Option (List ℕ)) : Type 0 where
   pub failure : Failure
   pub put : new ≡ append_known old (failure_text failure)
+
+-- A run refuses an image by its first failure: it says so, and at most a sync was asked of the disk, just one where the line was to be put.
+pub record RefusesImage (status : Status) (failure : Failure) (events : List Event) (history : Option (List Event)) (old new : Option (List ℕ)) : Type 0 where
+  pub put : Refuses status (failure_text failure) old new
+  pub looked_at : IsLookedAt events history
+  pub unwritten : IsTrue (is_judged status) → history ≡ Some (Synced ∷ events)
+
+-- An image of these sizes was asked for, and they are served: the calls where it was made; what the disk holds then, where it tells it; and
+-- what was put.
+pub record MakesImage (status : Status) (sizes : Sizes) (before after : Option (List Event)) (old new : Option (List ℕ)) : Type 0 where
+  pub calls : IsTrue (is_made status) → after ≡ option_map (with_image (fresh_super sizes (slot_at sizes 0)) (fresh_nodes sizes)) before
+  pub fresh : (events : List Event) → before ≡ Some events → IsTrue (is_made status) → HoldsFreshImage sizes after
+  pub said : SaysMade status old new

@@ -1,17 +1,19 @@
 -- One turn of a run (this project's own): the next line is taken and answered.
-use Rattle.std.specs.Prelude.{◌≡◌, ℕ, ◌≤◌, Bool, true, false, List, [], Option, Some, None}
+use Rattle.std.specs.Prelude.{◌≡◌, ◌⊎◌, ℕ, ◌≤◌, Bool, true, false, List, [], Option, Some, None}
 use Rattle.std.specs.Io.KnownBytes.{append_known}
 use Rattle.qg_device.specs.History.{Event}
 use Rattle.qg_super.specs.Places.{total_bytes}
 use Rattle.qg_edge.specs.Appended.{AppendsFront}
+use Rattle.qg_num.specs.declared.command.Command.TheVariants.{Commit}
+use Rattle.qg_grammar.specs.ScriptText.{script_lines}
 use Rattle.qg_script.specs.Lines.{LosesLine}
 use Rattle.qg_state.specs.State.{State}
-use Rattle.qg_machine.specs.Run.{Turn}
-use Rattle.qg_commit.specs.Calls.{GoesOn}
-use Rattle.qg_store.specs.Making.{Makes}
+use Rattle.qg_machine.specs.Run.{Asks, Turn}
+use Rattle.qg_store.specs.Making.{MadeCommits, StartsCommit}
 use Rattle.qg_store.specs.Stored.{Stored, IsStoreOf, sizes_stored}
 use Rattle.qg_program.specs.declared.status.Status.{Status}
 use Rattle.qg_program.specs.declared.status.Status.TheVariants.{NoMemory, Source, Sink, Disk, TooLong}
+use Rattle.qg_program.specs.Following.{StopsBefore}
 
 -- a store has not stopped, and its disk of so many bytes has all of its image
 pub record IsReady (store : Stored) (size : ℕ) : Type 0 where
@@ -24,9 +26,7 @@ pub record IsReply (old : State) (events : List Event) (line reply : List ℕ) (
   pub commits : List State
   pub turn : Turn old line reply commits new
   pub stands : IsStoreOf store new
-  pub later : List Event
-  pub told : history ≡ Some later
-  pub made : Makes commits events later
+  pub made : MadeCommits old.held commits events history
 
 -- the first line of what was pending has this reply
 pub record Replies (old : State) (events : List Event) (before after reply : List ℕ) (store : Stored) (history : Option (List Event)) : Type 0 where
@@ -53,12 +53,16 @@ IsTurn true old events before (Some after) store history held now = Turns old ev
 IsTurn true old events before None store history held now = ⊥
 IsTurn false old events before after store history held now = (before ≡ []) × (after ≡ Some []) × (history ≡ Some events) × (now ≡ held)
 
+-- what a line that is not answered to its end has done to the disk: nothing, or calls of a commit for which it asks
+abbrev pub IsLineSoFar : State → List ℕ → List Event → Option (List Event) → Type 0
+IsLineSoFar old line events history = (history ≡ Some events) ⊎ (Asks line Commit × StartsCommit old events history)
+
 -- A turn that fails. Where the sink failed, the line was answered but for its reply. Where no line was read, nothing was done; else perhaps
--- some calls of a commit.
+-- calls of a commit for which the line asks.
 abbrev pub FailsToTurn : Status → State → List Event → List ℕ → Option (List ℕ) → Stored → Option (List Event) → Option (List ℕ) → Option (List ℕ) → Type 0
 FailsToTurn Sink old events before after store history held now = TurnsPart old events before store history held now
 FailsToTurn Source old events before after store history held now = (history ≡ Some events) × (now ≡ held)
 FailsToTurn TooLong old events before after store history held now = (after ≡ Some before) × (history ≡ Some events) × (now ≡ held)
-FailsToTurn NoMemory old events before after store history held now = GoesOn events history × (now ≡ held)
-FailsToTurn Disk old events before after store history held now = GoesOn events history × (now ≡ held)
+FailsToTurn NoMemory old events before after store history held now = StopsBefore old (script_lines before) events history × (now ≡ held)
+FailsToTurn Disk old events before after store history held now = StopsBefore old (script_lines before) events history × (now ≡ held)
 FailsToTurn _ old events before after store history held now = ⊥

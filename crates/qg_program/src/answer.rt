@@ -3,9 +3,8 @@ ghost use Rattle.std.specs.Prelude.{◌≡◌, ◌⊎◌, List, Some, IfErr, OnO
 ghost use Rattle.qg_device.specs.Cause.{HasCause};
 ghost use Rattle.qg_device.specs.History.{Event};
 ghost use Rattle.qg_state.specs.State.{State};
-ghost use Rattle.qg_commit.specs.Calls.{GoesOn};
 ghost use Rattle.qg_store.specs.Stored.{IsStoreOf};
-ghost use Rattle.qg_program.specs.Turning.{IsReady, IsReply};
+ghost use Rattle.qg_program.specs.Turning.{IsLineSoFar, IsReady, IsReply};
 
 use crate::Status;
 use crate::session::Session;
@@ -23,9 +22,12 @@ pub(crate) fn answer_line<D: Disk, L: Ledger, M: Ledger>(
     text: &mut Text,
 ) -> Result<(), Status>
     requires { IsReady session.old.store (D.size disk.old) }
-    ensures reply { (state : State) (events : List Event) → IsStoreOf session.old.store state → D.history disk.old ≡ Some events
+    ensures reply { (state : State) (events : List Event) → IsStoreOf session.old.store state
+        → D.history disk.old ≡ Some events
         → OnOk result (IsReply state events line.now text.new session.new.store (D.history disk.new)) }
-    ensures later { (events : List Event) → D.history disk.old ≡ Some events → GoesOn events (D.history disk.new) }
+    ensures so_far { (state : State) (events : List Event) → IsStoreOf session.old.store state
+        → D.history disk.old ≡ Some events
+        → IsLineSoFar state line.now events (D.history disk.new) }
     ensures ready { OnOk result (IsReady session.new.store (D.size disk.new)) }
     ensures ends { IfErr result (λ status. (status ≡ Status.Disk) ⊎ (status ≡ Status.NoMemory)) }
     ensures cause { HasCause Status.Disk (D.faults disk.old) (D.faults disk.new) result }

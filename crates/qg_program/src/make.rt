@@ -27,8 +27,7 @@ pub(crate) fn make<D: Disk, K: Sink>(
 ) -> Status
     ensures ends { IsTrue (is_makers result) }
     ensures sizes { (result ≡ Status.Sizes) ↔ (is_served sizes ≡ false) }
-    ensures disk_untouched { result ≡ Status.Sizes → disk.new ≡ disk.old }
-    ensures sink_untouched { result ≡ Status.Sizes → sink.new ≡ sink.old }
+    ensures untouched { result ≡ Status.Sizes → (disk.new ≡ disk.old) × (sink.new ≡ sink.old) }
     ensures calls { IsTrue (is_made result) → D.history disk.new
         ≡ option_map (with_image (fresh_super sizes (slot_at sizes 0)) (fresh_nodes sizes)) (D.history disk.old) }
     ensures fresh { (before : List Event) → D.history disk.old ≡ Some before → IsTrue (is_made result)

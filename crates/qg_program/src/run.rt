@@ -1,16 +1,16 @@
 // A script is run over an image.
-ghost use Rattle.std.specs.Prelude.{◌≡◌, ◌⊎◌, ℕ, List, ◌∷◌, [], Some, None, IsTrue};
+ghost use Rattle.std.specs.Prelude.{◌≡◌, ◌⊎◌, ℕ, List, Some, None, IsTrue};
 ghost use Rattle.qg_device.specs.Cause.{Rose};
-ghost use Rattle.qg_device.specs.History.{Event, Synced, content};
+ghost use Rattle.qg_device.specs.History.{Event, content};
 ghost use Rattle.qg_state.specs.State.{State};
 ghost use Rattle.qg_verdict.specs.StateOf.{StateOf};
 ghost use Rattle.qg_verdict.specs.Verdict.{IsSound, verdict};
 ghost use Rattle.qg_verdict.specs.declared.failure.Failure.{Failure};
 ghost use Rattle.qg_commit.specs.declared.fault.OpenFault.TheVariants as opening;
-ghost use Rattle.qg_commit.specs.Opening.{IsLookedAt, IsRefusal};
-ghost use Rattle.qg_program.specs.Ends.{is_judged, is_refusers, is_runners};
+ghost use Rattle.qg_commit.specs.Opening.{IsRefusal};
+ghost use Rattle.qg_program.specs.Ends.{HasCauses, is_judged, is_refusers, is_runners};
 ghost use Rattle.qg_program.specs.Following.{Follows};
-ghost use Rattle.qg_program.specs.Putting.{PutsFailure, Refuses, failure_text};
+ghost use Rattle.qg_program.specs.Putting.{PutsFailure, Refuses, RefusesImage, failure_text};
 ghost use Rattle.qg_program.specs.Running.{IsTaken};
 
 use crate::Status;
@@ -33,24 +33,20 @@ pub(crate) fn run<D: Disk, S: Source, K: Sink>(
     sink: &mut K,
 ) -> Status
     ensures follows { (events : List Event) (input : List ℕ) (state : State) → D.history disk.old ≡ Some events
-        → S.bytes_left source.old ≡ Some input → IsSound (content events) → StateOf (content events) state
+        → S.bytes_left source.old ≡ Some input → StateOf (content events) state
         → Follows result state input events (D.history disk.new) (K.bytes_held sink.old) (K.bytes_held sink.new) }
-    ensures unsound { (events : List Event) → D.history disk.old ≡ Some events → result ≡ Status.Image → IsSound (content events) → ⊥ }
+    ensures unsound { (events : List Event) → D.history disk.old ≡ Some events → result ≡ Status.Image
+        → IsSound (content events) → ⊥ }
     ensures refuses { (events : List Event) (failure : Failure) → D.history disk.old ≡ Some events
         → verdict (content events) ≡ Some failure
-        → Refuses result (failure_text failure) (K.bytes_held sink.old) (K.bytes_held sink.new) }
+        → RefusesImage result failure events (D.history disk.new) (K.bytes_held sink.old) (K.bytes_held sink.new)
+        × (source.new ≡ source.old) }
     ensures told { result ≡ Status.Image → PutsFailure (K.bytes_held sink.old) (K.bytes_held sink.new) }
-    ensures unwritten { (events : List Event) (failure : Failure) → D.history disk.old ≡ Some events
-        → verdict (content events) ≡ Some failure → IsTrue (is_judged result) → D.history disk.new ≡ Some (Synced ∷ events) }
-    ensures looked_at { (events : List Event) (failure : Failure) → D.history disk.old ≡ Some events
-        → verdict (content events) ≡ Some failure → IsLookedAt events (D.history disk.new) }
-    ensures unread { (events : List Event) (failure : Failure) → D.history disk.old ≡ Some events
-        → verdict (content events) ≡ Some failure → source.new ≡ source.old }
     ensures takes { IsTaken result (S.bytes_left source.old) (S.bytes_left source.new) }
     ensures ends { IsTrue (is_runners result) }
-    ensures source_fault { result ≡ Status.Source → Rose (S.faults source.old) (S.faults source.new) }
-    ensures sink_fault { result ≡ Status.Sink → Rose (K.faults sink.old) (K.faults sink.new) }
-    ensures disk_fault { result ≡ Status.Disk → Rose (D.faults disk.old) (D.faults disk.new) }
+    ensures causes { HasCauses result (Rose (S.faults source.old) (S.faults source.new)) (Rose (K.faults sink.old)
+        (K.faults sink.new))
+        (Rose (D.faults disk.old) (D.faults disk.new)) }
 {
     match Store::open(alloc, disk) {
         Ok(store) => answer_lines::<Brand, Brand, D, S, K>(

@@ -3,10 +3,9 @@ ghost use Rattle.std.specs.Prelude.{◌≡◌, ◌⊎◌, List, Some, IfOk, IfEr
 ghost use Rattle.qg_device.specs.Cause.{HasCause};
 ghost use Rattle.qg_device.specs.History.{Event};
 ghost use Rattle.qg_grammar.specs.ScriptText.{is_in_grammar};
-ghost use Rattle.qg_grammar.specs.Served.{is_served};
+ghost use Rattle.qg_grammar.specs.Served.{is_served_command};
 ghost use Rattle.qg_state.specs.State.{State};
-ghost use Rattle.qg_commit.specs.Calls.{GoesOn};
-ghost use Rattle.qg_store.specs.Answering.{Commands};
+ghost use Rattle.qg_store.specs.Answering.{AnswersOn, IsDoneSoFar};
 ghost use Rattle.qg_store.specs.Stored.{IsStoreOf};
 ghost use Rattle.qg_program.specs.Turning.{IsReady};
 
@@ -33,10 +32,14 @@ impl<L: Ledger, M: Ledger> Session<L, M> {
     ) -> Result<Answer, Status>
         requires ready { IsReady self.old.store (D.size disk.old) }
         requires numbers { IsTrue (is_in_grammar command.now) }
-        requires served { IsTrue (is_served command.now) }
-        ensures step { (state : State) (events : List Event) → IsStoreOf self.old.store state → D.history disk.old ≡ Some events
-            → IfOk result (λ answer. Commands state command.now answer self.new.store.kept events (D.history disk.new)) }
-        ensures later { (events : List Event) → D.history disk.old ≡ Some events → GoesOn events (D.history disk.new) }
+        requires served { IsTrue (is_served_command command.now) }
+        ensures step { (state : State) (events : List Event) → IsStoreOf self.old.store state
+            → D.history disk.old ≡ Some events
+            → IfOk result (λ answer. AnswersOn state command.now answer self.new.store.kept events (D.history
+            disk.new)) }
+        ensures so_far { (state : State) (events : List Event) → IsStoreOf self.old.store state
+            → D.history disk.old ≡ Some events
+            → IsDoneSoFar state command.now events (D.history disk.new) }
         ensures ready { OnOk result (IsReady self.new.store (D.size disk.new)) }
         ensures ends { IfErr result (λ status. (status ≡ Status.Disk) ⊎ (status ≡ Status.NoMemory)) }
         ensures cause { HasCause Status.Disk (D.faults disk.old) (D.faults disk.new) result }

@@ -37,11 +37,13 @@ fn turn<L: Ledger, M: Ledger, D: Disk, S: Source, K: Sink>(
 ) -> Result<bool, Status>
     requires { IsReady session.old.store (D.size disk.old) }
     ensures ok { (state : State) (events : List Event) (before : List ℕ) → IsStoreOf session.old.store state
-        → D.history disk.old ≡ Some events → pending feed.old (S.bytes_left source.old) ≡ Some before → IfOk result (λ more.
+        → D.history disk.old ≡ Some events → pending feed.old (S.bytes_left source.old) ≡ Some before
+        → IfOk result (λ more.
         IsTurn more state events before (pending feed.new (S.bytes_left source.new))
         session.new.store (D.history disk.new) (K.bytes_held sink.old) (K.bytes_held sink.new)) }
     ensures err { (state : State) (events : List Event) (before : List ℕ) → IsStoreOf session.old.store state
-        → D.history disk.old ≡ Some events → pending feed.old (S.bytes_left source.old) ≡ Some before → IfErr result (λ status.
+        → D.history disk.old ≡ Some events → pending feed.old (S.bytes_left source.old) ≡ Some before
+        → IfErr result (λ status.
         FailsToTurn status state events before (pending feed.new (S.bytes_left source.new))
         session.new.store (D.history disk.new) (K.bytes_held sink.old) (K.bytes_held sink.new)) }
     ensures ready { OnOk result (IsReady session.new.store (D.size disk.new)) }

@@ -16,10 +16,9 @@ use Rattle.qg_super.specs.declared.sizes.Sizes.{Sizes}
 use Rattle.qg_super.specs.Places.{is_served, is_slot}
 use Rattle.qg_image.specs.Below.{nodes_below}
 use Rattle.qg_image.specs.Table.{value_at, keys_of}
-use Rattle.qg_state.specs.declared.quota.Quota.{Quota}
 use Rattle.qg_state.specs.declared.element.Element.{Element}
-use Rattle.qg_state.specs.State.{State, Subvolume, node_at}
-use Rattle.qg_state.specs.Members.{members, is_member, is_below, leads, level_of_group}
+use Rattle.qg_state.specs.State.{Layout, node_at}
+use Rattle.qg_state.specs.Members.{Hierarchy, members, is_member, is_below, leads, level_of_group}
 use Rattle.qg_state.specs.Reach.{reach, reach_of, reach_of_root, reaches, level_of, distinct}
 use Rattle.qg_state.specs.Counts.{referenced, exclusive, reach_of_group, is_reached_outside, bytes_of}
 use Rattle.qg_state.proofs.Contained.{contains_here, contains_later, contains_cases}
@@ -32,9 +31,9 @@ use Rattle.qg_reach.proofs.SlotRule.{slot_below}
 use Rattle.qg_reach.proofs.Reached.{address_of, extents_named, elements_of, LieWhereFound, reach_under_nodes}
 
 -- the top-level subvolume is the only one, and its group the only one
-pub record IsSingle (state : State) (quota : Quota) (subvolume : Subvolume) : Type 0 where
-  pub subvolumes : state.subvolumes ≡ (5, subvolume) ∷ []
-  pub groups : keys_of quota.groups ≡ 5 ∷ []
+pub record IsSingle (layout : Layout) (hierarchy : Hierarchy) (root : ℕ) : Type 0 where
+  pub roots : layout.roots ≡ (5, root) ∷ []
+  pub groups : hierarchy.groups ≡ 5 ∷ []
 
 -- ---- the members
 
@@ -43,55 +42,55 @@ unfolding leads
 leads_there pairs zero = refl
 leads_there pairs (suc count) = refl
 
-pub members_single : (quota : Quota) → keys_of quota.groups ≡ 5 ∷ [] → members quota 5 ≡ 5 ∷ []
+pub members_single : (hierarchy : Hierarchy) → hierarchy.groups ≡ 5 ∷ [] → members hierarchy 5 ≡ 5 ∷ []
 unfolding members is_below
-members_single quota groups =
-    ap (filter (λ sub. (level_of_group sub == 0) && is_below quota sub 5)) groups
-    ∙ cond-true (leads quota.pairs (length quota.pairs) 5 5) (5 ∷ []) [] (leads_there quota.pairs (length quota.pairs))
+members_single hierarchy groups =
+    ap (filter (λ sub. (level_of_group sub == 0) && is_below hierarchy.pairs sub 5)) groups
+    ∙ cond-true (leads hierarchy.pairs (length hierarchy.pairs) 5 5) (5 ∷ []) [] (leads_there hierarchy.pairs (length hierarchy.pairs))
 
 -- ---- exclusive
 
-pub not_outside : (state : State) (quota : Quota) (subvolume : Subvolume) (address : ℕ) → IsSingle state quota subvolume → is_reached_outside state quota 5 address ≡ false
+pub not_outside : (layout : Layout) (hierarchy : Hierarchy) (root : ℕ) (address : ℕ) → IsSingle layout hierarchy root → is_reached_outside layout hierarchy 5 address ≡ false
 unfolding is_reached_outside
-not_outside state quota subvolume address single =
-    ap (λ subs. list_any (λ sub. not (is_member quota 5 sub) && reaches state sub address) (keys_of subs)) single.subvolumes
-    ∙ ap (λ in_group. (not (list_any (λ member. member == 5) in_group) && reaches state 5 address) || false) (members_single quota single.groups)
+not_outside layout hierarchy root address single =
+    ap (λ roots. list_any (λ sub. not (is_member hierarchy 5 sub) && reaches layout sub address) (keys_of roots)) single.roots
+    ∙ ap (λ in_group. (not (list_any (λ member. member == 5) in_group) && reaches layout 5 address) || false) (members_single hierarchy single.groups)
 
 filter_all : (test : Element → Bool) (xs : List Element) → ((x : Element) → test x ≡ true) → filter test xs ≡ xs
 filter_all test [] all = refl
 filter_all test (x ∷ xs) all = cond-true (test x) _ _ (all x) ∙ ap (λ rest. x ∷ rest) (filter_all test xs all)
 
 -- no subvolume is outside, so all that is referenced is exclusive
-pub exclusive_single : (state : State) (quota : Quota) (subvolume : Subvolume) → IsSingle state quota subvolume → exclusive state quota 5 ≡ referenced state quota 5
+pub exclusive_single : (layout : Layout) (hierarchy : Hierarchy) (root : ℕ) → IsSingle layout hierarchy root → exclusive layout hierarchy 5 ≡ referenced layout hierarchy 5
 unfolding exclusive referenced
-exclusive_single state quota subvolume single =
-    ap bytes_of (filter_all (λ element. not (is_reached_outside state quota 5 element.address)) (reach_of_group state quota 5)
-    (λ element. ap not (not_outside state quota subvolume element.address single)))
+exclusive_single layout hierarchy root single =
+    ap bytes_of (filter_all (λ element. not (is_reached_outside layout hierarchy 5 element.address)) (reach_of_group layout hierarchy 5)
+    (λ element. ap not (not_outside layout hierarchy root element.address single)))
 
 -- ---- referenced
 
-reach_single : (state : State) (quota : Quota) (subvolume : Subvolume) → IsSingle state quota subvolume → reach state 5 ≡ reach_of_root state subvolume.root
+reach_single : (layout : Layout) (hierarchy : Hierarchy) (root : ℕ) → IsSingle layout hierarchy root → reach layout 5 ≡ reach_of_root layout root
 unfolding reach
-reach_single state quota subvolume single = ap (λ subs. reach_of state (value_at 5 subs)) single.subvolumes
+reach_single layout hierarchy root single = ap (λ roots. reach_of layout (value_at 5 roots)) single.roots
 
-pub referenced_single : (state : State) (quota : Quota) (subvolume : Subvolume) → IsSingle state quota subvolume
-    → referenced state quota 5 ≡ bytes_of (distinct (reach_of_root state subvolume.root))
+pub referenced_single : (layout : Layout) (hierarchy : Hierarchy) (root : ℕ) → IsSingle layout hierarchy root
+    → referenced layout hierarchy 5 ≡ bytes_of (distinct (reach_of_root layout root))
 unfolding referenced reach_of_group
-referenced_single state quota subvolume single =
-    ap (λ subs. bytes_of (distinct (flat_map (reach state) subs))) (members_single quota single.groups)
-    ∙ ap (λ met. bytes_of (distinct met)) (append-nil (reach state 5) ∙ reach_single state quota subvolume single)
+referenced_single layout hierarchy root single =
+    ap (λ subs. bytes_of (distinct (flat_map (reach layout) subs))) (members_single hierarchy single.groups)
+    ∙ ap (λ met. bytes_of (distinct met)) (append-nil (reach layout 5) ∙ reach_single layout hierarchy root single)
 
 -- ---- by nodes and extents
 
 -- the nodes below a root, each found where it says that it lies
-pub record HasNodes (state : State) (root : ℕ) (nodes : List Node) : Type 0 where
-  pub lie : LieWhereFound (node_at state.layout)
-  pub below : nodes_below (node_at state.layout) (level_of (node_at state.layout root)) root ≡ Some nodes
+pub record HasNodes (layout : Layout) (root : ℕ) (nodes : List Node) : Type 0 where
+  pub lie : LieWhereFound (node_at layout.nodes)
+  pub below : nodes_below (node_at layout.nodes) (level_of (node_at layout.nodes root)) root ≡ Some nodes
 
-pub reach_of_root_nodes : (state : State) (root : ℕ) (nodes : List Node) → HasNodes state root nodes → reach_of_root state root ≡ flat_map (elements_of state.sizes.nodesize) nodes
+pub reach_of_root_nodes : (layout : Layout) (root : ℕ) (nodes : List Node) → HasNodes layout root nodes → reach_of_root layout root ≡ flat_map (elements_of layout.nodesize) nodes
 unfolding reach_of_root
-reach_of_root_nodes state root nodes has =
-    reach_under_nodes (node_at state.layout) state.sizes.nodesize (level_of (node_at state.layout root)) root nodes has.lie has.below
+reach_of_root_nodes layout root nodes has =
+    reach_under_nodes (node_at layout.nodes) layout.nodesize (level_of (node_at layout.nodes root)) root nodes has.lie has.below
 
 -- the slots of nodes and the extents that they name, each once
 pub record AreTold (nodes : List Node) (slots : List ℕ) (extents : List Element) : Type 0 where
@@ -186,15 +185,15 @@ all_same nodesize nodes slots extents told = record { into = into; back = back }
 -- ---- the count
 
 -- what the group counts as referenced is its slots, and the bytes of its extents
-pub referenced_told : (state : State) (quota : Quota) (subvolume : Subvolume) (nodes : List Node) (slots : List ℕ) (extents : List Element)
-    → IsSingle state quota subvolume → HasNodes state subvolume.root nodes → AreTold nodes slots extents
-    → referenced state quota 5 ≡ state.sizes.nodesize * length slots + bytes_of extents
-referenced_told state quota subvolume nodes slots extents single has told =
-    let nodesize = state.sizes.nodesize in
+pub referenced_told : (layout : Layout) (hierarchy : Hierarchy) (root : ℕ) (nodes : List Node) (slots : List ℕ) (extents : List Element)
+    → IsSingle layout hierarchy root → HasNodes layout root nodes → AreTold nodes slots extents
+    → referenced layout hierarchy 5 ≡ layout.nodesize * length slots + bytes_of extents
+referenced_told layout hierarchy root nodes slots extents single has told =
+    let nodesize = layout.nodesize in
     let each = map (element_at nodesize) slots in
     let apart = all_apart nodesize slots extents (sorted_from_strictly_increasing slots told.ascending) told.apart told.elsewhere in
-    referenced_single state quota subvolume single
-    ∙ ap (λ met. bytes_of (distinct met)) (reach_of_root_nodes state subvolume.root nodes has)
+    referenced_single layout hierarchy root single
+    ∙ ap (λ met. bytes_of (distinct met)) (reach_of_root_nodes layout root nodes has)
     ∙ bytes_of_distinct (flat_map (elements_of nodesize) nodes) (each ++ extents) apart (all_same nodesize nodes slots extents told)
     ∙ sum_by-append (λ (e : Element). e.bytes) each extents
     ∙ ap (λ n. n + bytes_of extents) (bytes_of_slots nodesize slots)

@@ -12,7 +12,7 @@ use Rattle.qg_image.specs.declared.part.ExtentPart.{ExtentPart}
 use Rattle.qg_state.specs.State.{Placed, node_at}
 use Rattle.qg_state.proofs.Contained.{none_contained, contains_here, contains_later, contains_cases}
 use Rattle.qg_verdict.specs.declared.tree.Tree.TheVariants.{Files}
-use Rattle.qg_verdict.specs.StateOf.{placed, layout_in, extent_parts, nodes_of_root, subvolume_roots, roots_in}
+use Rattle.qg_verdict.specs.ImageState.{placed, layout_in, extent_parts, nodes_of_root, subvolume_roots, roots_in}
 use Rattle.qg_reach.proofs.Reached.{address_of, LieWhereFound}
 
 -- ---- a table with one more value
@@ -60,8 +60,8 @@ value_at-with_other n m value (entry ∷ entries) differ = elim (cases_Bool (nat
 abbrev pub with_nodes : List ExtentPart → List (ℕ × Placed) → List Node → List (ℕ × Placed)
 with_nodes parts layout nodes = fold (λ layout node. with_value (address_of node) (placed parts node) layout) layout nodes
 
-abbrev pub layout_of : List ExtentPart → List Node → List (ℕ × Placed)
-layout_of parts nodes = with_nodes parts [] nodes
+abbrev pub layout_by : List ExtentPart → List Node → List (ℕ × Placed)
+layout_by parts nodes = with_nodes parts [] nodes
 
 kept_other : (parts : List ExtentPart) (layout : List (ℕ × Placed)) (nodes : List Node) (address : ℕ) → ((node : Node) → Contains nodes node → address_of node ≡ address → ⊥)
     → value_at address (with_nodes parts layout nodes) ≡ value_at address layout
@@ -99,12 +99,12 @@ pub record AgreeByAddress (nodes : List Node) : Type 0 where
   pub agree : (a b : Node) → Contains nodes a → Contains nodes b → address_of a ≡ address_of b → a ≡ b
 
 -- each node is found where it says that it lies
-pub node_at-layout : (parts : List ExtentPart) (nodes : List Node) (node : Node) → AgreeByAddress nodes → Contains nodes node → node_at (layout_of parts nodes) (address_of node) ≡ Some node
+pub node_at-layout : (parts : List ExtentPart) (nodes : List Node) (node : Node) → AgreeByAddress nodes → Contains nodes node → node_at (layout_by parts nodes) (address_of node) ≡ Some node
 node_at-layout parts nodes node alike has =
     ap (option_map (λ (placed : Placed). placed.node)) (has_each parts [] nodes node (λ other has' same. alike.agree other node has' has same) has)
 
 -- at any other address none is
-pub node_at-layout_other : (parts : List ExtentPart) (nodes : List Node) (address : ℕ) → ((node : Node) → Contains nodes node → address_of node ≡ address → ⊥) → node_at (layout_of parts nodes) address ≡ None
+pub node_at-layout_other : (parts : List ExtentPart) (nodes : List Node) (address : ℕ) → ((node : Node) → Contains nodes node → address_of node ≡ address → ⊥) → node_at (layout_by parts nodes) address ≡ None
 node_at-layout_other parts nodes address other = ap (option_map (λ (placed : Placed). placed.node)) (kept_other parts [] nodes address other)
 
 -- ---- what is found says that it lies there
@@ -129,16 +129,16 @@ placed_node : (found : Option Placed) (node : Node) → option_map (λ (placed :
 placed_node None node is = cc
 placed_node (Some value) node is = (value, refl, same_Some value.node node is)
 
-pub LieWhereFound-layout : (parts : List ExtentPart) (nodes : List Node) → LieWhereFound (node_at (layout_of parts nodes))
+pub LieWhereFound-layout : (parts : List ExtentPart) (nodes : List Node) → LieWhereFound (node_at (layout_by parts nodes))
 LieWhereFound-layout parts nodes = record {
   found = λ address node is.
-      let there = placed_node (value_at address (layout_of parts nodes)) node is in
+      let there = placed_node (value_at address (layout_by parts nodes)) node is in
       ap address_of (sym there.2) ∙ all_lie parts [] nodes (λ address value none. cc) address there.0 there.1;
 }
 
 -- ---- the layout of an image
 
 -- it is made of the nodes of its subvolumes
-pub layout_in-nodes : (super : Super) (image : List ℕ) → layout_in super image ≡ layout_of (extent_parts super image) (flat_map (λ entry. nodes_of_root Files super image entry.1) (subvolume_roots (roots_in super image)))
+pub layout_in-nodes : (super : Super) (image : List ℕ) → layout_in super image ≡ layout_by (extent_parts super image) (flat_map (λ entry. nodes_of_root Files super image entry.1) (subvolume_roots (roots_in super image)))
 unfolding layout_in
 layout_in-nodes super image = refl

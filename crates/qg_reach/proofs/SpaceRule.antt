@@ -15,7 +15,7 @@ use Rattle.qg_state.specs.Counts.{bytes_of}
 use Rattle.qg_state.proofs.Contained.{none_contained, contains_cases}
 use Rattle.qg_verdict.specs.declared.failure.Failure.{Failure}
 use Rattle.qg_verdict.specs.declared.failure.Failure.TheVariants.{Broken}
-use Rattle.qg_verdict.specs.Failure.{kept, first_failure}
+use Rattle.qg_verdict.specs.Failure.{unless, first_failure}
 use Rattle.qg_verdict.specs.Verdict.{is_extent, longest_extent, space_failure}
 use Rattle.qg_reach.specs.Fits.{first_fits}
 use Rattle.qg_reach.proofs.Distinct.{AreApart, apart_none, apart_with}
@@ -31,10 +31,10 @@ first_of : (f : Option Failure) → first_failure (f ∷ []) ≡ f
 first_of None = refl
 first_of (Some failure) = refl
 
-passes : (test : Bool) (address : ℕ) (f : Option Failure) → test ≡ true → first_failure (kept test rule.Space address ∷ f ∷ []) ≡ f
+passes : (test : Bool) (address : ℕ) (f : Option Failure) → test ≡ true → first_failure (unless test rule.Space address ∷ f ∷ []) ≡ f
 passes test address f h = ap (λ first. first_failure (first ∷ f ∷ [])) (cond-true test None (Some (Broken rule.Space address)) h) ∙ first_of f
 
-stops : (test : Bool) (address : ℕ) (f : Option Failure) → test ≡ false → first_failure (kept test rule.Space address ∷ f ∷ []) ≡ Some (Broken rule.Space address)
+stops : (test : Bool) (address : ℕ) (f : Option Failure) → test ≡ false → first_failure (unless test rule.Space address ∷ f ∷ []) ≡ Some (Broken rule.Space address)
 stops test address f h = ap (λ first. first_failure (first ∷ f ∷ [])) (cond-false test None (Some (Broken rule.Space address)) h)
 
 -- an extent that fits: the failure is the first of the others

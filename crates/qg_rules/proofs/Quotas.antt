@@ -15,7 +15,7 @@ use Rattle.qg_image.specs.declared.part.QuotaPart.{QuotaPart}
 use Rattle.qg_image.specs.declared.part.QuotaPart.TheVariants.{Status, Info, Limits, Relation}
 use Rattle.qg_state.specs.Members.{level_of_group}
 use Rattle.qg_state.specs.declared.quota.Group.{Group}
-use Rattle.qg_verdict.specs.StateOf.{group_told, info_told, limit_told, max_rfer_told, max_excl_told, pair_told, quota_told}
+use Rattle.qg_verdict.specs.ImageState.{group_told, info_told, limit_told, max_rfer_told, max_excl_told, pair_told, quota_told}
 use Rattle.qg_verdict.specs.Verdict.{fits_quota, has_twin, is_group_number, is_limit, is_plain, is_quota, is_served_group, is_served_number, is_status_part}
 use Rattle.qg_rules.specs.Quota.{fits_served, group_in, is_counters, is_limits, is_unlimited}
 

@@ -2,7 +2,7 @@
 ghost use Rattle.std.specs.Prelude.{◌≡◌, ◌==◌, ◌&&◌, ℕ, true, length, map, None, Some, IfErr, IfOk, OnOk, IsTrue};
 ghost use Rattle.std.specs.List.{count_by, filter_map, list_all, list_any};
 ghost use Rattle.qg_image.specs.Table.{keys_of};
-ghost use Rattle.qg_verdict.specs.StateOf.{info_told, quota_told};
+ghost use Rattle.qg_verdict.specs.ImageState.{info_told, quota_told};
 ghost use Rattle.qg_verdict.specs.Verdict.{are_few, is_plain, is_quota, is_relation_part, is_served_number, is_status_part};
 ghost use Rattle.qg_rules.specs.Quota.{fits_served, group_in, is_counters, is_limits, is_unlimited, quota_rule, unlimited_group, IfRule};
 

@@ -2,7 +2,7 @@
 ghost use Rattle.std.specs.Prelude.{◌≡◌, ◌==◌, ◌||◌, ℕ, not, IfOk};
 ghost use Rattle.std.specs.List.{list_all};
 ghost use Rattle.qg_image.specs.Table.{has_key, value_at};
-ghost use Rattle.qg_verdict.specs.StateOf.{subvolume_roots};
+ghost use Rattle.qg_verdict.specs.ImageState.{subvolume_roots};
 ghost use Rattle.qg_verdict.specs.Verdict.{are_roots};
 ghost use Rattle.qg_rules.specs.Roots.{is_alone};
 

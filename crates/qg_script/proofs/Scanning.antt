@@ -4,8 +4,9 @@ use Rattle.std.specs.List.{AllWithin}
 use Rattle.std.specs.Io.KnownBytes.{prepend_known, IsAtEnd}
 use Rattle.std.proofs.lemmas.Bool.{cases_lt}
 use Rattle.std.proofs.lemmas.List.{append-nil, append_cancel_left, length-take, get_or-take, take_all, drop_all, nil_from_length}
+use Rattle.std.proofs.lemmas.List.Elements.{All-contains}
 use Rattle.qg_grammar.specs.ScriptText.{script_lines, longest_script}
-use Rattle.qg_script.specs.Feeding.{Feeding, IsWithinLimit, IsFirstNewline, TakesMore, within_limit}
+use Rattle.qg_script.specs.Feeding.{Feeding, IsWithinLimit, IsFirstNewline, HoldsLine, HandsOutHeld, TakesMore, within_limit}
 use Rattle.qg_script.specs.Lines.{pending, TakesLine, CountsTaken}
 use Rattle.qg_script.proofs.FirstLine.{HasNoNewline, script_lines-newline, script_lines-last, at_newline}
 
@@ -73,6 +74,28 @@ line_found {start} {now} {before} {after} {scanned} {end} so_far found =
     let newline : get_or now.rest end 0 ≡ 10 = sym (get_or-take count now.rest end 0 low) ∙ found.newline in
     let none = front_passed now.rest count scanned end so_far.passed found.before (omega (arith, found.within)) in
     rw (← so_far.same) (newline_taken now.rest after end now.taken within newline none)
+
+-- where a line was held whole when the call began, a newline is found before more is taken
+pub newline_held : (start now : Feeding) (bytes : List ℕ) (scanned : ℕ) → bytes ≡ within_limit now → AllWithin (λ byte. byte ≢ 10) bytes scanned (length bytes)
+    → scanned ≡ 0 → now ≡ start → HoldsLine start → ⊥
+newline_held start now bytes scanned held none from same holds =
+    let all : HasNoNewline bytes = λ k d low. none k d (omega arith) low in
+    let whole : bytes ≡ within_limit start = held ∙ ap within_limit same in
+    All-contains (λ byte. byte ≢ 10) (within_limit start) 10 (subst HasNoNewline whole all) holds refl
+
+-- up to the first newline of what was held when the call began lies the line that is handed out
+pub held_found : (start now : Feeding) (scanned end : ℕ) → IsFirstNewline (within_limit now) scanned end → scanned ≡ 0 → now ≡ start
+    → HandsOutHeld start (record now { rest = drop (end + 1) now.rest }) (take end now.rest)
+held_found start now scanned end found from same =
+    let count = longest_script - (now.taken - length now.rest) in
+    let within : end < length now.rest = omega (arith, found.within, length-take count now.rest) in
+    let low : end < count = omega (arith, found.within, length-take count now.rest) in
+    let newline : get_or now.rest end 0 ≡ 10 = sym (get_or-take count now.rest end 0 low) ∙ found.newline in
+    record {
+      parted = ap (λ (feeding : Feeding). feeding.rest) (sym same) ∙ at_newline now.rest end within newline;
+      plain = front_passed now.rest count scanned end (λ k d none past. absurd (omega arith)) found.before (omega (arith, found.within));
+      taken = ap (λ (feeding : Feeding). feeding.taken) same;
+    }
 
 prepend_known-nil : (bytes : List ℕ) (known : Option (List ℕ)) → prepend_known bytes known ≡ prepend_known bytes (prepend_known [] known)
 prepend_known-nil bytes None = refl

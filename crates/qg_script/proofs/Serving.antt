@@ -5,7 +5,7 @@ use Rattle.std.specs.List.{flat_map, list_all}
 use Rattle.qg_num.specs.declared.command.Command.{Command}
 use Rattle.qg_num.specs.declared.command.Command.TheVariants.{Write, Clone, Truncate, Unlink, Commit, Show, Ls}
 use Rattle.qg_grammar.specs.ScriptText.{command_text, is_in_grammar, then_number}
-use Rattle.qg_grammar.specs.Served.{is_served}
+use Rattle.qg_grammar.specs.Served.{is_served_command}
 use Rattle.qg_script.specs.Reading.{IsParted, IsTextOf}
 use Rattle.qg_script.proofs.Parting.{parted_once, plain_word, numbers_behind}
 use Rattle.qg_script.proofs.Rows.{write_text, clone_text, truncate_text, unlink_tells, ls_tells}
@@ -28,7 +28,7 @@ first_is written numbers parted plain is =
 -- a text that is none of these is that of no served command
 pub not_served : {text word rest : List ℕ} → IsParted text word rest → text ≢ codes "commit" → text ≢ codes "show"
     → word ≢ codes "write" → word ≢ codes "clone" → word ≢ codes "truncate" → word ≢ codes "unlink" → word ≢ codes "ls"
-    → (command : Command) → IsTrue (is_served command) → IsTextOf text command → ⊥
+    → (command : Command) → IsTrue (is_served_command command) → IsTextOf text command → ⊥
 unfolding command_text
 not_served parted commit show write clone truncate unlink ls (Write sub ino off len) served is =
     write (first_is (codes "write") (sub ∷ ino ∷ off ∷ len ∷ []) parted refl (is.spelled ∙ write_text sub ino off len))

@@ -1,5 +1,5 @@
 -- What was taken of a source, as callers see it (this project's own).
-use Rattle.std.specs.Prelude.{◌≡◌, ◌≢◌, ℕ, ◌+◌, ◌-◌, ◌<◌, ◌≤◌, List, ◌++◌, length, take, slice_index, All, Option}
+use Rattle.std.specs.Prelude.{◌≡◌, ◌≢◌, ℕ, ◌+◌, ◌-◌, ◌<◌, ◌≤◌, List, ◌∷◌, ◌++◌, length, take, slice_index, All, Contains, Option}
 use Rattle.std.specs.List.{AllWithin}
 use Rattle.std.specs.Io.KnownBytes.{prepend_known, IsAtEnd}
 use Rattle.qg_grammar.specs.ScriptText.{longest_script}
@@ -18,6 +18,16 @@ pub record IsWithinLimit (feeding : Feeding) : Type 0 where
 -- the bytes held that lie within the longest script
 abbrev pub within_limit : Feeding → List ℕ
 within_limit feeding = take (longest_script - (feeding.taken - length feeding.rest)) feeding.rest
+
+-- a line is held whole: some byte held within the limit is a newline
+abbrev pub HoldsLine : Feeding → Type 0
+HoldsLine feeding = Contains (within_limit feeding) 10
+
+-- the first line held was handed out, and no more was taken
+pub record HandsOutHeld (old new : Feeding) (line : List ℕ) : Type 0 where
+  pub parted : old.rest ≡ line ++ 10 ∷ new.rest
+  pub plain : All (λ byte. byte ≢ 10) line
+  pub taken : new.taken ≡ old.taken
 
 -- no more may be taken, and the line that comes next does not end within the longest script
 pub record IsTooLong (feeding : Feeding) : Type 0 where

@@ -1,8 +1,8 @@
 // The next line of a source.
-ghost use Rattle.std.specs.Prelude.{◌≡◌, ◌≢◌, ◌+◌, ◌≤◌, ◌<◌, length, Err, IfOk, IfSome, IfNone, OnOk, OnErr, OnSome};
+ghost use Rattle.std.specs.Prelude.{◌≡◌, ◌≢◌, ◌+◌, ◌≤◌, ◌<◌, length, Err, IfOk, IfErr, IfSome, IfNone, IsSomeAnd, OnOk, OnErr, OnSome};
 ghost use Rattle.std.specs.List.{AllWithin};
 ghost use Rattle.qg_device.specs.Cause.{HasCause};
-ghost use Rattle.qg_script.specs.Feeding.{IsWithinLimit, IsTooLong, IsFirstNewline, most_to_come};
+ghost use Rattle.qg_script.specs.Feeding.{IsWithinLimit, IsTooLong, IsFirstNewline, HoldsLine, HandsOutHeld, most_to_come};
 ghost use Rattle.qg_script.specs.Lines.{pending, TakesLine, IsOver, CountsTaken};
 
 use crate::{Feed, Line, LineFault};
@@ -35,6 +35,13 @@ pub fn next_line<S: Source>(source: &mut S, feed: &mut Feed) -> Result<Option<Li
     ensures too_long { result ≡ Err LineFault.TooLong → IsTooLong feed.new }
     ensures past { IsTooLong feed.old → (result ≡ Err LineFault.TooLong) × (feed.new ≡ feed.old) }
     ensures cause { HasCause LineFault.Source (S.faults source.old) (S.faults source.new) result }
+
+    // A line that is held whole is handed out before the source is asked for more.
+    ensures held { HoldsLine feed.old → IfOk result (λ found. IsSomeAnd found (λ line.
+        HandsOutHeld feed.old feed.new line)) }
+    ensures held_err { HoldsLine feed.old → IfErr result (λ fault.
+        (fault ≡ LineFault.NoMemory) × (feed.new ≡ feed.old)) }
+    ensures not_asked { HoldsLine feed.old → source.new ≡ source.old }
 
     // How many bytes are taken and handed out.
     ensures counted { CountsTaken

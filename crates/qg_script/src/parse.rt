@@ -1,7 +1,7 @@
 // The command of a line.
 ghost use Rattle.std.specs.Prelude.{◌≡◌, ◌≢◌, ◌++◌, codes, IfOk, IfSome, IfNone, IsTrue};
 ghost use Rattle.qg_num.specs.declared.command.Command.{Command};
-ghost use Rattle.qg_grammar.specs.Served.{is_served};
+ghost use Rattle.qg_grammar.specs.Served.{is_served_command};
 ghost use Rattle.qg_script.specs.Reading.{IsParted, IsTextOf, Reads};
 ghost use Rattle.qg_script.specs.ServedLines.{IsServedLineOf};
 
@@ -68,9 +68,9 @@ fn read_ls(rest: &[u8]) -> Option<Command>
 
 // The command of a text, if it is served.
 fn command_of(text: &[u8]) -> Option<Command>
-    ensures served { IfSome result (λ command. IsTrue (is_served command)) }
+    ensures served { IfSome result (λ command. IsTrue (is_served_command command)) }
     ensures found { IfSome result (IsTextOf text.now) }
-    ensures none { IfNone result ((command : Command) → IsTrue (is_served command) → IsTextOf text.now command → ⊥) }
+    ensures none { IfNone result ((command : Command) → IsTrue (is_served_command command) → IsTextOf text.now command → ⊥) }
 {
     if text == b"commit".as_slice() {
         return Some(Command::Commit);

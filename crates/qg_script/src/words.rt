@@ -1,7 +1,7 @@
 // The words of replies, each behind a space.
 ghost use Rattle.std.specs.Prelude.{◌≡◌};
 ghost use Rattle.std.specs.Fmt.{decimal};
-ghost use Rattle.qg_grammar.specs.ScriptText.{then_number, then_word, group_text, then_group, which_text, limit_text};
+ghost use Rattle.qg_grammar.specs.ScriptText.{then_number, then_word, group_text, then_group, which_text, maximum_text};
 ghost use Rattle.qg_script.specs.Added.{Adds};
 
 use crate::Text;
@@ -51,7 +51,7 @@ pub(crate) fn write_next_group(group: GroupId, text: &mut Text) -> Result<(), No
 
 /// Adds a limit in bytes, or that there is none, behind a space.
 pub(crate) fn write_limit(max: Option<u64>, text: &mut Text) -> Result<(), NoMemory>
-    ensures { Adds result text.old text.new (then_word (limit_text max)) }
+    ensures { Adds result text.old text.new (then_word (maximum_text max)) }
 {
     match max {
         Some(max) => write_number(max, text),

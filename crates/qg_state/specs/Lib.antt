@@ -9,3 +9,5 @@ pub mod Space
 pub mod Owed
 pub mod Need
 pub mod Examples
+pub mod ExamplesOfReferences
+pub mod ExamplesOfAgreement

@@ -1,15 +1,15 @@
 -- How many node slots a command needs, so that no commit ever wants one (this project's own). Weights are in bytes, the rest in slots.
 use Rattle.std.specs.Prelude.{ℕ, ◌+◌, ◌-◌, ◌*◌, ◌/◌, ◌≤◌, List, [], ◌∷◌, ◌++◌, length, map, Option, Some, None, if◌then◌else◌}
-use Rattle.std.specs.List.{flat_map, sum_by}
+use Rattle.std.specs.List.{filter_map, flat_map, sum_by}
 use Rattle.qg_items.specs.declared.tree.TheConstants.{EXTENT_TREE, QUOTA_TREE}
-use Rattle.qg_node.specs.Nodes.{header_of}
+use Rattle.qg_node.specs.Nodes.{header_of, own_items}
 use Rattle.qg_super.specs.Places.{capacity}
 use Rattle.qg_image.specs.Table.{keys_of}
 use Rattle.qg_image.specs.declared.file.File.{File}
-use Rattle.qg_state.specs.Stage.{records_references}
-use Rattle.qg_state.specs.Record.{Record, RootOf, ExtentOf, NodeOf, ReferenceTo, Status, InfoOf, LimitOf, RelationOf, records_bytes}
+use Rattle.qg_state.specs.Stage.{copies_on_write}
+use Rattle.qg_state.specs.Record.{Record, RootOf, ExtentOf, NodeOf, ReferenceTo, Status, InfoOf, LimitOf, RelationOf, record_named, records_bytes}
 use Rattle.qg_state.specs.declared.quota.Quota.{Quota}
-use Rattle.qg_state.specs.State.{State, Accepted}
+use Rattle.qg_state.specs.State.{State, Layout, Accepted, Committed, layout_of}
 use Rattle.qg_state.specs.Owed.{owed, layout_extents}
 use Rattle.qg_state.specs.Space.{free_slots}
 
@@ -27,20 +27,24 @@ root_records state = RootOf EXTENT_TREE ∷ map RootOf (keys_of state.subvolumes
   quota_root None = []
   quota_root (Some quota) = RootOf QUOTA_TREE ∷ []
 
-abbrev pub extent_records : State → List Record
-extent_records state =
-    map (λ entry. NodeOf entry.0 (header_of entry.1.node).level) state.layout ++ map (λ extent. ExtentOf extent.address extent.bytes) (layout_extents state)
-    ++ map (λ owing. ReferenceTo owing.address owing.reference) (owed state)
+abbrev pub extent_records : Layout → List Record
+extent_records layout =
+    map (λ entry. NodeOf entry.0 (header_of entry.1.node).level) layout.nodes ++ map (λ extent. ExtentOf extent.address extent.bytes) (layout_extents layout)
+    ++ map (λ owing. ReferenceTo owing.address owing.reference) (owed layout)
 
 -- as long as the extent tree records nothing it is an empty leaf
 unfoldable pub present_records : State → List Record
-present_records state = root_records state ++ (if records_references then extent_records state else []) ++ quota_records state.quota
+present_records state = root_records state ++ (if copies_on_write then extent_records (layout_of state) else []) ++ quota_records state.quota
+
+-- what the items of those trees name that the last commit holds
+unfoldable pub held_records : Committed → List Record
+held_records held = filter_map record_named (flat_map own_items held.others)
 
 -- ---- weights
 
 -- what those trees' items take that the last commit holds or a commit now would hold, each once
 unfoldable pub weight : State → ℕ
-weight state = records_bytes (state.held.records ++ present_records state)
+weight state = records_bytes (held_records state.held ++ present_records state)
 
 -- what a file's items take: its INODE_ITEM, and an EXTENT_DATA for each piece
 abbrev pub file_bytes : File → ℕ

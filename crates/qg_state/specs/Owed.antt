@@ -14,7 +14,7 @@ use Rattle.qg_image.specs.declared.part.ExtentPart.TheVariants.{DataRecord, Node
 use Rattle.qg_image.specs.ItemMeaning.{file_part}
 use Rattle.qg_state.specs.Record.{same_reference}
 use Rattle.qg_state.specs.declared.element.Element.{Element}
-use Rattle.qg_state.specs.State.{State, Placed}
+use Rattle.qg_state.specs.State.{Layout, Placed}
 use Rattle.qg_state.specs.Reach.{extent_of, pieces_of, reaches}
 
 -- ---- what is owed
@@ -48,39 +48,39 @@ owed_by_node placed =
     ++ flat_map (λ item. owed_by_part (header_of placed.node) placed.full (file_part item)) (own_items placed.node)
 
 -- all that is owed: each subvolume owes its root a keyed reference, and each reached node what it owes, once
-unfoldable pub owed : State → List Owing
-owed state =
-    map (λ entry. record { address = entry.1.root; reference = KeyedBlock entry.0 }) state.subvolumes ++ flat_map (λ entry. owed_by_node entry.1) state.layout
+unfoldable pub owed : Layout → List Owing
+owed layout =
+    map (λ entry. record { address = entry.1; reference = KeyedBlock entry.0 }) layout.roots ++ flat_map (λ entry. owed_by_node entry.1) layout.nodes
 
 -- the references that are owed to an address, as often as they are
-abbrev pub owed_to : State → ℕ → List Reference
-owed_to state address = filter_map (λ owing. if owing.address == address then Some owing.reference else None) (owed state)
+abbrev pub owed_to : Layout → ℕ → List Reference
+owed_to layout address = filter_map (λ owing. if owing.address == address then Some owing.reference else None) (owed layout)
 
 -- how often one reference is owed to an address
-unfoldable pub owed_count : State → ℕ → Reference → ℕ
-owed_count state address reference = count_by (same_reference reference) (owed_to state address)
+unfoldable pub owed_count : Layout → ℕ → Reference → ℕ
+owed_count layout address reference = count_by (same_reference reference) (owed_to layout address)
 
--- ---- what is recorded
+-- ---- what there is, and how it is recorded
 
--- what begins at an address of the state: nothing, a data extent of so many bytes, or a node
-pub data Kept : Type 0 where
-  Nothing : Kept
-  Data : (bytes : ℕ) → Kept
-  Block : (header : Header) → Kept
+-- what begins at an address: nothing, a data extent of so many bytes, or a node with its full mark
+pub data What : Type 0 where
+  Nothing : What
+  Data : (bytes : ℕ) → What
+  Block : (header : Header) (full : Bool) → What
 
 -- the extents that the layout's leaves name
-unfoldable pub layout_extents : State → List Element
-layout_extents state = flat_map (λ entry. map extent_of (pieces_of entry.1.node)) state.layout
+unfoldable pub layout_extents : Layout → List Element
+layout_extents layout = flat_map (λ entry. map extent_of (pieces_of entry.1.node)) layout.nodes
 
-abbrev pub kept_at : State → ℕ → Kept
-kept_at state address = of_node (value_at address state.layout) where
-  of_extent : Option Element → Kept
+abbrev pub what_at : Layout → ℕ → What
+what_at layout address = of_node (value_at address layout.nodes) where
+  of_extent : Option Element → What
   of_extent None = Nothing
   of_extent (Some extent) = Data extent.bytes
 
-  of_node : Option Placed → Kept
-  of_node (Some placed) = Block (header_of placed.node)
-  of_node None = of_extent (find (λ extent. extent.address == address) (layout_extents state))
+  of_node : Option Placed → What
+  of_node (Some placed) = Block (header_of placed.node) placed.full
+  of_node None = of_extent (find (λ extent. extent.address == address) (layout_extents layout))
 
 -- the address of an item of the extent tree
 abbrev pub part_address : ExtentPart → ℕ
@@ -93,22 +93,26 @@ is_record (DataRecord address bytes extent) = true
 is_record (NodeRecord address level extent) = true
 is_record (Referenced address reference count) = false
 
--- the record of what is kept, with so many references in all; whether a node is full is read there
-abbrev pub is_record_of : Kept → ℕ → ExtentPart → Bool
+-- the flags of a node's record: TREE_BLOCK, and FULL_BACKREF exactly where the node has the full mark
+abbrev pub node_flags : Bool → ℕ
+node_flags full = if full then 2 + 256 else 2
+
+-- the record of what begins there, with so many references in all; which generation a data extent's record tells is not asked
+abbrev pub is_record_of : What → ℕ → ExtentPart → Bool
 is_record_of (Data bytes) refs (DataRecord address bytes' extent) = (bytes' == bytes) && (extent.flags == 1) && (extent.refs == refs)
-is_record_of (Block header) refs (NodeRecord address level extent) =
-    (level == header.level) && ((extent.flags == 2) || (extent.flags == 258)) && (extent.refs == refs) && (extent.generation == header.generation)
+is_record_of (Block header full) refs (NodeRecord address level extent) =
+    (level == header.level) && (extent.flags == node_flags full) && (extent.refs == refs) && (extent.generation == header.generation)
 is_record_of _ _ _ = false
 
-abbrev pub is_none : Kept → Bool
-is_none Nothing = true
-is_none _ = false
+abbrev pub is_nothing : What → Bool
+is_nothing Nothing = true
+is_nothing _ = false
 
--- exactly one record, and it is that of what is kept
-abbrev pub is_recorded_once : Kept → ℕ → List ExtentPart → Bool
-is_recorded_once kept refs [] = is_none kept
-is_recorded_once kept refs (part ∷ []) = is_record_of kept refs part
-is_recorded_once kept refs (part ∷ other ∷ parts) = false
+-- exactly one record, and it is that of what begins there; where nothing does there is none
+abbrev pub is_recorded_once : What → ℕ → List ExtentPart → Bool
+is_recorded_once what refs [] = is_nothing what
+is_recorded_once what refs (part ∷ []) = is_record_of what refs part
+is_recorded_once what refs (part ∷ other ∷ parts) = false
 
 -- the references that are recorded among parts, each with its count
 abbrev pub reference_told : ExtentPart → Option (Reference × ℕ)
@@ -128,27 +132,27 @@ are_references told owed =
     && list_all (λ reference. list_any (λ entry. same_reference reference entry.0) told) owed
 
 -- the extent tree's items at an address are what is owed there
-unfoldable pub agrees_at : State → List ExtentPart → ℕ → Bool
-agrees_at state parts address =
+unfoldable pub agrees_at : Layout → List ExtentPart → ℕ → Bool
+agrees_at layout parts address =
     let here = filter (λ part. part_address part == address) parts in
     let told = filter_map reference_told here in
-    is_recorded_once (kept_at state address) (sum_by (λ entry. entry.1) told) (filter is_record here) && are_references told (owed_to state address)
+    is_recorded_once (what_at layout address) (sum_by (λ entry. entry.1) told) (filter is_record here) && are_references told (owed_to layout address)
 
--- the addresses at which something is recorded or kept, ascending
-unfoldable pub recorded_addresses : State → List ExtentPart → List ℕ
-recorded_addresses state parts = number_set (map part_address parts ++ keys_of state.layout ++ map (λ extent. extent.address) (layout_extents state))
+-- the addresses of what is recorded and of what there is, ascending
+unfoldable pub recorded_addresses : Layout → List ExtentPart → List ℕ
+recorded_addresses layout parts = number_set (map part_address parts ++ keys_of layout.nodes ++ map (λ extent. extent.address) (layout_extents layout))
 
 -- the least address at which the extent tree's items are not what is owed
-unfoldable pub disagreement : State → List ExtentPart → Option ℕ
-disagreement state parts = find (λ address. not (agrees_at state parts address)) (recorded_addresses state parts)
+unfoldable pub disagreement : Layout → List ExtentPart → Option ℕ
+disagreement layout parts = find (λ address. not (agrees_at layout parts address)) (recorded_addresses layout parts)
 
 -- the extent tree's items are exactly what is owed
-abbrev pub Agrees : State → List ExtentPart → Type 0
-Agrees state parts = (address : ℕ) → agrees_at state parts address ≡ true
+abbrev pub Agrees : Layout → List ExtentPart → Type 0
+Agrees layout parts = (address : ℕ) → agrees_at layout parts address ≡ true
 
 -- the least address of a node that is not full and that its owner does not reach
-unfoldable pub homeless : State → Option ℕ
-homeless state = find (λ address. is_homeless (value_at address state.layout) address) (keys_of state.layout) where
+unfoldable pub homeless : Layout → Option ℕ
+homeless layout = find (λ address. is_homeless (value_at address layout.nodes) address) (keys_of layout.nodes) where
   is_homeless : Option Placed → ℕ → Bool
   is_homeless None address = false
-  is_homeless (Some placed) address = not placed.full && not (reaches state (header_of placed.node).owner address)
+  is_homeless (Some placed) address = not placed.full && not (reaches layout (header_of placed.node).owner address)

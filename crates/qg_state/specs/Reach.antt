@@ -12,18 +12,18 @@ use Rattle.qg_image.specs.declared.part.FilePart.{FilePart}
 use Rattle.qg_image.specs.declared.part.FilePart.TheVariants.{Inode, PieceOf}
 use Rattle.qg_image.specs.ItemMeaning.{file_part}
 use Rattle.qg_state.specs.declared.element.Element.{Element}
-use Rattle.qg_state.specs.State.{State, Subvolume, node_at}
+use Rattle.qg_state.specs.State.{Layout, node_at}
 
 -- ---- one node
 
 -- the piece that an item tells
-abbrev pub piece_told : FilePart → Option Piece
-piece_told (Inode ino inode) = None
-piece_told (PieceOf ino piece) = Some piece
+abbrev pub piece_of_part : FilePart → Option Piece
+piece_of_part (Inode ino inode) = None
+piece_of_part (PieceOf ino piece) = Some piece
 
 -- the pieces that a leaf's items tell
 unfoldable pub pieces_of : Node → List Piece
-pieces_of node = filter_map (λ item. option_and_then piece_told (file_part item)) (own_items node)
+pieces_of node = filter_map (λ item. option_and_then piece_of_part (file_part item)) (own_items node)
 
 -- the extent that a piece names, whole
 abbrev pub extent_of : Piece → Element
@@ -54,32 +54,32 @@ level_of None = 0
 level_of (Some node) = (header_of node).level
 
 -- all that is met from a root down
-unfoldable pub reach_of_root : State → ℕ → List Element
-reach_of_root state root = reach_under (node_at state.layout) state.sizes.nodesize (level_of (node_at state.layout root)) root
+unfoldable pub reach_of_root : Layout → ℕ → List Element
+reach_of_root layout root = reach_under (node_at layout.nodes) layout.nodesize (level_of (node_at layout.nodes root)) root
 
--- all that a subvolume meets; a number that is no subvolume meets nothing
-abbrev pub reach_of : State → Option Subvolume → List Element
-reach_of state None = []
-reach_of state (Some subvolume) = reach_of_root state subvolume.root
+-- all that a subvolume meets, by the address of its root; a number that is no subvolume meets nothing
+abbrev pub reach_of : Layout → Option ℕ → List Element
+reach_of layout None = []
+reach_of layout (Some root) = reach_of_root layout root
 
-unfoldable pub reach : State → ℕ → List Element
-reach state sub = reach_of state (value_at sub state.subvolumes)
+unfoldable pub reach : Layout → ℕ → List Element
+reach layout sub = reach_of layout (value_at sub layout.roots)
 
 -- the elements begin at an address
 abbrev pub is_among : ℕ → List Element → Bool
 is_among address elements = list_any (λ element. element.address == address) elements
 
 -- a subvolume reaches what begins at an address
-abbrev pub reaches : State → ℕ → ℕ → Bool
-reaches state sub address = is_among address (reach state sub)
+abbrev pub reaches : Layout → ℕ → ℕ → Bool
+reaches layout sub address = is_among address (reach layout sub)
 
 -- the subvolumes that reach what begins at an address, ascending
-unfoldable pub owners : State → ℕ → List ℕ
-owners state address = filter (λ sub. reaches state sub address) (keys_of state.subvolumes)
+unfoldable pub owners : Layout → ℕ → List ℕ
+owners layout address = filter (λ sub. reaches layout sub address) (keys_of layout.roots)
 
 -- some subvolume reaches what begins at an address
-abbrev pub is_reached : State → ℕ → Bool
-is_reached state address = list_any (λ sub. reaches state sub address) (keys_of state.subvolumes)
+abbrev pub is_reached : Layout → ℕ → Bool
+is_reached layout address = list_any (λ sub. reaches layout sub address) (keys_of layout.roots)
 
 -- the set: each element once
 abbrev pub distinct : List Element → List Element

@@ -1,10 +1,17 @@
 -- What the items of the root, extent and quota trees name, and how much room each takes (on-disk format, "item types").
 --
 -- Two items are one where they name the same: a key for most, and for a reference what it names and not its key's number.
-use Rattle.std.specs.Prelude.{ℕ, ◌+◌, Bool, true, false, ◌&&◌, List, [], ◌∷◌, ◌==◌, if◌then◌else◌}
+use Rattle.std.specs.Prelude.{ℕ, ◌+◌, Bool, true, false, ◌&&◌, List, [], ◌∷◌, Option, ◌==◌, if◌then◌else◌}
 use Rattle.std.specs.List.{list_any, sum_by}
+use Rattle.std.specs.Option.{option_map}
+use Rattle.qg_node.specs.declared.item.Item.{Item}
 use Rattle.qg_items.specs.declared.extent.Reference.{Reference}
 use Rattle.qg_items.specs.declared.extent.Reference.TheVariants.{KeyedBlock, SharedBlock, KeyedData, SharedData}
+use Rattle.qg_image.specs.declared.part.ExtentPart.{ExtentPart}
+use Rattle.qg_image.specs.declared.part.ExtentPart.TheVariants.{DataRecord, NodeRecord, Referenced}
+use Rattle.qg_image.specs.declared.part.QuotaPart.{QuotaPart}
+use Rattle.qg_image.specs.declared.part.QuotaPart.TheVariants as part
+use Rattle.qg_image.specs.ItemMeaning.{first_some, root_part, extent_part, quota_part}
 
 -- what an item names
 pub data Record : Type 0 where
@@ -23,6 +30,23 @@ pub data Record : Type 0 where
   LimitOf : (group : ℕ) → Record
   -- a relation under one of its two keys
   RelationOf : (group other : ℕ) → Record
+
+-- what an item of the extent tree names, and one of the quota tree
+abbrev pub extent_record : ExtentPart → Record
+extent_record (DataRecord address bytes extent) = ExtentOf address bytes
+extent_record (NodeRecord address level extent) = NodeOf address level
+extent_record (Referenced address reference count) = ReferenceTo address reference
+
+abbrev pub quota_record : QuotaPart → Record
+quota_record (part.Status status) = Status
+quota_record (part.Info group info) = InfoOf group
+quota_record (part.Limits group limit) = LimitOf group
+quota_record (part.Relation group other) = RelationOf group other
+
+-- what an item of one of the three trees names
+unfoldable pub record_named : Item → Option Record
+record_named item = first_some
+    (option_map (λ entry. RootOf entry.0) (root_part item) ∷ option_map extent_record (extent_part item) ∷ option_map quota_record (quota_part item) ∷ [])
 
 abbrev pub same_reference : Reference → Reference → Bool
 same_reference (KeyedBlock root) (KeyedBlock root') = root == root'

@@ -1,7 +1,7 @@
 -- The state of the machine (this project's own, after btrfs-qgroup(8) and fs/btrfs/qgroup.c).
 --
 -- Each table ascends by number. Addresses, sizes and counters are in bytes.
-use Rattle.std.specs.Prelude.{ℕ, ◌+◌, Bool, List, Option, Some, None, [], is_some}
+use Rattle.std.specs.Prelude.{ℕ, ◌+◌, Bool, List, Option, Some, None, [], map, is_some}
 use Rattle.std.specs.Option.{option_map}
 use Rattle.qg_num.specs.declared.command.Command.{Command}
 use Rattle.qg_node.specs.declared.node.Node.{Node}
@@ -10,7 +10,6 @@ use Rattle.qg_state.specs.declared.quota.Quota.{Quota}
 use Rattle.qg_state.specs.declared.element.Element.{Element}
 use Rattle.qg_image.specs.Table.{value_at, has_key}
 use Rattle.qg_image.specs.declared.file.File.{File}
-use Rattle.qg_state.specs.Record.{Record}
 
 -- a subvolume: its files by number, the address of its root node, and the generation of the commit that last made a snapshot of it or
 -- made it by one, else 0
@@ -34,13 +33,12 @@ pub record Accepted : Type 0 where
   pub copies : ℕ
   pub touched : ℕ
 
--- what the last commit holds: the addresses of its nodes; the addresses of the nodes of the root, extent and quota trees, which are among
--- `nodes`; its data extents; and what the items of those three trees name
+-- what the last commit holds: the addresses of all its nodes; the nodes of its root, extent and quota trees, each of which tells where it
+-- lies; and its data extents
 pub record Committed : Type 0 where
   pub nodes : List ℕ
-  pub others : List ℕ
+  pub others : List Node
   pub extents : List Element
-  pub records : List Record
 
 -- the state: the sizes of the image, the committed generation, the subvolumes by number, the nodes that some subvolume reaches by
 -- address, quota (none while it is off), the file commands accepted since the last commit, the newest first, and what that commit holds
@@ -53,6 +51,19 @@ pub record State : Type 0 where
   pub pending : List Accepted
   pub held : Committed
 
+-- where the subvolumes' trees lie: the bytes of a node, the address of each subvolume's root node by its number, and their nodes by address
+pub record Layout : Type 0 where
+  pub nodesize : ℕ
+  pub roots : List (ℕ × ℕ)
+  pub nodes : List (ℕ × Placed)
+
+abbrev pub layout_of : State → Layout
+layout_of state = record {
+  nodesize = state.sizes.nodesize;
+  roots = map (λ entry. (entry.0, entry.1.root)) state.subvolumes;
+  nodes = state.layout;
+}
+
 -- the generation to come
 abbrev pub next_generation : State → ℕ
 next_generation state = state.generation + 1
@@ -61,7 +72,7 @@ next_generation state = state.generation + 1
 abbrev pub has_subvolume : State → ℕ → Bool
 has_subvolume state sub = has_key sub state.subvolumes
 
--- a subvolume's file
+-- a subvolume's files
 abbrev pub files_in_sub : State → ℕ → List (ℕ × File)
 files_in_sub state sub = files_or_none (value_at sub state.subvolumes) where
   files_or_none : Option Subvolume → List (ℕ × File)

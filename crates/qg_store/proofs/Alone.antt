@@ -10,10 +10,9 @@ use Rattle.qg_num.specs.declared.refusal.Refusal.TheVariants as why
 use Rattle.qg_items.specs.declared.tree.TheConstants.{TOP_LEVEL}
 use Rattle.qg_super.specs.SuperText.{sizes_of}
 use Rattle.qg_image.specs.declared.file.File.{File}
-use Rattle.qg_image.specs.ItemMeaning.{when}
 use Rattle.qg_state.specs.declared.quota.Group.{Group}
-use Rattle.qg_state.specs.Limits.{limit_passed, over, passes_limit, reserved}
-use Rattle.qg_state.specs.Members.{is_member}
+use Rattle.qg_state.specs.Limits.{bytes_reserved, first_over, limit_passed, over, passes_limit}
+use Rattle.qg_state.specs.Members.{hierarchy_of, is_member}
 use Rattle.qg_state.specs.Need.{nodes_filled, present_records, whole_weight}
 use Rattle.qg_state.specs.State.{State, Subvolume}
 use Rattle.qg_laid.specs.Anew.{one_group}
@@ -64,17 +63,21 @@ none_passed held n group no_max_rfer no_max_excl =
     ap (λ max. if passes_limit (group.counters.rfer + held + n) max then Some Rfer else (if passes_limit (group.counters.excl + held + n) group.max_excl then Some Excl else None)) no_max_rfer
     ∙ ap (λ max. if passes_limit (group.counters.excl + held + n) max then Some Excl else None) no_max_excl
 
-when_none : {A : Type 0} (test : Bool) → when {A = A} test None ≡ None
-when_none true = refl
-when_none false = refl
+none_first : (reserved : ℕ → ℕ) (n : ℕ) (group : Group) → group.max_rfer ≡ None → group.max_excl ≡ None → first_over reserved n ((TOP_LEVEL, group) ∷ []) ≡ None
+unfolding first_over
+none_first reserved n group no_max_rfer no_max_excl =
+    ap (λ passed. slice_get (cons_option (option_map (λ (which : Which). (TOP_LEVEL, which)) passed) []) 0) (none_passed (reserved TOP_LEVEL) n group no_max_rfer no_max_excl)
+
+none_among : (reserved : ℕ → ℕ) (n : ℕ) (group : Group) (member : Bool) → group.max_rfer ≡ None → group.max_excl ≡ None
+    → first_over reserved n (if member then (TOP_LEVEL, group) ∷ [] else []) ≡ None
+unfolding first_over
+none_among reserved n group true no_max_rfer no_max_excl = none_first reserved n group no_max_rfer no_max_excl
+none_among reserved n group false no_max_rfer no_max_excl = refl
 
 -- without a limit no reservation passes one
 pub over_limit-told : (kept : Kept) (state : State) (sub n : ℕ) → IsKept kept → over_limit (told_by kept state) sub n ≡ None
 unfolding over
 over_limit-told kept state sub n fits =
-    let quota = one_group kept.group in
-    let member = is_member quota TOP_LEVEL sub in
-    let refused : Option (ℕ × Which) → Option Refusal = λ found. option_map (λ (found : ℕ × Which). why.Quota found.0 found.1) (slice_get (cons_option found []) 0) in
-    ap (λ passed. refused (when member (option_map (λ which. (TOP_LEVEL, which)) passed)))
-    (none_passed (reserved (told_by kept state) quota TOP_LEVEL) n kept.group fits.no_max_rfer fits.no_max_excl)
-    ∙ ap refused (when_none member)
+    let hierarchy = hierarchy_of (one_group kept.group) in
+    let refused : Option (ℕ × Which) → Option Refusal = λ found. option_map (λ (found : ℕ × Which). why.Quota found.0 found.1) found in
+    ap refused (none_among (bytes_reserved hierarchy state.pending) n kept.group (is_member hierarchy TOP_LEVEL sub) fits.no_max_rfer fits.no_max_excl)

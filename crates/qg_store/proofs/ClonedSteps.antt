@@ -13,7 +13,7 @@ use Rattle.qg_machine.specs.FileChange.{FileChange, clone_change, file_change}
 use Rattle.qg_machine.specs.Refusals.{no_align, no_far, no_file, no_nodes_for, no_source, no_sub, over_limit, refusal, refuse, share_a_byte, too_many_pending}
 use Rattle.qg_space.specs.Holding.{free_slots}
 use Rattle.qg_store.specs.declared.kept.Kept.{Kept}
-use Rattle.qg_store.specs.Answering.{Does}
+use Rattle.qg_store.specs.Answering.{Answered}
 use Rattle.qg_store.specs.Cloning.{clone_refusal, files_cloned, pieces_taken}
 use Rattle.qg_store.specs.Editing.{IsEdited}
 use Rattle.qg_store.specs.Keeping.{IsKept, IsKeptOf, files_weight, need_of}
@@ -39,7 +39,7 @@ late_parts state sub ino off len to_sub to_ino to_off =
 
 -- the ranges are refused
 pub refused_clone : (kept : Kept) (state : State) (sub ino off len to_sub to_ino to_off : ℕ) (refused : Refusal) → IsKeptOf kept state
-    → clone_refusal state sub ino off len to_sub to_ino to_off ≡ Some refused → Does state (Clone sub ino off len to_sub to_ino to_off) (Refused refused) kept
+    → clone_refusal state sub ino off len to_sub to_ino to_off ≡ Some refused → Answered state (Clone sub ino off len to_sub to_ino to_off) (Refused refused) [] kept
 unfolding refusal early_parts late_parts
 refused_clone kept state sub ino off len to_sub to_ino to_off refused keeps is =
     does_nothing kept state (Clone sub ino off len to_sub to_ino to_off) refused keeps
@@ -93,18 +93,18 @@ in_top P sub to_sub top to_top is = subst (λ s. P s to_sub) (sym top) (subst (P
 
 -- too few slots are free
 pub lacks_for_clone : (kept : Kept) (state : State) (sub ino off len to_sub to_ino to_off free need : ℕ) → MayClone kept state sub ino off len to_sub to_ino to_off free need → free < need
-    → Does state (Clone sub ino off len to_sub to_ino to_off) (Refused (why.NoNodes free need)) kept
+    → Answered state (Clone sub ino off len to_sub to_ino to_off) (Refused (why.NoNodes free need)) [] kept
 lacks_for_clone kept state sub ino off len to_sub to_ino to_off free need may few =
     let change = change_of kept state ino off len to_ino to_off in
-    in_top (λ sub to_sub. Does state (Clone sub ino off len to_sub to_ino to_off) (Refused (why.NoNodes free need)) kept) sub to_sub may.top may.to_top
+    in_top (λ sub to_sub. Answered state (Clone sub ino off len to_sub to_ino to_off) (Refused (why.NoNodes free need)) [] kept) sub to_sub may.top may.to_top
     (lacks kept state (Clone TOP_LEVEL ino off len TOP_LEVEL to_ino to_off) (files_then kept ino off len to_ino to_off) change.amount change.pieces free need
     (is_late kept state sub ino off len to_sub to_ino to_off free need may) few)
 
 -- enough are
 pub clones : (old new : Kept) (state : State) (sub ino off len to_sub to_ino to_off free need : ℕ) → MayClone old state sub ino off len to_sub to_ino to_off free need → need ≤ free
-    → IsEdited old (files_then old ino off len to_ino to_off) new → IsKept new → Does state (Clone sub ino off len to_sub to_ino to_off) Done new
+    → IsEdited old (files_then old ino off len to_ino to_off) new → IsKept new → Answered state (Clone sub ino off len to_sub to_ino to_off) Done [] new
 clones old new state sub ino off len to_sub to_ino to_off free need may enough edited fits =
     let change = change_of old state ino off len to_ino to_off in
-    in_top (λ sub to_sub. Does state (Clone sub ino off len to_sub to_ino to_off) Done new) sub to_sub may.top may.to_top
+    in_top (λ sub to_sub. Answered state (Clone sub ino off len to_sub to_ino to_off) Done [] new) sub to_sub may.top may.to_top
     (edits old new state (Clone TOP_LEVEL ino off len TOP_LEVEL to_ino to_off) Done (files_then old ino off len to_ino to_off) change.amount change.pieces free need
     (is_late old state sub ino off len to_sub to_ino to_off free need may) enough refl (λ done. done) edited fits)

@@ -16,7 +16,7 @@ use Rattle.qg_machine.specs.Refusals.{is_pending, last_generation, no_generation
 use Rattle.qg_machine.specs.Step.{Commits, Step}
 use Rattle.qg_machine.specs.Step as machine
 use Rattle.qg_store.specs.declared.kept.Kept.{Kept}
-use Rattle.qg_store.specs.Answering.{Answered, Commands}
+use Rattle.qg_store.specs.Answering.{Answered, Answers, AnswersOn}
 use Rattle.qg_store.specs.Keeping.{IsKeptOf}
 
 -- ---- what is refused
@@ -68,36 +68,33 @@ commit_step old new reply some early commits is =
 
 -- ---- what is kept then
 
+-- nothing is committed, and the disk is left as it is
+pub on_disk : {old : State} {command : Command} {reply : Answer} {kept : Kept} {events : List Event} {history : Option (List Event)}
+    → Answered old command reply [] kept → history ≡ Some events → AnswersOn old command reply kept events history
+on_disk does told = ([], does, record { after = _; told = told; made = refl })
+
 pub does_idle : (kept : Kept) (state : State) (events : List Event) (history : Option (List Event)) → IsKeptOf kept state → history ≡ Some events → kept.pending ≡ 0
-    → Commands state command.Commit (answer.Commit kept.superblock.generation) kept events history
-does_idle kept state events history keeps told idle = record {
+    → AnswersOn state command.Commit (answer.Commit kept.superblock.generation) kept events history
+does_idle kept state events history keeps told idle = on_disk (record {
   new = state;
-  commits = [];
   step = idle_step state (answer.Commit kept.superblock.generation) (keeps.pending ∙ idle) (ap (λ generation. answer.Commit generation) keeps.generation);
   keeps = keeps;
-  after = events;
-  told = told;
-  made = refl;
-}
+}) told
 
 pub does_refuse : (kept : Kept) (state : State) (events : List Event) (history : Option (List Event)) → IsKeptOf kept state → history ≡ Some events → 0 < kept.pending
-    → last_generation < kept.superblock.generation → Commands state command.Commit (answer.Refused why.NoGeneration) kept events history
-does_refuse kept state events history keeps told some late = record {
+    → last_generation < kept.superblock.generation → AnswersOn state command.Commit (answer.Refused why.NoGeneration) kept events history
+does_refuse kept state events history keeps told some late = on_disk (record {
   new = state;
-  commits = [];
   step = refused_step state (omega (arith, keeps.pending, some)) (omega (arith, keeps.generation, late));
   keeps = keeps;
-  after = events;
-  told = told;
-  made = refl;
-}
+}) told
 
 -- ---- over any disk
 
 -- what is answered over a disk that tells is answered over any
 pub answered : {old : State} {command : Command} {reply : Answer} {kept : Kept} {before : List Event} {history : Option (List Event)}
-    → Commands old command reply kept before history → Answered old command reply kept
-answered does = record { new = does.new; commits = does.commits; step = does.step; keeps = does.keeps }
+    → AnswersOn old command reply kept before history → Answers old command reply kept
+answered does = (does.0, does.1)
 
 -- there is a disk of any length
 pub so_long : (size : ℕ) → (events : List Event) × (size ≤ length (content events))

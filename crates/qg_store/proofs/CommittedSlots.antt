@@ -4,7 +4,7 @@ use Rattle.std.specs.Prelude.{◌↔◌, ◌==◌}
 use Rattle.std.specs.List.{Contains, IsDistinct}
 use Rattle.std.proofs.lemmas.List.Elements.{Contains-append_left, Contains-append_cases}
 use Rattle.qg_space.specs.Holding.{Holding}
-use Rattle.qg_laid.proofs.LaidAnew.{apart-at}
+use Rattle.qg_laid.proofs.Apart.{apart-at}
 use Rattle.qg_store.specs.Slots.{ChangesSlots, HoldsCommit}
 
 -- the steps of it: the slots that the present state had are given back, those laid out are taken, the commit holds them, and those behind the

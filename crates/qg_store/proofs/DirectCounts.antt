@@ -15,14 +15,15 @@ use Rattle.qg_state.specs.declared.quota.Group.{Group}
 use Rattle.qg_state.specs.declared.quota.Quota.{Quota}
 use Rattle.qg_state.specs.Counts.{direct_count, exclusive, referenced}
 use Rattle.qg_state.specs.Space.{present_extents}
-use Rattle.qg_state.specs.State.{State}
+use Rattle.qg_state.specs.Members.{Hierarchy, hierarchy_of}
+use Rattle.qg_state.specs.State.{Layout, State, layout_of}
 use Rattle.qg_verdict.specs.declared.failure.Failure.{Failure}
 use Rattle.qg_verdict.specs.declared.failure.Failure.TheVariants.{Differs}
 use Rattle.qg_verdict.specs.declared.tree.Tree.TheVariants.{Extents}
 use Rattle.qg_verdict.specs.Failure.{first_failure}
-use Rattle.qg_verdict.specs.StateOf.{StateOf, roots_in, state_in, subvolume_roots, super_in}
-use Rattle.qg_verdict.specs.Verdict.{IsSound, counted, counts_failure, extent_set, group_failure, image_failure, quota_failure, root_failure, space_failure, subvolume_failure}
-use Rattle.qg_check.specs.Stages.{places_failure, roots_failure}
+use Rattle.qg_verdict.specs.ImageState.{roots_in, state_in, subvolume_roots, super_in}
+use Rattle.qg_verdict.specs.StateOf.{StateOf}
+use Rattle.qg_verdict.specs.Verdict.{IsSound, counted, counts_failure, extent_set, group_failure, image_failure, quota_failure, root_failure, space_failure, subvolume_failure, places_failure, roots_failure, together_failure}
 use Rattle.qg_check.proofs.Verdicts.{image_failure_parts, rest_failure, verdict_some}
 use Rattle.qg_store.specs.Making.{AreCounted}
 
@@ -36,9 +37,11 @@ later_none : (first : Option Failure) (later : List (Option Failure)) → first_
 later_none None later none = none
 later_none (Some failure) later none = absurd (none-some failure (sym none))
 
-last_none : (a b c d e f : Option Failure) → first_failure (a ∷ b ∷ c ∷ d ∷ e ∷ f ∷ []) ≡ None → f ≡ None
-last_none a b c d e f none =
-    first_none f [] (later_none e (f ∷ []) (later_none d (e ∷ f ∷ []) (later_none c (d ∷ e ∷ f ∷ []) (later_none b (c ∷ d ∷ e ∷ f ∷ []) (later_none a (b ∷ c ∷ d ∷ e ∷ f ∷ []) none)))))
+last_of_three : (a b c : Option Failure) → first_failure (a ∷ b ∷ c ∷ []) ≡ None → c ≡ None
+last_of_three a b c none = first_none c [] (later_none b (c ∷ []) (later_none a (b ∷ c ∷ []) none))
+
+last_of_four : (a b c d : Option Failure) → first_failure (a ∷ b ∷ c ∷ d ∷ []) ≡ None → d ≡ None
+last_of_four a b c d none = last_of_three b c d (later_none a (b ∷ c ∷ d ∷ []) none)
 
 -- ---- counters
 
@@ -48,48 +51,52 @@ counter_is group which stored direct none = elim (cases_Bool (stored == direct))
   | inr differ ↦ absurd (none-some (Differs group which stored direct) (sym none ∙ cond-false (stored == direct) None (Some (Differs group which stored direct)) differ))
 ]
 
-group_counted : (state : State) (quota : Quota) (entry : ℕ × Group) → group_failure state quota entry ≡ None → entry.1.counters ≡ direct_count state quota entry.0
-group_counted state quota entry none =
-    let of_rfer = counted entry.0 Rfer entry.1.counters.rfer (referenced state quota entry.0) in
-    let of_excl = counted entry.0 Excl entry.1.counters.excl (exclusive state quota entry.0) in
-    let rfer = counter_is entry.0 Rfer entry.1.counters.rfer (referenced state quota entry.0) (first_none of_rfer (of_excl ∷ []) none) in
-    let excl = counter_is entry.0 Excl entry.1.counters.excl (exclusive state quota entry.0) (first_none of_excl [] (later_none of_rfer (of_excl ∷ []) none)) in
+group_counted : (layout : Layout) (hierarchy : Hierarchy) (entry : ℕ × Group) → group_failure layout hierarchy entry ≡ None → entry.1.counters ≡ direct_count layout hierarchy entry.0
+group_counted layout hierarchy entry none =
+    let of_rfer = counted entry.0 Rfer entry.1.counters.rfer (referenced layout hierarchy entry.0) in
+    let of_excl = counted entry.0 Excl entry.1.counters.excl (exclusive layout hierarchy entry.0) in
+    let rfer = counter_is entry.0 Rfer entry.1.counters.rfer (referenced layout hierarchy entry.0) (first_none of_rfer (of_excl ∷ []) none) in
+    let excl = counter_is entry.0 Excl entry.1.counters.excl (exclusive layout hierarchy entry.0) (first_none of_excl [] (later_none of_rfer (of_excl ∷ []) none)) in
     λ i. record { rfer = rfer i; excl = excl i }
 
-groups_counted : (state : State) (quota : Quota) (groups : List (ℕ × Group)) → first_failure (map (group_failure state quota) groups) ≡ None
-    → All (λ (entry : ℕ × Group). entry.1.counters ≡ direct_count state quota entry.0) groups
-groups_counted state quota [] none = All-nil (λ (entry : ℕ × Group). entry.1.counters ≡ direct_count state quota entry.0)
-groups_counted state quota (entry ∷ groups) none =
-    let first = group_failure state quota entry in
-    let later = map (group_failure state quota) groups in
-    All-cons (λ (entry : ℕ × Group). entry.1.counters ≡ direct_count state quota entry.0) entry groups
-    (group_counted state quota entry (first_none first later none)) (groups_counted state quota groups (later_none first later none))
+groups_counted : (layout : Layout) (hierarchy : Hierarchy) (groups : List (ℕ × Group)) → first_failure (map (group_failure layout hierarchy) groups) ≡ None
+    → All (λ (entry : ℕ × Group). entry.1.counters ≡ direct_count layout hierarchy entry.0) groups
+groups_counted layout hierarchy [] none = All-nil (λ (entry : ℕ × Group). entry.1.counters ≡ direct_count layout hierarchy entry.0)
+groups_counted layout hierarchy (entry ∷ groups) none =
+    let first = group_failure layout hierarchy entry in
+    let later = map (group_failure layout hierarchy) groups in
+    All-cons (λ (entry : ℕ × Group). entry.1.counters ≡ direct_count layout hierarchy entry.0) entry groups
+    (group_counted layout hierarchy entry (first_none first later none)) (groups_counted layout hierarchy groups (later_none first later none))
 
-all_counted : (state : State) (quota : Quota) → counts_failure state (Some quota) ≡ None → All (λ (entry : ℕ × Group). entry.1.counters ≡ direct_count state quota entry.0) quota.groups
+all_counted : (layout : Layout) (quota : Quota) → counts_failure layout (Some quota) ≡ None
+    → All (λ (entry : ℕ × Group). entry.1.counters ≡ direct_count layout (hierarchy_of quota) entry.0) quota.groups
 unfolding counts_failure
-all_counted state quota none = groups_counted state quota quota.groups none
+all_counted layout quota none = groups_counted layout (hierarchy_of quota) quota.groups none
 
 -- ---- the verdict
 
-rest_none : (super : Super) (image : List ℕ) → rest_failure super image ≡ None → counts_failure (state_in super image) (state_in super image).quota ≡ None
+rest_none : (super : Super) (image : List ℕ) → rest_failure super image ≡ None → together_failure super image ≡ None
 rest_none super image none =
     let roots = roots_in super image in
-    let state = state_in super image in
-    last_none (root_failure Extents super image (value_at 2 roots)) (quota_failure super image roots (value_at 8 roots))
-    (first_failure (map (λ entry. subvolume_failure super image entry.1) (subvolume_roots roots))) (space_failure (sizes_of super) (extent_set (present_extents state))) None
-    (counts_failure state state.quota) none
+    last_of_four (root_failure Extents super image (value_at 2 roots)) (quota_failure super image roots (value_at 8 roots))
+    (first_failure (map (λ entry. subvolume_failure super image entry.1) (subvolume_roots roots))) (together_failure super image) none
 
-counts_none : (image : List ℕ) (state : State) → IsSound image → StateOf image state → counts_failure state state.quota ≡ None
-counts_none image state sound stands =
+together_none : (super : Super) (image : List ℕ) → together_failure super image ≡ None → counts_failure (layout_of (state_in super image)) (state_in super image).quota ≡ None
+together_none super image none =
+    let state = state_in super image in
+    last_of_three (space_failure (sizes_of super) (extent_set (present_extents state))) None (counts_failure (layout_of state) state.quota) none
+
+counts_none : (image : List ℕ) (state : State) → StateOf image state → counts_failure (layout_of state) state.quota ≡ None
+counts_none image state stands =
     let super = stands.super in
-    let whole : image_failure super image ≡ None = sym (verdict_some image super stands.chosen) ∙ sound in
+    let whole : image_failure super image ≡ None = sym (verdict_some image super stands.chosen) ∙ stands.sound in
     let places = places_failure super (super_in image first_place) (super_in image second_place) (length image) in
     let roots = roots_failure super image in
     let rest = rest_failure super image in
     let parts : first_failure (places ∷ roots ∷ rest ∷ []) ≡ None = sym (image_failure_parts super image) ∙ whole in
-    subst (λ (state : State). counts_failure state state.quota ≡ None) (sym stands.stands)
-    (rest_none super image (first_none rest [] (later_none roots (rest ∷ []) (later_none places (roots ∷ rest ∷ []) parts))))
+    subst (λ (state : State). counts_failure (layout_of state) state.quota ≡ None) (sym stands.stands)
+    (together_none super image (rest_none super image (first_none rest [] (later_none roots (rest ∷ []) (later_none places (roots ∷ rest ∷ []) parts)))))
 
-pub sound-counted : (image : List ℕ) (state : State) → IsSound image → StateOf image state → AreCounted state
-sound-counted image state sound stands = λ quota is.
-    all_counted state quota (ap (counts_failure state) (sym is) ∙ counts_none image state sound stands)
+pub sound-counted : (image : List ℕ) (state : State) → StateOf image state → AreCounted state
+sound-counted image state stands = λ quota is.
+    all_counted (layout_of state) quota (ap (counts_failure (layout_of state)) (sym is) ∙ counts_none image state stands)

@@ -18,7 +18,7 @@ use Rattle.qg_machine.specs.Step.{file_answer}
 use Rattle.qg_space.specs.Holding.{free_slots}
 use Rattle.qg_space.proofs.Agreements.{free_slots-state}
 use Rattle.qg_store.specs.declared.kept.Kept.{Kept}
-use Rattle.qg_store.specs.Answering.{Does}
+use Rattle.qg_store.specs.Answering.{Answered}
 use Rattle.qg_store.specs.Editing.{IsEdited}
 use Rattle.qg_store.specs.Keeping.{IsKept, IsKeptOf, files_weight, need_of}
 use Rattle.qg_store.proofs.Alone.{is_told, need_told, told_by}
@@ -38,7 +38,7 @@ slots_told kept state free keeps is = ap state_space.free_slots (is_told kept st
 
 -- too few slots are free
 pub lacks : (kept : Kept) (state : State) (command : Command) (files : List (ℕ × File)) (amount pieces free need : ℕ) → IsLate kept state command files amount pieces free need → free < need
-    → Does state command (Refused (why.NoNodes free need)) kept
+    → Answered state command (Refused (why.NoNodes free need)) [] kept
 lacks kept state command files amount pieces free need is few =
     let told = told_by kept state in
     does_nothing kept state command (why.NoNodes free need) is.keeps
@@ -50,7 +50,7 @@ lacks kept state command files amount pieces free need is few =
 -- enough are
 pub edits : (old new : Kept) (state : State) (command : Command) (reply : Answer) (files : List (ℕ × File)) (amount pieces free need : ℕ)
     → IsLate old state command files amount pieces free need → need ≤ free → file_answer (told_by old state) command ≡ Some reply
-    → Edits old state command reply (change_to files amount pieces) → IsEdited old files new → IsKept new → Does state command reply new
+    → Edits old state command reply (change_to files amount pieces) → IsEdited old files new → IsKept new → Answered state command reply [] new
 edits old new state command reply files amount pieces free need is enough answers does edited fits =
     let told = told_by old state in
     does_edit old new state command reply files amount pieces is.keeps

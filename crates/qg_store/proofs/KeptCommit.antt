@@ -1,5 +1,5 @@
 -- What is kept once a commit is done: it fits together, and it is that of the state committed. Addresses are in bytes.
-use Rattle.std.proofs.Common.{◌≡◌, ℕ, ◌+◌, ◌<◌, ◌≤◌, Bool, true, false, List, [], ◌∷◌, length, None, Some, Option, refl, sym, ap, subst, ◌∙◌, arith}
+use Rattle.std.proofs.Common.{◌≡◌, ℕ, ◌+◌, ◌<◌, ◌≤◌, ◌⊎◌, inl, inr, Bool, true, false, List, [], ◌∷◌, length, None, Some, Option, refl, sym, ap, subst, ◌∙◌, arith}
 use Rattle.std.specs.Prelude.{◌==◌, if◌then◌else◌}
 use Rattle.std.specs.List.{IsDistinct, list_all}
 use Rattle.std.proofs.lemmas.List.{append-nil}
@@ -30,9 +30,10 @@ use Rattle.qg_laid.specs.Anew.{one_group, stamp_after}
 use Rattle.qg_laid.specs.Trees.{AreFor, AreTreesLaid, IsCommitOf, IsLaidState, nodes_laid}
 use Rattle.qg_commit.specs.Calls.{with_commit}
 use Rattle.qg_store.specs.declared.kept.Kept.{Kept}
-use Rattle.qg_store.specs.Answering.{Commands}
-use Rattle.qg_store.specs.Committing.{KeepsCommit}
+use Rattle.qg_store.specs.Answering.{AnswersOn}
+use Rattle.qg_store.specs.Committing.{KeepsCommit, LaysSoFar}
 use Rattle.qg_store.specs.Keeping.{IsKept, IsKeptOf, extents_named}
+use Rattle.qg_store.specs.Making.{BringsTo, StartsCommit}
 use Rattle.qg_store.proofs.Alone.{subvolume_of}
 use Rattle.qg_store.proofs.Commits.{commit_step}
 use Rattle.qg_store.proofs.DirectCounts.{sound-counted}
@@ -159,22 +160,46 @@ module _ (old new : Kept) (laid : Laid) (slots : List ℕ)
 
 -- ---- the machine's step
 
+-- the trees laid out bring the disk to the state committed
+brings_laid : (old : Kept) (state : State) (laid : Laid) (events : List Event) → (is : IsCommitOf state laid old.files (content (with_commit laid.superblock (nodes_laid laid) events)))
+    → BringsTo state.held is.state events laid.superblock (nodes_laid laid)
+brings_laid old state laid events is = record {
+  written = is.written;
+  committed = record { stands = is.stands; counted = sound-counted (content (with_commit laid.superblock (nodes_laid laid) events)) is.state is.stands };
+}
+
 pub does_commit : (old new : Kept) (state : State) (laid : Laid) (events : List Event) (history : Option (List Event)) → 0 < old.pending → old.superblock.generation ≤ last_generation
     → IsKeptOf old state → IsCommitOf state laid old.files (content (with_commit laid.superblock (nodes_laid laid) events))
     → history ≡ Some (with_commit laid.superblock (nodes_laid laid) events) → ((after : State) → IsLaidState laid old.files after → IsKeptOf new after)
-    → Commands state command.Commit (answer.Commit new.superblock.generation) new events history
-does_commit old new state laid events history some early keeps is told keeps_new = record {
-  new = is.state;
-  commits = is.state ∷ [];
-  step = commit_step state is.state (answer.Commit new.superblock.generation) (omega (arith, keeps.pending, some)) (omega (arith, keeps.generation, early)) is.commits
-      (ap (λ generation. answer.Commit generation) (keeps_new is.state is.laid_so).generation);
-  keeps = keeps_new is.state is.laid_so;
-  after = with_commit laid.superblock (nodes_laid laid) events;
-  told = told;
-  made = (
-    laid.superblock,
-    nodes_laid laid,
-    record { sound = is.sound; stands = is.stands; counted = sound-counted (content (with_commit laid.superblock (nodes_laid laid) events)) is.state is.sound is.stands },
-    refl,
-  );
+    → AnswersOn state command.Commit (answer.Commit new.superblock.generation) new events history
+does_commit old new state laid events history some early keeps is told keeps_new = (
+  is.state ∷ [],
+  record {
+    new = is.state;
+    step = commit_step state is.state (answer.Commit new.superblock.generation) (omega (arith, keeps.pending, some)) (omega (arith, keeps.generation, early)) is.commits
+        (ap (λ generation. answer.Commit generation) (keeps_new is.state is.laid_so).generation);
+    keeps = keeps_new is.state is.laid_so;
+  },
+  record {
+    after = with_commit laid.superblock (nodes_laid laid) events;
+    told = told;
+    made = (laid.superblock, nodes_laid laid, brings_laid old state laid events is, refl);
+  },
+)
+
+-- what is done by then, as far as it came
+pub starts_commit : (old : Kept) (state : State) (events : List Event) (history : Option (List Event)) → 0 < old.pending → old.superblock.generation ≤ last_generation
+    → IsKeptOf old state → LaysSoFar state old.files events history → StartsCommit state events history
+starts_commit old state events history some early keeps lays = record {
+  new = lays.commit.state;
+  step = commit_step state lays.commit.state (answer.Commit lays.commit.state.generation) (omega (arith, keeps.pending, some)) (omega (arith, keeps.generation, early)) lays.commit.commits refl;
+  super = lays.laid.superblock;
+  nodes = nodes_laid lays.laid;
+  brings = brings_laid old state lays.laid events lays.commit;
+  made = lays.made;
 }
+
+pub starts_so_far : (old : Kept) (state : State) (events : List Event) (history : Option (List Event)) → 0 < old.pending → old.superblock.generation ≤ last_generation
+    → IsKeptOf old state → (history ≡ Some events) ⊎ LaysSoFar state old.files events history → (history ≡ Some events) ⊎ StartsCommit state events history
+starts_so_far old state events history some early keeps (inl none) = inl none
+starts_so_far old state events history some early keeps (inr lays) = inr (starts_commit old state events history some early keeps lays)

@@ -23,12 +23,14 @@ pub mod Told
 pub mod Shown
 pub mod Served
 pub mod Synced
+pub mod HeldAfter
 pub mod Runs
 pub mod Taken
 pub mod HeldSlots
 pub mod OfImage
 pub mod Commits
 pub mod KeptCommit
+pub mod LaidSoFar
 pub mod FreeSlots
 pub mod WhereLaid
 pub mod DirectCounts

@@ -6,6 +6,7 @@ use Rattle.std.proofs.lemmas.List.{append-nil}
 use Rattle.std.proofs.lemmas.List.Elements.{All-weaker}
 use Rattle.std.proofs.lemmas.Option.{same_Some}
 use Rattle.qg_num.specs.declared.piece.Piece.{Piece}
+use Rattle.qg_node.specs.declared.node.Node.{Node}
 use Rattle.qg_items.specs.declared.root.RootItem.{RootItem}
 use Rattle.qg_super.specs.declared.superblock.Super.{Super}
 use Rattle.qg_super.specs.SuperText.{sizes_of}
@@ -17,16 +18,16 @@ use Rattle.qg_state.specs.declared.quota.Quota.{Quota}
 use Rattle.qg_state.specs.State.{Placed, State}
 use Rattle.qg_state.specs.Space.{present_extents}
 use Rattle.qg_verdict.specs.declared.tree.Tree.TheVariants.{Files}
-use Rattle.qg_verdict.specs.StateOf.{StateOf, extent_parts, nodes_of_root, roots_in, state_in, subvolume_roots}
+use Rattle.qg_verdict.specs.ImageState.{extent_parts, nodes_of_root, other_nodes, roots_in, state_in, subvolume_roots, addresses_of}
+use Rattle.qg_verdict.specs.StateOf.{StateOf}
 use Rattle.qg_verdict.specs.Verdict.{extent_set, space_failure}
 use Rattle.qg_reach.specs.Sets.{HaveSame}
 use Rattle.qg_reach.proofs.ExtentSets.{extent_set_same}
-use Rattle.qg_reach.proofs.Layouts.{layout_in-nodes, layout_of}
+use Rattle.qg_reach.proofs.Layouts.{layout_in-nodes, layout_by}
 use Rattle.qg_reach.proofs.Members.{same_back, same_on}
 use Rattle.qg_rules.specs.Writable.{IsFileBy}
 use Rattle.qg_check.specs.declared.image.Image.{Image}
 use Rattle.qg_check.specs.IsImage.{IsEditable, IsImage, state_kept}
-use Rattle.qg_check.specs.Trees.{addresses_of}
 use Rattle.qg_laid.specs.Anew.{one_group}
 use Rattle.qg_laid.proofs.LayoutKeys.{layout-keys, same-append}
 use Rattle.qg_named.specs.Named.{AreNamed}
@@ -95,12 +96,12 @@ IsKept-image alloc image group space named weight is same holds are weighs light
 -- ---- it is kept of the state that the image stands for
 
 layout_there : (super : Super) (bytes : List ℕ) (root : RootItem) → subvolume_roots (roots_in super bytes) ≡ (5, root) ∷ []
-    → (state_in super bytes).layout ≡ layout_of (extent_parts super bytes) (nodes_of_root Files super bytes root)
+    → (state_in super bytes).layout ≡ layout_by (extent_parts super bytes) (nodes_of_root Files super bytes root)
 unfolding state_in
 layout_there super bytes root only =
     layout_in-nodes super bytes
-    ∙ ap (λ (roots : List (ℕ × RootItem)). layout_of (extent_parts super bytes) (flat_map (λ (entry : ℕ × RootItem). nodes_of_root Files super bytes entry.1) roots)) only
-    ∙ ap (layout_of (extent_parts super bytes)) (append-nil (nodes_of_root Files super bytes root))
+    ∙ ap (λ (roots : List (ℕ × RootItem)). layout_by (extent_parts super bytes) (flat_map (λ (entry : ℕ × RootItem). nodes_of_root Files super bytes entry.1) roots)) only
+    ∙ ap (layout_by (extent_parts super bytes)) (append-nil (nodes_of_root Files super bytes root))
 
 -- the nodes of its layout are the image's
 keys_there : (super : Super) (bytes : List ℕ) (root : RootItem) (nodes : List ℕ) → subvolume_roots (roots_in super bytes) ≡ (5, root) ∷ []
@@ -109,27 +110,27 @@ keys_there super bytes root nodes only same =
     let there = nodes_of_root Files super bytes root in
     let parts = extent_parts super bytes in
     subst (λ (layout : List (ℕ × Placed)). HaveSame nodes (keys_of layout)) (sym (layout_there super bytes root only))
-    (same_on nodes (addresses_of there) (keys_of (layout_of parts there)) same (same_back (keys_of (layout_of parts there)) (addresses_of there) (layout-keys parts there)))
+    (same_on nodes (addresses_of there) (keys_of (layout_by parts there)) same (same_back (keys_of (layout_by parts there)) (addresses_of there) (layout-keys parts there)))
 
 swap_same : {A : Type 0} (held xs ys : List A) → ((x : A) → Contains held x ↔ Contains xs x) → HaveSame xs ys → (x : A) → Contains held x ↔ Contains ys x
 swap_same held xs ys holds same x = (λ has. same.into x ((holds x).0 has), λ has. (holds x).1 (same.back x has))
 
-holding_kept : (space : Holding) (image : Image) (layout : List (ℕ × Placed)) → HoldsImage space image → HaveSame image.nodes (keys_of layout)
-    → image.extents ≡ extent_set (present_extents (state_kept image layout)) → IsHoldingOf space (state_kept image layout)
+holding_kept : (space : Holding) (image : Image) (layout : List (ℕ × Placed)) (others : List Node) → HoldsImage space image → HaveSame image.nodes (keys_of layout)
+    → image.others ≡ addresses_of others → image.extents ≡ extent_set (present_extents (state_kept image layout others)) → IsHoldingOf space (state_kept image layout others)
 unfolding present_extents
-holding_kept space image layout holds same extents =
-    let present = present_extents (state_kept image layout) in
+holding_kept space image layout others holds same there extents =
+    let present = present_extents (state_kept image layout others) in
     let set = extent_set_same present in
     let all : (run : Element) → Contains image.extents run ↔ Contains present run =
     λ run. subst (λ (list : List Element). Contains list run ↔ Contains present run) (sym extents) (set.into run, set.back run) in
-    let others : HaveSame image.others image.others = record { into = λ x has. has; back = λ x has. has } in
+    let same_others : HaveSame image.others (addresses_of others) = subst (HaveSame image.others) there (record { into = λ x has. has; back = λ x has. has }) in
     record {
       sizes = holds.sizes;
       runs = λ run. subst (λ (list : List Element). Contains list run ↔ Contains present run) (sym holds.runs) (all run);
       held_runs = λ run. subst (λ (list : List Element). Contains list run ↔ Contains present run) (sym holds.held_runs) (all run);
       slots = swap_same space.slots image.nodes (keys_of layout) holds.slots same;
-      held_slots = swap_same space.held_slots (image.others ++ image.nodes) (image.others ++ keys_of layout) holds.held_slots
-          (same-append image.others image.nodes image.others (keys_of layout) others same);
+      held_slots = swap_same space.held_slots (image.others ++ image.nodes) (addresses_of others ++ keys_of layout) holds.held_slots
+          (same-append image.others image.nodes (addresses_of others) (keys_of layout) same_others same);
     }
 
 pub IsKeptOf-image : (alloc : Global) (image : Image) (group : Group) (space : Holding) (named : List (Element × ℕ)) (weight : ℕ) (bytes : List ℕ) (state : State)
@@ -137,7 +138,8 @@ pub IsKeptOf-image : (alloc : Global) (image : Image) (group : Group) (space : H
 IsKeptOf-image alloc image group space named weight bytes state is same holds read stands =
     let super : stands.super ≡ image.superblock = same_Some stands.super image.superblock (sym stands.chosen ∙ read.chosen) in
     let layout = (state_in image.superblock bytes).layout in
-    let whole : state ≡ state_kept image layout = stands.stands ∙ ap (λ (s : Super). state_in s bytes) super ∙ read.kept.state in
+    let others = other_nodes image.superblock bytes in
+    let whole : state ≡ state_kept image layout others = stands.stands ∙ ap (λ (s : Super). state_in s bytes) super ∙ read.kept.state in
     let keys = keys_there image.superblock bytes image.root image.nodes read.kept.only read.kept.nodes in
     subst (λ (s : State). IsKeptOf (kept_from alloc image group space named weight) s) (sym whole) (record {
       sizes = refl;
@@ -145,5 +147,5 @@ IsKeptOf-image alloc image group space named weight bytes state is same holds re
       subvolumes = refl;
       quota = ap (λ (quota : Quota). Some quota) (is.counted ∙ ap one_group same);
       pending = refl;
-      holding = holding_kept space image layout holds keys (read.kept.extents ∙ ap (λ (s : State). extent_set (present_extents s)) read.kept.state);
+      holding = holding_kept space image layout others holds keys read.kept.others (read.kept.extents ∙ ap (λ (s : State). extent_set (present_extents s)) read.kept.state);
     })

@@ -1,5 +1,5 @@
 -- What comes of a write whose range may be written, told by what is kept. Positions and lengths are in bytes.
-use Rattle.std.proofs.Common.{◌≡◌, ℕ, ◌+◌, ◌*◌, ◌/◌, ◌%◌, ◌<◌, ◌≤◌, true, None, Some, Option, sym, ap, subst, ◌∙◌, arith}
+use Rattle.std.proofs.Common.{◌≡◌, ℕ, ◌+◌, ◌*◌, ◌/◌, ◌%◌, ◌<◌, ◌≤◌, true, [], None, Some, Option, sym, ap, subst, ◌∙◌, arith}
 use Rattle.std.proofs.lemmas.Bool.{eqb-true}
 use Rattle.qg_num.specs.declared.answer.Answer.TheVariants.{Extent, Refused}
 use Rattle.qg_num.specs.declared.command.Command.TheVariants.{Write}
@@ -14,7 +14,7 @@ use Rattle.qg_machine.specs.Refusals.{change_need, over_limit}
 use Rattle.qg_space.specs.Holding.{first_run, free_slots}
 use Rattle.qg_space.proofs.Agreements.{first_run-state, free_slots-state}
 use Rattle.qg_store.specs.declared.kept.Kept.{Kept}
-use Rattle.qg_store.specs.Answering.{Does}
+use Rattle.qg_store.specs.Answering.{Answered}
 use Rattle.qg_store.specs.Keeping.{IsKept, IsKeptOf, files_weight, need_of}
 use Rattle.qg_store.specs.Writing.{IsWritten, files_written, range_refusal}
 use Rattle.qg_store.proofs.Alone.{is_told, need_told, over_limit-told, told_by}
@@ -59,7 +59,7 @@ need_is kept state sub ino off len run weight keeps top weighs =
 
 -- no run is free
 pub lacks_run : (kept : Kept) (state : State) (sub ino off len : ℕ) → IsInRange kept state sub off len → None ≡ first_run kept.space (len / sector * sector)
-    → Does state (Write sub ino off len) (Refused why.NoRun) kept
+    → Answered state (Write sub ino off len) (Refused why.NoRun) [] kept
 lacks_run kept state sub ino off len is none =
     does_nothing kept state (Write sub ino off len) why.NoRun is.keeps
     (refused_run state sub ino off len (may_go_on kept state sub off len is) (run_found kept state len None is.keeps is.aligned none))
@@ -73,7 +73,7 @@ pub record HasRun (kept : Kept) (ino off len run weight free need : ℕ) : Type 
 
 -- too few slots are free
 pub lacks_slots : (kept : Kept) (state : State) (sub ino off len run weight free need : ℕ) → IsInRange kept state sub off len → HasRun kept ino off len run weight free need → free < need
-    → Does state (Write sub ino off len) (Refused (why.NoNodes free need)) kept
+    → Answered state (Write sub ino off len) (Refused (why.NoNodes free need)) [] kept
 lacks_slots kept state sub ino off len run weight free need is has few =
     does_nothing kept state (Write sub ino off len) (why.NoNodes free need) is.keeps
     (refused_nodes state sub ino off len run free need (may_go_on kept state sub off len is) (run_found kept state len (Some run) is.keeps is.aligned has.found)
@@ -81,7 +81,7 @@ lacks_slots kept state sub ino off len run weight free need is has few =
 
 -- enough are
 pub writes : (old new : Kept) (state : State) (sub ino off len run weight free need : ℕ) → IsInRange old state sub off len → HasRun old ino off len run weight free need → need ≤ free
-    → IsWritten old ino off len run new → IsKept new → Does state (Write sub ino off len) (Extent run) new
+    → IsWritten old ino off len run new → IsKept new → Answered state (Write sub ino off len) (Extent run) [] new
 writes old new state sub ino off len run weight free need is has enough written fits =
     let found = run_found old state len (Some run) is.keeps is.aligned has.found in
     does_write old new state sub ino off len run is.keeps is.top

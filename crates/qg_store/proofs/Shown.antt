@@ -10,9 +10,10 @@ use Rattle.qg_laid.specs.Anew.{one_group}
 use Rattle.qg_machine.specs.Refusals.{refusal}
 use Rattle.qg_machine.specs.Step.{Step, rows_of}
 use Rattle.qg_store.specs.declared.kept.Kept.{Kept}
-use Rattle.qg_store.specs.Answering.{Commands}
+use Rattle.qg_store.specs.Answering.{AnswersOn}
 use Rattle.qg_store.specs.Keeping.{IsKeptOf}
 use Rattle.qg_store.proofs.Alone.{is_told, told_by}
+use Rattle.qg_store.proofs.Commits.{on_disk}
 
 told_step : (kept : Kept) (state : State) (reply : Answer) → reply ≡ Shown (rows_of (Some (one_group kept.group))) → Step (told_by kept state) Show reply [] (told_by kept state)
 unfolding refusal
@@ -20,13 +21,9 @@ told_step kept state reply is = (is, (refl, refl))
 
 -- the state and the disk stay
 pub does_show : (kept : Kept) (state : State) (reply : Answer) (events : List Event) (history : Option (List Event)) → IsKeptOf kept state → history ≡ Some events
-    → reply ≡ Shown (rows_of (Some (one_group kept.group))) → Commands state Show reply kept events history
-does_show kept state reply events history keeps told is = record {
+    → reply ≡ Shown (rows_of (Some (one_group kept.group))) → AnswersOn state Show reply kept events history
+does_show kept state reply events history keeps told is = on_disk (record {
   new = state;
-  commits = [];
   step = subst (λ state. Step state Show reply [] state) (is_told kept state keeps) (told_step kept state reply is);
   keeps = keeps;
-  after = events;
-  told = told;
-  made = refl;
-}
+}) told

@@ -15,7 +15,7 @@ use Rattle.qg_state.specs.State.{State}
 use Rattle.qg_machine.specs.FileChange.{file_change, pieces_past, truncate_change, with_size}
 use Rattle.qg_machine.specs.Refusals.{no_far, no_file, no_nodes_for, no_sub, refusal, refuse, too_many_pending}
 use Rattle.qg_store.specs.declared.kept.Kept.{Kept}
-use Rattle.qg_store.specs.Answering.{Does}
+use Rattle.qg_store.specs.Answering.{Answered}
 use Rattle.qg_store.specs.Editing.{IsEdited, files_cut, size_refusal}
 use Rattle.qg_store.specs.Keeping.{IsKept, IsKeptOf, files_weight, need_of}
 use Rattle.qg_store.proofs.Alone.{is_told, told_by}
@@ -30,7 +30,7 @@ size_parts state sub ino size =
 
 -- the size is refused
 pub refused_size : (kept : Kept) (state : State) (sub ino size : ℕ) (refused : Refusal) → IsKeptOf kept state → size_refusal state sub ino size ≡ Some refused
-    → Does state (Truncate sub ino size) (Refused refused) kept
+    → Answered state (Truncate sub ino size) (Refused refused) [] kept
 unfolding refusal size_parts
 refused_size kept state sub ino size refused keeps is =
     does_nothing kept state (Truncate sub ino size) refused keeps
@@ -67,19 +67,19 @@ is_late kept state sub ino size free need file may is =
 
 -- too few slots are free
 pub lacks_for_size : (kept : Kept) (state : State) (sub ino size free need : ℕ) → MaySize kept state sub ino size free need → free < need
-    → Does state (Truncate sub ino size) (Refused (why.NoNodes free need)) kept
+    → Answered state (Truncate sub ino size) (Refused (why.NoNodes free need)) [] kept
 lacks_for_size kept state sub ino size free need may few =
     let found = some_file (value_at ino kept.files) may.there in
-    subst (λ sub. Does state (Truncate sub ino size) (Refused (why.NoNodes free need)) kept) (sym may.top)
+    subst (λ sub. Answered state (Truncate sub ino size) (Refused (why.NoNodes free need)) [] kept) (sym may.top)
     (lacks kept state (Truncate TOP_LEVEL ino size) (with_value ino (with_size (kept.superblock.generation + 1) size found.0) kept.files) 0 (pieces_past size found.0.pieces) free need
     (is_late kept state sub ino size free need found.0 may found.1) few)
 
 -- enough are
 pub sizes : (old new : Kept) (state : State) (sub ino size free need : ℕ) → MaySize old state sub ino size free need → need ≤ free
-    → IsEdited old (files_cut (old.superblock.generation + 1) ino size old.files) new → IsKept new → Does state (Truncate sub ino size) Done new
+    → IsEdited old (files_cut (old.superblock.generation + 1) ino size old.files) new → IsKept new → Answered state (Truncate sub ino size) Done [] new
 sizes old new state sub ino size free need may enough edited fits =
     let found = some_file (value_at ino old.files) may.there in
-    subst (λ sub. Does state (Truncate sub ino size) Done new) (sym may.top)
+    subst (λ sub. Answered state (Truncate sub ino size) Done [] new) (sym may.top)
     (edits old new state (Truncate TOP_LEVEL ino size) Done (with_value ino (with_size (old.superblock.generation + 1) size found.0) old.files) 0 (pieces_past size found.0.pieces) free need
     (is_late old state sub ino size free need found.0 may found.1) enough
     refl (λ done. done) (subst (λ files. IsEdited old files new) (cut_there (old.superblock.generation + 1) ino size old.files found.0 found.1) edited) fits)

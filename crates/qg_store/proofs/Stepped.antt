@@ -24,7 +24,7 @@ use Rattle.qg_machine.specs.Step as machine
 use Rattle.qg_space.specs.Agreement.{IsHoldingOf}
 use Rattle.qg_laid.specs.Anew.{one_group}
 use Rattle.qg_store.specs.declared.kept.Kept.{Kept}
-use Rattle.qg_store.specs.Answering.{Does}
+use Rattle.qg_store.specs.Answering.{Answered}
 use Rattle.qg_store.specs.Editing.{IsEdited}
 use Rattle.qg_store.specs.Keeping.{IsKept, IsKeptOf, extents_named}
 use Rattle.qg_store.specs.Writing.{IsWritten}
@@ -34,7 +34,7 @@ use Rattle.qg_store.proofs.Refused.{file_change-found}
 -- ---- what is refused
 
 -- the state stays
-pub does_nothing : (kept : Kept) (state : State) (command : Command) (why : Refusal) → IsKeptOf kept state → refusal state command ≡ Some why → Does state command (Refused why) kept
+pub does_nothing : (kept : Kept) (state : State) (command : Command) (why : Refusal) → IsKeptOf kept state → refusal state command ≡ Some why → Answered state command (Refused why) [] kept
 does_nothing kept state command why keeps refused = record {
   new = state;
   step = subst (λ found. MatchOption found (machine.Does state command (Refused why) [] state) (λ why'. (Refused why ≡ Refused why') × (machine.Stays state [] state))) (sym refused) (refl, (refl, refl));
@@ -108,7 +108,7 @@ keeps_edited old new state command change keeps edited fits = record {
 -- a command that changes files and is not refused
 pub does_edit : (old new : Kept) (state : State) (command : Command) (reply : Answer) (files : List (ℕ × File)) (amount pieces : ℕ) → IsKeptOf old state
     → refusal (told_by old state) command ≡ None → file_change (told_by old state) command ≡ Some (change_to files amount pieces) → file_answer (told_by old state) command ≡ Some reply
-    → Edits old state command reply (change_to files amount pieces) → IsEdited old files new → IsKept new → Does state command reply new
+    → Edits old state command reply (change_to files amount pieces) → IsEdited old files new → IsKept new → Answered state command reply [] new
 does_edit old new state command reply files amount pieces keeps passes found answers does edited fits =
     let change = change_to files amount pieces in
     record {
@@ -120,7 +120,7 @@ does_edit old new state command reply files amount pieces keeps passes found ans
 
 -- a write that is not refused
 pub does_write : (old new : Kept) (state : State) (sub ino off len run : ℕ) → IsKeptOf old state → sub ≡ TOP_LEVEL → refusal state (Write sub ino off len) ≡ None → first_run state len ≡ Some run
-    → IsWritten old ino off len run new → IsKept new → Does state (Write sub ino off len) (Extent run) new
+    → IsWritten old ino off len run new → IsKept new → Answered state (Write sub ino off len) (Extent run) [] new
 does_write old new state sub ino off len run keeps top passes found written fits =
     let is = is_told old state keeps in
     let told = told_by old state in
@@ -128,6 +128,6 @@ does_write old new state sub ino off len run keeps top passes found written fits
     let passes' : refusal told (Write TOP_LEVEL ino off len) ≡ None = ap (λ state. refusal state (Write TOP_LEVEL ino off len)) is ∙ ap (λ sub. refusal state (Write sub ino off len)) (sym top) ∙ passes in
     let found' : first_run told len ≡ Some run = ap (λ state. first_run state len) is ∙ found in
     let answers : file_answer told (Write TOP_LEVEL ino off len) ≡ Some (Extent run) = ap (option_map (λ extent. Extent extent)) found' in
-    subst (λ sub. Does state (Write sub ino off len) (Extent run) new) (sym top)
+    subst (λ sub. Answered state (Write sub ino off len) (Extent run) [] new) (sym top)
     (does_edit old new state (Write TOP_LEVEL ino off len) (Extent run) change.files change.amount change.pieces keeps passes' (file_change-found told TOP_LEVEL ino off len run found') answers
     (λ done. done) written fits)

@@ -5,7 +5,7 @@ use Rattle.qg_node.specs.declared.node.Node.{Node}
 use Rattle.qg_super.specs.declared.superblock.Super.{Super}
 use Rattle.qg_super.specs.Places.{first_place, second_place}
 use Rattle.qg_super.specs.SuperText.{super_text}
-use Rattle.qg_state.specs.State.{State}
+use Rattle.qg_state.specs.State.{Committed, State}
 use Rattle.qg_commit.specs.Calls.{with_nodes, with_commit}
 use Rattle.qg_commit.proofs.Moments.{synced-with_commit}
 use Rattle.qg_store.specs.Making.{AreSynced, Makes}
@@ -25,20 +25,25 @@ abbrev to_third : Super → List Node → List Event → List Event
 to_third super nodes events = Wrote second_place (super_text second_place super) ∷ Synced ∷ to_second super nodes events
 
 -- each commit made sure of what the disk held three times
-pub synced-Makes : (commits : List State) (before after : List Event) → Makes commits before after → AreSynced commits (synced before) (synced after)
-synced-Makes [] before after made = ap synced made
-synced-Makes (state ∷ states) before after made = (
+pub synced-Makes : (held : Committed) (commits : List State) (before after : List Event) → Makes held commits before after → AreSynced commits (synced before) (synced after)
+synced-Makes held [] before after made = ap synced made
+synced-Makes held (state ∷ states) before after made = (
   moment_after (to_first made.0 made.1 before),
   moment_after (to_second made.0 made.1 before),
   moment_after (to_third made.0 made.1 before),
-  made.2,
+  made.2.committed,
   subst (λ (moments : List Moment). AreSynced states moments (synced after)) (synced-with_commit made.0 made.1 before)
-      (synced-Makes states (with_commit made.0 made.1 before) after made.3),
+      (synced-Makes state.held states (with_commit made.0 made.1 before) after made.3),
 )
 
+-- what the last of some commits holds, where so much was held before them
+abbrev pub held_after : Committed → List State → Committed
+held_after held [] = held
+held_after held (state ∷ states) = held_after state.held states
+
 -- commits, and then more of them
-pub Makes-append : (first more : List State) (before mid after : List Event) → Makes first before mid → Makes more mid after
-    → Makes (first ++ more) before after
-Makes-append [] more before mid after made later = subst (λ (events : List Event). Makes more events after) made later
-Makes-append (state ∷ states) more before mid after made later =
-    (made.0, made.1, made.2, Makes-append states more (with_commit made.0 made.1 before) mid after made.3 later)
+pub Makes-append : (held : Committed) (first more : List State) (before mid after : List Event) → Makes held first before mid → Makes (held_after held first) more mid after
+    → Makes held (first ++ more) before after
+Makes-append held [] more before mid after made later = subst (λ (events : List Event). Makes held more events after) made later
+Makes-append held (state ∷ states) more before mid after made later =
+    (made.0, made.1, made.2, Makes-append state.held states more (with_commit made.0 made.1 before) mid after made.3 later)

@@ -14,7 +14,7 @@ use Rattle.qg_machine.specs.Refusals.{no_file, refusal, refuse}
 use Rattle.qg_machine.specs.Step.{Step, file_told}
 use Rattle.qg_machine.specs.Step as machine
 use Rattle.qg_store.specs.declared.kept.Kept.{Kept}
-use Rattle.qg_store.specs.Answering.{Does}
+use Rattle.qg_store.specs.Answering.{Answered}
 use Rattle.qg_store.specs.Keeping.{IsKeptOf}
 use Rattle.qg_store.proofs.Alone.{is_told, subvolume_of, told_by}
 use Rattle.qg_store.proofs.Stepped.{does_nothing}
@@ -23,7 +23,7 @@ use Rattle.qg_store.proofs.Stepped.{does_nothing}
 no_other : (kept : Kept) (sub : ℕ) → (sub ≡ TOP_LEVEL → ⊥) → value_at sub ((TOP_LEVEL, subvolume_of kept) ∷ []) ≡ None
 no_other kept sub other = cond-false (TOP_LEVEL == sub) _ _ (ne_eqb TOP_LEVEL sub (λ is. other (sym is)))
 
-pub lists_no_sub : (kept : Kept) (state : State) (sub ino : ℕ) → IsKeptOf kept state → (sub ≡ TOP_LEVEL → ⊥) → Does state (Ls sub ino) (answer.Refused why.NoSub) kept
+pub lists_no_sub : (kept : Kept) (state : State) (sub ino : ℕ) → IsKeptOf kept state → (sub ≡ TOP_LEVEL → ⊥) → Answered state (Ls sub ino) (answer.Refused why.NoSub) [] kept
 unfolding refusal
 lists_no_sub kept state sub ino keeps other =
     let told = told_by kept state in
@@ -36,9 +36,9 @@ unfolding refusal
 no_file_told kept state ino none = ap (λ (found : Option File). first_some (None ∷ refuse (is_none found) why.NoFile ∷ [])) none
 
 pub lists_no_file : (kept : Kept) (state : State) (sub ino : ℕ) → IsKeptOf kept state → sub ≡ TOP_LEVEL → value_at ino kept.files ≡ None
-    → Does state (Ls sub ino) (answer.Refused why.NoFile) kept
+    → Answered state (Ls sub ino) (answer.Refused why.NoFile) [] kept
 lists_no_file kept state sub ino keeps top none =
-    subst (λ sub. Does state (Ls sub ino) (answer.Refused why.NoFile) kept) (sym top)
+    subst (λ sub. Answered state (Ls sub ino) (answer.Refused why.NoFile) [] kept) (sym top)
     (does_nothing kept state (Ls TOP_LEVEL ino) why.NoFile keeps
     (ap (λ state'. refusal state' (Ls TOP_LEVEL ino)) (sym (is_told kept state keeps)) ∙ no_file_told kept state ino none))
 
@@ -58,7 +58,7 @@ steps kept state ino file is =
 
 -- the file is there
 pub lists : (kept : Kept) (state : State) (sub ino : ℕ) (file : File) → IsKeptOf kept state → sub ≡ TOP_LEVEL → value_at ino kept.files ≡ Some file
-    → Does state (Ls sub ino) (answer.File file.size file.pieces) kept
+    → Answered state (Ls sub ino) (answer.File file.size file.pieces) [] kept
 lists kept state sub ino file keeps top is = record {
   new = state;
   step = subst (λ sub. Step state (Ls sub ino) (answer.File file.size file.pieces) [] state) (sym top)

@@ -13,7 +13,7 @@ use Rattle.qg_state.specs.State.{State}
 use Rattle.qg_machine.specs.FileChange.{file_change, unlink_change}
 use Rattle.qg_machine.specs.Refusals.{no_file, no_nodes_for, no_sub, refusal, too_many_pending}
 use Rattle.qg_store.specs.declared.kept.Kept.{Kept}
-use Rattle.qg_store.specs.Answering.{Does}
+use Rattle.qg_store.specs.Answering.{Answered}
 use Rattle.qg_store.specs.Editing.{IsEdited, unlink_refusal}
 use Rattle.qg_store.specs.Keeping.{IsKept, IsKeptOf}
 use Rattle.qg_store.proofs.Alone.{is_told, told_by}
@@ -27,7 +27,7 @@ unlink_parts state sub ino = no_sub state sub ∷ no_file state sub ino ∷ too_
 
 -- it is refused
 pub refused_unlink : (kept : Kept) (state : State) (sub ino : ℕ) (refused : Refusal) → IsKeptOf kept state → unlink_refusal state sub ino ≡ Some refused
-    → Does state (Unlink sub ino) (Refused refused) kept
+    → Answered state (Unlink sub ino) (Refused refused) [] kept
 unfolding refusal unlink_parts
 refused_unlink kept state sub ino refused keeps is =
     does_nothing kept state (Unlink sub ino) refused keeps
@@ -63,17 +63,17 @@ is_late kept state sub ino free need file may is =
 
 -- too few slots are free
 pub lacks_for_unlink : (kept : Kept) (state : State) (sub ino free need : ℕ) → MayGo kept state sub ino free need → free < need
-    → Does state (Unlink sub ino) (Refused (why.NoNodes free need)) kept
+    → Answered state (Unlink sub ino) (Refused (why.NoNodes free need)) [] kept
 lacks_for_unlink kept state sub ino free need may few =
     let found = some_file (value_at ino kept.files) may.there in
-    subst (λ sub. Does state (Unlink sub ino) (Refused (why.NoNodes free need)) kept) (sym may.top)
+    subst (λ sub. Answered state (Unlink sub ino) (Refused (why.NoNodes free need)) [] kept) (sym may.top)
     (lacks kept state (Unlink TOP_LEVEL ino) (without_key ino kept.files) 0 (length found.0.pieces) free need (is_late kept state sub ino free need found.0 may found.1) few)
 
 -- enough are
 pub unlinks : (old new : Kept) (state : State) (sub ino free need : ℕ) → MayGo old state sub ino free need → need ≤ free
-    → IsEdited old (without_key ino old.files) new → IsKept new → Does state (Unlink sub ino) Done new
+    → IsEdited old (without_key ino old.files) new → IsKept new → Answered state (Unlink sub ino) Done [] new
 unlinks old new state sub ino free need may enough edited fits =
     let found = some_file (value_at ino old.files) may.there in
-    subst (λ sub. Does state (Unlink sub ino) Done new) (sym may.top)
+    subst (λ sub. Answered state (Unlink sub ino) Done [] new) (sym may.top)
     (edits old new state (Unlink TOP_LEVEL ino) Done (without_key ino old.files) 0 (length found.0.pieces) free need (is_late old state sub ino free need found.0 may found.1) enough
     refl (λ done. done) edited fits)

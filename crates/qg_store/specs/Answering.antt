@@ -1,5 +1,5 @@
 -- What a store answers (this project's own).
-use Rattle.std.specs.Prelude.{◌≡◌, List, [], Option, Some, Bool, true, false}
+use Rattle.std.specs.Prelude.{◌≡◌, ◌⊎◌, List, Option, Some, Bool, true, false}
 use Rattle.qg_device.specs.History.{Event}
 use Rattle.qg_num.specs.declared.answer.Answer.{Answer}
 use Rattle.qg_num.specs.declared.answer.Answer.TheVariants as answer
@@ -9,30 +9,26 @@ use Rattle.qg_state.specs.State.{State}
 use Rattle.qg_machine.specs.Step.{Step}
 use Rattle.qg_store.specs.declared.kept.Kept.{Kept}
 use Rattle.qg_store.specs.Keeping.{IsKeptOf}
-use Rattle.qg_store.specs.Making.{Makes}
+use Rattle.qg_store.specs.Making.{MadeCommits, StartsCommit}
 
--- the machine answers a command so, and what is kept is that of the state that it comes to; nothing is committed
-pub record Does (old : State) (command : Command) (answer : Answer) (kept : Kept) : Type 0 where
+-- the machine answers a command so with these commits, and what is kept is that of the state that it comes to
+pub record Answered (old : State) (command : Command) (answer : Answer) (commits : List State) (kept : Kept) : Type 0 where
   pub new : State
-  pub step : Step old command answer [] new
-  pub keeps : IsKeptOf kept new
-
--- the machine answers a command so, and what is kept is that of the state that it comes to
-pub record Answered (old : State) (command : Command) (answer : Answer) (kept : Kept) : Type 0 where
-  pub new : State
-  pub commits : List State
   pub step : Step old command answer commits new
   pub keeps : IsKeptOf kept new
 
--- the machine answers a command so, what is kept is that of the state that it comes to, and the disk was made to hold what it commits
-pub record Commands (old : State) (command : Command) (answer : Answer) (kept : Kept) (before : List Event) (history : Option (List Event)) : Type 0 where
-  pub new : State
-  pub commits : List State
-  pub step : Step old command answer commits new
-  pub keeps : IsKeptOf kept new
-  pub after : List Event
-  pub told : history ≡ Some after
-  pub made : Makes commits before after
+-- the machine answers a command so
+abbrev pub Answers : State → Command → Answer → Kept → Type 0
+Answers old command answer kept = (commits : List State) × Answered old command answer commits kept
+
+-- the machine answers a command so, and the disk was made to hold what it commits
+abbrev pub AnswersOn : State → Command → Answer → Kept → List Event → Option (List Event) → Type 0
+AnswersOn old command answer kept before history =
+    (commits : List State) × Answered old command answer commits kept × MadeCommits old.held commits before history
+
+-- what a command has done to the disk, whatever is answered: nothing, or the calls of a commit that the machine does, as far as they came
+abbrev pub IsDoneSoFar : State → Command → List Event → Option (List Event) → Type 0
+IsDoneSoFar old command events history = (history ≡ Some events) ⊎ ((command ≡ Commit) × StartsCommit old events history)
 
 -- an answer that says that nothing was changed
 abbrev pub is_unchanging : Answer → Bool
@@ -45,8 +41,3 @@ is_unchanging _ = false
 abbrev pub comes_to_disk : Command → Bool
 comes_to_disk Commit = true
 comes_to_disk _ = false
-
--- an answer to a commit
-abbrev pub is_commit : Answer → Bool
-is_commit (answer.Commit generation) = true
-is_commit _ = false

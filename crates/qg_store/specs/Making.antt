@@ -1,32 +1,58 @@
 -- What commits do to a disk (this project's own).
-use Rattle.std.specs.Prelude.{◌≡◌, ℕ, List, [], ◌∷◌, Some}
+use Rattle.std.specs.Prelude.{◌≡◌, ℕ, List, [], ◌∷◌, Option, Some}
 use Rattle.std.specs.List.{All}
+use Rattle.std.specs.List.Sorted.{IsPermutation}
 use Rattle.qg_device.specs.History.{Event, Moment, content}
+use Rattle.qg_num.specs.declared.answer.Answer.TheVariants as answer
+use Rattle.qg_num.specs.declared.command.Command.TheVariants as command
 use Rattle.qg_node.specs.declared.node.Node.{Node}
 use Rattle.qg_super.specs.declared.superblock.Super.{Super}
 use Rattle.qg_state.specs.declared.quota.Quota.{Quota}
 use Rattle.qg_state.specs.Counts.{direct_count}
-use Rattle.qg_state.specs.State.{State}
+use Rattle.qg_state.specs.Members.{hierarchy_of}
+use Rattle.qg_state.specs.State.{Committed, State, layout_of}
+use Rattle.qg_machine.specs.Step.{Step}
+use Rattle.qg_machine.specs.Written.{new_nodes}
 use Rattle.qg_verdict.specs.StateOf.{StateOf}
-use Rattle.qg_verdict.specs.Verdict.{IsSound}
-use Rattle.qg_commit.specs.Calls.{with_commit}
+use Rattle.qg_commit.specs.Calls.{MadeFront, commit_calls, with_commit}
 
 -- each group's stored counters are its direct counts
 abbrev pub AreCounted : State → Type 0
-AreCounted state = (quota : Quota) → state.quota ≡ Some quota → All (λ entry. entry.1.counters ≡ direct_count state quota entry.0) quota.groups
+AreCounted state = (quota : Quota) → state.quota ≡ Some quota
+    → All (λ entry. entry.1.counters ≡ direct_count (layout_of state) (hierarchy_of quota) entry.0) quota.groups
 
 -- an image is sound, stands for a committed state, and stores the direct count of each of its groups
 pub record IsCommitted (state : State) (image : List ℕ) : Type 0 where
-  pub sound : IsSound image
   pub stands : StateOf image state
   pub counted : AreCounted state
 
--- the calls of commits of these states, the earliest first, and no others: of each its new nodes, a sync, the first superblock, a sync, the
--- second superblock, a sync; and what is committed then
-abbrev pub Makes : List State → List Event → List Event → Type 0
-Makes [] before after = after ≡ before
-Makes (state ∷ states) before after =
-    (super : Super) × (nodes : List Node) × IsCommitted state (content (with_commit super nodes before)) × Makes states (with_commit super nodes before) after
+-- These are the superblock and the nodes of a commit that comes to a state, where so much was held before: the nodes are those of the state
+-- that were not held, in some order. Once all the commit's calls are made, the disk holds the state.
+pub record BringsTo (held : Committed) (state : State) (before : List Event) (super : Super) (nodes : List Node) : Type 0 where
+  pub written : IsPermutation nodes (new_nodes held state)
+  pub committed : IsCommitted state (content (with_commit super nodes before))
+
+-- The calls of commits that come to these states, the earliest first, where so much was held before, and no others: of each its new nodes, a
+-- sync, the first superblock, a sync, the second superblock, a sync.
+abbrev pub Makes : Committed → List State → List Event → List Event → Type 0
+Makes held [] before after = after ≡ before
+Makes held (state ∷ states) before after =
+    (super : Super) × (nodes : List Node) × BringsTo held state before super nodes × Makes state.held states (with_commit super nodes before) after
+
+-- a disk was made to hold these commits, one after the other, and nothing else was done to it
+pub record MadeCommits (held : Committed) (commits : List State) (before : List Event) (history : Option (List Event)) : Type 0 where
+  pub after : List Event
+  pub told : history ≡ Some after
+  pub made : Makes held commits before after
+
+-- the calls of a commit that the machine does came so far
+pub record StartsCommit (old : State) (events : List Event) (history : Option (List Event)) : Type 0 where
+  pub new : State
+  pub step : Step old command.Commit (answer.Commit new.generation) (new ∷ []) new
+  pub super : Super
+  pub nodes : List Node
+  pub brings : BringsTo old.held new events super nodes
+  pub made : MadeFront (commit_calls super nodes) events history
 
 -- commits of these states, the earliest first, made sure of what a disk held three times each, the newest first: each third time it is
 -- the state committed

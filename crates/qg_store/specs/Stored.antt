@@ -1,5 +1,6 @@
 -- A store as its callers see it (this project's own).
-use Rattle.std.specs.Prelude.{◌≡◌, Option, None, Some}
+use Rattle.std.specs.Prelude.{◌≡◌, ◌<◌, Option, None, Some, IsTrue}
+use Rattle.qg_num.specs.declared.command.Command.{Command}
 use Rattle.qg_num.specs.declared.fault.BlockFault.{BlockFault}
 use Rattle.qg_num.specs.declared.fault.BlockFault.TheVariants as fault
 use Rattle.qg_num.specs.declared.fault.Stop.{Stop}
@@ -8,6 +9,7 @@ use Rattle.qg_super.specs.declared.sizes.Sizes.{Sizes}
 use Rattle.qg_super.specs.SuperText.{sizes_of}
 use Rattle.qg_state.specs.State.{State}
 use Rattle.qg_store.specs.declared.kept.Kept.{Kept}
+use Rattle.qg_store.specs.Answering.{comes_to_disk}
 use Rattle.qg_store.specs.Keeping.{IsKept, IsKeptOf}
 
 -- what it keeps, and why it stopped, if it did
@@ -24,13 +26,25 @@ pub record IsStoreOf (store : Stored) (state : State) : Type 0 where
   pub running : store.stopped ≡ None
   pub keeps : IsKeptOf store.kept state
 
+-- a command is a commit of something that is pending in a store that has not stopped
+pub record ComesToDisk (store : Stored) (command : Command) : Type 0 where
+  pub running : store.stopped ≡ None
+  pub commits : IsTrue (comes_to_disk command)
+  pub some : 0 < store.kept.pending
+
 -- the sizes of its image
 abbrev pub sizes_stored : Stored → Sizes
 sizes_stored store = sizes_of store.kept.superblock
 
+-- a store stops for a fault, and knows the last commit still
+pub record StopsBy (cause : BlockFault) (old new : Stored) : Type 0 where
+  pub running : old.stopped ≡ None
+  pub stopped : new.stopped ≡ Some cause
+  pub last : new.kept.superblock ≡ old.kept.superblock
+
 -- a command stops a store, or finds that it has stopped
 abbrev pub Stops : Stop → Stored → Stored → Type 0
 Stops (Aborted cause) old new = (old.stopped ≡ Some cause) × (new ≡ old)
-Stops NoMemory old new = (old.stopped ≡ None) × (new.stopped ≡ Some fault.NoMemory)
-Stops Disk old new = (old.stopped ≡ None) × (new.stopped ≡ Some fault.Disk)
+Stops NoMemory old new = StopsBy fault.NoMemory old new
+Stops Disk old new = StopsBy fault.Disk old new
 Stops (Image rule address) old new = ⊥

@@ -10,7 +10,7 @@ ghost use Rattle.qg_machine.specs.FileChange.{pieces_or_none};
 ghost use Rattle.qg_machine.specs.Refusals.{most_pending, no_align, no_far, refuse, share_a_byte};
 ghost use Rattle.qg_files.specs.Split.{IsSplit};
 ghost use Rattle.qg_space.specs.Holding.{free_slots};
-ghost use Rattle.qg_store.specs.Answering.{Does, is_unchanging};
+ghost use Rattle.qg_store.specs.Answering.{Answered, is_unchanging};
 ghost use Rattle.qg_store.specs.Cloning.{AreTaken, IsClonable, clone_refusal, files_cloned, pieces_taken};
 ghost use Rattle.qg_store.specs.Editing.{IsEdited};
 ghost use Rattle.qg_store.specs.Keeping.{IsKept, IsKeptOf, files_weight, need_of};
@@ -43,7 +43,7 @@ pub(crate) fn clone(
     requires below { to_ino < inodes_end }
     ensures kept { IfOk result (λ answer. IsKept kept.new) }
     ensures step { (state : State) → IsKeptOf kept.old state
-        → IfOk result (λ answer. Does state (Clone sub ino off len to_sub to_ino to_off) answer kept.new) }
+        → IfOk result (λ answer. Answered state (Clone sub ino off len to_sub to_ino to_off) answer [] kept.new) }
     ensures unchanged { IfOk result (λ answer. IsTrue (is_unchanging answer) → kept.new ≡ kept.old) }
     ensures superblock { kept.new.superblock ≡ kept.old.superblock }
 {
@@ -105,9 +105,11 @@ fn refusal_of_ranges(
     pending: u64,
 ) -> Option<Refusal>
     ensures value { result ≡ first_some
-        (no_align (off ∷ to_off ∷ []) len ∷ no_far ((off + len) ∷ (to_off + len) ∷ []) ∷ refuse (nat_lt size (off + len)) why.Source
+        (no_align (off ∷ to_off ∷ []) len ∷ no_far ((off + len) ∷ (to_off + len) ∷ []) ∷ refuse (nat_lt size (off +
+        len)) why.Source
         ∷ refuse overlap why.Overlap ∷ refuse (nat_le most_pending pending) why.TooMany ∷ []) }
-    ensures clonable { IfNone result ((ino : ℕ) → least_inode ≤ ino → ino < inodes_end → IsClonable off len ino to_off) }
+    ensures clonable { IfNone result ((ino : ℕ) → least_inode ≤ ino → ino < inodes_end
+        → IsClonable off len ino to_off) }
     ensures few { IfNone result (pending < 65536) }
 {
     if !are_whole(off, to_off, len) {
@@ -171,7 +173,8 @@ fn taken_from(kept: &Kept, ino: Ino, off: u64, len: u64) -> Result<Pieces, NoMem
     }
 }
 
-// Puts pieces that were taken in a range of a file. Of the pieces that go, the last one that names an extent gives its run back.
+// Puts pieces that were taken in a range of a file. Of the pieces that go, the last one that names an extent gives its
+// run back.
 fn put_taken(
     kept: &mut Kept,
     off: u64,
@@ -185,8 +188,10 @@ fn put_taken(
     requires kept { IsKept kept.old }
     requires range { IsClonable off len to_ino to_off }
     requires taken { AreTaken kept.old off len taken.now }
-    requires split { IsSplit to_off (to_off + len) (pieces_or_none (value_at to_ino kept.old.files)) split.now.gone split.now.rests }
-    requires weight { weight ≡ files_weight (files_cloned (kept.old.superblock.generation + 1) off len taken.now to_ino to_off kept.old.files) }
+    requires split { IsSplit to_off (to_off + len) (pieces_or_none (value_at to_ino kept.old.files)) split.now.gone
+        split.now.rests }
+    requires weight { weight ≡ files_weight (files_cloned (kept.old.superblock.generation + 1) off len taken.now to_ino
+        to_off kept.old.files) }
     requires reserved { need_of kept.old.superblock.nodesize weight ≤ free_slots kept.old.space }
     requires few { kept.old.pending < 65536 }
     ensures edited { OnOk result (IsEdited kept.old

@@ -1,5 +1,5 @@
 // What is pending is committed.
-ghost use Rattle.std.specs.Prelude.{◌≡◌, ◌⊎◌, ◌==◌, ◌<◌, ◌≤◌, ◌+◌, ◌*◌, ◌^◌, ◌||◌, List, Some, length, IfOk, IfErr, IsTrue};
+ghost use Rattle.std.specs.Prelude.{◌≡◌, ◌⊎◌, ◌==◌, ◌<◌, ◌≤◌, ◌+◌, ◌*◌, ◌^◌, List, Some, length, IfOk, IfErr, IsTrue};
 ghost use Rattle.std.specs.List.{IsDistinct, list_all};
 ghost use Rattle.qg_device.specs.Cause.{HasCause};
 ghost use Rattle.qg_device.specs.History.{Event, content};
@@ -11,10 +11,11 @@ ghost use Rattle.qg_state.specs.State.{State};
 ghost use Rattle.qg_space.specs.Holding.{is_free_slot};
 ghost use Rattle.qg_check.specs.IsImage.{extents_in};
 ghost use Rattle.qg_laid.specs.Trees.{AreEnough, AreTreesLaid, IsCommitOf, nodes_laid};
-ghost use Rattle.qg_commit.specs.Calls.{GoesOn, with_commit};
-ghost use Rattle.qg_store.specs.Answering.{Answered, Commands, is_commit, is_unchanging};
-ghost use Rattle.qg_store.specs.Committing.{KeepsCommit};
+ghost use Rattle.qg_commit.specs.Calls.{with_commit};
+ghost use Rattle.qg_store.specs.Answering.{Answers, AnswersOn, is_unchanging};
+ghost use Rattle.qg_store.specs.Committing.{KeepsCommit, LaysSoFar};
 ghost use Rattle.qg_store.specs.Keeping.{IsKept, IsKeptOf};
+ghost use Rattle.qg_store.specs.Making.{StartsCommit};
 
 use crate::kept::Kept;
 use crate::slots::hold_commit;
@@ -33,15 +34,18 @@ pub(crate) fn commit<D: Disk>(kept: &mut Kept, disk: &mut D) -> Result<Answer, B
     requires long { total_bytes (sizes_of kept.old.superblock) ≤ D.size disk.old }
     ensures kept { IfOk result (λ answer. IsKept kept.new) }
     ensures step { (state : State) (events : List Event) → IsKeptOf kept.old state → D.history disk.old ≡ Some events
-        → IfOk result (λ answer. Commands state Commit answer kept.new events (D.history disk.new)) }
-    ensures does { (state : State) → IsKeptOf kept.old state → IfOk result (λ answer. Answered state Commit answer kept.new) }
+        → IfOk result (λ answer. AnswersOn state Commit answer kept.new events (D.history disk.new)) }
+    ensures so_far { (state : State) (events : List Event) → IsKeptOf kept.old state → D.history disk.old ≡ Some events
+        → (D.history disk.new ≡ Some events) ⊎ StartsCommit state events (D.history disk.new) }
+    ensures does { (state : State) → IsKeptOf kept.old state
+        → IfOk result (λ answer. Answers state Commit answer kept.new) }
     ensures idle { kept.old.pending ≡ 0 → disk.new ≡ disk.old }
-    ensures later { (events : List Event) → D.history disk.old ≡ Some events → GoesOn events (D.history disk.new) }
-    ensures refused { IfOk result (λ answer. IsTrue (is_unchanging answer) → (kept.new ≡ kept.old) × (disk.new ≡ disk.old)) }
-    ensures told { IfOk result (λ answer. IsTrue (is_commit answer || is_unchanging answer)) }
-    ensures no_image { IfErr result (λ fault. (fault ≡ BlockFault.Disk) ⊎ (fault ≡ BlockFault.NoMemory)) }
-    ensures sizes { sizes_of kept.new.superblock ≡ sizes_of kept.old.superblock }
-    ensures no_less { D.size disk.old ≤ D.size disk.new }
+    ensures refused { IfOk result (λ answer. IsTrue (is_unchanging answer)
+        → (kept.new ≡ kept.old) × (disk.new ≡ disk.old)) }
+    ensures err { IfErr result (λ fault. ((fault ≡ BlockFault.Disk) ⊎ (fault ≡ BlockFault.NoMemory))
+        × (kept.new ≡ kept.old)) }
+    ensures sizes { (sizes_of kept.new.superblock ≡ sizes_of kept.old.superblock)
+        × (D.size disk.old ≤ D.size disk.new) }
     ensures cause { HasCause BlockFault.Disk (D.faults disk.old) (D.faults disk.new) result }
 {
     if kept.pending == 0 {
@@ -60,7 +64,8 @@ pub(crate) fn commit<D: Disk>(kept: &mut Kept, disk: &mut D) -> Result<Answer, B
 fn slots_for(kept: &Kept) -> Result<Sequence<Address>, NoMemory>
     requires kept { IsKept kept.now }
     requires some { 0 < kept.now.pending }
-    ensures enough { IfOk result (λ slots. AreEnough (5 * nodes_filled kept.now.superblock.nodesize kept.now.weight + 14) slots) }
+    ensures enough { IfOk result (λ slots. AreEnough (5 * nodes_filled kept.now.superblock.nodesize kept.now.weight +
+        14) slots) }
     ensures free { IfOk result (λ slots. IsTrue (list_all (is_free_slot kept.now.space) slots)) }
 {
     let need = need_of(kept.superblock.nodesize, kept.weight);
@@ -76,14 +81,18 @@ fn write_trees<D: Disk>(kept: &Kept, disk: &mut D, slots: &[Address]) -> Result<
     requires free { IsTrue (list_all (is_free_slot kept.now.space) slots.now) }
     requires long { total_bytes (sizes_of kept.now.superblock) ≤ D.size disk.old }
     ensures superblock { IfOk result (λ laid. IsTrue (is_super laid.superblock)) }
-    ensures trees { IfOk result (λ laid. AreTreesLaid kept.now.superblock kept.now.root kept.now.files (extents_in kept.now.files)
+    ensures trees { IfOk result (λ laid. AreTreesLaid kept.now.superblock kept.now.root kept.now.files (extents_in
+        kept.now.files)
         kept.now.group.counters kept.now.group.stamp slots.now laid) }
     ensures calls { (events : List Event) → D.history disk.old ≡ Some events
         → IfOk result (λ laid. D.history disk.new ≡ Some (with_commit laid.superblock (nodes_laid laid) events)) }
-    ensures committed { (events : List Event) (state : State) → total_bytes (sizes_of kept.now.superblock) ≤ length (content events)
+    ensures committed { (events : List Event) (state : State)
+        → total_bytes (sizes_of kept.now.superblock) ≤ length (content events)
         → IsKeptOf kept.now state
-        → IfOk result (λ laid. IsCommitOf state laid kept.now.files (content (with_commit laid.superblock (nodes_laid laid) events))) }
-    ensures later { (events : List Event) → D.history disk.old ≡ Some events → GoesOn events (D.history disk.new) }
+        → IfOk result (λ laid. IsCommitOf state laid kept.now.files (content (with_commit laid.superblock (nodes_laid
+        laid) events))) }
+    ensures so_far { (state : State) (events : List Event) → IsKeptOf kept.now state → D.history disk.old ≡ Some events
+        → (D.history disk.new ≡ Some events) ⊎ LaysSoFar state kept.now.files events (D.history disk.new) }
     ensures no_less { D.size disk.old ≤ D.size disk.new }
     ensures no_image { IfErr result (λ fault. (fault ≡ BlockFault.Disk) ⊎ (fault ≡ BlockFault.NoMemory)) }
     ensures cause { HasCause BlockFault.Disk (D.faults disk.old) (D.faults disk.new) result }

@@ -13,7 +13,8 @@ use qg_state::Element;
 use qg_super::Super;
 use std::alloc::Global;
 
-/// What an image with this superblock holds: the present state the subvolume's nodes and extents, the last commit the other trees' nodes too.
+/// What an image with this superblock holds: the present state the subvolume's nodes and extents, the last commit the
+/// other trees' nodes too.
 pub(crate) fn space_of(
     alloc: Global,
     superblock: &Super,

@@ -8,8 +8,8 @@ use qg_state::Group;
 use qg_super::Super;
 use std::alloc::Global;
 
-/// The last commit's superblock, root and counters, the present files with what they hold of the image, and how much is pending (this
-/// project's own).
+/// The last commit's superblock, root and counters, the present files with what they hold of the image, and how much is
+/// pending (this project's own).
 #[derive(Drop)]
 pub struct Kept {
     pub alloc: Global,

@@ -1,8 +1,8 @@
 // A file's pieces are listed.
-ghost use Rattle.std.specs.Prelude.{IfOk};
+ghost use Rattle.std.specs.Prelude.{[], IfOk};
 ghost use Rattle.qg_num.specs.declared.command.Command.TheVariants.{Ls};
 ghost use Rattle.qg_state.specs.State.{State};
-ghost use Rattle.qg_store.specs.Answering.{Does};
+ghost use Rattle.qg_store.specs.Answering.{Answered};
 ghost use Rattle.qg_store.specs.Keeping.{IsKept, IsKeptOf};
 
 use crate::kept::Kept;
@@ -13,7 +13,8 @@ use qg_subvol::pieces;
 /// A file's size in bytes and its pieces, or why they are not told.
 pub(crate) fn list(kept: &Kept, sub: RootId, ino: Ino) -> Result<Answer, NoMemory>
     requires { IsKept kept.now }
-    ensures { (state : State) → IsKeptOf kept.now state → IfOk result (λ answer. Does state (Ls sub ino) answer kept.now) }
+    ensures { (state : State) → IsKeptOf kept.now state
+        → IfOk result (λ answer. Answered state (Ls sub ino) answer [] kept.now) }
 {
     if sub.value() != TOP_LEVEL {
         return Ok(Answer::Refused(Refusal::NoSub));

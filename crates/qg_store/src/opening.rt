@@ -13,8 +13,8 @@ use qg_named::named_of;
 use qg_num::NoMemory;
 use std::alloc::Global;
 
-/// What is kept of an image. Nothing is pending; the present state holds what the subvolume reaches, and the last commit the nodes of the
-/// other trees too.
+/// What is kept of an image. Nothing is pending; the present state holds what the subvolume reaches, and the last
+/// commit the nodes of the other trees too.
 pub(crate) fn kept_of(alloc: Global, image: Image) -> Result<Kept, NoMemory>
     requires { IsEditable image }
     ensures kept { IfOk result (λ kept. IsKept kept) }

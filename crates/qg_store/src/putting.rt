@@ -23,8 +23,8 @@ use qg_state::Element;
 use qg_super::SECTOR;
 use std::alloc::Global;
 
-/// Puts one new extent, which is free, in a range of a file, and takes its run; of the pieces that go, the last one that names an extent
-/// gives its run back.
+/// Puts one new extent, which is free, in a range of a file, and takes its run; of the pieces that go, the last one
+/// that names an extent gives its run back.
 pub(crate) fn put_extent(
     kept: &mut Kept,
     ino: Ino,
@@ -37,8 +37,10 @@ pub(crate) fn put_extent(
     requires kept { IsKept kept.old }
     requires range { IsWritable ino off len }
     requires free { IsTrue (is_free_run kept.old.space run len) }
-    requires split { IsSplit off (off + len) (pieces_or_none (value_at ino kept.old.files)) split.now.gone split.now.rests }
-    requires weight { weight ≡ files_weight (files_written (kept.old.superblock.generation + 1) ino off len run kept.old.files) }
+    requires split { IsSplit off (off + len) (pieces_or_none (value_at ino kept.old.files)) split.now.gone
+        split.now.rests }
+    requires weight { weight ≡ files_weight (files_written (kept.old.superblock.generation + 1) ino off len run
+        kept.old.files) }
     requires reserved { need_of kept.old.superblock.nodesize weight ≤ free_slots kept.old.space }
     requires few { kept.old.pending < 65536 }
     ensures written { OnOk result (IsWritten kept.old ino off len run kept.new) }
@@ -84,7 +86,8 @@ pub(crate) fn drop_names(
     space: &mut Space,
     pieces: &[Piece],
 ) -> Result<(), NoMemory>
-    requires named { (extent : Element) → count_by (same_extent extent) (map extent_of pieces.now) ≤ named_count named.old extent }
+    requires named { (extent : Element)
+        → count_by (same_extent extent) (map extent_of pieces.now) ≤ named_count named.old extent }
     requires held { HoldsNamed space.old named.old }
     ensures less { OnOk result (HasMore named.new named.old (map extent_of pieces.now)) }
     ensures held { OnOk result (HoldsNamed space.new named.new) }

@@ -1,12 +1,12 @@
 // A file is cut to a size, or grows to it.
-ghost use Rattle.std.specs.Prelude.{◌≡◌, ◌+◌, ◌^◌, ◌≤◌, ◌<◌, true, is_some, IfNone, IfOk, OnOk, IsTrue};
+ghost use Rattle.std.specs.Prelude.{◌≡◌, ◌+◌, ◌^◌, ◌≤◌, ◌<◌, [], true, is_some, IfNone, IfOk, OnOk, IsTrue};
 ghost use Rattle.qg_num.specs.declared.command.Command.TheVariants.{Truncate};
 ghost use Rattle.qg_image.specs.FilesOf.{is_aligned, largest_size};
 ghost use Rattle.qg_image.specs.Table.{value_at};
 ghost use Rattle.qg_state.specs.State.{State};
 ghost use Rattle.qg_machine.specs.FileChange.{pieces_or_none};
 ghost use Rattle.qg_space.specs.Holding.{free_slots};
-ghost use Rattle.qg_store.specs.Answering.{Does, is_unchanging};
+ghost use Rattle.qg_store.specs.Answering.{Answered, is_unchanging};
 ghost use Rattle.qg_store.specs.Editing.{IsCutAt, IsEdited, files_cut, size_refusal};
 ghost use Rattle.qg_store.specs.Keeping.{IsKept, IsKeptOf, files_weight, need_of};
 
@@ -31,7 +31,8 @@ pub(crate) fn truncate(
 ) -> Result<Answer, NoMemory>
     requires kept { IsKept kept.old }
     ensures kept { IfOk result (λ answer. IsKept kept.new) }
-    ensures step { (state : State) → IsKeptOf kept.old state → IfOk result (λ answer. Does state (Truncate sub ino size) answer kept.new) }
+    ensures step { (state : State) → IsKeptOf kept.old state
+        → IfOk result (λ answer. Answered state (Truncate sub ino size) answer [] kept.new) }
     ensures unchanged { IfOk result (λ answer. IsTrue (is_unchanging answer) → kept.new ≡ kept.old) }
     ensures superblock { kept.new.superblock ≡ kept.old.superblock }
 {
@@ -102,7 +103,8 @@ fn resize(kept: &mut Kept, ino: Ino, size: u64, split: &Split, weight: u64) -> R
     requires weight { weight ≡ files_weight (files_cut (kept.old.superblock.generation + 1) ino size kept.old.files) }
     requires reserved { need_of kept.old.superblock.nodesize weight ≤ free_slots kept.old.space }
     requires few { kept.old.pending < 65536 }
-    ensures edited { OnOk result (IsEdited kept.old (files_cut (kept.old.superblock.generation + 1) ino size kept.old.files) kept.new) }
+    ensures edited { OnOk result (IsEdited kept.old (files_cut (kept.old.superblock.generation + 1) ino size
+        kept.old.files) kept.new) }
     ensures kept { OnOk result (IsKept kept.new) }
     ensures superblock { kept.new.superblock ≡ kept.old.superblock }
 {

@@ -33,8 +33,8 @@ pub(crate) fn give_slots(space: &mut Space, slots: &[Address])
     }
 }
 
-/// A commit holds what was laid out, in place of what the last one held; the first of that, so many, are the present state's, in place of
-/// what it had.
+/// A commit holds what was laid out, in place of what the last one held; the first of that, so many, are the present
+/// state's, in place of what it had.
 pub(crate) fn hold_commit(space: &mut Space, had: &[Address], laid: &[Address], present: usize)
     requires had { (slot : ℕ) → Contains space.old.slots slot → Contains had.now slot }
     requires slots { IsTrue (list_all (is_slot space.old.sizes) laid.now) }

@@ -1,23 +1,21 @@
 // The store, and its one step.
-ghost use Rattle.std.specs.Prelude.{◌≡◌, ◌⊎◌, ◌≤◌, ◌∷◌, List, None, Some, Err, IfOk, IfErr, IsTrue, false};
+ghost use Rattle.std.specs.Prelude.{◌≡◌, ◌⊎◌, ◌≤◌, ◌∷◌, List, None, Some, IfOk, IfErr, IsTrue, false};
 ghost use Rattle.qg_device.specs.Cause.{HasCause};
 ghost use Rattle.qg_device.specs.History.{Event, Synced, content};
 ghost use Rattle.qg_num.specs.declared.answer.Answer.{Answer};
-ghost use Rattle.qg_num.specs.declared.fault.BlockFault.{BlockFault};
 ghost use Rattle.qg_num.specs.Fault.{stop_of};
 ghost use Rattle.qg_super.specs.Places.{total_bytes};
 ghost use Rattle.qg_super.specs.SuperText.{sizes_of};
 ghost use Rattle.qg_grammar.specs.ScriptText.{is_in_grammar};
-ghost use Rattle.qg_grammar.specs.Served.{is_served};
+ghost use Rattle.qg_grammar.specs.Served.{is_served_command};
 ghost use Rattle.qg_state.specs.State.{State};
 ghost use Rattle.qg_verdict.specs.StateOf.{StateOf};
 ghost use Rattle.qg_verdict.specs.Verdict.{verdict};
-ghost use Rattle.qg_commit.specs.Calls.{GoesOn};
 ghost use Rattle.qg_commit.specs.Opened.{IsOpened, IsOpening};
 ghost use Rattle.qg_commit.specs.Opening.{IsRefusal, IsUntouched};
-ghost use Rattle.qg_store.specs.Answering.{Answered, Commands, comes_to_disk, is_commit, is_unchanging};
+ghost use Rattle.qg_store.specs.Answering.{Answers, AnswersOn, IsDoneSoFar, comes_to_disk, is_unchanging};
 ghost use Rattle.qg_store.specs.Keeping.{IsKept, IsKeptOf};
-ghost use Rattle.qg_store.specs.Stored.{IsStoreOf, Stops, sizes_stored};
+ghost use Rattle.qg_store.specs.Stored.{ComesToDisk, IsStoreOf, Stops, sizes_stored};
 
 use crate::cloning::clone;
 use crate::committing::commit;
@@ -53,14 +51,15 @@ impl Model for Store {
 }
 
 impl Store {
-    /// Opens an image (this project's own): where it is sound, the store of the state that it stands for; else the first rule that it breaks,
-    /// or the first stored counter that is not the direct count. Only a superblock place that does not hold the superblock that counts is
-    /// written.
+    /// Opens an image (this project's own): where it is sound, the store of the state that it stands for; else the
+    /// first rule that it breaks, or the first stored counter that is not the direct count. Only a superblock place
+    /// that does not hold the superblock that counts is written.
     pub fn open<D: Disk>(alloc: Global, disk: &mut D) -> Result<Store, OpenFault>
         // Over a disk that tells what it holds.
         ensures sound { (events : List Event) → D.history disk.old ≡ Some events
             → IfOk result (λ store. verdict (content events) ≡ None) }
-        ensures opened { (events : List Event) (state : State) → D.history disk.old ≡ Some events → StateOf (content events) state
+        ensures opened { (events : List Event) (state : State) → D.history disk.old ≡ Some events
+            → StateOf (content events) state
             → IfOk result (λ store. IsStoreOf store state) }
         ensures refused { (events : List Event) → D.history disk.old ≡ Some events
             → IfErr result (λ fault. IsRefusal fault (verdict (content events))) }
@@ -68,8 +67,8 @@ impl Store {
             → IfOk result (λ store. IsOpened events (D.history disk.new)) }
         ensures unwritten { (events : List Event) → D.history disk.old ≡ Some events
             → IfErr result (λ fault. IsUntouched fault (D.history disk.new) (Synced ∷ events)) }
-        ensures touches { (events : List Event) → D.history disk.old ≡ Some events → IsOpening events (D.history disk.new) }
-        ensures later { (events : List Event) → D.history disk.old ≡ Some events → GoesOn events (D.history disk.new) }
+        ensures touches { (events : List Event) → D.history disk.old ≡ Some events
+            → IsOpening events (D.history disk.new) }
 
         // Over any disk.
         ensures running { IfOk result (λ store. store.stopped ≡ None) }
@@ -86,9 +85,10 @@ impl Store {
         }
     }
 
-    /// Does a command or refuses it, by one step of the machine (this project's own). Served are `write`, `clone`, `truncate`, `unlink`,
-    /// `commit`, `show` and `ls`. A file command that is done changes the files, and stays pending until a commit brings it to the disk; what
-    /// is refused or asked changes nothing. After a `Stop` the store does nothing more, and the image is to be opened again.
+    /// Does a command or refuses it, by one step of the machine (this project's own). Served are `write`, `clone`,
+    /// `truncate`, `unlink`, `commit`, `show` and `ls`. A file command that is done changes the files, and stays
+    /// pending until a commit brings it to the disk; what is refused or asked changes nothing. After a `Stop` the store
+    /// does nothing more, and the image is to be opened again.
     ///
     /// No step is counted so far.
     pub fn apply<D: Disk, L: Ledger, M: Ledger>(
@@ -100,32 +100,33 @@ impl Store {
     ) -> Result<Answer, Stop>
         requires long { total_bytes (sizes_stored self.old) ≤ D.size disk.old }
         requires numbers { IsTrue (is_in_grammar command.now) }
-        requires served { IsTrue (is_served command.now) }
+        requires served { IsTrue (is_served_command command.now) }
 
-        // Over a disk that tells what it holds, the answer is the machine's, and the disk was made to hold what the machine commits.
-        ensures step { (state : State) (events : List Event) → IsStoreOf self.old state → D.history disk.old ≡ Some events
-            → IfOk result (λ answer. Commands state command.now answer self.new.kept events (D.history disk.new)) }
-        ensures later { (events : List Event) → D.history disk.old ≡ Some events → GoesOn events (D.history disk.new) }
+        // Over a disk that tells what it holds, the answer is the machine's, and the disk was made to hold what the
+        // machine commits. Whatever is answered, nothing else was done than calls of a commit that the machine does.
+        ensures step { (state : State) (events : List Event) → IsStoreOf self.old state
+            → D.history disk.old ≡ Some events
+            → IfOk result (λ answer. AnswersOn state command.now answer self.new.kept events (D.history disk.new)) }
+        ensures so_far { (state : State) (events : List Event) → IsStoreOf self.old state
+            → D.history disk.old ≡ Some events
+            → IsDoneSoFar state command.now events (D.history disk.new) }
 
-        // Over any disk the answer is the machine's. What is refused or asked changes nothing, and only a commit of something comes to the disk.
+        // Over any disk the answer is the machine's. What is refused or asked changes nothing, and only a commit of
+        // something comes to the disk.
         ensures does { (state : State) → IsStoreOf self.old state
-            → IfOk result (λ answer. Answered state command.now answer self.new.kept) }
+            → IfOk result (λ answer. Answers state command.now answer self.new.kept) }
         ensures running { IfOk result (λ answer. (self.old.stopped ≡ None) × (self.new.stopped ≡ None)) }
-        ensures unchanged { IfOk result (λ answer. IsTrue (is_unchanging answer) → self.new ≡ self.old) }
-        ensures untouched { IfOk result (λ answer. is_commit answer ≡ false → disk.new ≡ disk.old) }
-        ensures apart { comes_to_disk command.now ≡ false → disk.new ≡ disk.old }
-        ensures idle { self.old.kept.pending ≡ 0 → disk.new ≡ disk.old }
+        ensures unchanged { IfOk result (λ answer. IsTrue (is_unchanging answer)
+            → (self.new ≡ self.old) × (D.history disk.new ≡ D.history disk.old) × (D.size disk.new ≡ D.size disk.old)) }
+        ensures still { (ComesToDisk self.old command.now → ⊥)
+            → (D.history disk.new ≡ D.history disk.old) × (D.size disk.new ≡ D.size disk.old) }
 
         // After a stop nothing is done any more.
         ensures stops { IfErr result (λ stop. Stops stop self.old self.new) }
-        ensures aborted { (cause : BlockFault) → self.old.stopped ≡ Some cause
-            → (result ≡ Err (Stop.Aborted cause)) × (self.new ≡ self.old) × (disk.new ≡ disk.old) }
         ensures cause { HasCause Stop.Disk (D.faults disk.old) (D.faults disk.new) result }
 
-        ensures sizes { sizes_stored self.new ≡ sizes_stored self.old }
-        ensures no_less { D.size disk.old ≤ D.size disk.new }
-        ensures looks { looks.new ≡ looks.old }
-        ensures reads { reads.new ≡ reads.old }
+        ensures sizes { (sizes_stored self.new ≡ sizes_stored self.old) × (D.size disk.old ≤ D.size disk.new) }
+        ensures counts { (looks.new ≡ looks.old) × (reads.new ≡ reads.old) }
     {
         if let Some(cause) = self.stopped {
             return Err(Stop::Aborted(cause));
@@ -167,19 +168,22 @@ fn answer<D: Disk>(kept: &mut Kept, disk: &mut D, command: &Command) -> Result<A
     requires kept { IsKept kept.old }
     requires long { total_bytes (sizes_of kept.old.superblock) ≤ D.size disk.old }
     requires numbers { IsTrue (is_in_grammar command.now) }
-    requires served { IsTrue (is_served command.now) }
+    requires served { IsTrue (is_served_command command.now) }
     ensures kept { IfOk result (λ answer. IsKept kept.new) }
     ensures step { (state : State) (events : List Event) → IsKeptOf kept.old state → D.history disk.old ≡ Some events
-        → IfOk result (λ answer. Commands state command.now answer kept.new events (D.history disk.new)) }
-    ensures does { (state : State) → IsKeptOf kept.old state → IfOk result (λ answer. Answered state command.now answer kept.new) }
-    ensures later { (events : List Event) → D.history disk.old ≡ Some events → GoesOn events (D.history disk.new) }
-    ensures unchanged { IfOk result (λ answer. IsTrue (is_unchanging answer) → kept.new ≡ kept.old) }
-    ensures untouched { IfOk result (λ answer. is_commit answer ≡ false → disk.new ≡ disk.old) }
+        → IfOk result (λ answer. AnswersOn state command.now answer kept.new events (D.history disk.new)) }
+    ensures so_far { (state : State) (events : List Event) → IsKeptOf kept.old state → D.history disk.old ≡ Some events
+        → IsDoneSoFar state command.now events (D.history disk.new) }
+    ensures does { (state : State) → IsKeptOf kept.old state
+        → IfOk result (λ answer. Answers state command.now answer kept.new) }
+    ensures unchanged { IfOk result (λ answer. IsTrue (is_unchanging answer)
+        → (kept.new ≡ kept.old) × (disk.new ≡ disk.old)) }
     ensures apart { comes_to_disk command.now ≡ false → disk.new ≡ disk.old }
     ensures idle { kept.old.pending ≡ 0 → disk.new ≡ disk.old }
-    ensures no_image { IfErr result (λ fault. (fault ≡ BlockFault.Disk) ⊎ (fault ≡ BlockFault.NoMemory)) }
-    ensures sizes { sizes_of kept.new.superblock ≡ sizes_of kept.old.superblock }
-    ensures no_less { D.size disk.old ≤ D.size disk.new }
+    ensures err { IfErr result (λ fault. ((fault ≡ BlockFault.Disk) ⊎ (fault ≡ BlockFault.NoMemory))
+        × (kept.new.superblock ≡ kept.old.superblock)) }
+    ensures sizes { (sizes_of kept.new.superblock ≡ sizes_of kept.old.superblock)
+        × (D.size disk.old ≤ D.size disk.new) }
     ensures cause { HasCause BlockFault.Disk (D.faults disk.old) (D.faults disk.new) result }
 {
     match command {

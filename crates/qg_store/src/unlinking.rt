@@ -1,10 +1,10 @@
 // A file is taken away.
-ghost use Rattle.std.specs.Prelude.{◌≡◌, ◌^◌, ◌≤◌, ◌<◌, true, is_some, IfNone, IfOk, OnOk, IsTrue};
+ghost use Rattle.std.specs.Prelude.{◌≡◌, ◌^◌, ◌≤◌, ◌<◌, [], true, is_some, IfNone, IfOk, OnOk, IsTrue};
 ghost use Rattle.qg_num.specs.declared.command.Command.TheVariants.{Unlink};
 ghost use Rattle.qg_image.specs.Table.{value_at, without_key};
 ghost use Rattle.qg_state.specs.State.{State};
 ghost use Rattle.qg_space.specs.Holding.{free_slots};
-ghost use Rattle.qg_store.specs.Answering.{Does, is_unchanging};
+ghost use Rattle.qg_store.specs.Answering.{Answered, is_unchanging};
 ghost use Rattle.qg_store.specs.Editing.{IsEdited, unlink_refusal};
 ghost use Rattle.qg_store.specs.Keeping.{IsKept, IsKeptOf, files_weight, need_of};
 
@@ -20,7 +20,8 @@ use qg_subvol::pieces;
 pub(crate) fn unlink(kept: &mut Kept, sub: RootId, ino: Ino) -> Result<Answer, NoMemory>
     requires kept { IsKept kept.old }
     ensures kept { IfOk result (λ answer. IsKept kept.new) }
-    ensures step { (state : State) → IsKeptOf kept.old state → IfOk result (λ answer. Does state (Unlink sub ino) answer kept.new) }
+    ensures step { (state : State) → IsKeptOf kept.old state
+        → IfOk result (λ answer. Answered state (Unlink sub ino) answer [] kept.new) }
     ensures unchanged { IfOk result (λ answer. IsTrue (is_unchanging answer) → kept.new ≡ kept.old) }
     ensures superblock { kept.new.superblock ≡ kept.old.superblock }
 {

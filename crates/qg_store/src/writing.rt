@@ -1,10 +1,10 @@
 // A range of a file is written.
-ghost use Rattle.std.specs.Prelude.{◌≡◌, ◌+◌, ◌≤◌, ◌<◌, ◌&&◌, ℕ, IfNone, IfOk, IsTrue, nat_le, nat_lt};
+ghost use Rattle.std.specs.Prelude.{◌≡◌, ◌+◌, ◌≤◌, ◌<◌, ◌&&◌, [], ℕ, IfNone, IfOk, IsTrue, nat_le, nat_lt};
 ghost use Rattle.qg_num.specs.declared.command.Command.TheVariants.{Write};
 ghost use Rattle.qg_image.specs.FilesOf.{inodes_end, is_aligned, largest_size, least_inode};
 ghost use Rattle.qg_state.specs.State.{State};
 ghost use Rattle.qg_verdict.specs.Verdict.{longest_extent};
-ghost use Rattle.qg_store.specs.Answering.{Does, is_unchanging};
+ghost use Rattle.qg_store.specs.Answering.{Answered, is_unchanging};
 ghost use Rattle.qg_store.specs.Keeping.{IsKept, IsKeptOf};
 ghost use Rattle.qg_store.specs.Writing.{IsWritable, range_refusal};
 
@@ -33,7 +33,8 @@ pub(crate) fn write(
     requires least { least_inode ≤ ino }
     requires below { ino < inodes_end }
     ensures kept { IfOk result (λ answer. IsKept kept.new) }
-    ensures step { (state : State) → IsKeptOf kept.old state → IfOk result (λ answer. Does state (Write sub ino off len) answer kept.new) }
+    ensures step { (state : State) → IsKeptOf kept.old state
+        → IfOk result (λ answer. Answered state (Write sub ino off len) answer [] kept.new) }
     ensures unchanged { IfOk result (λ answer. IsTrue (is_unchanging answer) → kept.new ≡ kept.old) }
     ensures superblock { kept.new.superblock ≡ kept.old.superblock }
 {

@@ -17,7 +17,7 @@ use Rattle.qg_verdict.specs.Failure.{first_failure}
 use Rattle.qg_verdict.specs.ItemsUnder.{nodes_of}
 use Rattle.qg_verdict.specs.declared.expected.Expected.{Expected}
 use Rattle.qg_verdict.specs.Walk.{found_failure, next_key, pointers_failure, walk_failure}
-use Rattle.qg_tree.specs.Build.{node_among, found_in, found_among}
+use Rattle.qg_verdict.specs.Among.{node_among, found_there, found_among}
 use Rattle.qg_tree.specs.Row.{address_of}
 
 -- ---- the nodes
@@ -39,7 +39,7 @@ Keeps-append nodes more = record { each = among_kept nodes more }
 
 -- what is among the nodes is what a walk finds
 pub Keeps-found : (nodes : List Node) → Keeps (node_among nodes) (nodes_of (found_among nodes))
-Keeps-found nodes = record { each = λ address node there. ap (λ (found : Option Node). result_ok (found_in found address)) there }
+Keeps-found nodes = record { each = λ address node there. ap (λ (found : Option Node). result_ok (found_there found address)) there }
 
 -- each node is found at its address
 abbrev pub AreFound : List Node → List Node → Type 0
@@ -173,7 +173,7 @@ walk_kept judge old new keeps zero expected address h =
 walk_kept judge old new keeps (suc depth) expected address h =
     found_kept judge (walk_failure judge old depth) (walk_failure judge new depth) (walk_kept judge old new keeps depth) expected address (old address) (new address) (keeps address) h
 
-found_among_kept : (address : ℕ) (found more : Option Node) (node : Node) → ((node : Node) → found ≡ Some node → more ≡ Some node) → found_in found address ≡ Ok node → found_in more address ≡ Ok node
+found_among_kept : (address : ℕ) (found more : Option Node) (node : Node) → ((node : Node) → found ≡ Some node → more ≡ Some node) → found_there found address ≡ Ok node → found_there more address ≡ Ok node
 found_among_kept address (Some there) more node keeps h = rw (keeps there refl) h
 found_among_kept address None more node keeps h = absurd cc
 

@@ -12,8 +12,9 @@ use Rattle.qg_node.specs.declared.pointer.Pointer.{Pointer}
 use Rattle.qg_node.specs.declared.node.Node.{Node}
 use Rattle.qg_node.specs.Nodes.{header_of, used_bytes}
 use Rattle.qg_node.specs.NodeText.{IsLevelled}
+use Rattle.qg_node.specs.Fits.{NodeFits}
 use Rattle.qg_super.specs.Places.{capacity}
-use Rattle.qg_tree.specs.Cut.{IsCut}
+use Rattle.qg_tree.specs.FillsNode.{FillsNode}
 use Rattle.qg_tree.specs.Row.{pointer_to, address_of, IsRowNode, IsFull, PutsRow}
 use Rattle.qg_tree.proofs.Frame.{AllByRecursion-append}
 
@@ -70,7 +71,7 @@ module _ {A : Type 0} (own : Node → List A) (weight : A → ℕ) (nodesize own
 
   -- the node that is put next
   pub record IsNext (left : List A) (new : List Node) (count taken : ℕ) (node : Node) : Type 0 where
-    pub cut : IsCut weight left (capacity nodesize) count taken
+    pub cut : FillsNode weight left (capacity nodesize) count taken
     pub address : (header_of node).address ≡ get_or slots (length new) (header_of node).address
     pub owned : (header_of node).owner ≡ owner
     pub made : (header_of node).generation ≡ generation
@@ -78,6 +79,7 @@ module _ {A : Type 0} (own : Node → List A) (weight : A → ℕ) (nodesize own
     pub levelled : IsLevelled node
     pub holds : own node ≡ take count left
     pub used : used_bytes node ≡ sum_by weight (take count left)
+    pub numbers : NodeFits node
 
   next_is : (left : List A) (new : List Node) (count taken : ℕ) (node : Node) → 101 ≤ nodesize → IsNext left new count taken node → IsRowNode nodesize owner generation level node
   next_is left new count taken node wide next = record {
@@ -86,6 +88,7 @@ module _ {A : Type 0} (own : Node → List A) (weight : A → ℕ) (nodesize own
     owned = next.owned;
     made = next.made;
     fits = omega (arith, next.used, next.cut.fits, next.cut.weighs);
+    numbers = next.numbers;
   }
 
   next_placed : (row : List Node) (slots' : List ℕ) (node : Node) → length row < length slots' → address_of node ≡ get_or slots' (length row) 0 → map address_of row ≡ take (length row) slots'
@@ -106,10 +109,10 @@ module _ {A : Type 0} (own : Node → List A) (weight : A → ℕ) (nodesize own
       ∙ whole
 
   -- what is left is no less heavy than it was, where the whole of it did not fit
-  left_of : (left : List A) (total count taken : ℕ) → total ≡ sum_by weight left → IsCut weight left (capacity nodesize) count taken → total ≡ taken + sum_by weight (drop count left)
+  left_of : (left : List A) (total count taken : ℕ) → total ≡ sum_by weight left → FillsNode weight left (capacity nodesize) count taken → total ≡ taken + sum_by weight (drop count left)
   left_of left total count taken weighs cut = omega (arith, sum_by-take-drop weight left count, cut.weighs)
 
-  not_whole : (left : List A) (count taken : ℕ) → IsCut weight left (capacity nodesize) count taken → 1 ≤ length (drop count left) → capacity nodesize < sum_by weight left
+  not_whole : (left : List A) (count taken : ℕ) → FillsNode weight left (capacity nodesize) count taken → 1 ≤ length (drop count left) → capacity nodesize < sum_by weight left
   not_whole left count taken cut more = elim (cases_lt (capacity nodesize) (sum_by weight left)) [ inl less ↦ less | inr not ↦ absurd (omega (arith, cut.whole not, length-drop count left)) ]
 
   pub IsGrowing-more : (left : List A) (total : ℕ) (new : List Node) (pointers : List Pointer) (count taken : ℕ) (node : Node) → 102 ≤ nodesize → IsGrowing own weight nodesize owner generation level slots parts left total old new pointers
@@ -170,7 +173,7 @@ module _ {A : Type 0} (own : Node → List A) (weight : A → ℕ) (nodesize own
         empty_is (x ∷ xs) h = absurd (omega arith)
 
   -- what is left gets shorter
-  pub shorter : (left : List A) (count taken : ℕ) → 102 ≤ nodesize → IsCut weight left (capacity nodesize) count taken → 1 ≤ length (drop count left) → length (drop count left) < length left
+  pub shorter : (left : List A) (count taken : ℕ) → 102 ≤ nodesize → FillsNode weight left (capacity nodesize) count taken → 1 ≤ length (drop count left) → length (drop count left) < length left
   shorter left count taken wide cut more =
       let big : capacity nodesize < sum_by weight left = not_whole left count taken cut more in
       let full : capacity nodesize ≤ 4 * taken = cut.full big in

@@ -15,7 +15,8 @@ use Rattle.qg_image.specs.Below.{items_below}
 use Rattle.qg_verdict.specs.declared.failure.Failure.{Failure}
 use Rattle.qg_verdict.specs.declared.expected.Expected.{Expected}
 use Rattle.qg_verdict.specs.Walk.{pointers_failure, walk_failure}
-use Rattle.qg_tree.specs.Build.{node_among, found_among, IsMadeFor}
+use Rattle.qg_tree.specs.Build.{IsMadeFor}
+use Rattle.qg_verdict.specs.Among.{node_among, found_among}
 use Rattle.qg_tree.specs.Row.{pointer_to, address_of, IsRowNode, IsRow}
 use Rattle.qg_tree.proofs.Frame.{Judge, AreFound, Keeps-append, AllByRecursion-append, all_under_kept, all_walked_kept, joined-append}
 use Rattle.qg_tree.proofs.Passing.{Accepts, inners_pass_below, leaves_pass_below}

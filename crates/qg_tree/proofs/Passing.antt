@@ -15,7 +15,7 @@ use Rattle.qg_super.specs.declared.superblock.Super.{Super}
 use Rattle.qg_super.specs.Places.{capacity}
 use Rattle.qg_image.specs.IsShaped.{is_shaped}
 use Rattle.qg_verdict.specs.declared.failure.Failure.{Failure}
-use Rattle.qg_verdict.specs.Failure.{first_failure, kept}
+use Rattle.qg_verdict.specs.Failure.{first_failure, unless}
 use Rattle.qg_verdict.specs.declared.tree.Tree.{Tree}
 use Rattle.qg_verdict.specs.declared.expected.Expected.{Expected}
 use Rattle.qg_verdict.specs.Walk.{begins_at, ends_before, found_failure, is_generation, is_item_of, is_owner, is_told, next_key, node_failure, pointers_failure, root_expected, shape_failure, way_failure}
@@ -37,13 +37,13 @@ pub record Accepts (judge : Judge) (holds : Item → Bool) (nodesize owner gener
 -- ---- judges
 
 all_kept : (a b c d : Bool) (p q r s : Rule) (address : ℕ) → a ≡ true → b ≡ true → c ≡ true → d ≡ true
-    → first_failure (kept a p address ∷ kept b q address ∷ kept c r address ∷ kept d s address ∷ []) ≡ None
+    → first_failure (unless a p address ∷ unless b q address ∷ unless c r address ∷ unless d s address ∷ []) ≡ None
 all_kept a b c d p q r s address ha hb hc hd = rw (ha, hb, hc, hd) refl
 
 none_of_three : (a b c : Option Failure) → a ≡ None → b ≡ None → c ≡ None → first_failure (a ∷ b ∷ c ∷ []) ≡ None
 none_of_three a b c ha hb hc = rw (ha, hb, hc) refl
 
-kept_so : (test : Bool) (broken : Rule) (address : ℕ) → test ≡ true → kept test broken address ≡ None
+kept_so : (test : Bool) (broken : Rule) (address : ℕ) → test ≡ true → unless test broken address ≡ None
 kept_so test broken address h = rw h refl
 
 is_told_so : (value n : ℕ) → n ≡ value → is_told (Some value) n ≡ true

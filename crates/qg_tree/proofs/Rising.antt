@@ -15,7 +15,8 @@ use Rattle.qg_image.specs.Below.{joined, items_below}
 use Rattle.qg_verdict.specs.declared.failure.Failure.{Failure}
 use Rattle.qg_verdict.specs.declared.expected.Expected.{Expected}
 use Rattle.qg_verdict.specs.Walk.{pointers_failure, root_expected, walk_failure}
-use Rattle.qg_tree.specs.Build.{node_among, found_in, found_among, IsMadeFor}
+use Rattle.qg_tree.specs.Build.{IsMadeFor}
+use Rattle.qg_verdict.specs.Among.{node_among, found_there, found_among}
 use Rattle.qg_tree.specs.Row.{first_key, pointer_to, address_of, IsRowNode, IsFull}
 use Rattle.qg_tree.proofs.Keys.{HasKeys, firsts_ascend, ascending_back, ascending_front}
 use Rattle.qg_tree.proofs.Frame.{Judge, AreFound, AllByRecursion-back, AllByRecursion-weaker, IsDistinct-front, all_found}
@@ -67,6 +68,7 @@ keys_of_full nodesize (Inner header (pointer ∷ pointers)) wide full = omega ar
 node_is : (nodesize owner generation level : ℕ) (node : Node) → IsRowNode nodesize owner generation level node → is_ascending (own_keys node) ≡ true → IsMadeFor nodesize owner generation node
 node_is nodesize owner generation level node is ascending = record {
   node_of_format = record { levelled = is.levelled; ascending = ascending; fits = is.fits };
+  fits = is.numbers;
   owned = is.owned;
   made = is.made;
 }
@@ -129,7 +131,7 @@ row_found slots nodes row distinct placed more =
 
 pub found_ok : (all row : List Node) → AreFound all row → AllByRecursion (λ node. found_among all (address_of node) ≡ Ok node) row
 found_ok all [] found = tt
-found_ok all (node ∷ row) found = (ap (λ (there : Option Node). found_in there (address_of node)) found.0, found_ok all row found.1)
+found_ok all (node ∷ row) found = (ap (λ (there : Option Node). found_there there (address_of node)) found.0, found_ok all row found.1)
 
 -- ---- a row passes
 

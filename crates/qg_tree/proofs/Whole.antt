@@ -19,7 +19,8 @@ use Rattle.qg_verdict.specs.ItemsUnder.{is_way, items_under, nodes_of}
 use Rattle.qg_verdict.specs.declared.tree.Tree.{Tree}
 use Rattle.qg_verdict.specs.declared.expected.Expected.{Expected}
 use Rattle.qg_verdict.specs.Walk.{deepest, is_item_of, node_failure, root_expected, shape_failure, walk_failure, way_failure}
-use Rattle.qg_tree.specs.Build.{node_among, found_among, IsBuilt}
+use Rattle.qg_tree.specs.Build.{IsBuilt}
+use Rattle.qg_verdict.specs.Among.{node_among, found_among}
 use Rattle.qg_tree.specs.Row.{pointer_to, PutsRow}
 use Rattle.qg_tree.proofs.Counts.{IsCounted, counted_leaves, counted_inners, fewer_above, most_on, room_above, wide}
 use Rattle.qg_tree.proofs.Frame.{Keeps-found, under_kept}

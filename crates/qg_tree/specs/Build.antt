@@ -7,6 +7,7 @@ use Rattle.qg_node.specs.declared.item.Item.{Item}
 use Rattle.qg_node.specs.declared.node.Node.{Node}
 use Rattle.qg_node.specs.Nodes.{header_of, items_bytes}
 use Rattle.qg_node.specs.NodeText.{IsNode}
+use Rattle.qg_node.specs.Fits.{NodeFits}
 use Rattle.qg_super.specs.declared.superblock.Super.{Super}
 use Rattle.qg_image.specs.Below.{items_below, nodes_below}
 use Rattle.qg_state.specs.Need.{nodes_filled}
@@ -15,24 +16,12 @@ use Rattle.qg_verdict.specs.declared.failure.Failure.TheVariants.{Broken}
 use Rattle.qg_verdict.specs.declared.tree.Tree.{Tree}
 use Rattle.qg_verdict.specs.Walk.{is_owner, is_generation, is_item_of, node_failure, shape_failure, walk_failure, deepest, root_expected}
 use Rattle.qg_verdict.specs.ItemsUnder.{items_under}
+use Rattle.qg_verdict.specs.Among.{node_among, found_among}
 
--- the node at an address, among some
-abbrev pub node_among : List Node → ℕ → Option Node
-node_among [] address = None
-node_among (node ∷ nodes) address = if (header_of node).address == address then Some node else node_among nodes address
-
--- what a walk finds at an address where this node lies, or none
-abbrev pub found_in : Option Node → ℕ → Result Node Failure
-found_in None address = Err (Broken rule.Slot address)
-found_in (Some node) address = Ok node
-
--- what a walk finds where there are these nodes and no others
-abbrev pub found_among : List Node → ℕ → Result Node Failure
-found_among nodes address = found_in (node_among nodes address) address
-
--- the node is one of the format, with this owner and generation
+-- the node is one of the format, whose numbers fit their fields, with this owner and generation
 pub record IsMadeFor (nodesize owner generation : ℕ) (node : Node) : Type 0 where
   pub node_of_format : IsNode nodesize node
+  pub fits : NodeFits node
   pub owned : (header_of node).owner ≡ owner
   pub made : (header_of node).generation ≡ generation
 

@@ -1,3 +1,3 @@
 pub mod Build
-pub mod Cut
+pub mod FillsNode
 pub mod Row

@@ -6,6 +6,7 @@ use Rattle.qg_node.specs.declared.pointer.Pointer.{Pointer}
 use Rattle.qg_node.specs.declared.node.Node.{Node}
 use Rattle.qg_node.specs.Nodes.{header_of, own_keys, used_bytes}
 use Rattle.qg_node.specs.NodeText.{IsLevelled}
+use Rattle.qg_node.specs.Fits.{NodeFits}
 use Rattle.qg_super.specs.Places.{capacity}
 
 -- the first of some keys; all zero where there is none
@@ -21,13 +22,14 @@ pointer_to node = record { key = first_key (own_keys node); child = (header_of n
 abbrev pub address_of : Node → ℕ
 address_of node = (header_of node).address
 
--- the node is one of this level, with this owner and generation, and fits in so many bytes
+-- the node is one of this level, with this owner and generation, and fits in so many bytes, and its numbers fit their fields
 pub record IsRowNode (nodesize owner generation level : ℕ) (node : Node) : Type 0 where
   pub levelled : IsLevelled node
   pub stands : (header_of node).level ≡ level
   pub owned : (header_of node).owner ≡ owner
   pub made : (header_of node).generation ≡ generation
   pub fits : 101 + used_bytes node ≤ nodesize
+  pub numbers : NodeFits node
 
 -- the node is a quarter full at least
 abbrev pub IsFull : ℕ → Node → Type 0

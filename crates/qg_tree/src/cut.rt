@@ -1,7 +1,7 @@
 // Where a list is cut so that its parts fit in nodes. Only weights are seen, in bytes.
 ghost use Rattle.std.specs.Prelude.{◌≡◌, ◌<◌, ◌≤◌, ◌^◌, ℕ};
 ghost use Rattle.std.specs.List.{All, sum_by};
-ghost use Rattle.qg_tree.specs.Cut.{IsCut};
+ghost use Rattle.qg_tree.specs.FillsNode.{FillsNode};
 
 /// What takes bytes of a node: 1049 at most, as an item does with a body of 1024.
 pub(crate) trait Weighed {
@@ -46,7 +46,7 @@ pub(crate) fn first_cut<T: Weighed>(list: &[T], total: u64, room: u64) -> Cut
     requires small { total < 2 ^ 32 }
     requires wide { 2098 ≤ room }
     requires narrow { room < 2 ^ 32 }
-    ensures { IsCut T.weight list.now room result.count result.taken }
+    ensures { FillsNode T.weight list.now room result.count result.taken }
 {
     if total <= room {
         return Cut {

@@ -1,6 +1,7 @@
 // One level of a tree.
 ghost use Rattle.std.specs.Prelude.{◌≡◌, ◌<◌, ◌≤◌, ◌+◌, ◌-◌, ◌*◌, ◌^◌, ◌++◌, ◌∷◌, [], length, map, IfOk, OnOk};
 ghost use Rattle.std.specs.List.{All, sum_by};
+ghost use Rattle.qg_node.specs.Fits.{PointerFits};
 ghost use Rattle.qg_node.specs.NodeText.{IsNodeSize};
 ghost use Rattle.qg_super.specs.Places.{capacity};
 ghost use Rattle.qg_tree.specs.Row.{first_key, pointer_to, PutsRow};
@@ -51,8 +52,10 @@ pub(crate) fn put_row<T: Part>(
     requires light { All (λ part. T.weight part ≤ 1049) parts.now }
     requires small { sum_by T.weight parts.now < 2 ^ 32 }
     requires room { 4 * sum_by T.weight parts.now < capacity level.now.nodesize * (length slots.now - length nodes.old) }
-    ensures { IfOk result (λ pointers.
+    requires fit { All T.fits parts.now }
+    ensures row { IfOk result (λ pointers.
         PutsRow T.own T.weight level.now.nodesize level.now.owner level.now.generation level.now.level slots.now parts.now nodes.old nodes.new pointers) }
+    ensures fit { IfOk result (λ pointers. All PointerFits pointers) }
 {
     let room = (level.nodesize as usize - HEADER_BYTES) as u64;
     let mut left = parts;
@@ -81,10 +84,19 @@ pub(crate) fn put_row<T: Part>(
 fn put(nodes: &mut Sequence<Node>, node: Node) -> Result<Pointer, NoMemory>
     ensures put { OnOk result (nodes.new ≡ nodes.old ++ node ∷ []) }
     ensures pointer { IfOk result (λ pointer. pointer ≡ pointer_to node) }
+    ensures fits { IfOk result (λ pointer. PointerFits pointer) }
 {
-    let pointer = pointer_to(&node);
+    let pointer = fitting(pointer_to(&node));
     nodes.push(node)?;
     Ok(pointer)
+}
+
+// A proof knows a number's range where it is handed over.
+fn fitting(pointer: Pointer) -> Pointer
+    ensures same { result ≡ pointer }
+    ensures fits { PointerFits pointer }
+{
+    pointer
 }
 
 fn pointer_to(node: &Node) -> Pointer

@@ -8,9 +8,9 @@ use Rattle.qg_verdict.specs.declared.failure.Failure.TheVariants.{Broken}
 use Rattle.qg_node.specs.declared.fault.NodeFault.{NodeFault}
 use Rattle.qg_node.specs.declared.fault.NodeFault.TheVariants.{Csum, Place, Level, Empty, Bounds, Order, Slack}
 
--- the rule is kept where the test passes
-abbrev pub kept : Bool → Rule → ℕ → Option Failure
-kept test broken address = if test then None else Some (Broken broken address)
+-- nothing where the test passes, else that this rule is broken at this address
+abbrev pub unless : Bool → Rule → ℕ → Option Failure
+unless test broken address = if test then None else Some (Broken broken address)
 
 -- the first failure of several, in their order
 abbrev pub first_failure : List (Option Failure) → Option Failure

@@ -1,7 +1,11 @@
 pub mod Failure
 pub mod Walk
 pub mod ItemsUnder
-pub mod StateOf
+pub mod Among
+pub mod ImageState
 pub mod Verdict
+pub mod StateOf
+pub mod OtherTrees
 pub mod IsFresh
 pub mod Examples
+pub mod ExamplesOfWalks

@@ -18,22 +18,22 @@ use Rattle.qg_image.specs.declared.part.QuotaPart.{QuotaPart}
 use Rattle.qg_image.specs.declared.part.QuotaPart.TheVariants.{Status, Info, Limits, Relation}
 use Rattle.qg_image.specs.ItemMeaning.{is_subvolume_number}
 use Rattle.qg_image.specs.FilesOf.{file_parts, are_files}
-use Rattle.qg_state.specs.Stage.{records_references, serves_subvolumes, serves_groups}
+use Rattle.qg_state.specs.Stage.{copies_on_write, serves_subvolumes, serves_groups}
 use Rattle.qg_state.specs.declared.quota.Quota.{Quota}
 use Rattle.qg_state.specs.declared.quota.Group.{Group}
 use Rattle.qg_state.specs.declared.element.Element.{Element}
-use Rattle.qg_state.specs.State.{State}
-use Rattle.qg_state.specs.Members.{level_of_group, id_of_group}
+use Rattle.qg_state.specs.State.{State, Layout, layout_of}
+use Rattle.qg_state.specs.Members.{Hierarchy, hierarchy_of, level_of_group, id_of_group}
 use Rattle.qg_state.specs.Counts.{referenced, exclusive}
 use Rattle.qg_state.specs.Space.{present_extents}
 use Rattle.qg_state.specs.Owed.{disagreement, homeless}
 use Rattle.qg_verdict.specs.declared.failure.Failure.{Failure}
 use Rattle.qg_verdict.specs.declared.failure.Failure.TheVariants.{Broken, Differs}
-use Rattle.qg_verdict.specs.Failure.{kept, first_failure}
+use Rattle.qg_verdict.specs.Failure.{unless, first_failure}
 use Rattle.qg_verdict.specs.declared.tree.Tree.{Tree}
 use Rattle.qg_verdict.specs.declared.tree.Tree.TheVariants.{Roots, Extents, Quotas, Files}
 use Rattle.qg_verdict.specs.Walk.{root_expected, root_told, tree_failure}
-use Rattle.qg_verdict.specs.StateOf.{super_in, super_of, items_of_root, roots_in, subvolume_roots, extent_parts, quota_parts, info_told, limit_told, max_rfer_told, max_excl_told, state_in}
+use Rattle.qg_verdict.specs.ImageState.{super_in, super_of, items_of_root, roots_in, subvolume_roots, extent_parts, quota_parts, info_told, limit_told, max_rfer_told, max_excl_told, state_in}
 
 -- ---- limits of the store
 
@@ -58,6 +58,11 @@ are_mirrored None second = true
 are_mirrored (Some first) None = true
 are_mirrored (Some first) (Some second) = not (first.generation == second.generation) || same_super first second
 
+-- its length, and its two superblocks
+abbrev pub places_failure : Super → Option Super → Option Super → ℕ → Option Failure
+places_failure super first second len = first_failure
+    (unless (nat_le (total_bytes (sizes_of super)) len) rule.Length len ∷ unless (are_mirrored first second) rule.Mirror second_place ∷ [])
+
 -- ---- the root tree
 
 -- the extent tree and the top-level subvolume are there; as long as not all groups are served the quota tree is there; as long as no
@@ -67,6 +72,14 @@ are_roots roots =
     has_key EXTENT_TREE roots && has_key TOP_LEVEL roots
     && (serves_groups || has_key QUOTA_TREE roots)
     && (serves_subvolumes || list_all (λ entry. (entry.0 == TOP_LEVEL) || not (is_subvolume_number entry.0)) roots)
+
+-- the walk of the root tree, and what it names
+abbrev pub roots_failure : Super → List ℕ → Option Failure
+roots_failure super image = first_failure
+    (tree_failure Roots super image (root_expected None None) super.root
+    ∷ unless (are_roots (roots_in super image)) rule.Root super.root
+    ∷ unless (nat_le (length (subvolume_roots (roots_in super image))) most_subvolumes) rule.Limits super.root
+    ∷ [])
 
 -- the first failure of a tree with this ROOT_ITEM; of no tree there is none
 abbrev pub root_failure : Tree → Super → List ℕ → Option RootItem → Option Failure
@@ -143,8 +156,8 @@ abbrev pub quota_failure : Super → List ℕ → List (ℕ × RootItem) → Opt
 quota_failure super image roots None = None
 quota_failure super image roots (Some root) = first_failure
     (tree_failure Quotas super image (root_told root) root.bytenr
-    ∷ kept (is_quota (keys_of (subvolume_roots roots)) (quota_parts super image)) rule.Quota root.bytenr
-    ∷ kept (are_few (quota_parts super image)) rule.Limits root.bytenr
+    ∷ unless (is_quota (keys_of (subvolume_roots roots)) (quota_parts super image)) rule.Quota root.bytenr
+    ∷ unless (are_few (quota_parts super image)) rule.Limits root.bytenr
     ∷ [])
 
 -- ---- subvolumes
@@ -153,7 +166,7 @@ quota_failure super image roots (Some root) = first_failure
 abbrev pub subvolume_failure : Super → List ℕ → RootItem → Option Failure
 subvolume_failure super image root = first_failure
     (tree_failure Files super image (root_told root) root.bytenr
-    ∷ kept (are_files (file_parts (items_of_root Files super image root))) rule.File root.bytenr
+    ∷ unless (are_files (file_parts (items_of_root Files super image root))) rule.File root.bytenr
     ∷ [])
 
 -- ---- space
@@ -183,19 +196,19 @@ is_extent sizes extent = is_run sizes extent.address extent.bytes && nat_le exte
 -- an extent lies where it may and ends by the next one; so no extent stands with two lengths
 unfoldable pub space_failure : Sizes → List Element → Option Failure
 space_failure sizes [] = None
-space_failure sizes (extent ∷ []) = kept (is_extent sizes extent) rule.Space extent.address
+space_failure sizes (extent ∷ []) = unless (is_extent sizes extent) rule.Space extent.address
 space_failure sizes (extent ∷ next ∷ later) = first_failure
-    (kept (is_extent sizes extent && nat_le (extent.address + extent.bytes) next.address) rule.Space extent.address
+    (unless (is_extent sizes extent && nat_le (extent.address + extent.bytes) next.address) rule.Space extent.address
     ∷ space_failure sizes (next ∷ later)
     ∷ [])
 
 -- ---- references
 
 -- the extent tree records what is owed, and each node that is not full is reached by its owner
-unfoldable pub references_failure : Super → List ℕ → State → Option Failure
-references_failure super image state = first_failure
-    (option_map (Broken rule.Refs) (disagreement state (extent_parts super image))
-    ∷ option_map (Broken rule.Home) (homeless state)
+unfoldable pub references_failure : Super → List ℕ → Layout → Option Failure
+references_failure super image layout = first_failure
+    (option_map (Broken rule.Refs) (disagreement layout (extent_parts super image))
+    ∷ option_map (Broken rule.Home) (homeless layout)
     ∷ [])
 
 -- ---- counts
@@ -205,35 +218,39 @@ abbrev pub counted : ℕ → Which → ℕ → ℕ → Option Failure
 counted group which stored direct = if stored == direct then None else Some (Differs group which stored direct)
 
 -- the first counter that is not: referenced before exclusive, groups ascending
-abbrev pub group_failure : State → Quota → ℕ × Group → Option Failure
-group_failure state quota entry = first_failure
-    (counted entry.0 Rfer entry.1.counters.rfer (referenced state quota entry.0)
-    ∷ counted entry.0 Excl entry.1.counters.excl (exclusive state quota entry.0)
+abbrev pub group_failure : Layout → Hierarchy → ℕ × Group → Option Failure
+group_failure layout hierarchy entry = first_failure
+    (counted entry.0 Rfer entry.1.counters.rfer (referenced layout hierarchy entry.0)
+    ∷ counted entry.0 Excl entry.1.counters.excl (exclusive layout hierarchy entry.0)
     ∷ [])
 
-unfoldable pub counts_failure : State → Option Quota → Option Failure
-counts_failure state None = None
-counts_failure state (Some quota) = first_failure (map (group_failure state quota) quota.groups)
+unfoldable pub counts_failure : Layout → Option Quota → Option Failure
+counts_failure layout None = None
+counts_failure layout (Some quota) = first_failure (map (group_failure layout (hierarchy_of quota)) quota.groups)
 
 -- ---- the verdict
+
+-- what the trees say together: where extents lie, what is recorded, and what groups count
+abbrev pub together_failure : Super → List ℕ → Option Failure
+together_failure super image =
+    let state = state_in super image in
+    first_failure
+    (space_failure (sizes_of super) (extent_set (present_extents state))
+    ∷ (if copies_on_write then references_failure super image (layout_of state) else None)
+    ∷ counts_failure (layout_of state) state.quota
+    ∷ [])
 
 -- all rules on an image with this superblock, in their order
 unfoldable pub image_failure : Super → List ℕ → Option Failure
 image_failure super image =
     let roots = roots_in super image in
-    let state = state_in super image in
     first_failure
-    (kept (nat_le (total_bytes (sizes_of super)) (length image)) rule.Length (length image)
-    ∷ kept (are_mirrored (super_in image first_place) (super_in image second_place)) rule.Mirror second_place
-    ∷ tree_failure Roots super image (root_expected None None) super.root
-    ∷ kept (are_roots roots) rule.Root super.root
-    ∷ kept (nat_le (length (subvolume_roots roots)) most_subvolumes) rule.Limits super.root
+    (places_failure super (super_in image first_place) (super_in image second_place) (length image)
+    ∷ roots_failure super image
     ∷ root_failure Extents super image (value_at EXTENT_TREE roots)
     ∷ quota_failure super image roots (value_at QUOTA_TREE roots)
     ∷ first_failure (map (λ entry. subvolume_failure super image entry.1) (subvolume_roots roots))
-    ∷ space_failure (sizes_of super) (extent_set (present_extents state))
-    ∷ (if records_references then references_failure super image state else None)
-    ∷ counts_failure state state.quota
+    ∷ together_failure super image
     ∷ [])
 
 -- the first failure of an image; none where it is sound

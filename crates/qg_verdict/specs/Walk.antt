@@ -26,7 +26,7 @@ use Rattle.qg_verdict.specs.declared.failure.Failure.TheVariants.{Broken}
 use Rattle.qg_verdict.specs.declared.tree.Tree.{Tree}
 use Rattle.qg_verdict.specs.declared.tree.Tree.TheVariants.{Roots, Extents, Quotas, Files}
 use Rattle.qg_verdict.specs.declared.expected.Expected.{Expected}
-use Rattle.qg_verdict.specs.Failure.{kept, first_failure, rule_of}
+use Rattle.qg_verdict.specs.Failure.{unless, first_failure, rule_of}
 
 -- ---- what a tree may hold
 
@@ -80,22 +80,22 @@ is_generation last told generation = is_told told generation && nat_lt 0 generat
 -- the rules on a node that was read which say that the way to it is right, in their order
 unfoldable pub way_failure : Tree → Super → Expected → ℕ → Node → Option Failure
 way_failure tree super expected address node = first_failure
-    (kept (is_told expected.level (header_of node).level) rule.Depth address
-    ∷ kept (is_owner tree (header_of node).owner) rule.Owner address
-    ∷ kept (is_generation super.generation expected.generation (header_of node).generation) rule.Gen address
-    ∷ kept (begins_at expected.from (own_keys node) && ends_before expected.to (own_keys node)) rule.Range address
+    (unless (is_told expected.level (header_of node).level) rule.Depth address
+    ∷ unless (is_owner tree (header_of node).owner) rule.Owner address
+    ∷ unless (is_generation super.generation expected.generation (header_of node).generation) rule.Gen address
+    ∷ unless (begins_at expected.from (own_keys node) && ends_before expected.to (own_keys node)) rule.Range address
     ∷ [])
 
 -- the rule on its shape
 abbrev pub shape_failure : ℕ → Expected → ℕ → Node → Option Failure
-shape_failure nodesize expected address node = kept (is_shaped nodesize expected.from node) rule.Shape address
+shape_failure nodesize expected address node = unless (is_shaped nodesize expected.from node) rule.Shape address
 
 -- all rules on a node that was read, in their order
 unfoldable pub node_failure : Tree → Super → Expected → ℕ → Node → Option Failure
 node_failure tree super expected address node = first_failure
     (way_failure tree super expected address node
     ∷ shape_failure super.nodesize expected address node
-    ∷ kept (list_all (is_item_of tree super.generation) (own_items node)) rule.Item address
+    ∷ unless (list_all (is_item_of tree super.generation) (own_items node)) rule.Item address
     ∷ [])
 
 -- ---- the walk

@@ -16,7 +16,7 @@ use Rattle.qg_super.specs.declared.superblock.Super.{Super}
 use Rattle.qg_verdict.specs.declared.failure.Failure.{Failure}
 use Rattle.qg_verdict.specs.declared.tree.Tree.{Tree}
 use Rattle.qg_verdict.specs.declared.expected.Expected.{Expected}
-use Rattle.qg_verdict.specs.Failure.{first_failure, kept}
+use Rattle.qg_verdict.specs.Failure.{first_failure, unless}
 use Rattle.qg_verdict.specs.Walk.{begins_at, deepest, ends_before, found_failure, is_generation, is_item_of, is_owner, is_told, next_key, node_failure, pointers_failure, shape_failure, walk_failure, way_failure}
 use Rattle.qg_walk.specs.declared.fault.WalkFault.{WalkFault}
 use Rattle.qg_walk.specs.declared.fault.WalkFault.TheVariants.{Unsound, Disk, NoMemory}
@@ -52,14 +52,14 @@ third_later None None c failure h = absurd cc
 third_later None (Some b) c failure h = h
 third_later (Some a) b c failure h = h
 
-pub kept-none : (test : Bool) (broken : Rule) (address : ℕ) → kept test broken address ≡ None → test ≡ true
+pub kept-none : (test : Bool) (broken : Rule) (address : ℕ) → unless test broken address ≡ None → test ≡ true
 kept-none true broken address h = refl
 kept-none false broken address h = absurd cc
 
 -- ---- one node
 
 four_kept : (a b c d : Bool) (address : ℕ)
-    → first_failure (kept a rule.Depth address ∷ kept b rule.Owner address ∷ kept c rule.Gen address ∷ kept d rule.Range address ∷ []) ≡ None → (a ≡ true) × (d ≡ true)
+    → first_failure (unless a rule.Depth address ∷ unless b rule.Owner address ∷ unless c rule.Gen address ∷ unless d rule.Range address ∷ []) ≡ None → (a ≡ true) × (d ≡ true)
 four_kept true true true true address h = (refl, refl)
 four_kept true true true false address h = absurd cc
 four_kept true true false d address h = absurd cc
@@ -87,18 +87,18 @@ IsFormed-form tree super expected address node none =
     IsFormed-way tree super expected address node (neither (way_failure tree super expected address node) (shape_failure super.nodesize expected address node) none).0
 
 node_failure-formed : (tree : Tree) (super : Super) (expected : Expected) (address : ℕ) (node : Node) → form_failure tree super expected address node ≡ None
-    → node_failure tree super expected address node ≡ kept (list_all (is_item_of tree super.generation) (own_items node)) rule.Item address
+    → node_failure tree super expected address node ≡ unless (list_all (is_item_of tree super.generation) (own_items node)) rule.Item address
 unfolding node_failure
 node_failure-formed tree super expected address node none =
     third_alone (way_failure tree super expected address node) (shape_failure super.nodesize expected address node)
-    (kept (list_all (is_item_of tree super.generation) (own_items node)) rule.Item address) none
+    (unless (list_all (is_item_of tree super.generation) (own_items node)) rule.Item address) none
 
 node_failure-form : (tree : Tree) (super : Super) (expected : Expected) (address : ℕ) (node : Node) (failure : Failure)
     → form_failure tree super expected address node ≡ Some failure → node_failure tree super expected address node ≡ Some failure
 unfolding node_failure
 node_failure-form tree super expected address node failure is =
     third_later (way_failure tree super expected address node) (shape_failure super.nodesize expected address node)
-    (kept (list_all (is_item_of tree super.generation) (own_items node)) rule.Item address) failure is
+    (unless (list_all (is_item_of tree super.generation) (own_items node)) rule.Item address) failure is
 
 -- where a node of a level that was told is read, there are no more levels than a walk looks at
 pub level_within : (told : Option ℕ) (level depth : ℕ) → is_told told level ≡ true → level ≤ 7 → levels_below told ≤ depth → level ≤ depth
@@ -122,17 +122,17 @@ walk-standing tree super found (suc depth) expected address failure is =
 
 found-leaf : (tree : Tree) (super : Super) (walk : Expected → ℕ → Option Failure) (expected : Expected) (address : ℕ) (found : Result Node Failure) (header : Header) (items : List Item)
     → found ≡ Ok (Leaf header items) → form_failure tree super expected address (Leaf header items) ≡ None
-    → found_failure (node_failure tree super) walk expected address found ≡ kept (list_all (is_item_of tree super.generation) items) rule.Item address
+    → found_failure (node_failure tree super) walk expected address found ≡ unless (list_all (is_item_of tree super.generation) items) rule.Item address
 found-leaf tree super walk expected address found header items is none =
     rw (is, node_failure-formed tree super expected address (Leaf header items) none)
-    (first_alone (kept (list_all (is_item_of tree super.generation) items) rule.Item address)) where
+    (first_alone (unless (list_all (is_item_of tree super.generation) items) rule.Item address)) where
       first_alone : (a : Option Failure) → first_failure (a ∷ None ∷ []) ≡ a
       first_alone None = refl
       first_alone (Some failure) = refl
 
 pub walk-leaf : (tree : Tree) (super : Super) (found : ℕ → Result Node Failure) (depth : ℕ) (expected : Expected) (address : ℕ) (header : Header) (items : List Item)
     → found address ≡ Ok (Leaf header items) → form_failure tree super expected address (Leaf header items) ≡ None
-    → walk_failure (node_failure tree super) found depth expected address ≡ kept (list_all (is_item_of tree super.generation) items) rule.Item address
+    → walk_failure (node_failure tree super) found depth expected address ≡ unless (list_all (is_item_of tree super.generation) items) rule.Item address
 unfolding walk_failure
 walk-leaf tree super found zero expected address header items is none =
     found-leaf tree super (λ expected address. None) expected address (found address) header items is none
@@ -172,7 +172,7 @@ found-passed tree super walk expected address (Err failure) none = absurd cc
 found-passed tree super walk expected address (Ok node) none =
     let way = way_failure tree super expected address node in
     let shape = shape_failure super.nodesize expected address node in
-    let items = kept (list_all (is_item_of tree super.generation) (own_items node)) rule.Item address in
+    let items = unless (list_all (is_item_of tree super.generation) (own_items node)) rule.Item address in
     let at_node = (neither (first_failure (way ∷ shape ∷ items ∷ [])) (pointers_failure walk ((header_of node).level - 1) expected.to (own_pointers node)) none).0 in
     record { node = node; is = refl; level = (IsFormed-way tree super expected address node (first_none way shape items at_node)).level }
 
@@ -203,7 +203,7 @@ walk-told tree super found depth expected address NoMemory tells = tt
 -- the walk fails as the leaf's items do
 pub FailsAs-leaf : (tree : Tree) (super : Super) (found : ℕ → Result Node Failure) (depth : ℕ) (expected : Expected) (address : ℕ) (header : Header) (items : List Item)
     (result : Result Unit WalkFault) → found address ≡ Ok (Leaf header items) → form_failure tree super expected address (Leaf header items) ≡ None
-    → FailsAs result (kept (list_all (is_item_of tree super.generation) items) rule.Item address)
+    → FailsAs result (unless (list_all (is_item_of tree super.generation) items) rule.Item address)
     → FailsAs result (walk_failure (node_failure tree super) found depth expected address)
 FailsAs-leaf tree super found depth expected address header items result is none fails = rw (walk-leaf tree super found depth expected address header items is none) fails
 

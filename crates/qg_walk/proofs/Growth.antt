@@ -20,10 +20,10 @@ use Rattle.qg_super.specs.SuperText.{sizes_of}
 use Rattle.qg_image.specs.Below.{items_below, joined, nodes_below}
 use Rattle.qg_verdict.specs.declared.tree.Tree.{Tree}
 use Rattle.qg_verdict.specs.declared.expected.Expected.{Expected}
-use Rattle.qg_verdict.specs.Failure.{kept}
+use Rattle.qg_verdict.specs.Failure.{unless}
 use Rattle.qg_verdict.specs.Walk.{is_item_of, next_key, node_found}
 use Rattle.qg_verdict.specs.ItemsUnder.{nodes_of}
-use Rattle.qg_verdict.specs.StateOf.{level_in}
+use Rattle.qg_verdict.specs.ImageState.{level_in}
 use Rattle.qg_walk.specs.declared.fault.WalkFault.{WalkFault}
 use Rattle.qg_walk.specs.Fault.{FailsAs}
 use Rattle.qg_walk.specs.Standing.{IsJudged}
@@ -192,7 +192,7 @@ HasPassed-all tree meaning super history from to level pointers rest old new non
 pub HasAdded-said : {P : Type 0} (tree : Tree) (meaning : Item → Option P) (super : Super) (history : Option (List Event)) (expected : Expected) (address : ℕ)
     (header : Header) (items : List Item) (old new : Found P) (result : Result Unit WalkFault) → IsJudged tree super expected address (Leaf header items)
     → ((events : List Event) → history ≡ Some events → node_found super (content events) address ≡ Ok (Leaf header items))
-    → FailsAs result (kept (list_all (is_item_of tree super.generation) items) rule.Item address) → OnOk result (AddsSaid meaning items old.parts new.parts)
+    → FailsAs result (unless (list_all (is_item_of tree super.generation) items) rule.Item address) → OnOk result (AddsSaid meaning items old.parts new.parts)
     → new.nodes ≡ old.nodes ++ address ∷ []
     → OnOk result (HasAdded tree meaning super history expected.from expected.to (below_node super address) old new)
 HasAdded-said tree meaning super history expected address header items old new (Ok done) judged found fails said nodes =

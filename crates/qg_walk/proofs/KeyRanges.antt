@@ -122,16 +122,24 @@ is_to-earlier : (to : Option Key) (key earlier : Key) → is_to to key ≡ true 
 is_to-earlier None key earlier h k = refl
 is_to-earlier (Some to) key earlier h k = less_trans earlier key to k h
 
+-- keys end before one where each of them does
+ends_before-each : (to : Option Key) (keys : List Key) → ends_before to keys ≡ list_all (is_to to) keys
+ends_before-each None keys = sym (list_all-true keys)
+ends_before-each (Some to) keys = refl
+
 pub AreWithin-none : (from to : Option Key) → AreWithin from to []
 unfolding is_ascending
-AreWithin-none from to = record { ascending = refl; first = refl; last = refl }
+AreWithin-none from to = record { ascending = refl; first = refl; last = ends_before-each to [] }
 
 pub AreWithin-append : (from to : Option Key) (key : Key) (front back : List Key) → AreWithin from (Some key) front → AreWithin (Some key) to back
     → is_from from key ≡ true → is_to to key ≡ true → AreWithin from to (front ++ back)
 AreWithin-append from to key front back h k first last = record {
   ascending = ascending_on key front back h.ascending h.last k.ascending k.first;
   first = list_all-both (is_from from) front back h.first (list_all-weaker (is_from (Some key)) (is_from from) (λ later. is_from-later from key later first) back k.first);
-  last = list_all-both (is_to to) front back (list_all-weaker (is_to (Some key)) (is_to to) (λ earlier. is_to-earlier to key earlier last) front h.last) k.last;
+  last =
+      ends_before-each to (front ++ back)
+      ∙ list_all-both (is_to to) front back (list_all-weaker (is_to (Some key)) (is_to to) (λ earlier. is_to-earlier to key earlier last) front h.last)
+      (sym (ends_before-each to back) ∙ k.last);
 }
 
 -- ---- the keys of a node
@@ -143,12 +151,8 @@ begins_at-all (Some from) (key ∷ keys) h =
     let parts = and_parts (same_key key from) (list_all (λ later. not (is_lt (key_cmp later from))) keys) h in
     and_from (not (is_lt (key_cmp key from))) (list_all (is_from (Some from)) keys) (rw (same_key-true key from parts.0) (not_less_itself from)) parts.1
 
-ends_before-all : (to : Option Key) (keys : List Key) → ends_before to keys ≡ true → list_all (is_to to) keys ≡ true
-ends_before-all None keys h = list_all-true keys
-ends_before-all (Some to) keys h = h
-
 pub AreWithin-own : (from to : Option Key) (keys : List Key) → is_ascending keys ≡ true → begins_at from keys ≡ true → ends_before to keys ≡ true → AreWithin from to keys
-AreWithin-own from to keys ascending begins ends = record { ascending = ascending; first = begins_at-all from keys begins; last = ends_before-all to keys ends }
+AreWithin-own from to keys ascending begins ends = record { ascending = ascending; first = begins_at-all from keys begins; last = ends }
 
 -- ---- ascending keys, by the first and the last of them
 
@@ -218,6 +222,7 @@ AreSpaced-within from to [] within = tt
 AreSpaced-within from to (pointer ∷ pointers) within =
     let keys = map (λ (pointer : Pointer). pointer.key) pointers in
     let first = and_parts (is_from from pointer.key) (list_all (is_from from) keys) within.first in
-    let last = and_parts (is_to to pointer.key) (list_all (is_to to) keys) within.last in
-    let rest : AreWithin from to keys = record { ascending = ascending_behind pointer.key keys within.ascending; first = first.1; last = last.1 } in
+    let last = and_parts (is_to to pointer.key) (list_all (is_to to) keys) (sym (ends_before-each to (pointer.key ∷ keys)) ∙ within.last) in
+    let rest : AreWithin from to keys =
+    record { ascending = ascending_behind pointer.key keys within.ascending; first = first.1; last = ends_before-each to keys ∙ last.1 } in
     (first.0, to_next to pointer.key pointers last.0 within.ascending, AreSpaced-within from to pointers rest)

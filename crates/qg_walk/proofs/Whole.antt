@@ -16,10 +16,10 @@ use Rattle.qg_super.specs.SuperText.{sizes_of}
 use Rattle.qg_verdict.specs.declared.failure.Failure.{Failure}
 use Rattle.qg_verdict.specs.declared.tree.Tree.{Tree}
 use Rattle.qg_verdict.specs.declared.expected.Expected.{Expected}
-use Rattle.qg_verdict.specs.Failure.{kept}
+use Rattle.qg_verdict.specs.Failure.{unless}
 use Rattle.qg_verdict.specs.Walk.{deepest, found_failure, is_item_of, node_failure, node_found, pointers_failure, shape_failure, tree_failure, walk_failure, way_failure}
 use Rattle.qg_verdict.specs.ItemsUnder.{is_way, items_under, nodes_under}
-use Rattle.qg_verdict.specs.StateOf.{level_in, tree_items, tree_nodes}
+use Rattle.qg_verdict.specs.ImageState.{level_in, tree_items, tree_nodes}
 use Rattle.qg_walk.specs.IsWalk.{IsWalk}
 use Rattle.qg_walk.specs.Added.{below_node, Found, HasAdded}
 use Rattle.qg_walk.specs.Held.{AreHeld}
@@ -31,7 +31,7 @@ way-node : (tree : Tree) (super : Super) (expected : Expected) (address : ℕ) (
 unfolding node_failure
 way-node tree super expected address node none =
     first_none (way_failure tree super expected address node) (shape_failure super.nodesize expected address node)
-    (kept (list_all (is_item_of tree super.generation) (own_items node)) rule.Item address) none
+    (unless (list_all (is_item_of tree super.generation) (own_items node)) rule.Item address) none
 
 way-pointers : (all way : Expected → ℕ → Option Failure) → ((expected : Expected) (address : ℕ) → all expected address ≡ None → way expected address ≡ None)
     → (level : ℕ) (to : Option Key) (pointers : List Pointer) → pointers_failure all level to pointers ≡ None → pointers_failure way level to pointers ≡ None

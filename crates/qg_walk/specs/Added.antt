@@ -14,19 +14,19 @@ use Rattle.qg_super.specs.Places.{is_slot}
 use Rattle.qg_super.specs.SuperText.{sizes_of}
 use Rattle.qg_image.specs.Below.{items_below, joined, nodes_below}
 use Rattle.qg_verdict.specs.declared.tree.Tree.{Tree}
-use Rattle.qg_verdict.specs.Walk.{is_item_of, next_key, node_found}
+use Rattle.qg_verdict.specs.Walk.{ends_before, is_item_of, next_key, node_found}
 use Rattle.qg_verdict.specs.ItemsUnder.{nodes_of}
-use Rattle.qg_verdict.specs.StateOf.{level_in}
+use Rattle.qg_verdict.specs.ImageState.{level_in}
 use Rattle.qg_walk.specs.declared.walked.Walked.{Walked}
 
 -- ---- ranges of keys
 
--- the key is not less than the one told, if one was
+-- the key is not less than the one told, if one was; of keys that begin at one (`begins_at`) each is so (lemma `begins_at-all`)
 abbrev pub is_from : Option Key → Key → Bool
 is_from None key = true
 is_from (Some from) key = not (is_lt (key_cmp key from))
 
--- the key is less than the one told, if one was
+-- the key is less than the one told, if one was: what `ends_before` says of each of some keys (lemma `ends_before-each`)
 abbrev pub is_to : Option Key → Key → Bool
 is_to None key = true
 is_to (Some to) key = is_lt (key_cmp key to)
@@ -35,7 +35,7 @@ is_to (Some to) key = is_lt (key_cmp key to)
 pub record AreWithin (from to : Option Key) (keys : List Key) : Type 0 where
   pub ascending : IsTrue (is_ascending keys)
   pub first : IsTrue (list_all (is_from from) keys)
-  pub last : IsTrue (list_all (is_to to) keys)
+  pub last : IsTrue (ends_before to keys)
 
 -- each pointer's key lies within a range, and is less than the next one's
 abbrev pub AreSpaced : Option Key → Option Key → List Pointer → Type 0

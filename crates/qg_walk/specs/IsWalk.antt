@@ -8,7 +8,7 @@ use Rattle.qg_verdict.specs.declared.tree.Tree.{Tree}
 use Rattle.qg_verdict.specs.declared.expected.Expected.{Expected}
 use Rattle.qg_verdict.specs.Walk.{is_item_of, node_found, tree_failure}
 use Rattle.qg_verdict.specs.ItemsUnder.{items_under, nodes_under}
-use Rattle.qg_verdict.specs.StateOf.{level_in, tree_items, tree_nodes}
+use Rattle.qg_verdict.specs.ImageState.{level_in, tree_items, tree_nodes}
 
 -- In an image the walk of a tree meets no failure. What was found is what the tree's items say, from left to right, and where its nodes
 -- lie, each before those below it

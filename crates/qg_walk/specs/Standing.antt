@@ -18,11 +18,13 @@ pub record StandsAt (super : Super) (address : ℕ) (node : Node) : Type 0 where
   pub placed : (header_of node).address ≡ address
   pub sound : IsNode super.nodesize node
 
--- the rules from `depth` to `shape`, in their order
+-- the rules from `depth` to `shape`, in their order; `node_failure` has rule `item` behind them (lemmas `node_failure-form` and
+-- `node_failure-formed`)
 abbrev pub form_failure : Tree → Super → Expected → ℕ → Node → Option Failure
 form_failure tree super expected address node = first_failure (way_failure tree super expected address node ∷ shape_failure super.nodesize expected address node ∷ [])
 
--- the rules from `slot` to `shape`, in their order, where this was found at an address
+-- the rules from `slot` to `shape`, in their order, where this was found at an address: a walk from there fails so first (lemma
+-- `walk-standing`)
 abbrev pub standing_failure : Tree → Super → Expected → ℕ → Result Node Failure → Option Failure
 standing_failure tree super expected address (Err failure) = Some failure
 standing_failure tree super expected address (Ok node) = form_failure tree super expected address node

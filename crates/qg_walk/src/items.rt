@@ -2,7 +2,7 @@
 ghost use Rattle.std.specs.Prelude.{◌≡◌, ◌++◌, OnOk, IsErrOf};
 ghost use Rattle.std.specs.List.{list_all};
 ghost use Rattle.qg_num.specs.declared.rule.Rule.TheVariants as rule;
-ghost use Rattle.qg_verdict.specs.Failure.{kept};
+ghost use Rattle.qg_verdict.specs.Failure.{unless};
 ghost use Rattle.qg_verdict.specs.Walk.{is_item_of};
 ghost use Rattle.qg_walk.specs.Fault.{FailsAs};
 ghost use Rattle.qg_walk.specs.Added.{AddsSaid};
@@ -20,7 +20,7 @@ pub(crate) fn add_said<P: TreePart, L: PartList<P>>(
     items: &[Item],
     parts: &mut L,
 ) -> Result<(), WalkFault>
-    ensures failure { FailsAs result (kept (list_all (is_item_of P.tree generation) items.now) rule.Item address) }
+    ensures failure { FailsAs result (unless (list_all (is_item_of P.tree generation) items.now) rule.Item address) }
     ensures said { OnOk result (AddsSaid P.meaning items.now (L.list parts.old) (L.list parts.new)) }
     ensures disk { IsErrOf result WalkFault.Disk → ⊥ }
 {

@@ -5,7 +5,7 @@ ghost use Rattle.qg_verdict.specs.declared.tree.Tree.TheVariants.{Roots};
 ghost use Rattle.qg_verdict.specs.Walk.{is_item_of};
 
 use super::*;
-use qg_disk::{Disk, DiskFault, MemDisk};
+use qg_disk::{Call, Disk, DiskFault, MemDisk, Request};
 use qg_items::kind::ROOT_ITEM;
 use qg_items::tree::{EXTENT_TREE, FIRST_FREE, QUOTA_TREE, ROOT_TREE, TOP_LEVEL};
 use qg_items::{ROOT_ITEM_BYTES, RootItem, read_root, write_root};
@@ -268,6 +268,35 @@ fn has_found(walked: &Walked<Sequence<Held>>, numbers: &[u64], addresses: &[u64]
             .iter()
             .zip(addresses)
             .all(|(node, address)| node.value() == *address)
+}
+
+// Whether a call read the node at this address, whole.
+fn is_read(call: &Call, address: u64) -> bool {
+    match &call.request {
+        Request::Read { at, count } => *at == address && *count == 4096,
+        _ => false,
+    }
+}
+
+// Whether a disk of a plan has had four writes, then reads of the nodes at these addresses, and nothing else.
+fn has_read(disk: &MemDisk, addresses: &[u64]) -> bool {
+    let Some(calls) = disk.calls().get(4..) else {
+        return false;
+    };
+    calls.len() == addresses.len()
+        && calls
+            .iter()
+            .zip(addresses)
+            .all(|(call, address)| is_read(call, *address))
+}
+
+#[test]
+fn each_node_is_read_once_and_nothing_else(rt: HostRuntime) -> Result<(), Fail> {
+    let alloc = rt.alloc();
+    let mut disk = disk_of(&rt, alloc, &SOUND)?;
+    walk_held(&rt, &mut disk, alloc, Some(1), ROOT).expect(&rt, "a tree");
+    assert!(rt; has_read(&disk, &[ROOT, FIRST, SECOND]));
+    Ok(())
 }
 
 #[test]

@@ -12,10 +12,10 @@ returns-in-Some-clause-failure c =
     let entry = c.entry-item.result in
     let so_far : HaveJudged bytes c.loop-entry.entry-index items = subst (λ (list : List (ℕ × Group)). HaveJudged bytes c.loop-entry.entry-index list) (sym c.as_slice-entry-items.ensures) c.loop-entry.invariant in
     let found = HaveJudged-found bytes c.loop-entry.entry-index items entry c.in-Some.failure c.loop-entry-test.true c.entry-item.is (sym c.group_failure.ensures ∙ c.in-Some.is) so_far in
-    λ state all. counts_judged state c.args.quota.now bytes all ∙ subst (λ (list : List (ℕ × Group)). first_failure (map (judged bytes) list) ≡ Some c.in-Some.failure) c.as_slice-entry-items.ensures found
+    λ layout all. counts_judged layout c.args.quota.now bytes all ∙ subst (λ (list : List (ℕ × Group)). first_failure (map (judged bytes) list) ≡ Some c.in-Some.failure) c.as_slice-entry-items.ensures found
 
 pub returns-clause-failure : goal.returns-clause-failure
 returns-clause-failure c =
     let bytes = c.args.bytes in
     let long = subst (λ (list : List (ℕ × Group)). length list ≤ c.loop-entry.entry-index) c.as_slice-entry-items.ensures c.loop-entry-test.false in
-    λ state all. counts_judged state c.args.quota.now bytes all ∙ HaveJudged-all bytes c.loop-entry.entry-index c.args.quota.now.groups long c.loop-entry.invariant
+    λ layout all. counts_judged layout c.args.quota.now bytes all ∙ HaveJudged-all bytes c.loop-entry.entry-index c.args.quota.now.groups long c.loop-entry.invariant

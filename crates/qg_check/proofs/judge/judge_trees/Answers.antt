@@ -9,10 +9,11 @@ use Rattle.qg_super.specs.SuperText.{sizes_of}
 use Rattle.qg_image.specs.Table.{keys_of}
 use Rattle.qg_image.specs.declared.file.File.{File}
 use Rattle.qg_state.specs.declared.element.Element.{Element}
+use Rattle.qg_state.specs.State.{layout_of}
 use Rattle.qg_state.specs.Reach.{extent_of}
 use Rattle.qg_state.specs.Counts.{bytes_of}
 use Rattle.qg_state.specs.Space.{present_extents}
-use Rattle.qg_verdict.specs.StateOf.{state_in}
+use Rattle.qg_verdict.specs.ImageState.{state_in}
 use Rattle.qg_verdict.specs.Verdict.{counts_failure, extent_set, space_failure}
 use Rattle.qg_reach.specs.Sets.{HaveSame}
 use Rattle.qg_check.specs.declared.judge.Read.{Read}
@@ -34,8 +35,8 @@ same_sum : (sizes sizes' : Sizes) (nodes nodes' : List ℕ) (a b : List Element)
 same_sum sizes sizes' nodes nodes' a b h k l = rw (h, k, l) refl
 
 -- the quota of the state is the one that was read
-quota_state : (super : Super) (bytes : List ℕ) (read : Read) → AreRead super bytes read → counts_failure (state_in super bytes) (state_in super bytes).quota ≡ counts_failure (state_in super bytes) (Some read.quotas.quota)
-quota_state super bytes read are = ap (counts_failure (state_in super bytes)) (quota_of_state super bytes ∙ quota_read super bytes read are)
+quota_state : (super : Super) (bytes : List ℕ) (read : Read) → AreRead super bytes read → counts_failure (layout_of (state_in super bytes)) (state_in super bytes).quota ≡ counts_failure (layout_of (state_in super bytes)) (Some read.quotas.quota)
+quota_state super bytes read are = ap (counts_failure (layout_of (state_in super bytes))) (quota_of_state super bytes ∙ quota_read super bytes read are)
 
 -- ---- lists that were asked for
 
@@ -76,14 +77,14 @@ reached_bytes-bytes-requires-clause-slots c =
 -- where the extents keep their rule, the only group counts what was summed up
 record IsCounted (super : Super) (bytes : List ℕ) (read : Read) (sum : ℕ) : Type 0 where
   space : space_failure (sizes_of super) (extent_set (present_extents (state_in super bytes))) ≡ None
-  all : CountAll (state_in super bytes) read.quotas.quota sum
+  all : CountAll (layout_of (state_in super bytes)) read.quotas.quota sum
 
 counted : (super : Super) (bytes : List ℕ) (read : Read) (nodes : List ℕ) (extents : List Element) (sum : ℕ) → AreRead super bytes read → keys_of read.quotas.quota.groups ≡ 5 ∷ [] → is_served (sizes_of super) ≡ true
     → list_all (is_slot (sizes_of super)) read.subvolume.nodes ≡ true → AreOnce nodes read.subvolume.nodes → extents ≡ named read.subvolume.files
     → space_failure (sizes_of super) extents ≡ None → sum ≡ (sizes_of super).nodesize * length nodes + bytes_of extents → IsCounted super bytes read sum
 counted super bytes read nodes extents sum are groups served slots once told space is = record {
   space = ap (space_failure (sizes_of super)) (ap extent_set (present_read super bytes read are) ∙ sym told) ∙ space;
-  all = subst (λ (n : ℕ). CountAll (state_in super bytes) read.quotas.quota n) (sym is)
+  all = subst (λ (n : ℕ). CountAll (layout_of (state_in super bytes)) read.quotas.quota n) (sym is)
       (count_read super bytes read nodes extents are groups (record { served = served; are_slots = same_slots (sizes_of super) nodes read.subvolume.nodes once.same slots; ascending = once.ascending; space = space }) once.same told);
 }
 
@@ -99,7 +100,7 @@ returns-in_err-judge_counts-clause-failure c = λ bytes are.
     let space = same_space (sizes_of super) c.sizes-sizes.result extents c.as_slice-2.result.now c.sizes-sizes.ensures c.as_slice-2.ensures ∙ c.in_ok-judge_extents.ensures.failure in
     let sum = c.reached_bytes-bytes.ensures ∙ same_sum (sizes_of super) c.sizes-sizes.result nodes c.as_slice-4.result.now extents c.as_slice-5.result.now c.sizes-sizes.ensures c.as_slice-4.ensures c.as_slice-5.ensures in
     let facts = counted super bytes read nodes extents c.reached_bytes-bytes.result are c.requires.groups c.requires.served c.requires.slots once told space sum in
-    let counts = tells_same fault (quota_state super bytes read are) (c.in_err-judge_counts.ensures.failure (state_in super bytes) facts.all) in
+    let counts = tells_same fault (quota_state super bytes read are) (c.in_err-judge_counts.ensures.failure (layout_of (state_in super bytes)) facts.all) in
     fails_handed c.from_residual-in_err-judge_counts.result fault _ c.from_residual-in_err-judge_counts.ensures.1 (tells_same fault (pass_first _ _ facts.space) (tells_first fault _ _ counts))
 
 -- the end of the function: the extents, and the slots
@@ -118,7 +119,7 @@ returns-clause-failure c = λ bytes are.
     let space = same_space (sizes_of super) c.sizes-sizes.result extents c.as_slice-2.result.now c.sizes-sizes.ensures c.as_slice-2.ensures ∙ c.in_ok-judge_extents.ensures.failure in
     let sum = c.reached_bytes-bytes.ensures ∙ same_sum (sizes_of super) c.sizes-sizes.result nodes c.as_slice-4.result.now extents c.as_slice-5.result.now c.sizes-sizes.ensures c.as_slice-4.ensures c.as_slice-5.ensures in
     let facts = counted super bytes read nodes extents c.reached_bytes-bytes.result are c.requires.groups c.requires.served c.requires.slots (once_at c) (told_at c) space sum in
-    let counts = quota_state super bytes read are ∙ c.in_ok-judge_counts.ensures.failure (state_in super bytes) facts.all in
+    let counts = quota_state super bytes read are ∙ c.in_ok-judge_counts.ensures.failure (layout_of (state_in super bytes)) facts.all in
     pass_first _ _ facts.space ∙ pass_first _ _ counts
 
 -- and the nodes of the other trees

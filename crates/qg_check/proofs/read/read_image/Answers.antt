@@ -5,11 +5,11 @@ use Rattle.qg_super.specs.declared.superblock.Super.{Super}
 use Rattle.qg_super.specs.SuperText.{choose}
 use Rattle.qg_verdict.specs.declared.failure.Failure.{Failure}
 use Rattle.qg_verdict.specs.Failure.{first_failure}
-use Rattle.qg_verdict.specs.Verdict.{verdict}
-use Rattle.qg_verdict.specs.StateOf.{super_in, super_of}
+use Rattle.qg_verdict.specs.Verdict.{verdict, places_failure, roots_failure}
+use Rattle.qg_verdict.specs.ImageState.{super_in, super_of}
 use Rattle.qg_check.specs.declared.trees.Trees.{Trees}
-use Rattle.qg_check.specs.IsImage.{IsKept}
-use Rattle.qg_check.specs.Stages.{places_failure, roots_failure, trees_failure}
+use Rattle.qg_check.specs.IsImage.{StandsFor}
+use Rattle.qg_check.specs.Stages.{trees_failure}
 use Rattle.qg_check.specs.Trees.{AreTrees}
 use Rattle.qg_check.proofs.Editable.{stale_editable}
 use Rattle.qg_check.proofs.Staging.{tells_first, pass_first, tells_same, fails_handed}
@@ -102,8 +102,8 @@ returns-clause-image g c = λ events told.
       sound = returns-clause-failure g c events told;
       chosen = chosen ∙ ap (λ (s : Super). Some s) (sym kept.same);
       stale = c.stale-image.ensures.value ∙ (rw (first, second) refl);
-      kept = subst (λ (s : Super). IsKept s (content events) (record c.in_ok-image.image { stale = c.stale-image.result })) (sym kept.same)
-          (record { same = kept.same; only = kept.only; state = kept.state; nodes = kept.nodes; ascending = kept.ascending; extents = kept.extents });
+      kept = subst (λ (s : Super). StandsFor s (content events) (record c.in_ok-image.image { stale = c.stale-image.result })) (sym kept.same)
+          (record { same = kept.same; only = kept.only; state = kept.state; others = kept.others; nodes = kept.nodes; ascending = kept.ascending; extents = kept.extents });
     }
 
 pub returns-clause-editable : goal.returns-clause-editable

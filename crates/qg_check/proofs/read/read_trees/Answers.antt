@@ -2,10 +2,10 @@ use Rattle.std.proofs.Common.{ap, ◌∙◌}
 use Rattle.qg_device.specs.History.{content}
 use Rattle.qg_image.specs.Table.{keys_of}
 use Rattle.qg_state.specs.declared.quota.Quota.{Quota}
+use Rattle.qg_verdict.specs.Verdict.{together_failure}
 use Rattle.qg_check.proofs.Editable.{answer_editable}
 use Rattle.qg_check.proofs.Staging.{tells_first, pass_first, tells_same, fails_handed, fails_same}
 use Rattle.qg_check.proofs.Verdicts.{alone}
-use Rattle.qg_check.specs.Stages.{together_failure}
 use Rattle.qg_check.specs.declared.judge.Read.{Read}
 use Rattle.qg_check.proofs.read.read_trees.Goals as goal
 

@@ -3,7 +3,7 @@ use Rattle.qg_device.specs.History.{content}
 use Rattle.qg_image.specs.declared.part.QuotaPart.{QuotaPart}
 use Rattle.qg_image.specs.ItemMeaning.{quota_part}
 use Rattle.qg_verdict.specs.declared.tree.Tree.TheVariants.{Quotas}
-use Rattle.qg_verdict.specs.StateOf.{quota_parts, quota_told}
+use Rattle.qg_verdict.specs.ImageState.{quota_parts, quota_told}
 use Rattle.qg_verdict.specs.declared.expected.Expected.{Expected}
 use Rattle.qg_walk.specs.Held.{AreHeld}
 use Rattle.qg_walk.specs.IsWalk.{IsWalk}

@@ -5,7 +5,7 @@ use Rattle.qg_items.specs.declared.root.RootItem.{RootItem}
 use Rattle.qg_image.specs.ItemMeaning.{root_part}
 use Rattle.qg_verdict.specs.declared.failure.Failure.TheVariants.{Broken}
 use Rattle.qg_verdict.specs.declared.tree.Tree.TheVariants.{Roots}
-use Rattle.qg_verdict.specs.StateOf.{roots_in}
+use Rattle.qg_verdict.specs.ImageState.{roots_in}
 use Rattle.qg_verdict.specs.Verdict.{are_roots}
 use Rattle.qg_parts.specs.Said.{AreSaid}
 use Rattle.qg_parts.proofs.Keys.{roots_ascending}

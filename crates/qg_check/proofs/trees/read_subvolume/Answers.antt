@@ -5,7 +5,7 @@ use Rattle.qg_image.specs.ItemMeaning.{file_part}
 use Rattle.qg_image.specs.FilesOf.{file_parts}
 use Rattle.qg_verdict.specs.declared.expected.Expected.{Expected}
 use Rattle.qg_verdict.specs.declared.tree.Tree.TheVariants.{Files}
-use Rattle.qg_verdict.specs.StateOf.{items_of_root, nodes_of_root, level_in}
+use Rattle.qg_verdict.specs.ImageState.{items_of_root, nodes_of_root, level_in}
 use Rattle.qg_verdict.specs.Walk.{node_found, root_told}
 use Rattle.qg_items.specs.declared.root.RootItem.{RootItem}
 use Rattle.qg_super.specs.declared.superblock.Super.{Super}

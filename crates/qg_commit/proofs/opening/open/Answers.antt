@@ -3,7 +3,6 @@ use Rattle.std.specs.Prelude.{◌∷◌}
 use Rattle.qg_device.specs.History.{Synced, content, with_event}
 use Rattle.qg_verdict.specs.Verdict.{verdict}
 use Rattle.qg_commit.proofs.Refused.{refused_by}
-use Rattle.qg_commit.proofs.Goings.{goes-kept, goes-on, goes-same, goes-sync}
 use Rattle.qg_commit.proofs.Touched.{looked-kept, looked-sync, opening-kept, opening-written}
 use Rattle.qg_commit.proofs.opening.open.Goals as goal
 use Rattle.qg_commit.proofs.opening.open.Goals.{in-Some+in_ok-write_place, in_default}
@@ -15,24 +14,6 @@ returns-in_err-image-clause-refused g c = λ events told.
 
 pub returns-clause-image : goal.returns-clause-image
 returns-clause-image g c = λ events told. c.in_ok-image.ensures.image (Synced ∷ events) (c.in_ok-sync.ensures.event ∙ ap (with_event Synced) told)
-
--- nothing of what was done before is lost, whatever comes of it
-pub returns-in_err-image-clause-later : goal.returns-in_err-image-clause-later
-returns-in_err-image-clause-later g c = λ events told.
-    goes-kept events _ _ (goes-sync events _ _ c.sync.result (goes-same events _ told) c.sync.ensures.event) c.read_image.ensures.history
-
-pub returns-in_err-write_place-clause-later : goal.returns-in_err-write_place-clause-later
-returns-in_err-write_place-clause-later g c = λ events told.
-    goes-on events _ _ (goes-kept events _ _ (goes-sync events _ _ c.sync.result (goes-same events _ told) c.sync.ensures.event) c.read_image.ensures.history)
-    (λ between told'. c.write_place.ensures.later between told')
-
-pub returns-clause-later : goal.returns-clause-later
-returns-clause-later g c = λ events told.
-    let read = goes-kept events _ _ (goes-sync events _ _ c.sync.result (goes-same events _ told) c.sync.ensures.event) c.read_image.ensures.history in
-    elim c.match-image.branch [
-      | in-Some+in_ok-write_place w ↦ goes-kept events _ _ (goes-on events _ _ read (λ between told'. w.write_place.ensures.later between told')) (ap g.D.Disk.history w.disk-is)
-      | in_default w ↦ goes-kept events _ _ read (ap g.D.Disk.history w.disk-is)
-    ]
 
 -- what is done to the disk, whatever comes of it
 pub returns-in_err-sync-clause-touches : goal.returns-in_err-sync-clause-touches

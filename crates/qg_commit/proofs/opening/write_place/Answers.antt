@@ -1,20 +1,6 @@
--- Each call of the disk goes on from what was done before.
 use Rattle.std.proofs.Common.{inr}
-use Rattle.qg_commit.proofs.Goings.{goes-same, goes-sync, goes-write}
 use Rattle.qg_commit.proofs.Touched.{writing-sync, writing-write}
 use Rattle.qg_commit.proofs.opening.write_place.Goals as goal
-
-pub returns-in_err-write_at-clause-later : goal.returns-in_err-write_at-clause-later
-returns-in_err-write_at-clause-later g c = λ events told.
-    goes-write events _ _ c.write_at.result c.args.place _ (goes-same events _ told) c.write_at.ensures.event
-
-pub returns-in_err-sync-clause-later : goal.returns-in_err-sync-clause-later
-returns-in_err-sync-clause-later g c = λ events told.
-    goes-sync events _ _ c.sync.result (goes-write events _ _ c.write_at.result c.args.place _ (goes-same events _ told) c.write_at.ensures.event) c.sync.ensures.event
-
-pub returns-clause-later : goal.returns-clause-later
-returns-clause-later g c = λ events told.
-    goes-sync events _ _ c.sync.result (goes-write events _ _ c.write_at.result c.args.place _ (goes-same events _ told) c.write_at.ensures.event) c.sync.ensures.event
 
 -- what the two calls leave
 pub returns-in_err-write_at-clause-touches : goal.returns-in_err-write_at-clause-touches

@@ -1,4 +1,4 @@
-use Rattle.qg_program.proofs.Turned.{reply-command, reply-no_line}
+use Rattle.qg_program.proofs.Turned.{reply-command, reply-no_line, so_far-command}
 use Rattle.qg_program.proofs.answer.answer_line.Goals as goal
 
 pub returns-in_ok-write_reply-in-Some-clause-reply : goal.returns-in_ok-write_reply-in-Some-clause-reply
@@ -14,3 +14,7 @@ returns-in_ok-write_no_line-in-None-clause-reply g c = λ state events stands kn
     let none = rw c.in-None.is at c.in_ok-command.ensures.none in
     let told = rw c.clear.ensures at c.in_ok-write_no_line-in-None.ensures.ok in
     reply-no_line state events c.args.line.now _ _ _ none stands known told
+
+pub returns-in_ok-write_reply-in-Some-clause-so_far : goal.returns-in_ok-write_reply-in-Some-clause-so_far
+returns-in_ok-write_reply-in-Some-clause-so_far g c = λ state events stands known.
+    so_far-command state events c.args.line.now _ c.in-Some.command (rw c.in-Some.is at c.in_ok-command.ensures.found) (c.in_ok-answer-in-Some.ensures.so_far state events stands known)

@@ -42,7 +42,7 @@ pub returns-in-Err-clause-follows : goal.returns-in-Err-clause-follows
 returns-in-Err-clause-follows g c = λ state events opened input stands opens known told.
     let so_far = c.loop-text.invariant.answered state opened input stands known told in
     let counted = counted-on _ _ _ _ _ c.loop-text.invariant.counted c.turn.ensures.counted in
-    answered-failed _ c.turn.new.feed _ c.turn.new.session.store so_far opens (record { counted = rw told at counted; within = c.turn.ensures.within })
+    answered-failed _ c.turn.new.feed _ c.turn.new.session.store _ _ so_far opens (record { counted = rw told at counted; within = c.turn.ensures.within })
     (λ is. c.turn.ensures.too_long (c.in-Err.is ∙ ap Err is))
     (c.in-Err.ensures.err so_far.present so_far.events so_far.left so_far.stands so_far.known so_far.told)
 

@@ -1,5 +1,5 @@
 use Rattle.std.proofs.Common.{◌≡◌, take}
-use Rattle.qg_verdict.specs.StateOf.{subvolume_roots}
+use Rattle.qg_verdict.specs.ImageState.{subvolume_roots}
 use Rattle.qg_rules.proofs.roots.subvolume_roots.Given as goal
 
 abbrev pub invariant-loop-part : goal.invariant-loop-part

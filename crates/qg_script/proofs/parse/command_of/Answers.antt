@@ -2,7 +2,7 @@ use Rattle.std.proofs.Common.{◌≡◌, ◌≢◌, ℕ, List, true, false, refl
 use Rattle.std.specs.Prelude.{codes, bytes_eq, IsTrue}
 use Rattle.std.proofs.lemmas.Bool.{false≢true}
 use Rattle.std.proofs.lemmas.Slice.Eq.{bytes_eq-Decides}
-use Rattle.qg_grammar.specs.Served.{is_served}
+use Rattle.qg_grammar.specs.Served.{is_served_command}
 use Rattle.qg_script.proofs.Rows.{of_found, only_write, only_clone, only_truncate, only_unlink, only_ls}
 use Rattle.qg_script.proofs.Serving.{commit_read, show_read, not_served}
 use Rattle.qg_script.proofs.parse.command_of.Goals as goal
@@ -22,23 +22,23 @@ returns-then-eq-2-clause-found c = show_read (is_word c.args.text.now c.as_slice
 
 pub returns-then-eq-3-clause-served : goal.returns-then-eq-3-clause-served
 returns-then-eq-3-clause-served c =
-    of_found c.read_write.result (only_write (λ command. IsTrue (is_served command)) c.first_word.result.1.now (λ sub ino off len file are. refl)) c.read_write.ensures.command
+    of_found c.read_write.result (only_write (λ command. IsTrue (is_served_command command)) c.first_word.result.1.now (λ sub ino off len file are. refl)) c.read_write.ensures.command
 
 pub returns-then-eq-4-clause-served : goal.returns-then-eq-4-clause-served
 returns-then-eq-4-clause-served c =
-    of_found c.read_clone.result (only_clone (λ command. IsTrue (is_served command)) c.first_word.result.1.now (λ sub ino off len to_sub to_ino to_off file to_file are. refl)) c.read_clone.ensures.command
+    of_found c.read_clone.result (only_clone (λ command. IsTrue (is_served_command command)) c.first_word.result.1.now (λ sub ino off len to_sub to_ino to_off file to_file are. refl)) c.read_clone.ensures.command
 
 pub returns-then-eq-5-clause-served : goal.returns-then-eq-5-clause-served
 returns-then-eq-5-clause-served c =
-    of_found c.read_truncate.result (only_truncate (λ command. IsTrue (is_served command)) c.first_word.result.1.now (λ sub ino size file are. refl)) c.read_truncate.ensures.command
+    of_found c.read_truncate.result (only_truncate (λ command. IsTrue (is_served_command command)) c.first_word.result.1.now (λ sub ino size file are. refl)) c.read_truncate.ensures.command
 
 pub returns-then-eq-6-clause-served : goal.returns-then-eq-6-clause-served
 returns-then-eq-6-clause-served c =
-    of_found c.read_unlink.result (only_unlink (λ command. IsTrue (is_served command)) c.first_word.result.1.now (λ sub ino file are. refl)) c.read_unlink.ensures.command
+    of_found c.read_unlink.result (only_unlink (λ command. IsTrue (is_served_command command)) c.first_word.result.1.now (λ sub ino file are. refl)) c.read_unlink.ensures.command
 
 pub returns-then-eq-7-clause-served : goal.returns-then-eq-7-clause-served
 returns-then-eq-7-clause-served c =
-    of_found c.read_ls.result (only_ls (λ command. IsTrue (is_served command)) c.first_word.result.1.now (λ sub ino file are. refl)) c.read_ls.ensures.command
+    of_found c.read_ls.result (only_ls (λ command. IsTrue (is_served_command command)) c.first_word.result.1.now (λ sub ino file are. refl)) c.read_ls.ensures.command
 
 pub returns-else-eq-7-clause-none : goal.returns-else-eq-7-clause-none
 returns-else-eq-7-clause-none c =

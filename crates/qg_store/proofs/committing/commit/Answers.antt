@@ -4,7 +4,7 @@ use Rattle.qg_super.specs.SuperText.{sizes_of}
 use Rattle.qg_laid.specs.Trees.{nodes_laid}
 use Rattle.qg_commit.specs.Calls.{with_commit}
 use Rattle.qg_store.proofs.Commits.{answered, does_idle, does_refuse, so_long}
-use Rattle.qg_store.proofs.KeptCommit.{does_commit, kept_now, keeps_now}
+use Rattle.qg_store.proofs.KeptCommit.{does_commit, kept_now, keeps_now, starts_so_far}
 use Rattle.qg_store.proofs.committing.commit.Goals as goal
 
 pub returns-then-kept-eq0-clause-step : goal.returns-then-kept-eq0-clause-step
@@ -45,3 +45,13 @@ returns-clause-does g c = λ state keeps.
     (c.in_ok-laid.ensures.committed long.0 state long.1 keeps)
     refl
     (λ after is. keeps_now c.args.kept.now c.keep_commit.new.kept laid c.as_slice.result.now c.in_ok-laid.ensures.trees c.keep_commit.ensures after c.requires.kept is))
+
+pub returns-clause-so_far : goal.returns-clause-so_far
+returns-clause-so_far g c = λ state events keeps told.
+    starts_so_far c.args.kept.now state events _ (omega (arith, c.if-kept-eq0.false)) (omega (arith, c.value.ensures, c.if-value-gt-LAST_GENERATION.false)) keeps
+    (c.in_ok-laid.ensures.so_far state events keeps told)
+
+pub returns-in_err-laid-clause-so_far : goal.returns-in_err-laid-clause-so_far
+returns-in_err-laid-clause-so_far g c = λ state events keeps told.
+    starts_so_far c.args.kept.now state events _ (omega (arith, c.if-kept-eq0.false)) (omega (arith, c.value.ensures, c.if-value-gt-LAST_GENERATION.false)) keeps
+    (c.in_err-laid.ensures.so_far state events keeps told)

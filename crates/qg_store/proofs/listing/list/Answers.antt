@@ -1,8 +1,8 @@
-use Rattle.std.proofs.Common.{List, subst, sym, ◌∙◌}
+use Rattle.std.proofs.Common.{List, [], subst, sym, ◌∙◌}
 use Rattle.qg_num.specs.declared.answer.Answer.TheVariants as answer
 use Rattle.qg_num.specs.declared.command.Command.TheVariants.{Ls}
 use Rattle.qg_num.specs.declared.piece.Piece.{Piece}
-use Rattle.qg_store.specs.Answering.{Does}
+use Rattle.qg_store.specs.Answering.{Answered}
 use Rattle.qg_store.proofs.Told.{lists, lists_no_file, lists_no_sub}
 use Rattle.qg_store.proofs.listing.list.Goals as goal
 
@@ -17,5 +17,5 @@ returns-in-None c = λ state keeps.
 pub returns-in_ok-pieces-in-Some : goal.returns-in_ok-pieces-in-Some
 returns-in_ok-pieces-in-Some c = λ state keeps.
     let file = c.in-Some.file.now in
-    subst (λ (pieces : List Piece). Does state (Ls c.args.sub c.args.ino) (answer.File file.size pieces) c.args.kept.now) (sym (c.in_ok-pieces-in-Some.ensures ∙ c.as_slice.ensures))
+    subst (λ (pieces : List Piece). Answered state (Ls c.args.sub c.args.ino) (answer.File file.size pieces) [] c.args.kept.now) (sym (c.in_ok-pieces-in-Some.ensures ∙ c.as_slice.ensures))
     (lists c.args.kept.now state c.args.sub c.args.ino file keeps (sym c.value.ensures ∙ c.if-value-ne-TOP_LEVEL.false) c.in-Some.ensures)

@@ -1,6 +1,7 @@
 use Rattle.std.proofs.Common.{◌≡◌, [], Some, refl, true, subst, sym}
+use Rattle.std.specs.Prelude.{IfOk}
 use Rattle.qg_grammar.specs.ScriptText.{is_in_grammar}
-use Rattle.qg_store.specs.Answering.{Answered, Commands}
+use Rattle.qg_store.specs.Answering.{Answers, AnswersOn}
 use Rattle.qg_store.proofs.Commits.{answered}
 use Rattle.qg_store.proofs.Served.{inode_told, target_told}
 use Rattle.qg_store.proofs.Shown.{does_show}
@@ -28,11 +29,16 @@ pub returns-in_ok-show-in-Show-clause-step : goal.returns-in_ok-show-in-Show-cla
 returns-in_ok-show-in-Show-clause-step g c = λ state events keeps told.
     let shown = c.in_ok-show-in-Show.field-0 in
     let history = g.D.Disk.history c.args.disk.now in
-    subst (λ command. Commands state command shown c.args.kept.now events history) (sym c.in-Show.is)
+    subst (λ command. AnswersOn state command shown c.args.kept.now events history) (sym c.in-Show.is)
     (does_show c.args.kept.now state shown events history keeps told c.in_ok-show-in-Show.ensures)
 
 pub returns-in_ok-show-in-Show-clause-does : goal.returns-in_ok-show-in-Show-clause-does
 returns-in_ok-show-in-Show-clause-does g c = λ state keeps.
     let shown = c.in_ok-show-in-Show.field-0 in
-    subst (λ command. Answered state command shown c.args.kept.now) (sym c.in-Show.is)
+    subst (λ command. Answers state command shown c.args.kept.now) (sym c.in-Show.is)
     (answered (does_show c.args.kept.now state shown [] (Some []) keeps refl c.in_ok-show-in-Show.ensures))
+
+pub returns-in-Commit-clause-step : goal.returns-in-Commit-clause-step
+returns-in-Commit-clause-step g c = λ state events keeps told.
+    subst (λ command. IfOk c.commit.result (λ answer. AnswersOn state command answer c.commit.new.kept events (g.D.Disk.history c.commit.new.disk)))
+    (sym c.in-Commit.is) (c.commit.ensures.step state events keeps told)

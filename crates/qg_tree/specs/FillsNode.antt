@@ -1,10 +1,10 @@
--- Where a list is cut so that its parts fit in nodes (this project's own). Weights are in bytes.
+-- How much of a list goes into one node (this project's own). Weights are in bytes.
 use Rattle.std.specs.Prelude.{◌≡◌, ℕ, ◌+◌, ◌*◌, ◌≤◌, ◌<◌, List, length, take}
 use Rattle.std.specs.List.{sum_by}
 
--- The first `count` of a list are cut off, of which `taken` is the weight. They fit, and they are the whole list if that fits; else they
+-- The first `count` of a list fill a node, and `taken` is their weight. They fit, and they are the whole list if that fits; else they
 -- are a quarter of the room at least, and so is what is left.
-pub record IsCut {A : Type 0} (weight : A → ℕ) (list : List A) (room count taken : ℕ) : Type 0 where
+pub record FillsNode {A : Type 0} (weight : A → ℕ) (list : List A) (room count taken : ℕ) : Type 0 where
   pub within : count ≤ length list
   pub weighs : taken ≡ sum_by weight (take count list)
   pub fits : taken ≤ room
