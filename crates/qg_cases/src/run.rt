@@ -115,7 +115,12 @@ fn judge_calls(
     if let Some(count) = wanted.count {
         let wanted = call_number(count, each, 0).to_string(alloc)?;
         let came = calls.len().to_string(alloc)?;
-        report.compare(alloc, "how many calls of the disk", wanted.as_str(), came.as_str())?;
+        report.compare(
+            alloc,
+            "how many calls of the disk",
+            wanted.as_str(),
+            came.as_str(),
+        )?;
     }
     if let Some(texts) = &wanted.calls {
         let has_reads = texts.iter().any(|text| is_read(text.as_str()));

@@ -179,12 +179,7 @@ fn a_disk_that_differs_is_told(rt: HostRuntime) -> Result<(), Fail> {
             0,
             1,
         ),
-        (
-            "words a\n---\n",
-            "a, line 0: a part has no step\n",
-            1,
-            1,
-        ),
+        ("words a\n---\n", "a, line 0: a part has no step\n", 1, 1),
         (
             "after b\nwords a\n",
             "a, line 0: there is no file of the name behind after\n",
