@@ -10,6 +10,3 @@ mod trees;
 
 pub use image::Image;
 pub use read::read_image;
-
-#[cfg(test)]
-mod tests;

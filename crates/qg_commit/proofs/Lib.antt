@@ -9,7 +9,6 @@ pub mod Fronts
 pub mod LaidNodes
 pub mod CommitCalls
 pub mod ReadBack
-pub mod Samples
 pub mod FreshNodes
 pub mod Made
 pub mod MakingCalls

@@ -6,8 +6,6 @@ mod fault;
 mod fresh;
 mod making;
 mod opening;
-#[cfg(test)]
-mod tests;
 mod write;
 
 pub use committing::commit;

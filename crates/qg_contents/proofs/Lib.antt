@@ -5,4 +5,3 @@ mod FileBounds
 mod FileParts
 mod FileKeys
 mod FileTree
-mod Samples

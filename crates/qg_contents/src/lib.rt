@@ -9,6 +9,3 @@ mod roots;
 pub use files::file_items;
 pub use quotas::quota_items;
 pub use roots::root_items;
-
-#[cfg(test)]
-mod tests;

@@ -11,4 +11,3 @@ pub mod Others
 pub mod Anew
 pub mod Enough
 pub mod LaidAnew
-pub mod Samples

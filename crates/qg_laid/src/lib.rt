@@ -5,6 +5,3 @@ mod laying;
 mod trees;
 
 pub use laying::{Laid, Parts, lay_out};
-
-#[cfg(test)]
-mod tests;

@@ -11,6 +11,3 @@ mod root;
 pub use list::PartList;
 pub use part::TreePart;
 pub use root::is_subvolume_number;
-
-#[cfg(test)]
-mod tests;

@@ -2,25 +2,13 @@
 #![tactic(auto)]
 
 mod answer;
-#[cfg(test)]
-mod fault_tests;
-#[cfg(test)]
-mod file_tests;
 mod make;
 mod program;
 mod put;
 mod run;
-#[cfg(test)]
-mod script_tests;
 mod session;
 mod status;
-#[cfg(test)]
-mod test_images;
-#[cfg(test)]
-mod tests;
 mod turn;
-#[cfg(test)]
-mod write_tests;
 
 pub use program::run_program;
 pub use status::Status;

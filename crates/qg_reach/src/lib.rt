@@ -10,6 +10,3 @@ pub use bytes::reached_bytes;
 pub use extents::{extent_of, extents_of, is_before, named_extents};
 pub use slots::each_once;
 pub use space::{LONGEST_EXTENT, space_failure};
-
-#[cfg(test)]
-mod tests;

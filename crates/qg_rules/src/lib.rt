@@ -10,6 +10,3 @@ pub use files::{LARGEST_SIZE, read_files};
 pub use parts::FileParts;
 pub use quota::{QuotaFault, read_quota};
 pub use roots::{are_roots, root_of, subvolume_roots};
-
-#[cfg(test)]
-mod tests;

@@ -7,6 +7,3 @@ mod range;
 
 pub use edit::{clone_into, truncate, unlink, write};
 pub use find::pieces;
-
-#[cfg(test)]
-mod tests;

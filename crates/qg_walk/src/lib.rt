@@ -13,6 +13,3 @@ mod walked;
 pub use fault::WalkFault;
 pub use walk::walk_tree;
 pub use walked::Walked;
-
-#[cfg(test)]
-mod tests;

@@ -1,0 +1,90 @@
+//! Runs the cases that lie in the files of the folder where it runs: it prints what came in place of what was wanted, and how many hold.
+#![tactic(auto)]
+
+use anyhow::{Context, Result, anyhow};
+use qg_cases::{Case, Cases, Program, Report, judge_case, read_case};
+use qg_disk::MemDisk;
+use qg_edge::{MemSink, MemSource};
+use qg_program::run_program;
+use std::alloc::Global;
+use std::fs;
+use std::process::ExitCode;
+use std::rt::Files;
+
+/// How the name of a file of cases ends.
+const ENDING: &str = ".case";
+
+/// The program itself.
+#[derive(Drop)]
+struct Whole {
+    alloc: Global,
+}
+
+impl Program for Whole {
+    fn call(
+        &self,
+        words: &Vec<String>,
+        disk: &mut MemDisk,
+        source: &mut MemSource,
+        sink: &mut MemSink,
+    ) -> u8 {
+        run_program(self.alloc, words, disk, source, sink).code()
+    }
+}
+
+// The names of the files of cases in the folder, without the ending, in order.
+fn names<R: Files + AllocGlobal + Clone + Drop>(rt: &R) -> Result<Vec<String>> {
+    let mut names = Vec::new(rt.alloc());
+    for entry in fs::read_dir(rt, ".")? {
+        let entry = entry?;
+        if let Some(name) = entry.file_name().strip_suffix(ENDING) {
+            names.push(String::from_str(rt.alloc(), name)?)?;
+        }
+    }
+    names.sort()?;
+    Ok(names)
+}
+
+// Reads the file of a name.
+fn read_file<R: Files + AllocGlobal>(rt: &R, name: &str) -> Result<Case> {
+    let alloc = rt.alloc();
+    let path = format!(in alloc; "{name}{ENDING}")?;
+    let text = fs::read_to_string(rt, path.as_str()).context(format_args!("{path}"))?;
+    read_case(alloc, name, text.as_str()).context(format_args!("{path}"))
+}
+
+// Reads all files.
+fn read_files<R: Files + AllocGlobal + Clone + Drop>(rt: &R) -> Result<Cases> {
+    let mut cases = Cases::new(rt.alloc());
+    for name in names(rt)?.iter() {
+        let case = read_file(rt, name.as_str())?;
+        cases.add(case).map_err(|_| anyhow!("memory was refused"))?;
+    }
+    Ok(cases)
+}
+
+// Runs all cases.
+fn judge(alloc: Global, cases: &Cases) -> Result<Report> {
+    let mut report = Report::new(alloc);
+    let program = Whole { alloc };
+    for case in cases.all() {
+        judge_case(alloc, &program, cases, case, &mut report).map_err(|_| anyhow!(
+            "memory was refused"
+        ))?;
+    }
+    Ok(report)
+}
+
+fn main(rt: HostRuntime) -> Result<ExitCode> {
+    let cases = read_files(&rt)?;
+    let report = judge(rt.alloc(), &cases)?;
+    print!(rt; "{}", report.text())?;
+    let held = report.held();
+    println!(rt; "{held} hold")?;
+    if report.failed() == 0 {
+        return Ok(ExitCode::SUCCESS);
+    }
+    let failed = report.failed();
+    println!(rt; "{failed} fail")?;
+    Ok(ExitCode::FAILURE)
+}

@@ -1,0 +1,78 @@
+// What the lines of a run add to it.
+use crate::numbers::{choice_of, choices_of, small_number_of};
+use crate::text::{escaped_of, first_word, line_of};
+use crate::{Complaint, Run};
+use std::alloc::Global;
+
+/// The bytes that a line of input or of output stands for: `<` and `>` a line, `<<` and `>>` bytes without a newline.
+pub(crate) fn piece_of(alloc: Global, mark: &str, text: &str) -> Result<Vec<u8>, Complaint> {
+    match mark {
+        "<" | ">" => Ok(line_of(alloc, text)?),
+        "<<" | ">>" => escaped_of(alloc, text),
+        _ => Err(Complaint::Word),
+    }
+}
+
+/// Adds a line of input or of output so many times.
+pub(crate) fn add_piece(
+    alloc: Global,
+    run: &mut Run,
+    mark: &str,
+    text: &str,
+    times: u64,
+) -> Result<(), Complaint> {
+    let piece = piece_of(alloc, mark, text)?;
+    let bytes = if mark.starts_with('<') {
+        &mut run.input
+    } else {
+        &mut run.wanted.put
+    };
+    for _ in 0..times {
+        bytes.extend_from_slice(&piece)?;
+    }
+    Ok(())
+}
+
+/// Adds a call of the disk that is wanted, or the first time that none is.
+pub(crate) fn add_call(alloc: Global, run: &mut Run, text: &str) -> Result<(), Complaint> {
+    let mut calls = match run.wanted.calls.take() {
+        Some(calls) => calls,
+        None => Vec::new(alloc),
+    };
+    if text != "none" {
+        calls.push(String::from_str(alloc, text)?)?;
+    }
+    run.wanted.calls = Some(calls);
+    Ok(())
+}
+
+// The calls of an object that are to fail.
+fn add_failing(alloc: Global, run: &mut Run, text: &str) -> Result<(), Complaint> {
+    let (object, numbers) = first_word(text);
+    let numbers = choices_of(alloc, numbers)?;
+    match object {
+        "disk" => run.plan.disk = numbers,
+        "source" => run.plan.source = numbers,
+        "sink" => run.plan.sink = numbers,
+        _ => return Err(Complaint::Word),
+    }
+    Ok(())
+}
+
+/// Adds what another line of a run says.
+pub(crate) fn add_to_run(
+    alloc: Global,
+    run: &mut Run,
+    word: &str,
+    text: &str,
+) -> Result<(), Complaint> {
+    match word {
+        "fail" => add_failing(alloc, run, text)?,
+        "stop" => run.plan.last = Some(choice_of(text)?),
+        "status" => run.wanted.status = small_number_of(text)?,
+        "calls" => run.wanted.count = Some(choice_of(text)?),
+        "@" => add_call(alloc, run, text)?,
+        _ => return Err(Complaint::Word),
+    }
+    Ok(())
+}

@@ -1,0 +1,157 @@
+// One call of the program, and whether what came of it was wanted.
+use crate::calls::{call_texts, is_read};
+use crate::{NoMemory, Number, Plan, Report, Run, Wanted};
+use qg_disk::MemDisk;
+use qg_edge::{MemSink, MemSource};
+use std::alloc::Global;
+
+/// What is printed in place of a line that is no text.
+const NO_TEXT: &str = "bytes that are no text";
+
+/// The program that the cases are of (this project's own).
+pub trait Program {
+    /// Does what the words say, and answers the number of its status.
+    fn call(
+        &self,
+        words: &Vec<String>,
+        disk: &mut MemDisk,
+        source: &mut MemSource,
+        sink: &mut MemSink,
+    ) -> u8;
+}
+
+// The number of a call, where `made` were made before.
+fn call_number(number: Number, each: u64, made: u64) -> u64 {
+    match number {
+        Number::Given(number) => made.saturating_add(number),
+        Number::Each => made.saturating_add(each),
+    }
+}
+
+// The numbers of some calls.
+fn call_numbers(
+    alloc: Global,
+    numbers: &[Number],
+    each: u64,
+    made: u64,
+) -> Result<Vec<u64>, NoMemory> {
+    let mut calls = Vec::new(alloc);
+    for number in numbers {
+        calls.push(call_number(*number, each, made))?;
+    }
+    Ok(calls)
+}
+
+// Tells a disk which calls of a run are to fail.
+fn plan_disk(alloc: Global, plan: &Plan, each: u64, disk: &mut MemDisk) -> Result<(), NoMemory> {
+    let made = disk.calls().len() as u64;
+    disk.fail_at(call_numbers(alloc, &plan.disk, each, made)?);
+    if let Some(last) = plan.last {
+        disk.stop_after(call_number(last, each, made));
+    }
+    Ok(())
+}
+
+// Tells a disk that no call is to fail.
+fn clear_plan(alloc: Global, disk: &mut MemDisk) {
+    disk.fail_at(Vec::new(alloc));
+    disk.stop_after(u64::MAX);
+}
+
+// What was put, against what was wanted: the first line that differs is told.
+fn judge_put(
+    alloc: Global,
+    wanted: &[u8],
+    came: &[u8],
+    report: &mut Report,
+) -> Result<(), NoMemory> {
+    if wanted == came {
+        return Ok(());
+    }
+    let mut rest = came.split(|byte| *byte == b'\n');
+    let mut number = 0u64;
+    for line in wanted.split(|byte| *byte == b'\n') {
+        number = number.saturating_add(1);
+        let other = rest.next();
+        if other != Some(line) {
+            return tell_line(alloc, number, line, other, report);
+        }
+    }
+    report.tell("more was put than is wanted")?;
+    Ok(())
+}
+
+// Tells a line that differs.
+fn tell_line(
+    alloc: Global,
+    number: u64,
+    wanted: &[u8],
+    came: Option<&[u8]>,
+    report: &mut Report,
+) -> Result<(), NoMemory> {
+    let wanted = str::from_utf8(wanted).unwrap_or(NO_TEXT);
+    let came = match came {
+        Some(line) => str::from_utf8(line).unwrap_or(NO_TEXT),
+        None => "its end",
+    };
+    let text = format!(in alloc; "line {number} of the output: wanted {wanted}, came {came}")?;
+    report.tell(text.as_str())?;
+    Ok(())
+}
+
+// The calls of the disk since `made` were made, against those wanted.
+fn judge_calls(
+    alloc: Global,
+    wanted: &Wanted,
+    each: u64,
+    disk: &MemDisk,
+    made: usize,
+    report: &mut Report,
+) -> Result<(), NoMemory> {
+    let calls = match disk.calls().get(made..) {
+        Some(calls) => calls,
+        None => &[],
+    };
+    if let Some(count) = wanted.count {
+        let wanted = call_number(count, each, 0).to_string(alloc)?;
+        let came = calls.len().to_string(alloc)?;
+        report.compare(
+            alloc,
+            "how many calls of the disk",
+            wanted.as_str(),
+            came.as_str(),
+        )?;
+    }
+    if let Some(texts) = &wanted.calls {
+        let has_reads = texts.iter().any(|text| is_read(text.as_str()));
+        let came = call_texts(alloc, calls, has_reads)?;
+        let came = format!(in alloc; "{came:?}")?;
+        let wanted = format!(in alloc; "{texts:?}")?;
+        report.compare(alloc, "calls of the disk", wanted.as_str(), came.as_str())?;
+    }
+    Ok(())
+}
+
+/// Calls the program over a disk, for the number `each`, and judges what came.
+pub(crate) fn judge_run<P: Program>(
+    alloc: Global,
+    program: &P,
+    run: &Run,
+    each: u64,
+    disk: &mut MemDisk,
+    report: &mut Report,
+) -> Result<(), NoMemory> {
+    let made = disk.calls().len();
+    plan_disk(alloc, &run.plan, each, disk)?;
+    let mut source = MemSource::new(run.input.clone()?);
+    source.fail_at(call_numbers(alloc, &run.plan.source, each, 0)?);
+    let mut sink = MemSink::new(alloc);
+    sink.fail_at(call_numbers(alloc, &run.plan.sink, each, 0)?);
+    let status = program.call(&run.words, disk, &mut source, &mut sink);
+    clear_plan(alloc, disk);
+    let wanted = run.wanted.status.to_string(alloc)?;
+    let came = status.to_string(alloc)?;
+    report.compare(alloc, "status", wanted.as_str(), came.as_str())?;
+    judge_put(alloc, &run.wanted.put, sink.bytes(), report)?;
+    judge_calls(alloc, &run.wanted, each, disk, made, report)
+}

@@ -1,5 +1,0 @@
-use Rattle.qg_commit.proofs.Samples.{AreSlotsTo}
-use Rattle.qg_commit.proofs.tests.free_slots.Given as goal
-
-abbrev pub invariant-loop-number : goal.invariant-loop-number
-invariant-loop-number l = AreSlotsTo l.number l.slots.items
