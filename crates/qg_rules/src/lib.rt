@@ -9,4 +9,4 @@ mod roots;
 pub use files::{LARGEST_SIZE, read_files};
 pub use parts::FileParts;
 pub use quota::{QuotaFault, read_quota};
-pub use roots::{are_roots, root_of, subvolume_roots};
+pub use roots::{are_roots, root_of};

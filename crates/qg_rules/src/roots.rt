@@ -1,17 +1,15 @@
 // The rule on the root tree.
-ghost use Rattle.std.specs.Prelude.{◌≡◌, ◌==◌, ◌||◌, ℕ, not, IfOk};
+ghost use Rattle.std.specs.Prelude.{◌≡◌, ◌==◌, ◌||◌, ℕ, not};
 ghost use Rattle.std.specs.List.{list_all};
 ghost use Rattle.qg_image.specs.Table.{has_key, value_at};
-ghost use Rattle.qg_verdict.specs.ImageState.{subvolume_roots};
 ghost use Rattle.qg_verdict.specs.Verdict.{are_roots};
 ghost use Rattle.qg_rules.specs.Roots.{is_alone};
 
 use qg_image::RootPart;
 use qg_items::RootItem;
 use qg_items::tree::{EXTENT_TREE, QUOTA_TREE, TOP_LEVEL};
-use qg_num::{NoMemory, RootId, Sequence};
+use qg_num::RootId;
 use qg_parts::is_subvolume_number;
-use std::alloc::Global;
 
 /// Whether the trees that must be there are, and no others than are served (rule `root`).
 #[tactic(auto, unfolding(qg_verdict::specs::Verdict::are_roots))]
@@ -34,19 +32,6 @@ pub fn root_of(tree: RootId, parts: &[RootPart]) -> Option<RootItem>
         }
     }
     None
-}
-
-/// The ROOT_ITEMs of subvolumes, in the order of the items, unless memory is refused.
-pub fn subvolume_roots(alloc: Global, parts: &[RootPart]) -> Result<Sequence<RootPart>, NoMemory>
-    ensures { IfOk result (λ roots. roots ≡ subvolume_roots parts.now) }
-{
-    let mut roots = Sequence::new(alloc);
-    for part in parts {
-        if is_subvolume_number(part.0.value()) {
-            roots.push(*part)?;
-        }
-    }
-    Ok(roots)
 }
 
 fn has_root(tree: u64, parts: &[RootPart]) -> bool
