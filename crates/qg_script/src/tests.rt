@@ -33,11 +33,11 @@ fn a_script_has_its_lines(rt: HostRuntime) -> Result<(), Fail> {
         let mut source = MemSource::new(script.to_vec(rt.alloc())?);
         let mut feed = Feed::new(rt.alloc());
         for line in lines {
-            let found = next_line(&mut source, &mut feed)?;
+            let found = next_line(&mut feed, &mut source)?;
             assert!(rt; is_line(&found, line), "{script:?}: {found:?}");
         }
         for _ in 0..2 {
-            let found = next_line(&mut source, &mut feed)?;
+            let found = next_line(&mut feed, &mut source)?;
             assert!(rt; found.is_none(), "{script:?}: {found:?}");
         }
     }
@@ -62,13 +62,13 @@ fn a_fault_in_a_line_loses_no_byte(rt: HostRuntime) -> Result<(), Fail> {
         Some(b"ls 5 257"),
     ];
     for (call, line) in lines.into_iter().enumerate() {
-        match (next_line(&mut source, &mut feed), line) {
+        match (next_line(&mut feed, &mut source), line) {
             (Ok(found), Some(line)) => assert!(rt; is_line(&found, line), "call {call}"),
             (Err(fault), None) => assert_eq!(rt; fault, LineFault::Source, "call {call}"),
             _ => panic!(rt; "call {call}"),
         }
     }
-    assert!(rt; next_line(&mut source, &mut feed)?.is_none());
+    assert!(rt; next_line(&mut feed, &mut source)?.is_none());
     Ok(())
 }
 
