@@ -12,15 +12,12 @@ pub record ReadsLine (result : Result (Option Line) LineFault) (old new : Feedin
   -- the line is the first of what was pending, and there is none exactly where nothing was
   pub line : IfOk result (λ found. IfSome found (λ line. TakesLine (pending old before) (pending new after) (line_bytes line)))
   pub over : IfOk result (λ found. IfNone found (IsOver (pending old before) (pending new after) new.rest))
-
   -- no byte is lost where there is no line
   pub err : OnErr result (pending new after ≡ pending old before)
   pub too_long : result ≡ Err TooLong → IsTooLong new
   pub past : IsTooLong old → (result ≡ Err TooLong) × (new ≡ old)
-
   -- a line that is held whole is handed out
   pub held : HoldsLine old → IsOkAnd result (λ found. IsSomeAnd found (λ line. HandsOutHeld old new (line_bytes line)))
-
   -- how many bytes are taken and handed out
   pub counted : CountsTaken before after old.taken new.taken
   pub no_fewer : old.taken ≤ new.taken

@@ -16,19 +16,21 @@ use std::marker::Model;
 /// The most bytes that a script may have.
 const LONGEST_SCRIPT: u64 = 67108864;
 
-/// The most bytes that a feed may hold: one more than a script may have.
-const MOST_HELD: usize = 67108865;
+/// The most bytes that a buffer has: one more than a script may have.
+const LONGEST_BUFFER: usize = LONGEST_SCRIPT as usize + 1;
 
-/// The bytes that a feed first has room for.
-const FIRST_ROOM: usize = 8192;
+/// The bytes that a buffer has at first.
+const FIRST_BUFFER: usize = 8192;
 
 /// What was taken of a source and not handed out yet as lines (this project's own). A contract sees
 /// how many bytes were taken, and those of them that were not handed out.
 ///
-/// The source writes straight into the bytes behind `filled`, and a line is lent as it lies there, so
-/// each byte is copied once. What is held moves to the front only when no room is left behind it. Where
-/// it is half of the bytes or more, these are doubled first, so at least half of them are free after
-/// each move: before the next one, half as many bytes are taken anew as are moved at most.
+/// These are the bytes of a buffer from `handed` to `filled`. The source writes straight behind them, and
+/// a line is lent as it lies there, so no byte of it is copied again. They move to the front only where no
+/// room is left behind them, and where they fill half of the buffer or more, it is doubled first. So half
+/// of it is free after each move, but for one to the longest buffer, which no script fills. That half is
+/// taken before the next move, which copies each byte of the buffer twice at most: for each byte that is
+/// taken, four are copied at most on average, however long the lines are.
 #[derive(Drop)]
 pub struct Feed {
     bytes: Vec<u8>,
@@ -117,7 +119,7 @@ impl Feed {
     }
 }
 
-// Makes room behind what is held from `start` to `end`, and answers where that begins then: where no byte is free there, it moves to the front.
+// Makes room in a buffer behind what it holds from `start` to `end`, and answers where that begins then.
 fn make_room(bytes: &mut Vec<u8>, start: usize, end: usize) -> Result<usize, AllocError>
     requires order { start ≤ end }
     requires bound { end ≤ vec_len bytes.old }
@@ -135,13 +137,13 @@ fn make_room(bytes: &mut Vec<u8>, start: usize, end: usize) -> Result<usize, All
     }
     let held = end - start;
     if held >= size / 2 {
-        bytes.resize((2 * size).clamp(FIRST_ROOM, MOST_HELD), 0)?;
+        bytes.resize((2 * size).clamp(FIRST_BUFFER, LONGEST_BUFFER), 0)?;
     }
     bytes.copy_within(start..end, 0);
     Ok(0)
 }
 
-// Takes bytes of a source into those from `start` to `end`, and answers how many.
+// Takes bytes of a source into those of a buffer from `start` to `end`, and answers how many.
 fn take_between<S: Source>(
     source: &mut S,
     bytes: &mut Vec<u8>,

@@ -45,6 +45,23 @@ fn a_script_has_its_lines(rt: HostRuntime) -> Result<(), Fail> {
 }
 
 #[test]
+fn a_line_that_two_takes_share_is_whole(rt: HostRuntime) -> Result<(), Fail> {
+    // The first take has 910 lines of nine bytes, and two bytes of the next.
+    let mut script = Vec::new(rt.alloc());
+    for _ in 0..1000 {
+        script.extend_from_slice(b"ls 5 257\n")?;
+    }
+    let mut source = MemSource::new(script);
+    let mut feed = Feed::new(rt.alloc());
+    for call in 0..1000 {
+        let found = next_line(&mut feed, &mut source)?;
+        assert!(rt; is_line(&found, b"ls 5 257"), "call {call}");
+    }
+    assert!(rt; next_line(&mut feed, &mut source)?.is_none());
+    Ok(())
+}
+
+#[test]
 fn a_fault_in_a_line_loses_no_byte(rt: HostRuntime) -> Result<(), Fail> {
     let long = vec![in rt.alloc(); b'a'; 20000]?;
     let mut script = b"show\n".to_vec(rt.alloc())?;
