@@ -61,7 +61,7 @@ fn turn<L: Ledger, M: Ledger, D: Disk, S: Source, K: Sink>(
     ensures sink_cause { HasCause Status.Sink (K.faults sink.old) (K.faults sink.new) result }
     ensures disk_cause { HasCause Status.Disk (D.faults disk.old) (D.faults disk.new) result }
 {
-    let Some(line) = next_line(source, feed)? else {
+    let Some(line) = next_line(feed, source)? else {
         return Ok(false);
     };
     answer_line(alloc, session, disk, line.as_slice(), text)?;

@@ -6,7 +6,7 @@ use Rattle.std.proofs.lemmas.Bool.{cases_lt}
 use Rattle.std.proofs.lemmas.List.{append-nil, append_cancel_left, length-take, get_or-take, take_all, drop_all, nil_from_length}
 use Rattle.std.proofs.lemmas.List.Elements.{All-contains}
 use Rattle.qg_grammar.specs.ScriptText.{script_lines, longest_script}
-use Rattle.qg_script.specs.Feeding.{Feeding, IsWithinLimit, IsFirstNewline, HoldsLine, HandsOutHeld, TakesMore, within_limit}
+use Rattle.qg_script.specs.Feeding.{Feeding, IsWithinLimit, handed_out, IsFirstNewline, HoldsLine, HandsOutHeld, TakesMore, within_limit}
 use Rattle.qg_script.specs.Lines.{pending, TakesLine, CountsTaken}
 use Rattle.qg_script.proofs.FirstLine.{HasNoNewline, script_lines-newline, script_lines-last, at_newline}
 
@@ -66,7 +66,7 @@ front_passed bytes count from to passed more within k d low = elim (cases_lt k f
 
 -- a newline was found
 pub line_found : {start now : Feeding} {before after : Option (List ℕ)} {scanned end : ℕ} → IsScanned start now before after scanned
-    → IsFirstNewline (within_limit now) scanned end → TakesLine (pending start before) (pending (record now { rest = drop (end + 1) now.rest }) after) (take end now.rest)
+    → IsFirstNewline (within_limit now) scanned end → TakesLine (pending start before) (pending (handed_out now end) after) (take end now.rest)
 line_found {start} {now} {before} {after} {scanned} {end} so_far found =
     let count = longest_script - (now.taken - length now.rest) in
     let within : end < length now.rest = omega (arith, found.within, length-take count now.rest) in
@@ -85,7 +85,7 @@ newline_held start now bytes scanned held none from same holds =
 
 -- up to the first newline of what was held when the call began lies the line that is handed out
 pub held_found : (start now : Feeding) (scanned end : ℕ) → IsFirstNewline (within_limit now) scanned end → scanned ≡ 0 → now ≡ start
-    → HandsOutHeld start (record now { rest = drop (end + 1) now.rest }) (take end now.rest)
+    → HandsOutHeld start (handed_out now end) (take end now.rest)
 held_found start now scanned end found from same =
     let count = longest_script - (now.taken - length now.rest) in
     let within : end < length now.rest = omega (arith, found.within, length-take count now.rest) in
@@ -105,7 +105,7 @@ prepend_known-nil bytes (Some left) = refl
 pub rest_found : {start now new : Feeding} {before mid after : Option (List ℕ)} {scanned : ℕ} → IsScanned start now before mid scanned
     → AllWithin (λ byte. byte ≢ 10) (within_limit now) scanned (length (within_limit now)) → IsWithinLimit now → now.taken ≤ longest_script
     → TakesMore now new mid after 0 → length (within_limit now) ≢ 0
-    → TakesLine (pending start before) (pending (record new { rest = drop (length (within_limit now)) new.rest }) after) (take (length (within_limit now)) new.rest)
+    → TakesLine (pending start before) (pending (handed_out new (length (within_limit now))) after) (take (length (within_limit now)) new.rest)
 rest_found {start} {now} {new} {before} {mid} {after} {scanned} so_far none limit low more some =
     let all : within_limit now ≡ now.rest = take_all _ now.rest (omega (arith, limit.held)) in
     let nothing : more.bytes ≡ [] = nil_from_length more.bytes more.as_many in
@@ -115,7 +115,7 @@ rest_found {start} {now} {new} {before} {mid} {after} {scanned} so_far none limi
     prepend_known-nil now.rest after ∙ ap (prepend_known now.rest) (sym left) in
     let passed = front_passed now.rest (longest_script - (now.taken - length now.rest)) scanned (length (within_limit now)) so_far.passed none (omega arith) in
     let whole : take (length now.rest) now.rest ≡ now.rest = take_all (length now.rest) now.rest (omega arith) in
-    let over : drop (length now.rest) now.rest ≡ [] = drop_all (length now.rest) now.rest (omega arith) in
+    let over : drop (length now.rest + 1) now.rest ≡ [] = drop_all (length now.rest + 1) now.rest (omega arith) in
     let clean : HasNoNewline now.rest = subst HasNoNewline (ap (λ (xs : List ℕ). take (length xs) now.rest) all ∙ whole) passed in
     rw (all, kept, whole, over, ← so_far.same)
     (last_taken now.rest mid after now.taken new.taken (more.none_only_at_end refl) same (omega (arith, some, ap length all)) clean)

@@ -1,5 +1,5 @@
 -- What was taken of a source, as callers see it (this project's own).
-use Rattle.std.specs.Prelude.{◌≡◌, ◌≢◌, ℕ, ◌+◌, ◌-◌, ◌<◌, ◌≤◌, List, ◌∷◌, ◌++◌, length, take, slice_index, All, Contains, Option}
+use Rattle.std.specs.Prelude.{◌≡◌, ◌≢◌, ℕ, ◌+◌, ◌-◌, ◌<◌, ◌≤◌, List, ◌∷◌, ◌++◌, length, take, drop, slice_index, All, Contains, Option}
 use Rattle.std.specs.List.{AllWithin}
 use Rattle.std.specs.Io.KnownBytes.{prepend_known, IsAtEnd}
 use Rattle.qg_grammar.specs.ScriptText.{longest_script}
@@ -14,6 +14,17 @@ pub record IsWithinLimit (feeding : Feeding) : Type 0 where
   pub taken : feeding.taken ≤ longest_script + 1
   pub held : length feeding.rest ≤ feeding.taken
   pub handed_out : feeding.taken ≤ longest_script + length feeding.rest
+
+-- what a feed holds lies between two places of a buffer of so many bytes, which is no longer than the longest script asks for
+pub record IsFed (size handed filled : ℕ) (feeding : Feeding) : Type 0 where
+  pub order : handed ≤ filled
+  pub bound : filled ≤ size
+  pub short : size ≤ longest_script + 1
+  pub within : IsWithinLimit feeding
+
+-- a line that ends at a place is handed out, and the newline behind it, if one is held
+abbrev pub handed_out : Feeding → ℕ → Feeding
+handed_out feeding end = record feeding { rest = drop (end + 1) feeding.rest }
 
 -- the bytes held that lie within the longest script
 abbrev pub within_limit : Feeding → List ℕ

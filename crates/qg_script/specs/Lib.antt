@@ -1,5 +1,7 @@
 pub mod Feeding
+pub mod LineBytes
 pub mod Lines
+pub mod ReadLine
 pub mod Reading
 pub mod ServedLines
 pub mod Added

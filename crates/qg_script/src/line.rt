@@ -1,34 +1,26 @@
 // A line as its bytes.
 ghost use Rattle.std.specs.Prelude.{◌≡◌};
 
-use std::marker::Model;
-
-/// A line of a script, without its newline (this project's own). A contract sees its bytes.
+/// A line of a script, without its newline, as the feed that holds it lends it (this project's own).
 #[derive(Debug, Drop)]
-pub struct Line {
-    bytes: Vec<u8>,
+pub struct Line<'a> {
+    bytes: &'a [u8],
 }
 
-impl Model for Line {
-    ghost use Rattle.std.specs.Prelude.{List, ℕ};
+impl<'a> Line<'a> {
+    ghost use Rattle.qg_script.specs.LineBytes.{line_bytes};
 
-    ghost Value = { List ℕ };
-
-    ghost view = { λ line. line.bytes.items };
-}
-
-impl Line {
     /// The line of these bytes.
-    pub(crate) fn new(bytes: Vec<u8>) -> Line
-        ensures { result ≡ bytes.items }
+    pub(crate) fn new(bytes: &'a [u8]) -> Line<'a>
+        ensures { line_bytes result ≡ bytes.now }
     {
         Line { bytes }
     }
 
     /// Its bytes.
-    pub fn as_slice(&self) -> &[u8]
-        ensures { result.now ≡ self.now }
+    pub fn as_slice(&self) -> &'a [u8]
+        ensures { result.now ≡ line_bytes self.now }
     {
-        &self.bytes
+        self.bytes
     }
 }

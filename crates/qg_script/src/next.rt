@@ -1,9 +1,13 @@
 // The next line of a source.
-ghost use Rattle.std.specs.Prelude.{◌≡◌, ◌≢◌, ◌+◌, ◌≤◌, ◌<◌, length, Err, IfOk, IfErr, IfSome, IfNone, IsSomeAnd, OnOk, OnErr, OnSome};
+ghost use Rattle.std.specs.Prelude.{◌≡◌, ◌≢◌, ◌≤◌, ◌<◌, length, take, Err, IfOk, IfSome, IfNone, IsOkAnd, IsSomeAnd, OnErr};
+ghost use Rattle.std.specs.Borrow.{sem};
+ghost use Rattle.std.specs.Io.BufRead.{Rests};
 ghost use Rattle.std.specs.List.{AllWithin};
 ghost use Rattle.qg_device.specs.Cause.{HasCause};
-ghost use Rattle.qg_script.specs.Feeding.{IsWithinLimit, IsTooLong, IsFirstNewline, HoldsLine, HandsOutHeld, most_to_come};
+ghost use Rattle.qg_script.specs.Feeding.{IsWithinLimit, handed_out, IsTooLong, IsFirstNewline, HoldsLine, HandsOutHeld, most_to_come};
 ghost use Rattle.qg_script.specs.Lines.{pending, TakesLine, IsOver, CountsTaken};
+ghost use Rattle.qg_script.specs.ReadLine.{ReadsLine};
+ghost use Rattle.qg_script.specs.contracts.feed.Feed.{the_row};
 
 use crate::{Feed, Line, LineFault};
 use qg_edge::Source;
@@ -21,40 +25,36 @@ fn newline_from(bytes: &[u8], from: usize) -> Option<usize>
     None
 }
 
-/// The next line of what is pending, which is what the feed holds and then what the source has left; `None` exactly where that is
-/// nothing (this project's own). A line that does not end within the first 67108864 bytes of the script is too long.
-pub fn next_line<S: Source>(source: &mut S, feed: &mut Feed) -> Result<Option<Line>, LineFault>
-    ensures line { IfOk result (λ found. IfSome found (λ line. TakesLine
-        (pending feed.old (S.bytes_left source.old)) (pending feed.new (S.bytes_left source.new)) line)) }
+// Where the next line ends in what the feed then holds: at its first newline, or at the end of it; `None` exactly where nothing is
+// pending.
+fn line_end<S: Source>(feed: &mut Feed, source: &mut S) -> Result<Option<usize>, LineFault>
+    ensures bound { IfOk result (λ found. IfSome found (λ end. end ≤ length feed.new.rest)) }
+    ensures handed { IfOk result (λ found. IfSome found (λ end. IsWithinLimit (handed_out feed.new end))) }
+    ensures line { IfOk result (λ found. IfSome found (λ end. TakesLine
+        (pending feed.old (S.bytes_left source.old)) (pending (handed_out feed.new end) (S.bytes_left source.new))
+        (take end feed.new.rest))) }
     ensures over { IfOk result (λ found. IfNone found (IsOver
         (pending feed.old (S.bytes_left source.old)) (pending feed.new (S.bytes_left source.new)) feed.new.rest)) }
-
-    // No byte is lost where there is no line.
     ensures err { OnErr result
         (pending feed.new (S.bytes_left source.new) ≡ pending feed.old (S.bytes_left source.old)) }
     ensures too_long { result ≡ Err LineFault.TooLong → IsTooLong feed.new }
     ensures past { IsTooLong feed.old → (result ≡ Err LineFault.TooLong) × (feed.new ≡ feed.old) }
     ensures cause { HasCause LineFault.Source (S.faults source.old) (S.faults source.new) result }
-
-    // A line that is held whole is handed out before the source is asked for more.
-    ensures held { HoldsLine feed.old → IfOk result (λ found. IsSomeAnd found (λ line.
-        HandsOutHeld feed.old feed.new line)) }
-    ensures held_err { HoldsLine feed.old → IfErr result (λ fault.
-        (fault ≡ LineFault.NoMemory) × (feed.new ≡ feed.old)) }
+    ensures held { HoldsLine feed.old → IsOkAnd result (λ found. IsSomeAnd found (λ end.
+        HandsOutHeld feed.old (handed_out feed.new end) (take end feed.new.rest))) }
     ensures not_asked { HoldsLine feed.old → source.new ≡ source.old }
-
-    // How many bytes are taken and handed out.
     ensures counted { CountsTaken
         (S.bytes_left source.old) (S.bytes_left source.new) feed.old.taken feed.new.taken }
     ensures no_fewer { feed.old.taken ≤ feed.new.taken }
     ensures within { IsWithinLimit feed.new }
-    ensures shrinks { IfOk result (λ found. OnSome found (most_to_come feed.new < most_to_come feed.old)) }
+    ensures shrinks { IfOk result (λ found. IfSome found (λ end.
+        most_to_come (handed_out feed.new end) < most_to_come feed.old)) }
 {
     let mut scanned = 0;
     loop {
         let bytes = feed.within_limit();
         if let Some(end) = newline_from(bytes, scanned) {
-            return Ok(Some(feed.cut(end, end + 1)?));
+            return Ok(Some(end));
         }
         scanned = bytes.len();
         if feed.is_past() {
@@ -64,7 +64,27 @@ pub fn next_line<S: Source>(source: &mut S, feed: &mut Feed) -> Result<Option<Li
             if scanned == 0 {
                 return Ok(None);
             }
-            return Ok(Some(feed.cut(scanned, scanned)?));
+            return Ok(Some(scanned));
         }
+    }
+}
+
+/// The next line of what is pending, which is what the feed holds and then what the source has left; `None` exactly where that is
+/// nothing (this project's own). A line that does not end within the first 67108864 bytes of the script is too long. The feed lends
+/// the line, and takes nothing more before it is let go.
+pub fn next_line<'a, S: Source>(
+    feed: &'a mut Feed,
+    source: &mut S,
+) -> Result<Option<Line<'a>>, LineFault>
+    ensures* reads { sem 𝓛 (Rests the_row feed.entry (λ left.
+        ReadsLine result feed.entry.now left (S.bytes_left source.old) (S.bytes_left source.new))) }
+    ensures cause { HasCause LineFault.Source (S.faults source.old) (S.faults source.new) result }
+
+    // A line that is held whole is handed out before the source is asked for more.
+    ensures not_asked { HoldsLine feed.old → source.new ≡ source.old }
+{
+    match line_end(feed, source)? {
+        Some(end) => Ok(Some(Line::new(feed.hand_out(end)))),
+        None => Ok(None),
     }
 }

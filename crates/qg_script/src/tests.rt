@@ -33,14 +33,31 @@ fn a_script_has_its_lines(rt: HostRuntime) -> Result<(), Fail> {
         let mut source = MemSource::new(script.to_vec(rt.alloc())?);
         let mut feed = Feed::new(rt.alloc());
         for line in lines {
-            let found = next_line(&mut source, &mut feed)?;
+            let found = next_line(&mut feed, &mut source)?;
             assert!(rt; is_line(&found, line), "{script:?}: {found:?}");
         }
         for _ in 0..2 {
-            let found = next_line(&mut source, &mut feed)?;
+            let found = next_line(&mut feed, &mut source)?;
             assert!(rt; found.is_none(), "{script:?}: {found:?}");
         }
     }
+    Ok(())
+}
+
+#[test]
+fn a_line_that_two_takes_share_is_whole(rt: HostRuntime) -> Result<(), Fail> {
+    // The first take has 910 lines of nine bytes, and two bytes of the next.
+    let mut script = Vec::new(rt.alloc());
+    for _ in 0..1000 {
+        script.extend_from_slice(b"ls 5 257\n")?;
+    }
+    let mut source = MemSource::new(script);
+    let mut feed = Feed::new(rt.alloc());
+    for call in 0..1000 {
+        let found = next_line(&mut feed, &mut source)?;
+        assert!(rt; is_line(&found, b"ls 5 257"), "call {call}");
+    }
+    assert!(rt; next_line(&mut feed, &mut source)?.is_none());
     Ok(())
 }
 
@@ -62,13 +79,13 @@ fn a_fault_in_a_line_loses_no_byte(rt: HostRuntime) -> Result<(), Fail> {
         Some(b"ls 5 257"),
     ];
     for (call, line) in lines.into_iter().enumerate() {
-        match (next_line(&mut source, &mut feed), line) {
+        match (next_line(&mut feed, &mut source), line) {
             (Ok(found), Some(line)) => assert!(rt; is_line(&found, line), "call {call}"),
             (Err(fault), None) => assert_eq!(rt; fault, LineFault::Source, "call {call}"),
             _ => panic!(rt; "call {call}"),
         }
     }
-    assert!(rt; next_line(&mut source, &mut feed)?.is_none());
+    assert!(rt; next_line(&mut feed, &mut source)?.is_none());
     Ok(())
 }
 

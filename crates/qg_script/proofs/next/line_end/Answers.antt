@@ -2,18 +2,18 @@ use Rattle.std.proofs.Common.{◌≤◌, arith}
 use Rattle.std.proofs.lemmas.Grind.{common_steps}
 use Rattle.qg_grammar.specs.ScriptText.{longest_script}
 use Rattle.qg_script.proofs.Scanning.{line_found, rest_found, newline_held, held_found}
-use Rattle.qg_script.proofs.next.next_line.Goals as goal
+use Rattle.qg_script.proofs.next.line_end.Goals as goal
 
 pub returns-in-Some-clause-line : goal.returns-in-Some-clause-line
 returns-in-Some-clause-line g c =
     let found = rw c.within_limit-bytes.ensures.bytes at c.in-Some.ensures.found in
-    rw (c.in_ok-cut.ensures.line, c.in_ok-cut.ensures.rest) (line_found c.loop-end.invariant.scanned found)
+    line_found c.loop-end.invariant.scanned found
 
 pub returns-in-Some-clause-held : goal.returns-in-Some-clause-held
 returns-in-Some-clause-held g c = λ holds.
     let start = c.loop-end.invariant.held holds in
     let found = rw c.within_limit-bytes.ensures.bytes at c.in-Some.ensures.found in
-    rw (c.in_ok-cut.ensures.line, c.in_ok-cut.ensures.rest) (held_found _ _ _ _ found start.0 start.1)
+    held_found _ _ _ _ found start.0 start.1
 
 pub returns-then-branch-eq0-clause-line : goal.returns-then-branch-eq0-clause-line
 returns-then-branch-eq0-clause-line g c =
@@ -21,7 +21,7 @@ returns-then-branch-eq0-clause-line g c =
     let more = rw c.if-branch-eq0.true at c.in_ok-fill.ensures.takes in
     let low : c.loop-end.feed.taken ≤ longest_script = grind arith in
     let some = rw c.within_limit-bytes.ensures.bytes at c.if-scanned-eq0.false in
-    rw (c.in_ok-cut-2.ensures.line, c.in_ok-cut-2.ensures.rest, c.within_limit-bytes.ensures.bytes)
+    rw c.within_limit-bytes.ensures.bytes
     (rest_found c.loop-end.invariant.scanned none c.within_limit-bytes.ensures.within low more some)
 
 pub loop-end-preserved : goal.loop-end-preserved

@@ -1,7 +1,7 @@
 use Rattle.std.proofs.Common.{◌≡◌, ◌-◌, ◌≤◌}
 use Rattle.qg_script.specs.Feeding.{HoldsLine}
 use Rattle.qg_script.proofs.Scanning.{IsScanned}
-use Rattle.qg_script.proofs.next.next_line.Given as goal
+use Rattle.qg_script.proofs.next.line_end.Given as goal
 
 abbrev pub invariant-loop-end : goal.invariant-loop-end
 invariant-loop-end g l = record {

@@ -1,0 +1,25 @@
+-- What a call that reads a line does (this project's own).
+use Rattle.std.specs.Prelude.{◌≡◌, ℕ, ◌≤◌, ◌<◌, List, Option, Result, Err, IfOk, IfSome, IfNone, IsOkAnd, IsSomeAnd, OnErr, OnSome}
+use Rattle.qg_script.specs.declared.fault.LineFault.{LineFault}
+use Rattle.qg_script.specs.declared.fault.LineFault.TheVariants.{TooLong}
+use Rattle.qg_script.specs.declared.line.Line.{Line}
+use Rattle.qg_script.specs.Feeding.{Feeding, IsWithinLimit, IsTooLong, HoldsLine, HandsOutHeld, most_to_come}
+use Rattle.qg_script.specs.LineBytes.{line_bytes}
+use Rattle.qg_script.specs.Lines.{pending, TakesLine, IsOver, CountsTaken}
+
+-- the result of a call, by the feed and what its source has left: before the call, and once the line is let go
+pub record ReadsLine (result : Result (Option Line) LineFault) (old new : Feeding) (before after : Option (List ℕ)) : Type 0 where
+  -- the line is the first of what was pending, and there is none exactly where nothing was
+  pub line : IfOk result (λ found. IfSome found (λ line. TakesLine (pending old before) (pending new after) (line_bytes line)))
+  pub over : IfOk result (λ found. IfNone found (IsOver (pending old before) (pending new after) new.rest))
+  -- no byte is lost where there is no line
+  pub err : OnErr result (pending new after ≡ pending old before)
+  pub too_long : result ≡ Err TooLong → IsTooLong new
+  pub past : IsTooLong old → (result ≡ Err TooLong) × (new ≡ old)
+  -- a line that is held whole is handed out
+  pub held : HoldsLine old → IsOkAnd result (λ found. IsSomeAnd found (λ line. HandsOutHeld old new (line_bytes line)))
+  -- how many bytes are taken and handed out
+  pub counted : CountsTaken before after old.taken new.taken
+  pub no_fewer : old.taken ≤ new.taken
+  pub within : IsWithinLimit new
+  pub shrinks : IfOk result (λ found. OnSome found (most_to_come new < most_to_come old))
