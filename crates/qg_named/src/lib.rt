@@ -7,5 +7,3 @@ mod tally;
 
 pub use named::{Named, named_of};
 
-#[cfg(test)]
-mod tests;

@@ -7,4 +7,3 @@ pub mod Levels
 pub mod Growing
 pub mod Counts
 pub mod Whole
-pub mod Samples

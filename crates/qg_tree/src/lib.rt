@@ -5,7 +5,5 @@ mod building;
 mod cut;
 mod part;
 mod row;
-#[cfg(test)]
-mod tests;
 
 pub use building::{Built, build};
