@@ -16,8 +16,7 @@ use qg_node::{Body, Header, Item, Items, Node, write_node};
 use qg_num::{Address, Generation, GroupId, Key, RootId, Rule, Which};
 use qg_state::Element;
 use qg_super::{FIRST_PLACE, SECOND_PLACE, SUPER_BYTES, Super, write_super};
-use qg_verdict::Failure;
-use qg_walk::WalkFault;
+use qg_walk::OpenFault;
 use std::alloc::{AllocError, Global};
 use std::process::Abort;
 use std::test::Fail;
@@ -467,8 +466,8 @@ const BROKEN: [(Rule, u64, Plan); 15] = [
 fn first_rule_that_is_broken(rt: HostRuntime) -> Result<(), Fail> {
     let alloc = rt.alloc();
     let mut empty = MemDisk::new(alloc);
-    let failure = broken_at(Rule::Super, 65536);
-    assert!(rt; read_image(alloc, &mut empty).err() == Some(failure));
+    let fault = broken_at(Rule::Super, 65536);
+    assert!(rt; read_image(alloc, &mut empty).err() == Some(fault));
     for (rule, place, plan) in BROKEN {
         let mut disk = image_of(&rt, alloc, &plan)?;
         let answer = read_image(alloc, &mut disk).err();
@@ -477,11 +476,11 @@ fn first_rule_that_is_broken(rt: HostRuntime) -> Result<(), Fail> {
     Ok(())
 }
 
-fn broken_at(rule: Rule, place: u64) -> WalkFault {
-    WalkFault::Unsound(Failure::Broken {
+fn broken_at(rule: Rule, place: u64) -> OpenFault {
+    OpenFault::Broken {
         rule,
         address: Address::new(place),
-    })
+    }
 }
 
 // Counters that are stored, and which of them is told.
@@ -502,14 +501,14 @@ fn counters_that_differ(rt: HostRuntime) -> Result<(), Fail> {
             ..FRESH
         };
         let mut disk = image_of(&rt, rt.alloc(), &plan)?;
-        let failure = Failure::Differs {
+        let fault = OpenFault::Differs {
             group: GroupId::from_number(5),
             which,
             stored,
             counted: 4096,
         };
         let answer = read_image(rt.alloc(), &mut disk).err();
-        assert!(rt; answer == Some(WalkFault::Unsound(failure)));
+        assert!(rt; answer == Some(fault));
     }
     Ok(())
 }

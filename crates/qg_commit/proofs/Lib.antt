@@ -13,5 +13,4 @@ pub mod Samples
 pub mod FreshNodes
 pub mod Made
 pub mod MakingCalls
-pub mod Refused
 pub mod Touched

@@ -11,6 +11,7 @@ mod tests;
 mod write;
 
 pub use committing::commit;
-pub use fault::{MkfsFault, OpenFault};
+pub use fault::MkfsFault;
 pub use making::mkfs;
 pub use opening::open;
+pub use qg_walk::OpenFault;

@@ -11,8 +11,9 @@ ghost use Rattle.qg_grammar.specs.Served.{is_served_command};
 ghost use Rattle.qg_state.specs.State.{State};
 ghost use Rattle.qg_verdict.specs.StateOf.{StateOf};
 ghost use Rattle.qg_verdict.specs.Verdict.{verdict};
+ghost use Rattle.qg_walk.specs.Fault.{TellsFailure};
 ghost use Rattle.qg_commit.specs.Opened.{IsOpened, IsOpening};
-ghost use Rattle.qg_commit.specs.Opening.{IsRefusal, IsUntouched};
+ghost use Rattle.qg_commit.specs.Opening.{IsUntouched};
 ghost use Rattle.qg_store.specs.Answering.{Answers, AnswersOn, IsDoneSoFar, comes_to_disk, is_unchanging};
 ghost use Rattle.qg_store.specs.Keeping.{IsKept, IsKeptOf};
 ghost use Rattle.qg_store.specs.Stored.{ComesToDisk, IsStoreOf, Stops, sizes_stored};
@@ -28,7 +29,7 @@ use crate::unlinking::unlink;
 use crate::writing::write;
 use qg_commit::{OpenFault, open};
 use qg_disk::Disk;
-use qg_num::{Answer, BlockFault, Command, Generation, NoMemory, Steps, Stop};
+use qg_num::{Answer, BlockFault, Command, Generation, Steps, Stop};
 use std::alloc::Global;
 use std::marker::Model;
 use std::sync::ledger::Ledger;
@@ -62,7 +63,7 @@ impl Store {
             → StateOf (content events) state
             → IfOk result (λ store. IsStoreOf store state) }
         ensures refused { (events : List Event) → D.history disk.old ≡ Some events
-            → IfErr result (λ fault. IsRefusal fault (verdict (content events))) }
+            → IfErr result (λ fault. TellsFailure fault (verdict (content events))) }
         ensures repaired { (events : List Event) → D.history disk.old ≡ Some events
             → IfOk result (λ store. IsOpened events (D.history disk.new)) }
         ensures unwritten { (events : List Event) → D.history disk.old ≡ Some events
@@ -76,13 +77,11 @@ impl Store {
         ensures cause { HasCause OpenFault.Disk (D.faults disk.old) (D.faults disk.new) result }
     {
         let image = open(alloc, disk)?;
-        match kept_of(alloc, image) {
-            Ok(kept) => Ok(Store {
-                kept,
-                stopped: None,
-            }),
-            Err(NoMemory) => Err(OpenFault::NoMemory),
-        }
+        let kept = kept_of(alloc, image)?;
+        Ok(Store {
+            kept,
+            stopped: None,
+        })
     }
 
     /// Does a command or refuses it, by one step of the machine (this project's own). Served are `write`, `clone`,

@@ -13,7 +13,7 @@ use qg_node::{Body, Header, Item, Items, Node, Pointer, Pointers, write_node};
 use qg_num::{Address, Generation, Key, RootId, Rule, Sequence};
 use qg_parts::TreePart;
 use qg_super::Super;
-use qg_verdict::{Expected, Failure};
+use qg_verdict::Expected;
 use std::alloc::{AllocError, Global};
 use std::process::Abort;
 use std::test::Fail;
@@ -235,7 +235,7 @@ fn walk_held(
     alloc: Global,
     level: Option<u8>,
     root: u64,
-) -> Result<Walked<Sequence<Held>>, WalkFault> {
+) -> Result<Walked<Sequence<Held>>, OpenFault> {
     let expected = Expected {
         level,
         generation: None,
@@ -312,18 +312,15 @@ fn sound_trees(rt: HostRuntime) -> Result<(), Fail> {
         let mut disk = disk_of(&rt, alloc, &SOUND)?;
         disk.fail_at(vec![in alloc; number]?);
         let failed = walk_held(&rt, &mut disk, alloc, Some(1), ROOT);
-        assert!(rt; matches!(failed, Err(WalkFault::Disk)), "at {number}");
+        assert!(rt; matches!(failed, Err(OpenFault::Disk)), "at {number}");
     }
     Ok(())
 }
 
-// The first rule that the tree breaks which a plan makes, and its address.
-fn first_broken(rt: &impl Abort, alloc: Global, plan: &Plan) -> Result<Option<Failure>, Fail> {
+// Why the tree which a plan makes is not sound.
+fn fault_of(rt: &impl Abort, alloc: Global, plan: &Plan) -> Result<Option<OpenFault>, Fail> {
     let mut disk = disk_of(rt, alloc, plan)?;
-    match walk_held(rt, &mut disk, alloc, plan.level, ROOT) {
-        Err(WalkFault::Unsound(failure)) => Ok(Some(failure)),
-        _ => Ok(None),
-    }
+    Ok(walk_held(rt, &mut disk, alloc, plan.level, ROOT).err())
 }
 
 // Each plan breaks this rule at this address.
@@ -336,9 +333,9 @@ fn each_breaks(
 ) -> Result<(), Fail> {
     let address = Address::new(address);
     for plan in plans {
-        let failure = first_broken(rt, alloc, plan)?;
+        let fault = fault_of(rt, alloc, plan)?;
         assert!(rt;
-            failure == Some(Failure::Broken { rule, address }),
+            fault == Some(OpenFault::Broken { rule, address }),
             "{rule:?}"
         );
     }

@@ -62,4 +62,4 @@ returns-in-Err-Rule-clause-failure g c = λ events extents told named.
     subst (λ (fault : QuotaFault). IfRule fault (λ rule. quota_rule (c.new.result ∷ []) c.as_slice.result.now ≡ Some rule)) c.in-Err-Rule.field-0-is c.in-Err-Rule.ensures.refused in
     let broken_rule : quota_rule (5 ∷ []) c.as_slice.result.now ≡ Some c.in-Err-Rule.rule =
     subst (λ (n : ℕ). quota_rule (n ∷ []) c.as_slice.result.now ≡ Some c.in-Err-Rule.rule) c.new.ensures refused in
-    rw (c.broken.ensures, walk.sound, named.only, parts) (quota_rule_told (5 ∷ []) c.as_slice.result.now c.in-Err-Rule.rule root.bytenr broken_rule)
+    rw (walk.sound, named.only, parts) (quota_rule_told (5 ∷ []) c.as_slice.result.now c.in-Err-Rule.rule root.bytenr broken_rule)

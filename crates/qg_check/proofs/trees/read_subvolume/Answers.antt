@@ -39,7 +39,7 @@ pub returns-in_default-clause-failure : goal.returns-in_default-clause-failure
 returns-in_default-clause-failure g c = λ events told.
     let walk = walk_of c.args.superblock.now (content events) c.args.root.now c.root_told.result c.in_ok-walked.walked.parts c.in_ok-walked.walked.nodes c.root_told.ensures (c.in_ok-walked.ensures.found events told) in
     let parts = parts_of c.args.superblock.now (content events) c.args.root.now c.in_ok-walked.walked.parts c.in_ok-walked.walked.nodes walk in
-    rw (c.broken.ensures, walk.sound, parts, files_none c.in_ok-walked.walked.parts (sym (is_none c.in_ok-files.field-0 c.in_default.not-Some) ∙ c.in_ok-files.ensures)) refl
+    rw (walk.sound, parts, files_none c.in_ok-walked.walked.parts (sym (is_none c.in_ok-files.field-0 c.in_default.not-Some) ∙ c.in_ok-files.ensures)) refl
 
 pub returns-clause-failure : goal.returns-clause-failure
 returns-clause-failure g c = λ events told.
