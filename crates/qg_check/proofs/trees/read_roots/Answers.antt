@@ -11,6 +11,7 @@ use Rattle.qg_walk.specs.Held.{AreHeld}
 use Rattle.qg_check.specs.Trees.{AreNamed}
 use Rattle.qg_check.proofs.Passing.{copied_by}
 use Rattle.qg_check.proofs.Said.{roots_read}
+use Rattle.qg_check.proofs.Staging.{fails_handed, tells_first}
 use Rattle.qg_check.proofs.trees.read_roots.Goals as goal
 
 pub name_trees-requires : goal.name_trees-requires
@@ -45,3 +46,8 @@ returns-clause-copied g c =
     let held = subst (λ (roots : List (ℕ × RootItem)). AreHeld Roots root_part c.args.superblock.now.generation roots) (sym c.as_slice.ensures) c.in_ok-walked.ensures.held in
     let named : AreNamed c.as_slice.result.now c.in-Some.named.extents c.in-Some.named.quotas c.in-Some.named.files = c.in-Some.ensures.some in
     copied_by generation c.as_slice.result.now c.in-Some.named.files held named.only
+
+pub returns-in_err-walked-clause-failure : goal.returns-in_err-walked-clause-failure
+returns-in_err-walked-clause-failure g c = λ events told.
+    let fault = c.in_err-walked.field-0.0 in
+    fails_handed c.from_residual.result fault _ c.from_residual.ensures.1 (tells_first fault _ _ (c.in_err-walked.ensures.unsound events told))
