@@ -9,7 +9,7 @@ use Rattle.qg_super.specs.Places.{is_slot}
 use Rattle.qg_super.specs.SuperText.{is_super, sizes_of}
 use Rattle.qg_super.proofs.Served.{SuperFits-is_super}
 use Rattle.qg_verdict.specs.Verdict.{space_failure}
-use Rattle.qg_walk.specs.declared.fault.WalkFault.{WalkFault}
+use Rattle.qg_walk.specs.declared.fault.OpenFault.{OpenFault}
 use Rattle.qg_check.specs.declared.image.Image.{Image}
 use Rattle.qg_check.specs.declared.judge.Read.{Read}
 use Rattle.qg_check.specs.IsImage.{IsEditable, Keeps, extents_in}
@@ -59,7 +59,7 @@ read_editable super read image same keeps fit =
     kept_editable read image (subst (λ (s : Super). Keeps s read image) (sym same) keeps) (subst (λ (s : Super). IsFit s read) (sym same) fit)
 
 -- so is the answer, where it is an image
-pub answer_editable : (super : Super) (read : Read) (answer : Result Image WalkFault) → IfOk answer (λ image. image.superblock ≡ super) → IfOk answer (λ image. Keeps super read image)
+pub answer_editable : (super : Super) (read : Read) (answer : Result Image OpenFault) → IfOk answer (λ image. image.superblock ≡ super) → IfOk answer (λ image. Keeps super read image)
     → IsFit super read → IfOk answer (λ image. IsEditable image)
 answer_editable super read (Ok image) same keeps fit = read_editable super read image same keeps fit
 answer_editable super read (Err fault) same keeps fit = tt

@@ -2,32 +2,28 @@
 use Rattle.std.proofs.Common.{◌≡◌, List, ◌∷◌, refl, sym, ◌∙◌, subst}
 use Rattle.std.specs.Prelude.{Option, None, Result, Ok, Err}
 use Rattle.std.specs.Result.{IsErrAnd}
+use Rattle.std.proofs.lemmas.Option.{IfSome_then}
 use Rattle.qg_verdict.specs.declared.failure.Failure.{Failure}
 use Rattle.qg_verdict.specs.Failure.{first_failure}
-use Rattle.qg_walk.specs.declared.fault.WalkFault.{WalkFault}
-use Rattle.qg_walk.specs.declared.fault.WalkFault.TheVariants.{Unsound, Disk, NoMemory}
-use Rattle.qg_walk.specs.Fault.{TellsFailure, FailsAs}
+use Rattle.qg_walk.specs.declared.fault.OpenFault.{OpenFault}
+use Rattle.qg_walk.specs.Fault.{TellsFailure, FailsAs, failure_of}
 
 -- the failure of the first part is told
-pub tells_first : (fault : WalkFault) (first : Option Failure) (rest : List (Option Failure)) → TellsFailure fault first → TellsFailure fault (first_failure (first ∷ rest))
-tells_first (Unsound told) first rest h = rw h refl
-tells_first Disk first rest h = tt
-tells_first NoMemory first rest h = tt
+pub tells_first : (fault : OpenFault) (first : Option Failure) (rest : List (Option Failure)) → TellsFailure fault first → TellsFailure fault (first_failure (first ∷ rest))
+tells_first fault first rest h = IfSome_then (failure_of fault) h (λ told is. rw is refl)
 
 -- a part that has none is passed over
 pub pass_first : (first : Option Failure) (rest : List (Option Failure)) → first ≡ None → first_failure (first ∷ rest) ≡ first_failure rest
 pass_first first rest none = rw none refl
 
-pub tells_same : (fault : WalkFault) {a b : Option Failure} → a ≡ b → TellsFailure fault b → TellsFailure fault a
-tells_same (Unsound told) same h = same ∙ h
-tells_same Disk same h = tt
-tells_same NoMemory same h = tt
+pub tells_same : (fault : OpenFault) {a b : Option Failure} → a ≡ b → TellsFailure fault b → TellsFailure fault a
+tells_same fault same h = subst (TellsFailure fault) (sym same) h
 
 -- a call that hands on a fault fails as it tells
-pub fails_handed : {T : Type 0} (result : Result T WalkFault) (fault : WalkFault) (failure : Option Failure) → IsErrAnd result (λ given. given ≡ fault) → TellsFailure fault failure → FailsAs result failure
+pub fails_handed : {T : Type 0} (result : Result T OpenFault) (fault : OpenFault) (failure : Option Failure) → IsErrAnd result (λ given. given ≡ fault) → TellsFailure fault failure → FailsAs result failure
 fails_handed (Ok value) fault failure is told = absurd is
-fails_handed (Err given) fault failure is told = subst (λ (f : WalkFault). TellsFailure f failure) (sym is) told
+fails_handed (Err given) fault failure is told = subst (λ (f : OpenFault). TellsFailure f failure) (sym is) told
 
-pub fails_same : {T : Type 0} (result : Result T WalkFault) {a b : Option Failure} → a ≡ b → FailsAs result b → FailsAs result a
+pub fails_same : {T : Type 0} (result : Result T OpenFault) {a b : Option Failure} → a ≡ b → FailsAs result b → FailsAs result a
 fails_same (Ok value) same h = same ∙ h
 fails_same (Err fault) same h = tells_same fault same h

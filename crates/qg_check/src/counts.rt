@@ -13,28 +13,28 @@ use qg_reach::space_failure;
 use qg_state::{Element, Quota};
 use qg_super::Sizes;
 use qg_verdict::Failure;
-use qg_walk::WalkFault;
+use qg_walk::OpenFault;
 
 /// Judges where data extents lie.
-pub(crate) fn judge_extents(sizes: &Sizes, extents: &[Element]) -> Result<(), WalkFault>
+pub(crate) fn judge_extents(sizes: &Sizes, extents: &[Element]) -> Result<(), OpenFault>
     requires served { IsTrue (is_served sizes.now) }
     ensures failure { FailsAs result (space_failure sizes.now extents.now) }
-    ensures no_disk { IsErrOf result WalkFault.Disk → ⊥ }
+    ensures no_disk { IsErrOf result OpenFault.Disk → ⊥ }
 {
     match space_failure(sizes, extents) {
         None => Ok(()),
-        Some(failure) => Err(WalkFault::Unsound(failure)),
+        Some(failure) => Err(OpenFault::from(failure)),
     }
 }
 
 /// Judges the stored counters of groups, where each of them counts so many bytes, referenced and exclusive.
-pub(crate) fn judge_counts(quota: &Quota, bytes: u64) -> Result<(), WalkFault>
+pub(crate) fn judge_counts(quota: &Quota, bytes: u64) -> Result<(), OpenFault>
     ensures failure { (layout : Layout) → CountAll layout quota.now bytes → FailsAs result (counts_failure layout (Some quota.now)) }
-    ensures no_disk { IsErrOf result WalkFault.Disk → ⊥ }
+    ensures no_disk { IsErrOf result OpenFault.Disk → ⊥ }
 {
     for entry in quota.groups.as_slice() {
         if let Some(failure) = group_failure(entry.0, &entry.1.counters, bytes) {
-            return Err(WalkFault::Unsound(failure));
+            return Err(OpenFault::from(failure));
         }
     }
     Ok(())

@@ -16,7 +16,7 @@ use crate::trees::{FileTree, QuotaTree, Trees};
 use qg_num::{Address, NoMemory, Sequence};
 use qg_reach::{each_once, extents_of, reached_bytes};
 use qg_super::Super;
-use qg_walk::WalkFault;
+use qg_walk::OpenFault;
 use std::alloc::Global;
 
 /// What was read of the trees of an image.
@@ -30,7 +30,7 @@ pub struct Read {
 }
 
 /// Judges where extents lie and what the group counts, and keeps what the image stands for.
-pub(crate) fn judge_trees(alloc: Global, superblock: Super, read: Read) -> Result<Image, WalkFault>
+pub(crate) fn judge_trees(alloc: Global, superblock: Super, read: Read) -> Result<Image, OpenFault>
     requires served { IsTrue (is_served (sizes_of superblock)) }
     requires slots { IsTrue (list_all (is_slot (sizes_of superblock)) read.subvolume.nodes) }
     requires groups { keys_of read.quotas.quota.groups ≡ TOP_LEVEL ∷ [] }
@@ -38,7 +38,7 @@ pub(crate) fn judge_trees(alloc: Global, superblock: Super, read: Read) -> Resul
     ensures image { (bytes : List ℕ) → AreRead superblock bytes read → IfOk result (λ image. StandsFor superblock bytes image) }
     ensures superblock { IfOk result (λ image. image.superblock ≡ superblock) }
     ensures keeps { IfOk result (λ image. Keeps superblock read image) }
-    ensures no_disk { IsErrOf result WalkFault.Disk → ⊥ }
+    ensures no_disk { IsErrOf result OpenFault.Disk → ⊥ }
 {
     let Read {
         trees,

@@ -14,16 +14,16 @@ ghost use Rattle.qg_check.specs.IsImage.{IsEditable, IsImage, StandsFor};
 use crate::Image;
 use crate::judge::{Read, judge_trees};
 use crate::places::{Places, read_places};
-use crate::trees::{Trees, broken, read_extents, read_quotas, read_roots, read_subvolume};
+use crate::trees::{Trees, read_extents, read_quotas, read_roots, read_subvolume};
 use qg_disk::Disk;
 use qg_num::{Address, Rule};
 use qg_super::{FIRST_PLACE, SECOND_PLACE, Super};
-use qg_walk::WalkFault;
+use qg_walk::OpenFault;
 use std::alloc::Global;
 
 /// Reads an image: what it stands for where it is sound, else the first rule that it breaks, or the first stored counter that is not the
 /// direct count (this project's own). It writes nothing.
-pub fn read_image<D: Disk>(alloc: Global, disk: &mut D) -> Result<Image, WalkFault>
+pub fn read_image<D: Disk>(alloc: Global, disk: &mut D) -> Result<Image, OpenFault>
     ensures failure { (events : List Event) → D.history disk.old ≡ Some events → FailsAs result (verdict (content events)) }
     ensures image { (events : List Event) → D.history disk.old ≡ Some events
         → IfOk result (λ image. IsImage (content events) image) }
@@ -33,11 +33,14 @@ pub fn read_image<D: Disk>(alloc: Global, disk: &mut D) -> Result<Image, WalkFau
     ensures inside { IfOk result (λ image. total_bytes (sizes_of image.superblock) ≤ D.size disk.new) }
     ensures history { D.history disk.new ≡ D.history disk.old }
     ensures size { D.size disk.new ≡ D.size disk.old }
-    ensures cause { HasCause WalkFault.Disk (D.faults disk.old) (D.faults disk.new) result }
+    ensures cause { HasCause OpenFault.Disk (D.faults disk.old) (D.faults disk.new) result }
 {
     let places = read_places(disk)?;
     let Some(superblock) = places.chosen() else {
-        return Err(broken(Rule::Super, Address::new(FIRST_PLACE)));
+        return Err(OpenFault::Broken {
+            rule: Rule::Super,
+            address: Address::new(FIRST_PLACE),
+        });
     };
     judge_places(disk.len(), &places, &superblock)?;
     let trees = read_roots(alloc, disk, &superblock)?;
@@ -47,17 +50,23 @@ pub fn read_image<D: Disk>(alloc: Global, disk: &mut D) -> Result<Image, WalkFau
 }
 
 // Judges an image's length and its two superblocks.
-fn judge_places(len: u64, places: &Places, superblock: &Super) -> Result<(), WalkFault>
+fn judge_places(len: u64, places: &Places, superblock: &Super) -> Result<(), OpenFault>
     requires served { IsTrue (is_served (sizes_of superblock.now)) }
     ensures failure { FailsAs result (places_failure superblock.now places.now.first places.now.second len) }
     ensures inside { OnOk result (total_bytes (sizes_of superblock.now) ≤ len) }
-    ensures no_disk { IsErrOf result WalkFault.Disk → ⊥ }
+    ensures no_disk { IsErrOf result OpenFault.Disk → ⊥ }
 {
     if len < superblock.sizes().total_bytes() {
-        return Err(broken(Rule::Length, Address::new(len)));
+        return Err(OpenFault::Broken {
+            rule: Rule::Length,
+            address: Address::new(len),
+        });
     }
     if !places.are_mirrored() {
-        return Err(broken(Rule::Mirror, Address::new(SECOND_PLACE)));
+        return Err(OpenFault::Broken {
+            rule: Rule::Mirror,
+            address: Address::new(SECOND_PLACE),
+        });
     }
     Ok(())
 }
@@ -68,7 +77,7 @@ fn read_trees<D: Disk>(
     disk: &mut D,
     superblock: Super,
     trees: Trees,
-) -> Result<Image, WalkFault>
+) -> Result<Image, OpenFault>
     requires served { IsTrue (is_served (sizes_of superblock)) }
     requires inside { total_bytes (sizes_of superblock) ≤ D.size disk.old }
     ensures failure { (events : List Event) → D.history disk.old ≡ Some events → AreTrees superblock (content events) trees
@@ -80,7 +89,7 @@ fn read_trees<D: Disk>(
         → trees.files.last_snapshot ≤ superblock.generation → IfOk result (λ image. IsEditable image) }
     ensures history { D.history disk.new ≡ D.history disk.old }
     ensures size { D.size disk.new ≡ D.size disk.old }
-    ensures cause { HasCause WalkFault.Disk (D.faults disk.old) (D.faults disk.new) result }
+    ensures cause { HasCause OpenFault.Disk (D.faults disk.old) (D.faults disk.new) result }
 {
     let extent_nodes = read_extents(alloc, disk, &superblock, &trees.extents)?;
     let quotas = read_quotas(alloc, disk, &superblock, &trees.quotas, &trees.files)?;

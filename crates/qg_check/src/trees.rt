@@ -23,8 +23,8 @@ use qg_num::{Address, RootId, Rule, Sequence};
 use qg_rules::{FileParts, QuotaFault, are_roots, read_files, read_quota, root_of};
 use qg_state::Quota;
 use qg_super::Super;
-use qg_verdict::{Expected, Failure};
-use qg_walk::{WalkFault, walk_tree};
+use qg_verdict::Expected;
+use qg_walk::{OpenFault, walk_tree};
 use std::alloc::Global;
 
 /// The trees that a root tree names.
@@ -53,13 +53,6 @@ pub struct FileTree {
     pub nodes: Sequence<Address>,
 }
 
-/// A rule is broken at an address.
-pub(crate) fn broken(rule: Rule, address: Address) -> WalkFault
-    ensures { result ≡ WalkFault.Unsound (Failure.Broken rule address) }
-{
-    WalkFault::Unsound(Failure::Broken { rule, address })
-}
-
 // What is expected of a root by its ROOT_ITEM.
 fn root_told(root: &RootItem) -> Expected
     ensures { result ≡ root_told root.now }
@@ -77,7 +70,7 @@ pub(crate) fn read_roots<D: Disk>(
     alloc: Global,
     disk: &mut D,
     superblock: &Super,
-) -> Result<Trees, WalkFault>
+) -> Result<Trees, OpenFault>
     requires served { IsTrue (is_served (sizes_of superblock.now)) }
     requires inside { total_bytes (sizes_of superblock.now) ≤ D.size disk.old }
     ensures failure { (events : List Event) → D.history disk.old ≡ Some events
@@ -88,7 +81,7 @@ pub(crate) fn read_roots<D: Disk>(
     ensures slots { IfOk result (λ trees. IsTrue (list_all (is_slot (sizes_of superblock.now)) trees.nodes)) }
     ensures history { D.history disk.new ≡ D.history disk.old }
     ensures size { D.size disk.new ≡ D.size disk.old }
-    ensures cause { HasCause WalkFault.Disk (D.faults disk.old) (D.faults disk.new) result }
+    ensures cause { HasCause OpenFault.Disk (D.faults disk.old) (D.faults disk.new) result }
 {
     let expected = Expected {
         level: None,
@@ -104,7 +97,10 @@ pub(crate) fn read_roots<D: Disk>(
         superblock.root,
     )?;
     let Some(named) = name_trees(walked.parts.as_slice()) else {
-        return Err(broken(Rule::Root, superblock.root));
+        return Err(OpenFault::Broken {
+            rule: Rule::Root,
+            address: superblock.root,
+        });
     };
     Ok(Trees {
         extents: named.extents,
@@ -144,7 +140,7 @@ pub(crate) fn read_extents<D: Disk>(
     disk: &mut D,
     superblock: &Super,
     root: &RootItem,
-) -> Result<Sequence<Address>, WalkFault>
+) -> Result<Sequence<Address>, OpenFault>
     requires served { IsTrue (is_served (sizes_of superblock.now)) }
     requires inside { total_bytes (sizes_of superblock.now) ≤ D.size disk.old }
     ensures failure { (events : List Event) → D.history disk.old ≡ Some events
@@ -154,7 +150,7 @@ pub(crate) fn read_extents<D: Disk>(
     ensures slots { IfOk result (λ nodes. IsTrue (list_all (is_slot (sizes_of superblock.now)) nodes)) }
     ensures history { D.history disk.new ≡ D.history disk.old }
     ensures size { D.size disk.new ≡ D.size disk.old }
-    ensures cause { HasCause WalkFault.Disk (D.faults disk.old) (D.faults disk.new) result }
+    ensures cause { HasCause OpenFault.Disk (D.faults disk.old) (D.faults disk.new) result }
 {
     let walked = walk_tree::<ExtentPart, Sequence<ExtentPart>, D>(
         alloc,
@@ -173,7 +169,7 @@ pub(crate) fn read_quotas<D: Disk>(
     superblock: &Super,
     root: &RootItem,
     files: &RootItem,
-) -> Result<QuotaTree, WalkFault>
+) -> Result<QuotaTree, OpenFault>
     requires served { IsTrue (is_served (sizes_of superblock.now)) }
     requires inside { total_bytes (sizes_of superblock.now) ≤ D.size disk.old }
     ensures failure { (events : List Event) (extents : RootItem) → D.history disk.old ≡ Some events
@@ -185,7 +181,7 @@ pub(crate) fn read_quotas<D: Disk>(
     ensures slots { IfOk result (λ tree. IsTrue (list_all (is_slot (sizes_of superblock.now)) tree.nodes)) }
     ensures history { D.history disk.new ≡ D.history disk.old }
     ensures size { D.size disk.new ≡ D.size disk.old }
-    ensures cause { HasCause WalkFault.Disk (D.faults disk.old) (D.faults disk.new) result }
+    ensures cause { HasCause OpenFault.Disk (D.faults disk.old) (D.faults disk.new) result }
 {
     let walked = walk_tree::<QuotaPart, Sequence<QuotaPart>, D>(
         alloc,
@@ -200,8 +196,11 @@ pub(crate) fn read_quotas<D: Disk>(
             quota,
             nodes: walked.nodes,
         }),
-        Err(QuotaFault::Rule(rule)) => Err(broken(rule, root.bytenr)),
-        Err(QuotaFault::NoMemory) => Err(WalkFault::NoMemory),
+        Err(QuotaFault::Rule(rule)) => Err(OpenFault::Broken {
+            rule,
+            address: root.bytenr,
+        }),
+        Err(QuotaFault::NoMemory) => Err(OpenFault::NoMemory),
     }
 }
 
@@ -211,7 +210,7 @@ pub(crate) fn read_subvolume<D: Disk>(
     disk: &mut D,
     superblock: &Super,
     root: &RootItem,
-) -> Result<FileTree, WalkFault>
+) -> Result<FileTree, OpenFault>
     requires served { IsTrue (is_served (sizes_of superblock.now)) }
     requires inside { total_bytes (sizes_of superblock.now) ≤ D.size disk.old }
     ensures failure { (events : List Event) → D.history disk.old ≡ Some events
@@ -222,7 +221,7 @@ pub(crate) fn read_subvolume<D: Disk>(
     ensures slots { IfOk result (λ tree. IsTrue (list_all (is_slot (sizes_of superblock.now)) tree.nodes)) }
     ensures history { D.history disk.new ≡ D.history disk.old }
     ensures size { D.size disk.new ≡ D.size disk.old }
-    ensures cause { HasCause WalkFault.Disk (D.faults disk.old) (D.faults disk.new) result }
+    ensures cause { HasCause OpenFault.Disk (D.faults disk.old) (D.faults disk.new) result }
 {
     let walked = walk_tree::<FilePart, FileParts, D>(
         alloc,
@@ -232,7 +231,10 @@ pub(crate) fn read_subvolume<D: Disk>(
         root.bytenr,
     )?;
     let Some(files) = read_files(alloc, walked.parts)? else {
-        return Err(broken(Rule::File, root.bytenr));
+        return Err(OpenFault::Broken {
+            rule: Rule::File,
+            address: root.bytenr,
+        });
     };
     Ok(FileTree {
         files,

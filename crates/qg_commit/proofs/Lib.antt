@@ -12,5 +12,4 @@ pub mod ReadBack
 pub mod FreshNodes
 pub mod Made
 pub mod MakingCalls
-pub mod Refused
 pub mod Touched

@@ -1,12 +1,10 @@
 -- What opening an image does (this project's own).
-use Rattle.std.specs.Prelude.{◌≡◌, ◌⊎◌, ⊤, ℕ, ◌≤◌, List, ◌∷◌, length, Option, Some, None}
+use Rattle.std.specs.Prelude.{◌≡◌, ◌⊎◌, ℕ, ◌≤◌, List, ◌∷◌, length, Option, Some, None, OnSome}
 use Rattle.qg_device.specs.History.{Event, Wrote, Tore, Synced}
 use Rattle.qg_super.specs.declared.superblock.Super.{Super}
 use Rattle.qg_super.specs.SuperText.{super_text}
-use Rattle.qg_verdict.specs.declared.failure.Failure.{Failure}
-use Rattle.qg_verdict.specs.declared.failure.Failure.TheVariants as failure
-use Rattle.qg_commit.specs.declared.fault.OpenFault.{OpenFault}
-use Rattle.qg_commit.specs.declared.fault.OpenFault.TheVariants.{Broken, Differs, Disk, NoMemory}
+use Rattle.qg_walk.specs.declared.fault.OpenFault.{OpenFault}
+use Rattle.qg_walk.specs.Fault.{failure_of}
 
 -- the superblock is written at a place that does not hold it, if there is one, and made sure of
 abbrev pub with_repair : Super → Option ℕ → List Event → List Event
@@ -23,16 +21,6 @@ IsWriting super place events history =
 abbrev pub IsLookedAt : List Event → Option (List Event) → Type 0
 IsLookedAt events history = (history ≡ Some events) ⊎ (history ≡ Some (Synced ∷ events))
 
--- where the image is refused, this is its first failure
-abbrev pub IsRefusal : OpenFault → Option Failure → Type 0
-IsRefusal (Broken rule address) verdict = verdict ≡ Some (failure.Broken rule address)
-IsRefusal (Differs group which stored counted) verdict = verdict ≡ Some (failure.Differs group which stored counted)
-IsRefusal Disk verdict = ⊤
-IsRefusal NoMemory verdict = ⊤
-
--- where the image is refused, this is what was done to the disk
+-- where a failure is told, this is what was done to the disk
 abbrev pub IsUntouched : OpenFault → Option (List Event) → List Event → Type 0
-IsUntouched (Broken rule address) history events = history ≡ Some events
-IsUntouched (Differs group which stored counted) history events = history ≡ Some events
-IsUntouched Disk history events = ⊤
-IsUntouched NoMemory history events = ⊤
+IsUntouched fault history events = OnSome (failure_of fault) (history ≡ Some events)

@@ -9,6 +9,7 @@ mod opening;
 mod write;
 
 pub use committing::commit;
-pub use fault::{MkfsFault, OpenFault};
+pub use fault::MkfsFault;
 pub use making::mkfs;
 pub use opening::open;
+pub use qg_walk::OpenFault;

@@ -5,14 +5,15 @@ ghost use Rattle.qg_device.specs.History.{Event, Synced, content};
 ghost use Rattle.qg_super.specs.Places.{total_bytes};
 ghost use Rattle.qg_super.specs.SuperText.{is_super, sizes_of};
 ghost use Rattle.qg_verdict.specs.Verdict.{verdict};
+ghost use Rattle.qg_walk.specs.Fault.{TellsFailure};
 ghost use Rattle.qg_check.specs.IsImage.{IsEditable, IsImage};
 ghost use Rattle.qg_commit.specs.Opened.{IsOpening};
-ghost use Rattle.qg_commit.specs.Opening.{IsRefusal, IsUntouched, IsWriting, with_repair};
+ghost use Rattle.qg_commit.specs.Opening.{IsUntouched, IsWriting, with_repair};
 
-use crate::OpenFault;
 use qg_check::{Image, read_image};
 use qg_disk::{Disk, DiskFault};
 use qg_super::{FIRST_PLACE, SECOND_PLACE, SUPER_BYTES, Super, write_super};
+use qg_walk::OpenFault;
 use std::alloc::Global;
 
 /// Opens an image: what it stands for where it is sound, else the first rule that it breaks, or the first stored
@@ -25,7 +26,7 @@ pub fn open<D: Disk>(alloc: Global, disk: &mut D) -> Result<Image, OpenFault>
     ensures image { (events : List Event) → D.history disk.old ≡ Some events
         → IfOk result (λ image. IsImage (content events) image) }
     ensures refused { (events : List Event) → D.history disk.old ≡ Some events
-        → IfErr result (λ fault. IsRefusal fault (verdict (content events))) }
+        → IfErr result (λ fault. TellsFailure fault (verdict (content events))) }
     ensures repaired { (events : List Event) → D.history disk.old ≡ Some events
         → IfOk result (λ image. D.history disk.new ≡ Some (with_repair image.superblock image.stale (Synced ∷ events))) }
     ensures unwritten { (events : List Event) → D.history disk.old ≡ Some events

@@ -7,9 +7,9 @@ use Rattle.qg_verdict.specs.ImageState.{state_in, super_of}
 use Rattle.qg_verdict.specs.StateOf.{StateOf}
 use Rattle.qg_verdict.specs.Verdict.{IsSound, verdict}
 use Rattle.qg_verdict.specs.declared.failure.Failure.{Failure}
+use Rattle.qg_walk.specs.declared.fault.OpenFault.{OpenFault}
+use Rattle.qg_walk.specs.declared.fault.OpenFault.TheVariants as opening
 use Rattle.qg_check.proofs.Verdicts.{verdict_none}
-use Rattle.qg_commit.specs.declared.fault.OpenFault.{OpenFault}
-use Rattle.qg_commit.specs.declared.fault.OpenFault.TheVariants as opening
 use Rattle.qg_commit.specs.Opened.{IsOpening}
 use Rattle.qg_commit.specs.Opening.{IsLookedAt, IsUntouched}
 use Rattle.qg_program.specs.declared.status.Status.{Status}

@@ -6,8 +6,8 @@ ghost use Rattle.qg_state.specs.State.{State};
 ghost use Rattle.qg_verdict.specs.StateOf.{StateOf};
 ghost use Rattle.qg_verdict.specs.Verdict.{IsSound, verdict};
 ghost use Rattle.qg_verdict.specs.declared.failure.Failure.{Failure};
-ghost use Rattle.qg_commit.specs.declared.fault.OpenFault.TheVariants as opening;
-ghost use Rattle.qg_commit.specs.Opening.{IsRefusal};
+ghost use Rattle.qg_walk.specs.declared.fault.OpenFault.TheVariants as opening;
+ghost use Rattle.qg_walk.specs.Fault.{TellsFailure};
 ghost use Rattle.qg_program.specs.Ends.{HasCauses, is_judged, is_refusers, is_runners};
 ghost use Rattle.qg_program.specs.Following.{Follows};
 ghost use Rattle.qg_program.specs.Putting.{PutsFailure, Refuses, RefusesImage, failure_text};
@@ -64,9 +64,9 @@ pub(crate) fn run<D: Disk, S: Source, K: Sink>(
 
 // Says why the image was not opened, where it is not sound.
 fn refuse<K: Sink>(alloc: Global, fault: OpenFault, sink: &mut K) -> Status
-    ensures refuses { (failure : Failure) → IsRefusal fault (Some failure)
+    ensures refuses { (failure : Failure) → TellsFailure fault (Some failure)
         → Refuses result (failure_text failure) (K.bytes_held sink.old) (K.bytes_held sink.new) }
-    ensures silent { IsRefusal fault None
+    ensures silent { TellsFailure fault None
         → ((result ≡ Status.Disk) ⊎ (result ≡ Status.NoMemory)) × (K.bytes_held sink.new ≡ K.bytes_held sink.old) }
     ensures told { result ≡ Status.Image → PutsFailure (K.bytes_held sink.old) (K.bytes_held sink.new) }
     ensures ends { IsTrue (is_refusers result) }

@@ -3,7 +3,6 @@ ghost use Rattle.std.specs.Prelude.{◌≡◌, ◌⊎◌, ◌≤◌, ◌∷◌, 
 ghost use Rattle.qg_device.specs.Cause.{HasCause};
 ghost use Rattle.qg_device.specs.History.{Event, Synced, content};
 ghost use Rattle.qg_num.specs.declared.answer.Answer.{Answer};
-ghost use Rattle.qg_num.specs.Fault.{stop_of};
 ghost use Rattle.qg_super.specs.Places.{total_bytes};
 ghost use Rattle.qg_super.specs.SuperText.{sizes_of};
 ghost use Rattle.qg_grammar.specs.ScriptText.{is_in_grammar};
@@ -11,8 +10,9 @@ ghost use Rattle.qg_grammar.specs.Served.{is_served_command};
 ghost use Rattle.qg_state.specs.State.{State};
 ghost use Rattle.qg_verdict.specs.StateOf.{StateOf};
 ghost use Rattle.qg_verdict.specs.Verdict.{verdict};
+ghost use Rattle.qg_walk.specs.Fault.{TellsFailure};
 ghost use Rattle.qg_commit.specs.Opened.{IsOpened, IsOpening};
-ghost use Rattle.qg_commit.specs.Opening.{IsRefusal, IsUntouched};
+ghost use Rattle.qg_commit.specs.Opening.{IsUntouched};
 ghost use Rattle.qg_store.specs.Answering.{Answers, AnswersOn, IsDoneSoFar, comes_to_disk, is_unchanging};
 ghost use Rattle.qg_store.specs.Keeping.{IsKept, IsKeptOf};
 ghost use Rattle.qg_store.specs.Stored.{ComesToDisk, IsStoreOf, Stops, sizes_stored};
@@ -28,7 +28,7 @@ use crate::unlinking::unlink;
 use crate::writing::write;
 use qg_commit::{OpenFault, open};
 use qg_disk::Disk;
-use qg_num::{Answer, BlockFault, Command, Generation, NoMemory, Steps, Stop};
+use qg_num::{Answer, BlockFault, Command, Generation, Steps, Stop};
 use std::alloc::Global;
 use std::marker::Model;
 use std::sync::ledger::Ledger;
@@ -62,7 +62,7 @@ impl Store {
             → StateOf (content events) state
             → IfOk result (λ store. IsStoreOf store state) }
         ensures refused { (events : List Event) → D.history disk.old ≡ Some events
-            → IfErr result (λ fault. IsRefusal fault (verdict (content events))) }
+            → IfErr result (λ fault. TellsFailure fault (verdict (content events))) }
         ensures repaired { (events : List Event) → D.history disk.old ≡ Some events
             → IfOk result (λ store. IsOpened events (D.history disk.new)) }
         ensures unwritten { (events : List Event) → D.history disk.old ≡ Some events
@@ -76,13 +76,11 @@ impl Store {
         ensures cause { HasCause OpenFault.Disk (D.faults disk.old) (D.faults disk.new) result }
     {
         let image = open(alloc, disk)?;
-        match kept_of(alloc, image) {
-            Ok(kept) => Ok(Store {
-                kept,
-                stopped: None,
-            }),
-            Err(NoMemory) => Err(OpenFault::NoMemory),
-        }
+        let kept = kept_of(alloc, image)?;
+        Ok(Store {
+            kept,
+            stopped: None,
+        })
     }
 
     /// Does a command or refuses it, by one step of the machine (this project's own). Served are `write`, `clone`,
@@ -134,9 +132,8 @@ impl Store {
         match answer(&mut self.kept, disk, command) {
             Ok(answer) => Ok(answer),
             Err(fault) => {
-                let stop = stop_of(&fault);
                 self.stopped = Some(fault);
-                Err(stop)
+                Err(Stop::from(fault))
             }
         }
     }
@@ -146,20 +143,6 @@ impl Store {
         ensures { result ≡ self.now.kept.superblock.generation }
     {
         self.kept.superblock.generation
-    }
-}
-
-// What a store answers that stops for a fault.
-fn stop_of(fault: &BlockFault) -> Stop
-    ensures { result ≡ stop_of fault.now }
-{
-    match fault {
-        BlockFault::NoMemory => Stop::NoMemory,
-        BlockFault::Disk => Stop::Disk,
-        BlockFault::Image { rule, address } => Stop::Image {
-            rule: *rule,
-            address: *address,
-        },
     }
 }
 

@@ -1,8 +1,9 @@
 -- The failures of a walk, step by step.
-use Rattle.std.proofs.Common.{◌≡◌, ℕ, zero, suc, ◌-◌, ◌≤◌, true, false, [], ◌∷◌, arith, refl, Option, Some, None}
-use Rattle.std.specs.Prelude.{Bool, ◌&&◌, List, Result, Ok, Err}
+use Rattle.std.proofs.Common.{◌≡◌, ℕ, zero, suc, ◌-◌, ◌≤◌, true, false, [], ◌∷◌, arith, refl, sym, ap, ◌∙◌, subst, Option, Some, None}
+use Rattle.std.specs.Prelude.{Bool, ◌&&◌, List, IfSome, Result, Ok, Err}
 use Rattle.std.specs.List.{list_all}
 use Rattle.std.proofs.lemmas.Bool.{and_parts, eqb-true}
+use Rattle.std.proofs.lemmas.Option.{IfSome_then, none-some}
 use Rattle.qg_num.specs.declared.key.Key.{Key}
 use Rattle.qg_num.specs.declared.rule.Rule.{Rule}
 use Rattle.qg_num.specs.declared.rule.Rule.TheVariants as rule
@@ -18,10 +19,20 @@ use Rattle.qg_verdict.specs.declared.tree.Tree.{Tree}
 use Rattle.qg_verdict.specs.declared.expected.Expected.{Expected}
 use Rattle.qg_verdict.specs.Failure.{first_failure, unless}
 use Rattle.qg_verdict.specs.Walk.{begins_at, deepest, ends_before, found_failure, is_generation, is_item_of, is_owner, is_told, next_key, node_failure, pointers_failure, shape_failure, walk_failure, way_failure}
-use Rattle.qg_walk.specs.declared.fault.WalkFault.{WalkFault}
-use Rattle.qg_walk.specs.declared.fault.WalkFault.TheVariants.{Unsound, Disk, NoMemory}
-use Rattle.qg_walk.specs.Fault.{FailsAs, TellsFailure}
+use Rattle.qg_walk.specs.declared.fault.OpenFault.{OpenFault}
+use Rattle.qg_walk.specs.declared.fault.OpenFault.TheVariants.{Disk}
+use Rattle.qg_walk.specs.Fault.{FailsAs, TellsFailure, failure_of}
 use Rattle.qg_walk.specs.Standing.{form_failure, levels_below, standing_failure}
+
+-- ---- faults
+
+-- a fault that tells this failure tells the first one
+pub TellsFailure-of : (fault : OpenFault) (failure : Failure) (first : Option Failure) → failure_of fault ≡ Some failure → first ≡ Some failure → TellsFailure fault first
+TellsFailure-of fault failure first told is = subst (λ (told : Option Failure). IfSome told (λ (failure : Failure). first ≡ Some failure)) (sym told) is
+
+-- and is none of the disk
+pub told-no_disk : (fault : OpenFault) (failure : Failure) → failure_of fault ≡ Some failure → fault ≡ Disk → ⊥
+told-no_disk fault failure told is = none-some failure (sym (ap failure_of is) ∙ told)
 
 -- ---- the first of several
 
@@ -194,22 +205,21 @@ pub level_no_higher : (told : Option ℕ) (level : ℕ) → is_told told level �
 level_no_higher None level is low = low
 level_no_higher (Some told) level is low = let same = eqb-true told level is in omega arith
 
-pub walk-told : (tree : Tree) (super : Super) (found : ℕ → Result Node Failure) (depth : ℕ) (expected : Expected) (address : ℕ) (fault : WalkFault)
+pub walk-told : (tree : Tree) (super : Super) (found : ℕ → Result Node Failure) (depth : ℕ) (expected : Expected) (address : ℕ) (fault : OpenFault)
     → TellsFailure fault (standing_failure tree super expected address (found address)) → TellsFailure fault (walk_failure (node_failure tree super) found depth expected address)
-walk-told tree super found depth expected address (Unsound failure) tells = walk-standing tree super found depth expected address failure tells
-walk-told tree super found depth expected address Disk tells = tt
-walk-told tree super found depth expected address NoMemory tells = tt
+walk-told tree super found depth expected address fault tells =
+    IfSome_then (failure_of fault) tells (λ failure is. walk-standing tree super found depth expected address failure is)
 
 -- the walk fails as the leaf's items do
 pub FailsAs-leaf : (tree : Tree) (super : Super) (found : ℕ → Result Node Failure) (depth : ℕ) (expected : Expected) (address : ℕ) (header : Header) (items : List Item)
-    (result : Result Unit WalkFault) → found address ≡ Ok (Leaf header items) → form_failure tree super expected address (Leaf header items) ≡ None
+    (result : Result Unit OpenFault) → found address ≡ Ok (Leaf header items) → form_failure tree super expected address (Leaf header items) ≡ None
     → FailsAs result (unless (list_all (is_item_of tree super.generation) items) rule.Item address)
     → FailsAs result (walk_failure (node_failure tree super) found depth expected address)
 FailsAs-leaf tree super found depth expected address header items result is none fails = rw (walk-leaf tree super found depth expected address header items is none) fails
 
 -- the walk fails as the one below an inner node's pointers does
 pub FailsAs-inner : (tree : Tree) (super : Super) (found : ℕ → Result Node Failure) (depth : ℕ) (expected : Expected) (address : ℕ) (header : Header) (pointers : List Pointer)
-    (result : Result Unit WalkFault) → found address ≡ Ok (Inner header pointers) → form_failure tree super expected address (Inner header pointers) ≡ None
+    (result : Result Unit OpenFault) → found address ≡ Ok (Inner header pointers) → form_failure tree super expected address (Inner header pointers) ≡ None
     → 1 ≤ header.level → header.level ≤ depth
     → ((less : ℕ) → header.level - 1 ≤ less → FailsAs result (pointers_failure (walk_failure (node_failure tree super) found less) (header.level - 1) expected.to pointers))
     → FailsAs result (walk_failure (node_failure tree super) found depth expected address)

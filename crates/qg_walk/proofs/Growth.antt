@@ -24,7 +24,7 @@ use Rattle.qg_verdict.specs.Failure.{unless}
 use Rattle.qg_verdict.specs.Walk.{is_item_of, next_key, node_found}
 use Rattle.qg_verdict.specs.ItemsUnder.{nodes_of}
 use Rattle.qg_verdict.specs.ImageState.{level_in}
-use Rattle.qg_walk.specs.declared.fault.WalkFault.{WalkFault}
+use Rattle.qg_walk.specs.declared.fault.OpenFault.{OpenFault}
 use Rattle.qg_walk.specs.Fault.{FailsAs}
 use Rattle.qg_walk.specs.Standing.{IsJudged}
 use Rattle.qg_walk.specs.Added.{AddsSaid, below_node, below_pointers, Found, HasAdded, is_from, is_to}
@@ -190,7 +190,7 @@ HasPassed-all tree meaning super history from to level pointers rest old new non
 
 -- where a leaf's items were said and none broke its rule
 pub HasAdded-said : {P : Type 0} (tree : Tree) (meaning : Item → Option P) (super : Super) (history : Option (List Event)) (expected : Expected) (address : ℕ)
-    (header : Header) (items : List Item) (old new : Found P) (result : Result Unit WalkFault) → IsJudged tree super expected address (Leaf header items)
+    (header : Header) (items : List Item) (old new : Found P) (result : Result Unit OpenFault) → IsJudged tree super expected address (Leaf header items)
     → ((events : List Event) → history ≡ Some events → node_found super (content events) address ≡ Ok (Leaf header items))
     → FailsAs result (unless (list_all (is_item_of tree super.generation) items) rule.Item address) → OnOk result (AddsSaid meaning items old.parts new.parts)
     → new.nodes ≡ old.nodes ++ address ∷ []

@@ -7,8 +7,7 @@ ghost use Rattle.qg_verdict.specs.Walk.{is_item_of};
 ghost use Rattle.qg_walk.specs.Fault.{FailsAs};
 ghost use Rattle.qg_walk.specs.Added.{AddsSaid};
 
-use crate::WalkFault;
-use crate::slot::broken;
+use crate::OpenFault;
 use qg_node::Item;
 use qg_num::{Address, Generation, Rule};
 use qg_parts::{PartList, TreePart};
@@ -19,14 +18,19 @@ pub(crate) fn add_said<P: TreePart, L: PartList<P>>(
     address: Address,
     items: &[Item],
     parts: &mut L,
-) -> Result<(), WalkFault>
+) -> Result<(), OpenFault>
     ensures failure { FailsAs result (unless (list_all (is_item_of P.tree generation) items.now) rule.Item address) }
     ensures said { OnOk result (AddsSaid P.meaning items.now (L.list parts.old) (L.list parts.new)) }
-    ensures disk { IsErrOf result WalkFault.Disk → ⊥ }
+    ensures disk { IsErrOf result OpenFault.Disk → ⊥ }
 {
     for item in items {
         match P::read(item, generation) {
-            None => return Err(broken(Rule::Item, address)),
+            None => {
+                return Err(OpenFault::Broken {
+                    rule: Rule::Item,
+                    address,
+                });
+            }
             Some(part) => parts.push(part)?,
         }
     }

@@ -10,6 +10,6 @@ mod visit;
 mod walk;
 mod walked;
 
-pub use fault::WalkFault;
+pub use fault::OpenFault;
 pub use walk::walk_tree;
 pub use walked::Walked;

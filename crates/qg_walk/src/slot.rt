@@ -6,17 +6,14 @@ ghost use Rattle.qg_super.specs.Places.{is_served, total_bytes};
 ghost use Rattle.qg_super.specs.SuperText.{sizes_of};
 ghost use Rattle.qg_verdict.specs.Walk.{node_found};
 ghost use Rattle.qg_verdict.specs.Failure.{rule_of};
-ghost use Rattle.qg_verdict.specs.declared.failure.Failure.TheVariants.{Broken};
-ghost use Rattle.qg_walk.specs.declared.fault.WalkFault.TheVariants.{Unsound};
 ghost use Rattle.qg_walk.specs.Fault.{FindsAs};
 ghost use Rattle.qg_walk.specs.Standing.{StandsAt};
 
-use crate::WalkFault;
+use crate::OpenFault;
 use qg_disk::Disk;
 use qg_node::{Node, NodeFault, ReadFault, read_node};
 use qg_num::{Address, Rule};
 use qg_super::Super;
-use qg_verdict::Failure;
 use std::alloc::Global;
 
 /// The node in the slot at an address, read over a buffer of a node's size, or the first rule that is broken there.
@@ -26,7 +23,7 @@ pub(crate) fn node_at<D: Disk>(
     superblock: &Super,
     buffer: &mut [u8],
     address: Address,
-) -> Result<Node, WalkFault>
+) -> Result<Node, OpenFault>
     requires served { IsTrue (is_served (sizes_of superblock.now)) }
     requires inside { total_bytes (sizes_of superblock.now) ≤ D.size disk.old }
     requires buffer { length buffer.old ≡ superblock.now.nodesize }
@@ -35,16 +32,22 @@ pub(crate) fn node_at<D: Disk>(
     ensures stands { IfOk result (λ node. StandsAt superblock.now address node) }
     ensures history { D.history disk.new ≡ D.history disk.old }
     ensures size { D.size disk.new ≡ D.size disk.old }
-    ensures cause { HasCause WalkFault.Disk (D.faults disk.old) (D.faults disk.new) result }
+    ensures cause { HasCause OpenFault.Disk (D.faults disk.old) (D.faults disk.new) result }
 {
     if !superblock.sizes().is_slot(address) {
-        return Err(broken(Rule::Slot, address));
+        return Err(OpenFault::Broken {
+            rule: Rule::Slot,
+            address,
+        });
     }
     disk.read(address.value(), buffer)?;
     match read_node(alloc, buffer, address) {
         Ok(node) => Ok(node),
-        Err(ReadFault::Bad(fault)) => Err(broken(rule_of(fault), address)),
-        Err(ReadFault::NoMemory) => Err(WalkFault::NoMemory),
+        Err(ReadFault::Bad(fault)) => Err(OpenFault::Broken {
+            rule: rule_of(fault),
+            address,
+        }),
+        Err(ReadFault::NoMemory) => Err(OpenFault::NoMemory),
     }
 }
 
@@ -61,11 +64,4 @@ fn rule_of(fault: NodeFault) -> Rule
         NodeFault::Order => Rule::Order,
         NodeFault::Slack => Rule::Slack,
     }
-}
-
-// The fault that a rule is broken at an address.
-pub(crate) fn broken(rule: Rule, address: Address) -> WalkFault
-    ensures { result ≡ Unsound (Broken rule address) }
-{
-    WalkFault::Unsound(Failure::Broken { rule, address })
 }

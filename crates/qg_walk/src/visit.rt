@@ -8,7 +8,7 @@ ghost use Rattle.qg_verdict.specs.Walk.{node_found};
 ghost use Rattle.qg_walk.specs.Fault.{FailsAs};
 ghost use Rattle.qg_walk.specs.Standing.{IsJudged, standing_failure};
 
-use crate::WalkFault;
+use crate::OpenFault;
 use crate::form::form_failure;
 use crate::slot::node_at;
 use qg_disk::Disk;
@@ -26,7 +26,7 @@ pub(crate) fn visit<P: TreePart, D: Disk>(
     nodes: &mut Sequence<Address>,
     expected: &Expected,
     address: Address,
-) -> Result<Node, WalkFault>
+) -> Result<Node, OpenFault>
     requires served { IsTrue (is_served (sizes_of superblock.now)) }
     requires inside { total_bytes (sizes_of superblock.now) ≤ D.size disk.old }
     requires buffer { length buffer.old ≡ superblock.now.nodesize }
@@ -38,11 +38,11 @@ pub(crate) fn visit<P: TreePart, D: Disk>(
     ensures added { OnOk result (nodes.new ≡ nodes.old ++ address ∷ []) }
     ensures history { D.history disk.new ≡ D.history disk.old }
     ensures size { D.size disk.new ≡ D.size disk.old }
-    ensures cause { HasCause WalkFault.Disk (D.faults disk.old) (D.faults disk.new) result }
+    ensures cause { HasCause OpenFault.Disk (D.faults disk.old) (D.faults disk.new) result }
 {
     let node = node_at(nodes.allocator(), disk, superblock, buffer, address)?;
     if let Some(failure) = form_failure::<P>(superblock, expected, address, &node) {
-        return Err(WalkFault::Unsound(failure));
+        return Err(OpenFault::from(failure));
     }
     nodes.push(address)?;
     Ok(node)

@@ -1,15 +1,13 @@
 // The walk from a root down.
-ghost use Rattle.std.specs.Prelude.{◌≡◌, ◌≤◌, ℕ, List, length, Some, None, Err, IfOk, OnOk, IsTrue};
+ghost use Rattle.std.specs.Prelude.{◌≡◌, ◌≤◌, ℕ, List, length, Some, None, IfOk, OnOk, IfErr, IsTrue};
 ghost use Rattle.std.specs.List.{list_all};
 ghost use Rattle.qg_device.specs.Cause.{HasCause};
 ghost use Rattle.qg_device.specs.History.{Event, content};
 ghost use Rattle.qg_super.specs.Places.{is_served, is_slot, total_bytes};
 ghost use Rattle.qg_super.specs.SuperText.{sizes_of};
-ghost use Rattle.qg_verdict.specs.declared.failure.Failure.{Failure};
 ghost use Rattle.qg_verdict.specs.Walk.{next_key, node_failure, node_found, pointers_failure, tree_failure, walk_failure};
 ghost use Rattle.qg_parts.specs.Said.{AreSaid};
-ghost use Rattle.qg_walk.specs.declared.fault.WalkFault.TheVariants.{Unsound};
-ghost use Rattle.qg_walk.specs.Fault.{FailsAs};
+ghost use Rattle.qg_walk.specs.Fault.{FailsAs, TellsFailure};
 ghost use Rattle.qg_walk.specs.Held.{AreHeld};
 ghost use Rattle.qg_walk.specs.IsWalk.{IsWalk};
 ghost use Rattle.qg_walk.specs.Standing.{levels_below};
@@ -17,7 +15,7 @@ ghost use Rattle.qg_walk.specs.Added.{AreSpaced, HasAdded, below_node, below_poi
 
 use crate::items::add_said;
 use crate::visit::visit;
-use crate::{WalkFault, Walked};
+use crate::{OpenFault, Walked};
 use qg_disk::Disk;
 use qg_node::{Node, Pointer};
 use qg_num::{Address, Key, Sequence};
@@ -36,7 +34,7 @@ pub fn walk_tree<P: TreePart, L: PartList<P>, D: Disk>(
     superblock: &Super,
     expected: &Expected,
     root: Address,
-) -> Result<Walked<L>, WalkFault>
+) -> Result<Walked<L>, OpenFault>
     requires served { IsTrue (is_served (sizes_of superblock.now)) }
     requires inside { total_bytes (sizes_of superblock.now) ≤ D.size disk.old }
     requires root { (expected.now.from ≡ None) × (expected.now.to ≡ None) }
@@ -44,8 +42,8 @@ pub fn walk_tree<P: TreePart, L: PartList<P>, D: Disk>(
     // Over a disk that tells what it holds.
     ensures found { (events : List Event) → D.history disk.old ≡ Some events
         → IfOk result (λ walked. IsWalk P.tree P.meaning superblock.now (content events) expected.now root (L.list walked.parts) walked.nodes) }
-    ensures unsound { (events : List Event) (failure : Failure) → D.history disk.old ≡ Some events
-        → result ≡ Err (Unsound failure) → tree_failure P.tree superblock.now (content events) expected.now root ≡ Some failure }
+    ensures unsound { (events : List Event) → D.history disk.old ≡ Some events
+        → IfErr result (λ fault. TellsFailure fault (tree_failure P.tree superblock.now (content events) expected.now root)) }
 
     // Over any disk.
     ensures ascending { IfOk result (λ walked. AreSaid P.meaning (L.list walked.parts)) }
@@ -53,7 +51,7 @@ pub fn walk_tree<P: TreePart, L: PartList<P>, D: Disk>(
     ensures slots { IfOk result (λ walked. IsTrue (list_all (is_slot (sizes_of superblock.now)) walked.nodes)) }
     ensures history { D.history disk.new ≡ D.history disk.old }
     ensures size { D.size disk.new ≡ D.size disk.old }
-    ensures cause { HasCause WalkFault.Disk (D.faults disk.old) (D.faults disk.new) result }
+    ensures cause { HasCause OpenFault.Disk (D.faults disk.old) (D.faults disk.new) result }
 {
     let mut buffer = vec![in alloc; 0; superblock.nodesize as usize]?;
     let mut walked = Walked {
@@ -73,7 +71,7 @@ fn walk<P: TreePart, L: PartList<P>, D: Disk>(
     walked: &mut Walked<L>,
     expected: &Expected,
     address: Address,
-) -> Result<(), WalkFault>
+) -> Result<(), OpenFault>
     requires served { IsTrue (is_served (sizes_of superblock.now)) }
     requires inside { total_bytes (sizes_of superblock.now) ≤ D.size disk.old }
     requires buffer { length buffer.old ≡ superblock.now.nodesize }
@@ -83,7 +81,7 @@ fn walk<P: TreePart, L: PartList<P>, D: Disk>(
         (below_node superblock.now address) (found_by L.list walked.old) (found_by L.list walked.new)) }
     ensures history { D.history disk.new ≡ D.history disk.old }
     ensures size { D.size disk.new ≡ D.size disk.old }
-    ensures cause { HasCause WalkFault.Disk (D.faults disk.old) (D.faults disk.new) result }
+    ensures cause { HasCause OpenFault.Disk (D.faults disk.old) (D.faults disk.new) result }
 {
     let node = visit::<P, D>(
         disk,
@@ -122,7 +120,7 @@ fn walk_pointers<P: TreePart, L: PartList<P>, D: Disk>(
     expected: &Expected,
     level: u8,
     pointers: &[Pointer],
-) -> Result<(), WalkFault>
+) -> Result<(), OpenFault>
     requires served { IsTrue (is_served (sizes_of superblock.now)) }
     requires inside { total_bytes (sizes_of superblock.now) ≤ D.size disk.old }
     requires buffer { length buffer.old ≡ superblock.now.nodesize }
@@ -134,7 +132,7 @@ fn walk_pointers<P: TreePart, L: PartList<P>, D: Disk>(
         (below_pointers superblock.now level pointers.now) (found_by L.list walked.old) (found_by L.list walked.new)) }
     ensures history { D.history disk.new ≡ D.history disk.old }
     ensures size { D.size disk.new ≡ D.size disk.old }
-    ensures cause { HasCause WalkFault.Disk (D.faults disk.old) (D.faults disk.new) result }
+    ensures cause { HasCause OpenFault.Disk (D.faults disk.old) (D.faults disk.new) result }
 {
     let mut rest = pointers;
     'pointers: while let Some((pointer, others)) = rest.split_first() {

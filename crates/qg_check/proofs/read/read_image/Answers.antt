@@ -29,7 +29,7 @@ returns-in_default-clause-failure g c = λ events told.
     let places = c.in_ok-places.places in
     let none : super_of bytes ≡ None =
     super_read bytes places.first places.second (c.in_ok-places.ensures.first events told) (c.in_ok-places.ensures.second events told) ∙ sym c.chosen.ensures.value ∙ c.in_default.is in
-    rw (c.broken.ensures, c.new.ensures) (verdict_none bytes none)
+    rw c.new.ensures (verdict_none bytes none)
 
 -- the parts of the verdict, by the superblock that counts
 parts : (bytes : List ℕ) (first second : Option Super) (super : Super) → first ≡ super_in bytes 65536 → second ≡ super_in bytes 67108864 → choose first second ≡ Some super

@@ -17,6 +17,9 @@ use Rattle.qg_check.proofs.Groups.{KeepsRules, quota_rule_kept, quota_rule_told}
 use Rattle.qg_check.proofs.OneGroup.{quota_one}
 use Rattle.qg_check.proofs.Passing.{quotas_by}
 use Rattle.qg_check.proofs.trees.read_quotas.Given.{Over}
+use Rattle.qg_walk.specs.Fault.{TellsFailure}
+use Rattle.qg_verdict.specs.Walk.{tree_failure}
+use Rattle.qg_check.proofs.Staging.{fails_handed, tells_first}
 use Rattle.qg_check.proofs.trees.read_quotas.Goals as goal
 
 -- the rules are kept by what was read, beside the only subvolume
@@ -62,4 +65,10 @@ returns-in-Err-Rule-clause-failure g c = λ events extents told named.
     subst (λ (fault : QuotaFault). IfRule fault (λ rule. quota_rule (c.new.result ∷ []) c.as_slice.result.now ≡ Some rule)) c.in-Err-Rule.field-0-is c.in-Err-Rule.ensures.refused in
     let broken_rule : quota_rule (5 ∷ []) c.as_slice.result.now ≡ Some c.in-Err-Rule.rule =
     subst (λ (n : ℕ). quota_rule (n ∷ []) c.as_slice.result.now ≡ Some c.in-Err-Rule.rule) c.new.ensures refused in
-    rw (c.broken.ensures, walk.sound, named.only, parts) (quota_rule_told (5 ∷ []) c.as_slice.result.now c.in-Err-Rule.rule root.bytenr broken_rule)
+    rw (walk.sound, named.only, parts) (quota_rule_told (5 ∷ []) c.as_slice.result.now c.in-Err-Rule.rule root.bytenr broken_rule)
+
+pub returns-in_err-walked-clause-failure : goal.returns-in_err-walked-clause-failure
+returns-in_err-walked-clause-failure g c = λ events extents told named.
+    let fault = c.in_err-walked.field-0.0 in
+    let walk = subst (λ (expected : Expected). TellsFailure fault (tree_failure Quotas c.args.superblock.now (content events) expected c.args.root.now.bytenr)) c.root_told.ensures (c.in_err-walked.ensures.unsound events told) in
+    fails_handed c.from_residual.result fault _ c.from_residual.ensures.1 (tells_first fault _ _ walk)

@@ -6,7 +6,7 @@ use Rattle.qg_image.specs.FilesOf.{file_parts}
 use Rattle.qg_verdict.specs.declared.expected.Expected.{Expected}
 use Rattle.qg_verdict.specs.declared.tree.Tree.TheVariants.{Files}
 use Rattle.qg_verdict.specs.ImageState.{items_of_root, nodes_of_root, level_in}
-use Rattle.qg_verdict.specs.Walk.{node_found, root_told}
+use Rattle.qg_verdict.specs.Walk.{node_found, root_told, tree_failure}
 use Rattle.qg_items.specs.declared.root.RootItem.{RootItem}
 use Rattle.qg_super.specs.declared.superblock.Super.{Super}
 use Rattle.qg_walk.specs.IsWalk.{IsWalk}
@@ -16,6 +16,8 @@ use Rattle.qg_check.proofs.Found.{items_under-nodes}
 use Rattle.qg_check.proofs.FitFiles.{files_fit}
 use Rattle.qg_check.proofs.Passing.{files_by}
 use Rattle.qg_check.proofs.Held.{files_read, files_none, files_of_held}
+use Rattle.qg_walk.specs.Fault.{TellsFailure}
+use Rattle.qg_check.proofs.Staging.{fails_handed, tells_first}
 use Rattle.qg_check.proofs.trees.read_subvolume.Goals as goal
 
 pub read_files-requires : goal.read_files-requires
@@ -39,7 +41,7 @@ pub returns-in_default-clause-failure : goal.returns-in_default-clause-failure
 returns-in_default-clause-failure g c = λ events told.
     let walk = walk_of c.args.superblock.now (content events) c.args.root.now c.root_told.result c.in_ok-walked.walked.parts c.in_ok-walked.walked.nodes c.root_told.ensures (c.in_ok-walked.ensures.found events told) in
     let parts = parts_of c.args.superblock.now (content events) c.args.root.now c.in_ok-walked.walked.parts c.in_ok-walked.walked.nodes walk in
-    rw (c.broken.ensures, walk.sound, parts, files_none c.in_ok-walked.walked.parts (sym (is_none c.in_ok-files.field-0 c.in_default.not-Some) ∙ c.in_ok-files.ensures)) refl
+    rw (walk.sound, parts, files_none c.in_ok-walked.walked.parts (sym (is_none c.in_ok-files.field-0 c.in_default.not-Some) ∙ c.in_ok-files.ensures)) refl
 
 pub returns-clause-failure : goal.returns-clause-failure
 returns-clause-failure g c = λ events told.
@@ -73,3 +75,9 @@ returns-clause-files g c =
     let parts = c.in_ok-walked.walked.parts in
     let files = files_read parts c.in-Some.files (sym c.in-Some.is ∙ c.in_ok-files.ensures) in
     files_fit generation parts c.in-Some.files (files_ascending parts c.in_ok-walked.ensures.ascending) (files_by generation parts c.in_ok-walked.ensures.held) files.are files.is
+
+pub returns-in_err-walked-clause-failure : goal.returns-in_err-walked-clause-failure
+returns-in_err-walked-clause-failure g c = λ events told.
+    let fault = c.in_err-walked.field-0.0 in
+    let walk = subst (λ (expected : Expected). TellsFailure fault (tree_failure Files c.args.superblock.now (content events) expected c.args.root.now.bytenr)) c.root_told.ensures (c.in_err-walked.ensures.unsound events told) in
+    fails_handed c.from_residual.result fault _ c.from_residual.ensures.1 (tells_first fault _ _ walk)

@@ -1,6 +1,6 @@
 use Rattle.std.proofs.Common.{inl, inr, refl, sym, subst, ◌∙◌}
 use Rattle.std.proofs.lemmas.Option.{none-some}
-use Rattle.qg_commit.specs.Opening.{IsRefusal}
+use Rattle.qg_walk.specs.Fault.{TellsFailure}
 use Rattle.qg_program.proofs.Judged.{follows-unopened, looked-unsound, untouched-judged}
 use Rattle.qg_program.proofs.run.run.Goals as goal
 
@@ -12,12 +12,12 @@ returns-in-Ok-clause-follows g c = λ events input state told source stands.
 
 pub returns-in-Err-clause-follows : goal.returns-in-Err-clause-follows
 returns-in-Err-clause-follows g c = λ events input state told source stands.
-    let silent = c.refuse.ensures.silent (subst (IsRefusal c.in-Err.fault) stands.sound (c.in-Err.ensures.refused events told)) in
+    let silent = c.refuse.ensures.silent (subst (TellsFailure c.in-Err.fault) stands.sound (c.in-Err.ensures.refused events told)) in
     follows-unopened c.refuse.result state input silent.0 (c.open.ensures.touches events told) silent.1
 
 pub returns-in-Err-clause-unsound : goal.returns-in-Err-clause-unsound
 returns-in-Err-clause-unsound g c = λ events told image sound.
-    let silent = c.refuse.ensures.silent (subst (IsRefusal c.in-Err.fault) sound (c.in-Err.ensures.refused events told)) in
+    let silent = c.refuse.ensures.silent (subst (TellsFailure c.in-Err.fault) sound (c.in-Err.ensures.refused events told)) in
     elim silent.0 [
       | inl is ↦ absurd cc
       | inr is ↦ absurd cc
@@ -26,7 +26,7 @@ returns-in-Err-clause-unsound g c = λ events told image sound.
 pub returns-in-Err-clause-refuses : goal.returns-in-Err-clause-refuses
 returns-in-Err-clause-refuses g c = λ events failure told unsound. (
   record {
-    put = c.refuse.ensures.refuses failure (subst (IsRefusal c.in-Err.fault) unsound (c.in-Err.ensures.refused events told));
+    put = c.refuse.ensures.refuses failure (subst (TellsFailure c.in-Err.fault) unsound (c.in-Err.ensures.refused events told));
     looked_at = looked-unsound events failure _ unsound (c.open.ensures.touches events told);
     unwritten = λ judged.
         let judges = c.refuse.ensures.judged judged in

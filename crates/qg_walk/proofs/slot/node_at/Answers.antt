@@ -10,7 +10,7 @@ use Rattle.qg_walk.proofs.slot.node_at.Goals as goal
 pub returns-then-not-is_slot-clause-told : goal.returns-then-not-is_slot-clause-told
 returns-then-not-is_slot-clause-told g c events told =
     let none = rw c.sizes.ensures at (sym c.is_slot.ensures ∙ c.if-not-is_slot.true) in
-    rw c.broken.ensures (node_found-no_slot c.args.superblock.now (content events) c.args.address none)
+    node_found-no_slot c.args.superblock.now (content events) c.args.address none
 
 pub read-requires : goal.read-requires
 read-requires g c =
@@ -34,5 +34,5 @@ returns-in-Err-Bad-clause-told g c events told =
     let slot = rw c.sizes.ensures at (sym c.is_slot.ensures ∙ c.if-not-is_slot.false) in
     let bytes = rw c.value.ensures at (c.in_ok-read.ensures.bytes events told) in
     let exact = rw c.in-Err-Bad.field-0-is at c.in-Err-Bad.ensures.exact in
-    rw (c.broken-in-Err-Bad.ensures, c.rule_of.ensures)
+    rw c.rule_of.ensures
     (node_found-read c.args.superblock.now (content events) c.read.new.buf c.args.address (length c.args.buffer.now) (Err c.in-Err-Bad.fault) slot bytes c.requires.buffer exact)

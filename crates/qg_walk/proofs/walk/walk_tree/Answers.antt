@@ -1,7 +1,5 @@
-use Rattle.std.proofs.Common.{◌≡◌}
 use Rattle.std.proofs.lemmas.Result.{err_from_is_err_and}
 use Rattle.qg_verdict.specs.Walk.{deepest, tree_failure}
-use Rattle.qg_walk.specs.declared.fault.WalkFault.TheVariants.{Unsound}
 use Rattle.qg_walk.specs.Added.{found_by}
 use Rattle.qg_walk.proofs.Failures.{levels_few}
 use Rattle.qg_walk.proofs.Whole.{IsWalk-added, held-added, slots-added}
@@ -9,10 +7,9 @@ use Rattle.qg_walk.proofs.walk.walk_tree.Goals as goal
 
 pub returns-in_err-walk-clause-unsound : goal.returns-in_err-walk-clause-unsound
 unfolding tree_failure
-returns-in_err-walk-clause-unsound g c events failure told is =
-    let from = err_from_is_err_and c.from_residual-in_err-walk.result c.from_residual-in_err-walk.ensures.1 in
-    let same : c.in_err-walk.field-0.0 ≡ Unsound failure = cc in
-    rw same at (c.in_err-walk.ensures.failure events deepest told (levels_few c.args.expected.now.level))
+returns-in_err-walk-clause-unsound g c events told =
+    let is = err_from_is_err_and c.from_residual-in_err-walk.result c.from_residual-in_err-walk.ensures.1 in
+    rw (is.1, is.2) (c.in_err-walk.ensures.failure events deepest told (levels_few c.args.expected.now.level))
 
 pub returns-clause-found : goal.returns-clause-found
 unfolding tree_failure

@@ -3,17 +3,17 @@ use Rattle.qg_device.specs.History.{Synced, content}
 use Rattle.qg_commit.specs.Opening.{with_repair}
 use Rattle.qg_store.proofs.store.Store.open.Goals as goal
 
-pub returns-in-Ok-clause-sound : goal.returns-in-Ok-clause-sound
-returns-in-Ok-clause-sound g c = λ events told. (c.in_ok-image.ensures.image events told).sound
+pub returns-clause-sound : goal.returns-clause-sound
+returns-clause-sound g c = λ events told. (c.in_ok-image.ensures.image events told).sound
 
-pub returns-in-Ok-clause-opened : goal.returns-in-Ok-clause-opened
-returns-in-Ok-clause-opened g c = λ events state told stands. record {
+pub returns-clause-opened : goal.returns-clause-opened
+returns-clause-opened g c = λ events state told stands. record {
   running = refl;
-  keeps = c.in-Ok.ensures.keeps (content events) state (c.in_ok-image.ensures.image events told) stands;
+  keeps = c.in_ok-kept.ensures.keeps (content events) state (c.in_ok-image.ensures.image events told) stands;
 }
 
-pub returns-in-Ok-clause-repaired : goal.returns-in-Ok-clause-repaired
-returns-in-Ok-clause-repaired g c = λ events told.
+pub returns-clause-repaired : goal.returns-clause-repaired
+returns-clause-repaired g c = λ events told.
     let image = c.in_ok-image.ensures.image events told in
     record {
       super = c.in_ok-image.image.superblock;
