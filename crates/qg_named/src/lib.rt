@@ -6,4 +6,3 @@ mod named;
 mod tally;
 
 pub use named::{Named, named_of};
-
