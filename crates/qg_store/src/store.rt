@@ -3,6 +3,7 @@ ghost use Rattle.std.specs.Prelude.{◌≡◌, ◌⊎◌, ◌≤◌, ◌∷◌, 
 ghost use Rattle.qg_device.specs.Cause.{HasCause};
 ghost use Rattle.qg_device.specs.History.{Event, Synced, content};
 ghost use Rattle.qg_num.specs.declared.answer.Answer.{Answer};
+ghost use Rattle.qg_num.specs.Fault.{stop_of};
 ghost use Rattle.qg_super.specs.Places.{total_bytes};
 ghost use Rattle.qg_super.specs.SuperText.{sizes_of};
 ghost use Rattle.qg_grammar.specs.ScriptText.{is_in_grammar};
@@ -132,8 +133,9 @@ impl Store {
         match answer(&mut self.kept, disk, command) {
             Ok(answer) => Ok(answer),
             Err(fault) => {
+                let stop = stop_of(&fault);
                 self.stopped = Some(fault);
-                Err(Stop::from(fault))
+                Err(stop)
             }
         }
     }
@@ -143,6 +145,20 @@ impl Store {
         ensures { result ≡ self.now.kept.superblock.generation }
     {
         self.kept.superblock.generation
+    }
+}
+
+// What a store answers that stops for a fault.
+fn stop_of(fault: &BlockFault) -> Stop
+    ensures { result ≡ stop_of fault.now }
+{
+    match fault {
+        BlockFault::NoMemory => Stop::NoMemory,
+        BlockFault::Disk => Stop::Disk,
+        BlockFault::Image { rule, address } => Stop::Image {
+            rule: *rule,
+            address: *address,
+        },
     }
 }
 
