@@ -57,13 +57,13 @@ impl Extents {
     }
 
     /// The references to what begins at an address.
-    pub fn references_at(&self, at: Address) -> Result<RefList, NoMemory>
+    pub fn references_at(&self, alloc: Global, at: Address) -> Result<RefList, NoMemory>
         ensures { IfOk result (λ list. list ≡ references_at (book_of self.now) at) }
     {
         let key = at.value();
         match self.kept.get(&key) {
-            Some(kept) => kept.references.copy(self.alloc),
-            None => Ok(RefList::new(self.alloc)),
+            Some(kept) => kept.references.copy(alloc),
+            None => Ok(RefList::new(alloc)),
         }
     }
 
