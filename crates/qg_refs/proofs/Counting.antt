@@ -121,7 +121,7 @@ pub ascend-set : (xs : List Counted) (i : ℕ) (entry : Counted) → Ascend xs �
 ascend-set xs i entry up is = λ j k d below inside.
     let same : (m : ℕ) → (get_or (set xs i entry) m d).reference ≡ (get_or xs m d).reference = set_same xs i entry d (λ h. sym (is d h)) in
     subst (λ a. precedes a (get_or (set xs i entry) k d).reference ≡ true) (sym (same j))
-        (subst (λ b. precedes (get_or xs j d).reference b ≡ true) (sym (same k)) (up j k d below (omega (arith, inside, length-set xs i entry))))
+    (subst (λ b. precedes (get_or xs j d).reference b ≡ true) (sym (same k)) (up j k d below (omega (arith, inside, length-set xs i entry))))
 
 ascend-cons : (x : Counted) (xs : List Counted) → ((k : ℕ) (d : Counted) → k < length xs → precedes x.reference (get_or xs k d).reference ≡ true) → Ascend xs → Ascend (x ∷ xs)
 ascend-cons x xs before up zero zero d below inside = absurd (omega (arith, below))
@@ -143,7 +143,7 @@ stands xs i entry d m bound inside = cases (cases_Bool (ltb m i)) (cases_Bool (l
       let up : i < m = ltb-true i m high in
       let is : m - 1 + 1 ≡ m = omega (arith, up) in
       above (m - 1) (sym is) (omega (arith, up)) (omega (arith, up, inside, length-insert xs i entry bound))
-          (subst (λ (n : ℕ). get_or (insert xs i entry) n d ≡ get_or xs (m - 1) d) is (get_or-insert_above xs i entry d (m - 1) (omega (arith, up)) bound))
+      (subst (λ (n : ℕ). get_or (insert xs i entry) n d ≡ get_or xs (m - 1) d) is (get_or-insert_above xs i entry d (m - 1) (omega (arith, up)) bound))
   cases (inr low) (inr high) =
       let is : i ≡ m = omega (arith, ltb-false m i low, ltb-false i m high) in
       own (sym is) (subst (λ (n : ℕ). get_or (insert xs i entry) n d ≡ entry) is (get_or-insert_at xs i entry d bound))
@@ -161,23 +161,23 @@ pub ascend-insert : (xs : List Counted) (i : ℕ) (entry : Counted) → i ≤ le
     → Ascend (insert xs i entry)
 ascend-insert xs i entry bound up before behind m n d low inside =
     cases (stands xs i entry d m bound (omega (arith, low, inside))) (stands xs i entry d n bound inside) where
-  first : ℕ → Counted
-  first k = get_or (insert xs i entry) k d
+      first : ℕ → Counted
+      first k = get_or (insert xs i entry) k d
 
-  before' : (a b c e : Counted) → a ≡ b → c ≡ e → precedes b.reference e.reference ≡ true → precedes a.reference c.reference ≡ true
-  before' a b c e p q h = subst (λ x. precedes x.reference c.reference ≡ true) (sym p) (subst (λ x. precedes b.reference x.reference ≡ true) (sym q) h)
+      before' : (a b c e : Counted) → a ≡ b → c ≡ e → precedes b.reference e.reference ≡ true → precedes a.reference c.reference ≡ true
+      before' a b c e p q h = subst (λ x. precedes x.reference c.reference ≡ true) (sym p) (subst (λ x. precedes b.reference x.reference ≡ true) (sym q) h)
 
-  cases : Stands xs i entry d m (get_or (insert xs i entry) m d) → Stands xs i entry d n (get_or (insert xs i entry) n d)
-      → precedes (get_or (insert xs i entry) m d).reference (get_or (insert xs i entry) n d).reference ≡ true
-  cases (below a is) (below b is') = before' _ _ _ _ is is' (up m n d low (omega (arith, b, bound)))
-  cases (below a is) (own b is') = before' _ _ _ _ is is' (before m d a)
-  cases (below a is) (above k b high within is') = before' _ _ _ _ is is' (up m k d (omega (arith, a, high)) within)
-  cases (own a is) (below b is') = absurd (omega (arith, a, b, low))
-  cases (own a is) (own b is') = absurd (omega (arith, a, b, low))
-  cases (own a is) (above k b high within is') = before' _ _ _ _ is is' (behind k d high within)
-  cases (above j a high within is) (below b is') = absurd (omega (arith, a, high, b, low))
-  cases (above j a high within is) (own b is') = absurd (omega (arith, a, high, b, low))
-  cases (above j a high within is) (above k b high' within' is') = before' _ _ _ _ is is' (up j k d (omega (arith, a, b, low)) within')
+      cases : Stands xs i entry d m (get_or (insert xs i entry) m d) → Stands xs i entry d n (get_or (insert xs i entry) n d)
+          → precedes (get_or (insert xs i entry) m d).reference (get_or (insert xs i entry) n d).reference ≡ true
+      cases (below a is) (below b is') = before' _ _ _ _ is is' (up m n d low (omega (arith, b, bound)))
+      cases (below a is) (own b is') = before' _ _ _ _ is is' (before m d a)
+      cases (below a is) (above k b high within is') = before' _ _ _ _ is is' (up m k d (omega (arith, a, high)) within)
+      cases (own a is) (below b is') = absurd (omega (arith, a, b, low))
+      cases (own a is) (own b is') = absurd (omega (arith, a, b, low))
+      cases (own a is) (above k b high within is') = before' _ _ _ _ is is' (behind k d high within)
+      cases (above j a high within is) (below b is') = absurd (omega (arith, a, high, b, low))
+      cases (above j a high within is) (own b is') = absurd (omega (arith, a, high, b, low))
+      cases (above j a high within is) (above k b high' within' is') = before' _ _ _ _ is is' (up j k d (omega (arith, a, b, low)) within')
 
 -- ---- a list of references after an edit
 
@@ -273,7 +273,7 @@ pub set-written : (xs ys zs : List Counted) (i : ℕ) (x : Reference) (n : ℕ) 
 set-written xs ys zs i x n searched lent list inside at some =
     let entry : Counted = record { reference = x; count = n } in
     let same : refill (length xs) xs (set zs i entry) ≡ set xs i entry =
-        ap (λ (ws : List Counted). refill (length xs) xs (set ws i entry)) lent ∙ refill-same xs (set xs i entry) (length-set xs i entry) in
+    ap (λ (ws : List Counted). refill (length xs) xs (set ws i entry)) lent ∙ refill-same xs (set xs i entry) (length-set xs i entry) in
     let inside' : i < length xs = subst (λ (ws : List Counted). i < length ws) searched inside in
     let at' : (d : Counted) → (get_or xs i d).reference ≡ x = λ d. subst (λ (ws : List Counted). (get_or ws i d).reference ≡ x) searched (at d) in
     subst (λ (ws : List Counted). IsSet xs ws x n) (sym same) (set-counts xs i x n list inside' at' some)
@@ -295,11 +295,11 @@ pub insert-written : (xs ys zs new : List Counted) (i : ℕ) (x : Reference) →
     → new ≡ insert xs i (record { reference = x; count = 1 }) → IsSet xs new x 1
 insert-written xs ys zs new i x searched placed list none bound point is =
     subst (λ (ws : List Counted). IsSet xs ws x 1) (sym is)
-        (insert-counts xs i x list (subst (λ (ws : List Counted). i ≤ length ws) placed bound) (subst (λ (ws : List Counted). IsPlace x ws i) placed point)
-            (ap (λ (ws : List Counted). count_of ws x) (sym searched) ∙ none))
+    (insert-counts xs i x list (subst (λ (ws : List Counted). i ≤ length ws) placed bound) (subst (λ (ws : List Counted). IsPlace x ws i) placed point)
+    (ap (λ (ws : List Counted). count_of ws x) (sym searched) ∙ none))
 
 -- an entry that is taken out
 pub remove-written : (xs ys new : List Counted) (i : ℕ) (x : Reference) → ys ≡ xs → IsRefList xs → i < length ys → ((d : Counted) → (get_or ys i d).reference ≡ x) → new ≡ remove xs i → IsSet xs new x 0
 remove-written xs ys new i x searched list inside at is =
     subst (λ (ws : List Counted). IsSet xs ws x 0) (sym is)
-        (remove-counts xs i x list (subst (λ (ws : List Counted). i < length ws) searched inside) (λ d. subst (λ (ws : List Counted). (get_or ws i d).reference ≡ x) searched (at d)))
+    (remove-counts xs i x list (subst (λ (ws : List Counted). i < length ws) searched inside) (λ d. subst (λ (ws : List Counted). (get_or ws i d).reference ≡ x) searched (at d)))

@@ -36,7 +36,14 @@ pub trait RefBook<G, D: Disk, L: Ledger> {
     ghost to_read: { Self → G → D → ℕ → ℕ };
 
     /// The references to what begins at an address.
-    fn refs_of(&self, alloc: Global, land: &mut G, disk: &mut D, at: Address, reads: &mut Steps<L>) -> Result<RefList, BlockFault>
+    fn refs_of(
+        &self,
+        alloc: Global,
+        land: &mut G,
+        disk: &mut D,
+        at: Address,
+        reads: &mut Steps<L>,
+    ) -> Result<RefList, BlockFault>
         requires { stands self.now land.old disk.old }
         ensures exact { (book : Book) → holds self.now land.old disk.old ≡ Some book → IfOk result (λ list. list ≡ references_at book at) }
         ensures stands { stands self.now land.new disk.new }
@@ -50,7 +57,14 @@ pub trait RefBook<G, D: Disk, L: Ledger> {
         ensures reads { IsSome (holds self.now land.old disk.old) → reads.new ≤ reads.old + (44 + to_read self.now land.old disk.old at) };
 
     /// How often a reference to what begins at an address is there.
-    fn count(&self, land: &mut G, disk: &mut D, at: Address, reference: Reference, reads: &mut Steps<L>) -> Result<u32, BlockFault>
+    fn count(
+        &self,
+        land: &mut G,
+        disk: &mut D,
+        at: Address,
+        reference: Reference,
+        reads: &mut Steps<L>,
+    ) -> Result<u32, BlockFault>
         requires { stands self.now land.old disk.old }
         ensures exact { (book : Book) → holds self.now land.old disk.old ≡ Some book → IfOk result (λ count. count ≡ count_at book at reference) }
         ensures stands { stands self.now land.new disk.new }
@@ -64,7 +78,13 @@ pub trait RefBook<G, D: Disk, L: Ledger> {
         ensures reads { IsSome (holds self.now land.old disk.old) → reads.new ≤ reads.old + (44 + to_read self.now land.old disk.old at) };
 
     /// Whether what begins at an address is full. Where it has no reference it isn't.
-    fn is_full(&self, land: &mut G, disk: &mut D, at: Address, reads: &mut Steps<L>) -> Result<bool, BlockFault>
+    fn is_full(
+        &self,
+        land: &mut G,
+        disk: &mut D,
+        at: Address,
+        reads: &mut Steps<L>,
+    ) -> Result<bool, BlockFault>
         requires { stands self.now land.old disk.old }
         ensures exact { (book : Book) → holds self.now land.old disk.old ≡ Some book → IfOk result (λ full. full ≡ full_in (book at)) }
         ensures stands { stands self.now land.new disk.new }
@@ -78,7 +98,15 @@ pub trait RefBook<G, D: Disk, L: Ledger> {
         ensures reads { IsSome (holds self.now land.old disk.old) → reads.new ≤ reads.old + (44 + to_read self.now land.old disk.old at) };
 
     /// One reference more to what begins at an address. What is told of it is kept where it has no reference yet.
-    fn add(&mut self, land: &mut G, disk: &mut D, at: Address, what: What, reference: Reference, reads: &mut Steps<L>) -> Result<(), BlockFault>
+    fn add(
+        &mut self,
+        land: &mut G,
+        disk: &mut D,
+        at: Address,
+        what: What,
+        reference: Reference,
+        reads: &mut Steps<L>,
+    ) -> Result<(), BlockFault>
         requires stands { stands self.old land.old disk.old }
         requires room { has_room self.old land.old disk.old }
         requires fits { MayHaveMore (holds self.old land.old disk.old) at reference }
@@ -93,7 +121,14 @@ pub trait RefBook<G, D: Disk, L: Ledger> {
         ensures rise { reads.old ≤ reads.new };
 
     /// One reference less to what begins at an address. Where it was the last one, nothing is kept of what is there.
-    fn drop_one(&mut self, land: &mut G, disk: &mut D, at: Address, reference: Reference, reads: &mut Steps<L>) -> Result<(), BlockFault>
+    fn drop_one(
+        &mut self,
+        land: &mut G,
+        disk: &mut D,
+        at: Address,
+        reference: Reference,
+        reads: &mut Steps<L>,
+    ) -> Result<(), BlockFault>
         requires stands { stands self.old land.old disk.old }
         requires room { has_room self.old land.old disk.old }
         requires there { HasReference (holds self.old land.old disk.old) at reference }
@@ -108,7 +143,13 @@ pub trait RefBook<G, D: Disk, L: Ledger> {
         ensures rise { reads.old ≤ reads.new };
 
     /// What begins at an address is full from now on (on-disk format, FULL_BACKREF).
-    fn set_full(&mut self, land: &mut G, disk: &mut D, at: Address, reads: &mut Steps<L>) -> Result<(), BlockFault>
+    fn set_full(
+        &mut self,
+        land: &mut G,
+        disk: &mut D,
+        at: Address,
+        reads: &mut Steps<L>,
+    ) -> Result<(), BlockFault>
         requires stands { stands self.old land.old disk.old }
         requires room { has_room self.old land.old disk.old }
         requires there { HasSome (holds self.old land.old disk.old) at }

@@ -15,3 +15,5 @@ pub use list::RefList;
 pub use order::{is_before, is_same};
 pub use qg_items::Reference;
 
+#[cfg(test)]
+mod tests;

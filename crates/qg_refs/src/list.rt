@@ -67,10 +67,13 @@ impl RefList {
             return Ok(());
         }
         let index = place_of(self.counts.as_slice(), &reference);
-        self.counts.insert(index, Counted {
+        self.counts.insert(
+            index,
+            Counted {
                 reference,
                 count: 1,
-            })?;
+            },
+        )?;
         Ok(())
     }
 

@@ -14,7 +14,7 @@ returns-then-is_same-clause-counts c d =
     let i = c.place_of-index.result in
     let entry = c.index-entries-index.result in
     let at = ap (λ (e : Counted). e.reference) (get_or_default entries i d entry c.if-index-entries.true)
-        ∙ same_reference_is (get_or entries i entry).reference reference (sym c.is_same.ensures ∙ c.if-is_same.true) in
+    ∙ same_reference_is (get_or entries i entry).reference reference (sym c.is_same.ensures ∙ c.if-is_same.true) in
     sym (count-found reference entries i d c.requires c.if-index-entries.true at)
 
 pub returns-else-index-entries-clause-none : goal.returns-else-index-entries-clause-none
