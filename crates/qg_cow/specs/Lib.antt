@@ -1,0 +1,4 @@
+pub mod Children
+pub mod Copying
+pub mod Left
+pub mod Examples

@@ -1,0 +1,2 @@
+pub mod RankOrder
+pub mod Counting

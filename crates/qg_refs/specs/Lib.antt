@@ -1,0 +1,3 @@
+pub mod Order
+pub mod Counts
+pub mod Book
