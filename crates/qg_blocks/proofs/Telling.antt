@@ -41,6 +41,14 @@ pub IsSome-second : {A : Type 0} (o p : Option A) → IsSome p → IsSome (first
 IsSome-second None p h = h
 IsSome-second (Some x) p h = refl
 
+fresh_first : (fresh clean : Option Node) (node other : Node) → fresh ≡ Some node → first_of fresh clean ≡ Some other → other ≡ node
+fresh_first None clean node other is there = cc
+fresh_first (Some n) clean node other is there = cc
+
+-- where there is a fresh node, it is the one in memory
+pub fresh-held : (held : Held) (address : ℕ) (node other : Node) → fresh_at held.draft address ≡ Some node → held_at held address ≡ Some other → other ≡ node
+fresh-held held address node other = fresh_first (fresh_at held.draft address) (clean_at held address) node other
+
 -- a clean node is one of those listed
 pub clean-listed : (held : Held) (address : ℕ) (node : Node) → clean_at held address ≡ Some node → Contains held.clean (address, node)
 clean-listed held address node is =

@@ -5,3 +5,6 @@ mod blocks;
 mod reading;
 
 pub use blocks::Blocks;
+
+#[cfg(test)]
+mod tests;
