@@ -49,6 +49,12 @@ fresh_first (Some n) clean node other is there = cc
 pub fresh-held : (held : Held) (address : ℕ) (node other : Node) → fresh_at held.draft address ≡ Some node → held_at held address ≡ Some other → other ≡ node
 fresh-held held address node other = fresh_first (fresh_at held.draft address) (clean_at held address) node other
 
+-- where there is neither a fresh nor a clean one, there is none
+pub nothing-held : (fresh clean : Option Node) → fresh ≡ None → is_some clean ≡ false → IsSome (first_of fresh clean) → ⊥
+nothing-held None None none absent some = cc
+nothing-held None (Some n) none absent some = cc
+nothing-held (Some n) clean none absent some = cc
+
 -- a clean node is one of those listed
 pub clean-listed : (held : Held) (address : ℕ) (node : Node) → clean_at held address ≡ Some node → Contains held.clean (address, node)
 clean-listed held address node is =
@@ -138,14 +144,26 @@ told-unbroken result draft history address node = unbroken_from result (fresh_at
 
 -- ---- the clean node that was used last
 
--- what is there is there when it was used
-stays_from : (test : ℕ → Bool) (es : List (ℕ × Node)) (o : Option (ℕ × Node)) → lookup_entry test es ≡ o → IsSome (lookup test es)
-    → IsSome (lookup test (option_map_or (λ e. e ∷ remove_entry test es) o es))
-stays_from test es None h some = some
-stays_from test es (Some e) h some = let passes = (Contains-lookup_entry test es e h).1 in rw passes refl
+value_from : (b : Bool) (e f : ℕ × Node) (o : Option Node) (p : Option (ℕ × Node)) → (p ≡ Some f → o ≡ Some f.1) → cond b (Some e) p ≡ Some f
+    → cond b (Some e.1) o ≡ Some f.1
+value_from true e f o p step is = let same : e ≡ f = cc in ap (λ (g : ℕ × Node). Some g.1) same
+value_from false e f o p step is = step is
+
+entry_value : (test : ℕ → Bool) (es : List (ℕ × Node)) (f : ℕ × Node) → lookup_entry test es ≡ Some f → lookup test es ≡ Some f.1
+entry_value test [] f is = cc
+entry_value test (e ∷ es) f is = value_from (test e.0) e f (lookup test es) (lookup_entry test es) (entry_value test es f) is
+
+promoted_from : (test : ℕ → Bool) (es : List (ℕ × Node)) (o : Option (ℕ × Node)) → lookup_entry test es ≡ o
+    → lookup test (option_map_or (λ e. e ∷ remove_entry test es) o es) ≡ lookup test es
+promoted_from test es None h = refl
+promoted_from test es (Some e) h = let passes = (Contains-lookup_entry test es e h).1 in rw passes (sym (entry_value test es e h))
+
+-- it is there as it was
+pub lookup-promoted : (test : ℕ → Bool) (es : List (ℕ × Node)) → lookup test (promoted test es) ≡ lookup test es
+lookup-promoted test es = promoted_from test es (lookup_entry test es) refl
 
 pub IsSome-promoted : (test : ℕ → Bool) (es : List (ℕ × Node)) → IsSome (lookup test es) → IsSome (lookup test (promoted test es))
-IsSome-promoted test es = stays_from test es (lookup_entry test es) refl
+IsSome-promoted test es some = subst (λ (o : Option Node). IsSome o) (sym (lookup-promoted test es)) some
 
 either_absent : (b : Bool) (e : ℕ × Node) (o : Option Node) (p : Option (ℕ × Node)) → (is_some o ≡ false → p ≡ None) → is_some (cond b (Some e.1) o) ≡ false
     → cond b (Some e) p ≡ None

@@ -186,11 +186,12 @@ impl Blocks {
         ensures kept { OnOk result ((node : NodeValue) → fresh_at self.old.draft address ≡ None → held_at self.new address ≡ Some node
             → IsNodeAt self.old.draft.sizes.nodesize address node) }
 
-        // Answers have their causes.
+        // Answers have their causes, and what is in memory is lent as it is.
         ensures answers { (events : List Event) → D.history disk.old ≡ Some events
             → Answers result address (found self.old.draft (content events) address) }
         ensures sound { (node : NodeValue) → told self.old.draft (D.history disk.old) address ≡ Some node → BreaksNone result }
-        ensures fresh { IsSome (fresh_at self.old.draft address) → IsOk result }
+        ensures again { IsSome (held_at self.old address) → IsOk result }
+        ensures same { IsSome (held_at self.old address) → held_at self.new address ≡ held_at self.old address }
         ensures cause { HasCause BlockFault.Disk (D.faults disk.old) (D.faults disk.new) result }
 
         // Clean nodes are none but those of the disk, and the disk is as it was.

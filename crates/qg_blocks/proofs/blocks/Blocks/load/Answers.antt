@@ -5,9 +5,9 @@ use Rattle.qg_device.specs.History.{Event, content}
 use Rattle.qg_node.specs.declared.node.Node.{Node}
 use Rattle.qg_blocks.specs.Held.{Held}
 use Rattle.qg_blocks.specs.Standing.{standing}
-use Rattle.qg_blocks.specs.Told.{Answers, IsBacked, clean_at, fresh_at}
+use Rattle.qg_blocks.specs.Told.{Answers, IsBacked, clean_at, first_of, fresh_at}
 use Rattle.qg_blocks.proofs.Backing.{IsBacked-promoted}
-use Rattle.qg_blocks.proofs.Telling.{IsSome-first, IsSome-second, IsSome-promoted, loaded-found, loaded-kept, loaded-told, none_of, promoted-absent, told-unbroken}
+use Rattle.qg_blocks.proofs.Telling.{IsSome-first, IsSome-second, IsSome-promoted, loaded-found, loaded-kept, loaded-told, lookup-promoted, none_of, nothing-held, promoted-absent, told-unbroken}
 use Rattle.qg_blocks.proofs.blocks.Blocks.load.Goals as goal
 
 -- ---- a fresh node
@@ -89,3 +89,20 @@ returns-clause-err g c =
     on_err_weaker c.fetch.result
     (λ same. same ∙ c.touch.ensures.same ∙ ap (λ (clean : List (ℕ × Node)). record c.args.self.now { clean = clean }) absent)
     c.fetch.ensures.err
+
+-- ---- what is in memory
+
+pub returns-then-touch-clause-same : goal.returns-then-touch-clause-same
+returns-then-touch-clause-same g c some =
+    rw c.touch.ensures.same
+    (ap (λ (clean : Option Node). first_of (fresh_at c.args.self.now.draft c.args.address) clean) (lookup-promoted (nat_eq c.args.address) c.args.self.now.clean))
+
+pub returns-clause-again : goal.returns-clause-again
+returns-clause-again g c some =
+    absurd (nothing-held (fresh_at c.args.self.now.draft c.args.address) (clean_at c.args.self.now c.args.address)
+    (none_of (fresh_at c.args.self.now.draft c.args.address) (sym c.is_fresh.ensures ∙ c.if-is_fresh.false)) (sym c.touch.ensures.found ∙ c.if-touch.false) some)
+
+pub returns-clause-same : goal.returns-clause-same
+returns-clause-same g c some =
+    absurd (nothing-held (fresh_at c.args.self.now.draft c.args.address) (clean_at c.args.self.now c.args.address)
+    (none_of (fresh_at c.args.self.now.draft c.args.address) (sym c.is_fresh.ensures ∙ c.if-is_fresh.false)) (sym c.touch.ensures.found ∙ c.if-touch.false) some)
