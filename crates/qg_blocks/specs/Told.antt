@@ -68,8 +68,8 @@ pub record IsNodeAt (nodesize address : ℕ) (node : Node) : Type 0 where
   pub sound : IsNode nodesize node
   pub placed : (header_of node).address ≡ address
 
--- each clean node stands at its address, where the disk tells. Over any disk it has a text and names its address; and there is no
--- fresh one
+-- each clean node stands at its address, where the disk tells. Over any disk it has a text and names its address, and no node is
+-- fresh there
 pub record IsBacked (held : Held) (history : Option (List Event)) : Type 0 where
   pub stands : (address : ℕ) (node : Node) → Contains held.clean (address, node) → StandsThere held.draft.sizes history address node
   pub kept : (address : ℕ) (node : Node) → Contains held.clean (address, node) → IsNodeAt held.draft.sizes.nodesize address node

@@ -163,7 +163,11 @@ fn is_right(found: Result<u64, BlockFault>, address: u64, rule: Option<Rule>) ->
 }
 
 // Three leaves, one after the other, and the first again.
-fn visit_three<L: Ledger>(rt: &impl Abort, alloc: Global, reads: &mut Steps<L>) -> Result<(), Fail> {
+fn visit_three<L: Ledger>(
+    rt: &impl Abort,
+    alloc: Global,
+    reads: &mut Steps<L>,
+) -> Result<(), Fail> {
     let mut disk = MemDisk::new(alloc);
     let mut blocks = laid_out(alloc, &mut disk)?;
     let first = generation_at(&mut blocks, &mut disk, FIRST, reads);
