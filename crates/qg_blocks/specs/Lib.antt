@@ -1,0 +1,5 @@
+pub mod Held
+pub mod Standing
+pub mod Told
+pub mod Writing
+pub mod Lending
