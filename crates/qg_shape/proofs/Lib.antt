@@ -1,0 +1,5 @@
+pub mod Ascending
+pub mod Searched
+pub mod Aims
+pub mod Weights
+pub mod Inners
