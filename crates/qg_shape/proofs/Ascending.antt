@@ -1,5 +1,5 @@
 -- Keys that ascend: their parts, and a key between two parts.
-use Rattle.std.proofs.Common.{◌≡◌, ℕ, Bool, true, false, List, [], ◌∷◌, ◌++◌, refl, sym, ap, ◌∙◌}
+use Rattle.std.proofs.Common.{◌≡◌, ℕ, ◌<◌, Bool, true, false, List, [], ◌∷◌, ◌++◌, length, refl, sym, ap, ◌∙◌, arith}
 use Rattle.std.specs.Prelude.{◌&&◌, ◌==◌}
 use Rattle.std.specs.List.{list_all}
 use Rattle.std.specs.declared.cmp.Ordering.{Ordering}
@@ -7,11 +7,13 @@ use Rattle.std.specs.declared.cmp.Ordering.TheVariants.{Less, Equal, Greater}
 use Rattle.std.specs.Ordering.{is_lt, nat_cmp, ordering_reverse, ordering_then}
 use Rattle.std.proofs.lemmas.Bool.{and_from, and_parts, eq-eqb}
 use Rattle.std.proofs.lemmas.Cmp.{ranked, tied_itself}
+use Rattle.std.proofs.lemmas.List.{append-nil}
 use Rattle.qg_num.specs.declared.key.Key.{Key}
 use Rattle.qg_num.specs.Key.{key_cmp}
 use Rattle.qg_num.proofs.KeyOrder.{key_cmp_total}
 use Rattle.qg_node.specs.Nodes.{ascends_from, is_ascending}
 use Rattle.qg_image.specs.IsShaped.{same_key}
+use Rattle.qg_shape.specs.Pointing.{first_key}
 
 -- ---- the order
 
@@ -152,3 +154,28 @@ ascending_round [] to back h below k above = from_all to back k above
 ascending_round (key ∷ front) to back h below k above =
     let belows = and_parts (is_lt (key_cmp key to)) (list_all (λ key. is_lt (key_cmp key to)) front) below in
     from_both key front to back h belows.0 belows.1 (from_all to back k above)
+
+from_without : (before : Key) (front : List Key) (key : Key) (back : List Key) → ascends_from before (front ++ key ∷ back) ≡ true → ascends_from before (front ++ back) ≡ true
+unfolding ascends_from
+from_without before [] key back h =
+    let parts = and_parts (is_lt (key_cmp before key)) (ascends_from key back) h in from_lower before key back parts.0 parts.1
+from_without before (first ∷ front) key back h =
+    let parts = and_parts (is_lt (key_cmp before first)) (ascends_from first (front ++ key ∷ back)) h in
+    and_from (is_lt (key_cmp before first)) (ascends_from first (front ++ back)) parts.0 (from_without first front key back parts.1)
+
+-- keys ascend without one of them
+pub ascending_without : (front : List Key) (key : Key) (back : List Key) → is_ascending (front ++ key ∷ back) ≡ true → is_ascending (front ++ back) ≡ true
+unfolding is_ascending
+ascending_without [] key back h = ascending_tail key back h
+ascending_without (first ∷ front) key back h = from_without first front key back h
+
+-- two lists of keys ascend together where those of the first are less than the first of the second
+pub ascending_together : (front back : List Key) → is_ascending front ≡ true → is_ascending back ≡ true → (0 < length back → list_all (λ key. is_lt (key_cmp key (first_key back))) front ≡ true)
+    → is_ascending (front ++ back) ≡ true
+unfolding is_ascending
+ascending_together front [] h k below = ap is_ascending (append-nil front) ∙ h
+ascending_together front (key ∷ back) h k below = ascending_round front key back h (below (omega arith)) (ascending_tail key back k) (all_behind key back k)
+
+pub ascending_tail_of : (key : Key) (keys : List Key) → is_ascending (key ∷ keys) ≡ true → is_ascending keys ≡ true
+unfolding is_ascending
+ascending_tail_of key keys h = ascending_tail key keys h

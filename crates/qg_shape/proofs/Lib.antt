@@ -1,5 +1,9 @@
 pub mod Ascending
 pub mod Searched
+pub mod Edits
+pub mod Edited
 pub mod Aims
 pub mod Weights
 pub mod Inners
+pub mod Together
+pub mod Sides
