@@ -1,5 +1,5 @@
 -- A node with other items or pointers: what stays, and when it is a node again.
-use Rattle.std.proofs.Common.{◌≡◌, ℕ, ◌+◌, ◌*◌, ◌≤◌, ◌<◌, Bool, true, List, map, length, refl, sym, ap, ◌∙◌, arith, get_or, set}
+use Rattle.std.proofs.Common.{◌≡◌, ℕ, ◌+◌, ◌*◌, ◌≤◌, ◌<◌, true, List, map, length, refl, sym, ap, ◌∙◌, arith, get_or, set}
 use Rattle.std.specs.Prelude.{insert, remove}
 use Rattle.std.specs.List.{All}
 use Rattle.std.proofs.lemmas.List.{length-set}

@@ -1,13 +1,11 @@
 -- Lists of items or pointers after an edit: their keys ascend, what holds of each holds, and their weights add up.
-use Rattle.std.proofs.Common.{◌≡◌, ℕ, zero, suc, ◌+◌, ◌*◌, ◌<◌, ◌≤◌, true, List, [], ◌∷◌, ◌++◌, map, length, refl, sym, ap, subst, ◌∙◌, arith, take, drop, get_or, set}
+use Rattle.std.proofs.Common.{◌≡◌, ℕ, suc, ◌<◌, true, List, [], ◌∷◌, ◌++◌, map, length, sym, ap, ◌∙◌, arith, take, drop, get_or, set}
 use Rattle.std.specs.Prelude.{insert, remove}
-use Rattle.std.specs.List.{All, list_all}
-use Rattle.std.specs.Ordering.{is_lt}
+use Rattle.std.specs.List.{All}
 use Rattle.std.proofs.Math.Seq.{drop-cons}
 use Rattle.std.proofs.lemmas.List.{drop-map, drop-set-lt, get_or-set_same, length-map, length-set, map-append, map-set, take-append-drop, take-map, take-set}
 use Rattle.std.proofs.lemmas.List.Elements.{All-append, All-cons, All-drop, All-take}
 use Rattle.qg_num.specs.declared.key.Key.{Key}
-use Rattle.qg_num.specs.Key.{key_cmp}
 use Rattle.qg_node.specs.Nodes.{is_ascending}
 use Rattle.qg_shape.specs.Places.{GoesAt, IsBetween}
 use Rattle.qg_shape.proofs.Ascending.{ascending_back, ascending_front, ascending_round, ascending_tail_of, ascending_without}

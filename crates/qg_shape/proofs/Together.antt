@@ -1,27 +1,21 @@
 -- Two nodes beside each other, and the items or pointers of both.
-use Rattle.std.proofs.Common.{◌≡◌, ℕ, suc, ◌+◌, ◌-◌, ◌*◌, ◌≤◌, ◌<◌, Bool, true, List, [], ◌∷◌, ◌++◌, map, length, length-append, refl, sym, ap, subst, ◌∙◌, arith}
+use Rattle.std.proofs.Common.{◌≡◌, ◌≤◌, ◌<◌, true, List, ◌++◌, length, length-append, refl, sym, ap, subst, ◌∙◌, arith}
 use Rattle.std.specs.List.{All, list_all}
 use Rattle.std.specs.Ordering.{is_lt}
-use Rattle.std.proofs.lemmas.Bool.{and_from, le-leb}
 use Rattle.std.proofs.lemmas.List.{map-append}
 use Rattle.std.proofs.lemmas.List.Elements.{All-append}
-use Rattle.std.specs.Prelude.{Some}
-use Rattle.qg_num.specs.declared.key.Key.{Key}
 use Rattle.qg_num.specs.Key.{key_cmp}
 use Rattle.qg_node.specs.declared.item.Item.{Item}
 use Rattle.qg_node.specs.declared.pointer.Pointer.{Pointer}
 use Rattle.qg_node.specs.declared.node.Node.{Node}
 use Rattle.qg_node.specs.declared.node.Node.TheVariants.{Leaf, Inner}
-use Rattle.qg_node.specs.Fits.{HeaderFits, ItemFits, NodeFits, PointerFits}
-use Rattle.qg_node.specs.Nodes.{header_of, is_ascending, own_items, own_keys, own_pointers, used_bytes}
-use Rattle.qg_node.specs.NodeText.{IsLevelled, IsNode}
-use Rattle.qg_super.specs.Places.{capacity}
-use Rattle.qg_image.specs.IsShaped.{is_shaped}
+use Rattle.qg_node.specs.Fits.{ItemFits, NodeFits, PointerFits}
+use Rattle.qg_node.specs.Nodes.{header_of, is_ascending, own_items, own_keys, own_pointers}
+use Rattle.qg_node.specs.NodeText.{IsLevelled}
 use Rattle.qg_shape.specs.Parts.{AreAlike, whole_of}
-use Rattle.qg_shape.specs.Filled.{HasShortBodies, IsFilled}
-use Rattle.qg_shape.specs.Outcomes.{IsParted, IsSplit}
-use Rattle.qg_shape.specs.Pointing.{first_key, pointer_to}
-use Rattle.qg_shape.proofs.Ascending.{all_before, ascending_back, ascending_front, ascending_together, same_itself}
+use Rattle.qg_shape.specs.Filled.{HasShortBodies}
+use Rattle.qg_shape.specs.Pointing.{first_key}
+use Rattle.qg_shape.proofs.Ascending.{ascending_together}
 
 -- ---- what both have
 

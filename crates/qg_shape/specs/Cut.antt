@@ -9,17 +9,17 @@ pub record Fills (room bytes : ℕ) : Type 0 where
   pub fits : bytes ≤ room
   pub full : room ≤ 4 * bytes
 
--- a front takes no more than was aimed at, and falls short of it by less than an item
-pub record IsNear (aim bytes : ℕ) : Type 0 where
-  pub upto : bytes ≤ aim
-  pub near : aim < bytes + 1049
+-- so many bytes are no more than `below` less than an aim, and no more than `above` greater
+pub record IsNear (below above aim bytes : ℕ) : Type 0 where
+  pub from : aim ≤ bytes + below
+  pub upto : bytes ≤ aim + above
 
--- wherever a front is near the aim, it fills a node, and so does what is left of `total`
-pub record IsAim (room total aim : ℕ) : Type 0 where
-  pub fits : aim ≤ room
-  pub full : room + 4192 ≤ 4 * aim
-  pub rest_fits : total + 1048 ≤ room + aim
-  pub rest_full : 4 * aim + room ≤ 4 * total
+-- a front that is as near to the aim fills a node, and so does what is left of `total`
+pub record IsAim (below above room total aim : ℕ) : Type 0 where
+  pub fits : aim + above ≤ room
+  pub full : room + 4 * below ≤ 4 * aim
+  pub rest_fits : total + below ≤ room + aim
+  pub rest_full : 4 * (aim + above) + room ≤ 4 * total
 
 -- a list was cut in two parts that fill a node each
 pub record IsCut {A : Type 0} (weight : A → ℕ) (room : ℕ) (all front rest : List A) : Type 0 where

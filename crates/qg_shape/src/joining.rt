@@ -7,7 +7,7 @@ ghost use Rattle.qg_shape.specs.Filled.{Fits, HasShortBodies, IsThin};
 ghost use Rattle.qg_shape.specs.Outcomes.{IsJoined};
 ghost use Rattle.qg_shape.specs.Parts.{AreAlike};
 
-use crate::cut::{front_near, half_way};
+use crate::cut::{half, nearest_front};
 use crate::part::Part;
 use qg_node::{HEADER_BYTES, Node};
 use qg_num::{NoMemory, Sequence};
@@ -76,7 +76,7 @@ fn join_lists<T: Part>(
         left.append(right)?;
         return Ok(Joined::Whole);
     }
-    share(left, right, first, half_way(room, total))?;
+    share(left, right, first, half(room, total))?;
     Ok(Joined::Parted)
 }
 
@@ -93,15 +93,15 @@ fn share<T: Part>(
     requires heavy { aim < sum_by T.weight left.old + sum_by T.weight right.old }
     requires small { aim < 2 ^ 32 }
     ensures whole { OnOk result (left.new ++ right.new ≡ left.old ++ right.old) }
-    ensures near { OnOk result (IsNear aim (sum_by T.weight left.new)) }
+    ensures near { OnOk result (IsNear 524 524 aim (sum_by T.weight left.new)) }
     ensures left_err { OnErr result (left.new ≡ left.old) }
     ensures right_err { OnErr result (right.new ≡ right.old) }
 {
     if aim < first {
-        let count = front_near(left.as_slice(), aim);
+        let count = nearest_front(left.as_slice(), aim);
         move_right(left, count, right)
     } else {
-        let count = front_near(right.as_slice(), aim - first);
+        let count = nearest_front(right.as_slice(), aim - first);
         move_left(left, right, count)
     }
 }

@@ -7,7 +7,7 @@ ghost use Rattle.qg_shape.specs.Cut.{IsCut};
 ghost use Rattle.qg_shape.specs.Filled.{HasShortBodies, IsOverfull};
 ghost use Rattle.qg_shape.specs.Outcomes.{IsSplit};
 
-use crate::cut::{front_near, half_way, late};
+use crate::cut::cut_index;
 use crate::part::Part;
 use qg_node::{HEADER_BYTES, Header, Node};
 use qg_num::{Address, NoMemory, Sequence};
@@ -63,11 +63,6 @@ fn cut_off<T: Part>(
     ensures cut { IfOk result (λ rest. IsCut T.weight room list.old list.new rest) }
     ensures err { OnErr result (list.new ≡ list.old) }
 {
-    let aim = if newest == list.len() - 1 {
-        late(room, total)
-    } else {
-        half_way(room, total)
-    };
-    let count = front_near(list.as_slice(), aim);
+    let count = cut_index(list.as_slice(), room, total, newest);
     Ok(list.split_off(count)?)
 }

@@ -8,7 +8,6 @@ returns-clause-joined g c =
     let weight = g.T.Weighed.weight in
     let left = c.args.left.now in
     let right = c.args.right.now in
-    let weighs = sum_by-append weight left right ∙ sym c.requires.total in (
-      omega (arith, weighs, c.if-total-room.false),
-      IsCut-near weight c.args.room c.args.total c.half_way.result (left ++ right) c.share.new.left c.share.new.right c.half_way.ensures weighs c.in_ok-share.ensures.whole c.in_ok-share.ensures.near,
-    )
+    let weighs = sum_by-append weight left right ∙ sym c.requires.total in
+    (omega (arith, weighs, c.if-total-room.false),
+    IsCut-near 524 524 c.args.room c.args.total c.half.result weight (left ++ right) c.share.new.left c.share.new.right c.half.ensures weighs c.in_ok-share.ensures.whole c.in_ok-share.ensures.near)

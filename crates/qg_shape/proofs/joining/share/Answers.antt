@@ -12,4 +12,4 @@ moved_right index left right new_left new_right (Err e) kept put = kept
 
 pub returns-then-aim-first-clause-whole : goal.returns-then-aim-first-clause-whole
 returns-then-aim-first-clause-whole g c =
-    moved_right c.front_near-count.result c.args.left.now c.args.right.now c.move_right.new.left c.move_right.new.right c.move_right.result c.move_right.ensures.kept c.move_right.ensures.moved
+    moved_right c.nearest_front-count.result c.args.left.now c.args.right.now c.move_right.new.left c.move_right.new.right c.move_right.result c.move_right.ensures.kept c.move_right.ensures.moved
