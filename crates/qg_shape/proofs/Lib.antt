@@ -7,3 +7,4 @@ pub mod Weights
 pub mod Inners
 pub mod Together
 pub mod Sides
+pub mod Samples

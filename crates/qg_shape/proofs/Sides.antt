@@ -33,7 +33,7 @@ some_keys nodesize (Leaf header (item ∷ items)) wide filled = omega arith
 some_keys nodesize (Inner header []) wide filled = absurd (omega (arith, filled.full))
 some_keys nodesize (Inner header (pointer ∷ pointers)) wide filled = omega arith
 
-first_itself : (keys : List Key) → 1 ≤ length keys → is_first (first_key keys) keys ≡ true
+pub first_itself : (keys : List Key) → 1 ≤ length keys → is_first (first_key keys) keys ≡ true
 first_itself [] some = absurd (omega arith)
 first_itself (key ∷ keys) some = same_itself key
 

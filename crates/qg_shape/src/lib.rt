@@ -19,3 +19,6 @@ pub use part::Weighed;
 pub use pointing::{first_key, pointer_to};
 pub use searching::{child_for, find_item};
 pub use splitting::split;
+
+#[cfg(test)]
+mod tests;
