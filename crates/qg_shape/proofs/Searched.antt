@@ -18,8 +18,8 @@ use Rattle.qg_shape.proofs.Ascending.{ascending_tail, less_trans}
 each_front : {A : Type 0} (p : A → Bool) (xs : List A) (i : ℕ) → i ≤ length xs → ((k : ℕ) (d : A) → k < i → p (get_or xs k d) ≡ true) → list_all p (take i xs) ≡ true
 each_front p xs i bound each =
     list_all-from_AllPass p (take i xs) (λ k d short.
-        let inside : k < i = omega (arith, length-take-le i xs bound) in
-        ap p (get_or-take i xs k d inside) ∙ each k d inside)
+    let inside : k < i = omega (arith, length-take-le i xs bound) in
+    ap p (get_or-take i xs k d inside) ∙ each k d inside)
 
 each_back : {A : Type 0} (p : A → Bool) (xs : List A) (i : ℕ) → ((k : ℕ) (d : A) → i ≤ k → k < length xs → p (get_or xs k d) ≡ true) → list_all p (drop i xs) ≡ true
 each_back p xs i each =
@@ -85,6 +85,7 @@ module _ {A : Type 0} (key_of : A → Key) where
       front_keys (λ other. is_lt (key_cmp other key)) xs (i + 1) (each_front (λ x. is_lt (key_cmp (key_of x) key)) xs (i + 1) (omega (arith, inside)) each) where
         there : (e : A) → is_lt (key_cmp (key_of (get_or xs i e)) key) ≡ true
         there e = subst (λ (x : A). is_lt (key_cmp (key_of x) key) ≡ true) (get_or_default xs i d e inside) greater
+
         each : (k : ℕ) (e : A) → k < i + 1 → is_lt (key_cmp (key_of (get_or xs k e)) key) ≡ true
         each k e short = elim (cases_lt k i) [
           | inl before ↦ less_trans (key_of (get_or xs k e)) (key_of (get_or xs i e)) key (ascend_by xs ascending k i e before inside) (there e)

@@ -16,6 +16,7 @@ use std::alloc::Global;
 use std::test::Fail;
 
 const HERE: u64 = 1048576;
+
 const THERE: u64 = 1064960;
 
 fn header(level: u8) -> Header {
@@ -245,12 +246,7 @@ fn joins_where_both_fit_and_else_shares(rt: HostRuntime) -> Result<(), Fail> {
 }
 
 // Whether a leaf of so many items is thin, and whether it is overfull.
-fn filling(
-    alloc: Global,
-    nodesize: u32,
-    count: u32,
-    body: &[u8],
-) -> Result<(bool, bool), NoMemory>
+fn filling(alloc: Global, nodesize: u32, count: u32, body: &[u8]) -> Result<(bool, bool), NoMemory>
     requires size { IsNodeSize nodesize }
     requires short { length body.now ≤ 1024 }
 {
