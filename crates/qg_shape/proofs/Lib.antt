@@ -1,0 +1,10 @@
+pub mod Ascending
+pub mod Searched
+pub mod Edits
+pub mod Edited
+pub mod Aims
+pub mod Weights
+pub mod Inners
+pub mod Together
+pub mod Sides
+pub mod Samples
