@@ -18,7 +18,12 @@ use std::alloc::{AllocError, Global};
 
 /// The items of what is kept at an address in bytes, put at the end: its record, then its references, the keyed ones to data
 /// numbered from 0 in their order (on-disk format, EXTENT_ITEM and what follows it).
-pub(crate) fn put_extent(alloc: Global, items: &mut Items, at: u64, kept: &Kept) -> Result<(), AllocError>
+pub(crate) fn put_extent(
+    alloc: Global,
+    items: &mut Items,
+    at: u64,
+    kept: &Kept,
+) -> Result<(), AllocError>
     requires { CountsFit kept.now }
     ensures { OnOk result (items.new ≡ items.old ++ items_at (at, kept.now)) }
 {
@@ -27,7 +32,12 @@ pub(crate) fn put_extent(alloc: Global, items: &mut Items, at: u64, kept: &Kept)
 }
 
 // Puts the items of references at the end.
-fn put_references(alloc: Global, items: &mut Items, at: u64, references: &[Counted]) -> Result<(), AllocError>
+fn put_references(
+    alloc: Global,
+    items: &mut Items,
+    at: u64,
+    references: &[Counted],
+) -> Result<(), AllocError>
     ensures { OnOk result (items.new ≡ items.old ++ reference_items at 0 references.now) }
 {
     let mut number = 0u64;
@@ -117,7 +127,13 @@ fn reference_item(alloc: Global, at: u64, number: u64, entry: &Counted) -> Resul
 }
 
 // The item under a key.
-fn item_under(alloc: Global, objectid: u64, kind: u8, offset: u64, bytes: &[u8]) -> Result<Item, AllocError>
+fn item_under(
+    alloc: Global,
+    objectid: u64,
+    kind: u8,
+    offset: u64,
+    bytes: &[u8],
+) -> Result<Item, AllocError>
     ensures { IfOk result (λ item. item ≡ item_under objectid kind offset bytes.now) }
 {
     let key = Key {
