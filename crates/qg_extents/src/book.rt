@@ -28,29 +28,70 @@ impl<G, D: Disk, L: Ledger> RefBook<G, D, L> for Extents {
 
     ghost to_read = { λ extents _ _ at. length (references_at (book_of extents) at) };
 
-    fn refs_of(&self, alloc: Global, _land: &mut G, _disk: &mut D, at: Address, _reads: &mut Steps<L>) -> Result<RefList, BlockFault> {
+    fn refs_of(
+        &self,
+        alloc: Global,
+        _land: &mut G,
+        _disk: &mut D,
+        at: Address,
+        _reads: &mut Steps<L>,
+    ) -> Result<RefList, BlockFault> {
         Ok(self.references_at(alloc, at)?)
     }
 
-    fn count(&self, _land: &mut G, _disk: &mut D, at: Address, reference: Reference, _reads: &mut Steps<L>) -> Result<u32, BlockFault> {
+    fn count(
+        &self,
+        _land: &mut G,
+        _disk: &mut D,
+        at: Address,
+        reference: Reference,
+        _reads: &mut Steps<L>,
+    ) -> Result<u32, BlockFault> {
         Ok(self.count_at(at, &reference))
     }
 
-    fn is_full(&self, _land: &mut G, _disk: &mut D, at: Address, _reads: &mut Steps<L>) -> Result<bool, BlockFault> {
+    fn is_full(
+        &self,
+        _land: &mut G,
+        _disk: &mut D,
+        at: Address,
+        _reads: &mut Steps<L>,
+    ) -> Result<bool, BlockFault> {
         Ok(self.is_full_at(at))
     }
 
-    fn add(&mut self, _land: &mut G, _disk: &mut D, at: Address, what: What, reference: Reference, _reads: &mut Steps<L>) -> Result<(), BlockFault> {
+    fn add(
+        &mut self,
+        _land: &mut G,
+        _disk: &mut D,
+        at: Address,
+        what: What,
+        reference: Reference,
+        _reads: &mut Steps<L>,
+    ) -> Result<(), BlockFault> {
         self.put(at, what, reference)?;
         Ok(())
     }
 
-    fn drop_one(&mut self, _land: &mut G, _disk: &mut D, at: Address, reference: Reference, _reads: &mut Steps<L>) -> Result<(), BlockFault> {
+    fn drop_one(
+        &mut self,
+        _land: &mut G,
+        _disk: &mut D,
+        at: Address,
+        reference: Reference,
+        _reads: &mut Steps<L>,
+    ) -> Result<(), BlockFault> {
         self.take(at, &reference);
         Ok(())
     }
 
-    fn set_full(&mut self, _land: &mut G, _disk: &mut D, at: Address, _reads: &mut Steps<L>) -> Result<(), BlockFault> {
+    fn set_full(
+        &mut self,
+        _land: &mut G,
+        _disk: &mut D,
+        at: Address,
+        _reads: &mut Steps<L>,
+    ) -> Result<(), BlockFault> {
         self.mark(at);
         Ok(())
     }
@@ -62,7 +103,13 @@ impl Extents {
     ghost use Rattle.qg_extents.specs.Map.{book_of};
 
     /// What is known of what begins at an address: none exactly where it has no record.
-    pub fn what<G, D: Disk, L: Ledger>(&self, _land: &mut G, _disk: &mut D, at: Address, _reads: &mut Steps<L>) -> Result<Option<What>, BlockFault>
+    pub fn what<G, D: Disk, L: Ledger>(
+        &self,
+        _land: &mut G,
+        _disk: &mut D,
+        at: Address,
+        _reads: &mut Steps<L>,
+    ) -> Result<Option<What>, BlockFault>
         ensures exact { result ≡ Ok (what_in (book_of self.now at)) }
         ensures lent { _land.new ≡ _land.old }
         ensures disk { _disk.new ≡ _disk.old }

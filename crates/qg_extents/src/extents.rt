@@ -1,5 +1,5 @@
 // A map in memory from addresses to what is kept there.
-ghost use Rattle.std.specs.Prelude.{◌≡◌, ◌<◌, [], length, Some, IfOk, OnOk, OnErr};
+ghost use Rattle.std.specs.Prelude.{◌≡◌, ◌<◌, [], length, Some, All, IfOk, OnOk, OnErr};
 ghost use Rattle.std.specs.BTreeMap.{IsOrdered, Updates, is_at};
 ghost use Rattle.std.specs.Map.{remove_entry};
 ghost use Rattle.std.specs.Ordering.{nat_cmp};
@@ -7,7 +7,10 @@ ghost use Rattle.qg_image.specs.Table.{value_at};
 ghost use Rattle.qg_refs.specs.Book.{count_at, references_at, full_in, what_in, no_references, Adds, Drops, Marks};
 ghost use Rattle.qg_refs.specs.Counts.{greatest_count};
 ghost use Rattle.qg_extents.specs.Map.{book_of};
+ghost use Rattle.qg_extents.specs.Items.{CountsFit, items_of};
 
+use crate::items::put_extent;
+use qg_node::Items;
 use qg_num::{Address, NoMemory};
 use qg_refs::{Kept, RefList, Reference, What};
 use std::alloc::Global;
@@ -87,6 +90,18 @@ impl Extents {
             Some(kept) => Some(kept.what),
             None => None,
         }
+    }
+
+    /// The items of the extent tree, ascending by key (on-disk format, "extent tree").
+    pub fn items(&self, alloc: Global) -> Result<Items, NoMemory>
+        requires { All (λ entry. CountsFit entry.1) self.now }
+        ensures { IfOk result (λ items. items ≡ items_of self.now) }
+    {
+        let mut items = Items::new(alloc);
+        for (at, kept) in self.kept.iter() {
+            put_extent(alloc, &mut items, *at, kept)?;
+        }
+        Ok(items)
     }
 
     /// One reference more to what begins at an address. Where memory is refused, nothing changes.

@@ -3,5 +3,11 @@
 
 mod book;
 mod extents;
+mod items;
+mod laws;
 
 pub use extents::Extents;
+pub use laws::items_tell_what_is_kept;
+
+#[cfg(test)]
+mod tests;

@@ -23,4 +23,4 @@ returns c =
     let was = told c.self.inside.kept c.args.self.now c.value-key.result c.args.at (Some c.in-Some.kept.now) c.self.view_is c.value-key.ensures c.in-Some.ensures.value in
     let written = c.get_mut.follows.holds (record c.in-Some.kept.now { full = true }) in
     marks-kept (book_of c.args.self.now) _ c.args.at c.in-Some.kept.now was
-        (sets-updates c.self.inside.kept (c.get_mut.follows.lender (record c.in-Some.kept.now { full = true })) c.args.self.now c.value-key.result c.args.at _ c.self.view_is c.value-key.ensures (written.3 (search rules)))
+    (sets-updates c.self.inside.kept (c.get_mut.follows.lender (record c.in-Some.kept.now { full = true })) c.args.self.now c.value-key.result c.args.at _ c.self.view_is c.value-key.ensures (written.3 (search rules)))

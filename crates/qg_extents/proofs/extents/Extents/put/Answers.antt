@@ -41,7 +41,7 @@ returns-in-Some-clause-ok c =
     let entry : Kept = record c.in-Some.kept.now { references = c.add.new.self } in
     let written = c.get_mut.follows.holds entry in
     adds-some (book_of c.args.self.now) _ c.args.at c.args.what c.args.reference c.in-Some.kept.now c.add.new.self was c.in_ok-add.ensures.ok
-        (sets-updates c.self.inside.kept (c.get_mut.follows.lender entry) c.args.self.now c.value-key.result c.args.at (Some entry) c.self.view_is c.value-key.ensures (written.3 (search rules)))
+    (sets-updates c.self.inside.kept (c.get_mut.follows.lender entry) c.args.self.now c.value-key.result c.args.at (Some entry) c.self.view_is c.value-key.ensures (written.3 (search rules)))
 
 pub add-requires-2 : goal.add-requires-2
 add-requires-2 c =
@@ -53,7 +53,7 @@ invariant_of-self-2 c =
     let same = c.get_mut.follows.holds-at-none in
     let entry : Kept = record { what = c.args.what; full = false; references = c.add-2.new.self } in
     extents-put c.self.inside.kept c.insert.new.self c.value-key.result entry c.self.invariant (some-more c.new-references.result c.add-2.new.self c.args.reference c.in_ok-add-2.ensures.ok)
-        c.in_ok-insert.ensures.ordered (c.in_ok-insert.ensures.entries ∙ ap (λ (m : BTreeMap ℕ Kept). insert_entry nat_cmp m.entries c.value-key.result entry) same)
+    c.in_ok-insert.ensures.ordered (c.in_ok-insert.ensures.entries ∙ ap (λ (m : BTreeMap ℕ Kept). insert_entry nat_cmp m.entries c.value-key.result entry) same)
 
 pub returns-clause-ok : goal.returns-clause-ok
 returns-clause-ok c =
@@ -63,4 +63,4 @@ returns-clause-ok c =
     let more = subst (λ (references : List Counted). HasOneMore references c.add-2.new.self c.args.reference) c.new-references.ensures c.in_ok-add-2.ensures.ok in
     let updates = subst (λ (m : BTreeMap ℕ Kept). Updates nat_cmp m c.insert.new.self c.value-key.result (Some entry)) same c.in_ok-insert.ensures.updates in
     adds-none (book_of c.args.self.now) (book_of c.insert.new.self.entries) c.args.at c.args.what c.args.reference c.add-2.new.self was more
-        (sets-updates c.self.inside.kept c.insert.new.self c.args.self.now c.value-key.result c.args.at (Some entry) c.self.view_is c.value-key.ensures updates)
+    (sets-updates c.self.inside.kept c.insert.new.self c.args.self.now c.value-key.result c.args.at (Some entry) c.self.view_is c.value-key.ensures updates)

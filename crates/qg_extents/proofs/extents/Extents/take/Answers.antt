@@ -40,8 +40,8 @@ returns-then-is_empty c =
     let first = sets-updates c.self.inside.kept mid c.args.self.now c.value-key.result c.args.at (Some entry) c.self.view_is c.value-key.ensures (written.3 (search rules)) in
     let second = sets-updates mid c.forget.new.kept mid.entries c.value-key.result c.args.at None refl c.value-key.ensures c.forget.ensures.updates in
     drops-last (book_of c.args.self.now) (book_of c.forget.new.kept.entries) c.args.at c.args.reference.now c.in-Some.kept.now c.drop_one.new.self was c.drop_one.ensures
-        (empty-list c.drop_one.new.self (sym c.is_empty.ensures ∙ c.if-is_empty.true))
-        (sets-twice (book_of c.args.self.now) (book_of mid.entries) (book_of c.forget.new.kept.entries) c.args.at (Some entry) None first second)
+    (empty-list c.drop_one.new.self (sym c.is_empty.ensures ∙ c.if-is_empty.true))
+    (sets-twice (book_of c.args.self.now) (book_of mid.entries) (book_of c.forget.new.kept.entries) c.args.at (Some entry) None first second)
 
 pub returns-else-is_empty : goal.returns-else-is_empty
 returns-else-is_empty c =
@@ -50,5 +50,5 @@ returns-else-is_empty c =
     let mid = c.get_mut.follows.lender entry in
     let written = c.get_mut.follows.holds entry in
     drops-one (book_of c.args.self.now) (book_of mid.entries) c.args.at c.args.reference.now c.in-Some.kept.now c.drop_one.new.self was c.drop_one.ensures
-        (λ empty. absurd (omega (arith, some-list c.drop_one.new.self (sym c.is_empty.ensures ∙ c.if-is_empty.false), ap (λ (references : List Counted). length references) empty)))
-        (sets-updates c.self.inside.kept mid c.args.self.now c.value-key.result c.args.at (Some entry) c.self.view_is c.value-key.ensures (written.3 (search rules)))
+    (λ empty. absurd (omega (arith, some-list c.drop_one.new.self (sym c.is_empty.ensures ∙ c.if-is_empty.false), ap (λ (references : List Counted). length references) empty)))
+    (sets-updates c.self.inside.kept mid c.args.self.now c.value-key.result c.args.at (Some entry) c.self.view_is c.value-key.ensures (written.3 (search rules)))
