@@ -1,3 +1,0 @@
-pub mod Map
-pub mod Items
-pub mod Parts
