@@ -1,6 +1,6 @@
 // What no clause says: that calls succeed, in which order clean nodes go, and what is answered over a disk that changes by itself. Which
 // rule is broken was worked out by hand.
-ghost use Rattle.std.specs.Prelude.{◌≡◌, IfOk, IsSome, IsTrue, List, OnOk, Option, Some};
+ghost use Rattle.std.specs.Prelude.{◌≡◌, ◌<◌, IfOk, IsSome, IsTrue, List, OnOk, Option, Some};
 ghost use Rattle.qg_device.specs.History.{Event};
 ghost use Rattle.qg_node.specs.declared.node.Node.{Node as NodeValue};
 ghost use Rattle.qg_blocks.specs.Held.{nothing_fresh, slots_of};
@@ -147,33 +147,28 @@ fn generation_at<D: Disk, L: Ledger>(
 
 // Whether a leaf of generation 1 was found at an address, or this rule is broken there.
 fn is_right(found: Result<u64, BlockFault>, address: u64, rule: Option<Rule>) -> bool {
-    match (found, rule) {
-        (Ok(generation), None) => generation == 1,
-        (
-            Err(
-                BlockFault::Image {
-                    rule: broken,
-                    address: at,
-                },
-            ),
-            Some(rule),
-        ) => broken == rule && at.value() == address,
-        _ => false,
+    match rule {
+        None => found == Ok(1),
+        Some(rule) => {
+            let address = Address::new(address);
+            found == Err(BlockFault::Image { rule, address })
+        }
     }
 }
 
 // Three leaves, one after the other, and the first again.
-fn visit_three<L: Ledger>(
-    rt: &impl Abort,
-    alloc: Global,
-    reads: &mut Steps<L>,
-) -> Result<(), Fail> {
+fn visit_three<L: Ledger>(rt: &impl Abort, alloc: Global, blank: Blank) -> Result<(), Fail>
+    requires name { blank.name ≡ L.name }
+    requires parts { blank.parts ≡ L.parts }
+    requires some { 0 < blank.parts }
+{
+    let mut reads = Steps::<L>::new(blank);
     let mut disk = MemDisk::new(alloc);
     let mut blocks = laid_out(alloc, &mut disk)?;
-    let first = generation_at(&mut blocks, &mut disk, FIRST, reads);
-    let second = generation_at(&mut blocks, &mut disk, SECOND, reads);
-    let third = generation_at(&mut blocks, &mut disk, THIRD, reads);
-    let again = generation_at(&mut blocks, &mut disk, FIRST, reads);
+    let first = generation_at(&mut blocks, &mut disk, FIRST, &mut reads);
+    let second = generation_at(&mut blocks, &mut disk, SECOND, &mut reads);
+    let third = generation_at(&mut blocks, &mut disk, THIRD, &mut reads);
+    let again = generation_at(&mut blocks, &mut disk, FIRST, &mut reads);
     assert!(rt; matches!((first, second, third, again), (Ok(1), Ok(1), Ok(1), Ok(1))));
     assert!(rt; blocks.cached() == 1);
     Ok(())
@@ -181,24 +176,27 @@ fn visit_three<L: Ledger>(
 
 #[test]
 fn three_nodes_over_a_bound_of_one(rt: HostRuntime) -> Result<(), Fail> {
-    let mut reads = Steps::<Brand>::new(Blank::new(1));
-    visit_three(&rt, rt.alloc(), &mut reads)
+    visit_three::<Brand>(&rt, rt.alloc(), Blank::new(1))
 }
 
 // What is answered at an address.
 fn answer_at<L: Ledger>(
     alloc: Global,
     address: u64,
-    reads: &mut Steps<L>,
-) -> Result<Result<u64, BlockFault>, Fail> {
+    blank: Blank,
+) -> Result<Result<u64, BlockFault>, Fail>
+    requires name { blank.name ≡ L.name }
+    requires parts { blank.parts ≡ L.parts }
+    requires some { 0 < blank.parts }
+{
+    let mut reads = Steps::<L>::new(blank);
     let mut disk = MemDisk::new(alloc);
     let mut blocks = laid_out(alloc, &mut disk)?;
-    Ok(generation_at(&mut blocks, &mut disk, address, reads))
+    Ok(generation_at(&mut blocks, &mut disk, address, &mut reads))
 }
 
 #[test]
 fn addresses_without_a_node(rt: HostRuntime) -> Result<(), Fail> {
-    let mut reads = Steps::<Brand>::new(Blank::new(1));
     let cases = [
         (FOURTH, Rule::Csum),
         (END, Rule::Slot),
@@ -207,7 +205,7 @@ fn addresses_without_a_node(rt: HostRuntime) -> Result<(), Fail> {
         (FIRST + 64 * 4096, Rule::Slot),
     ];
     for (address, rule) in cases {
-        let found = answer_at(rt.alloc(), address, &mut reads)?;
+        let found = answer_at::<Brand>(rt.alloc(), address, Blank::new(1))?;
         assert!(rt; is_right(found, address, Some(rule)), "at {address}");
     }
     Ok(())
@@ -222,40 +220,48 @@ fn set(rt: &impl Abort, blocks: &mut Blocks, node: Node)
     *blocks.get_mut(address) = node;
 }
 
-fn edit_first<L: Ledger>(rt: &impl Abort, alloc: Global, reads: &mut Steps<L>) -> Result<(), Fail> {
+fn edit_first<L: Ledger>(rt: &impl Abort, alloc: Global, blank: Blank) -> Result<(), Fail>
+    requires name { blank.name ≡ L.name }
+    requires parts { blank.parts ≡ L.parts }
+    requires some { 0 < blank.parts }
+{
+    let mut reads = Steps::<L>::new(blank);
     let mut disk = MemDisk::new(alloc);
     let mut blocks = laid_out(alloc, &mut disk)?;
     blocks.put_fresh(leaf(alloc, FIRST, 2))?;
-    let copied = generation_at(&mut blocks, &mut disk, FIRST, reads);
+    let copied = generation_at(&mut blocks, &mut disk, FIRST, &mut reads);
     set(rt, &mut blocks, leaf(alloc, FIRST, 3));
-    let edited = generation_at(&mut blocks, &mut disk, FIRST, reads);
+    let edited = generation_at(&mut blocks, &mut disk, FIRST, &mut reads);
     blocks.forget(Address::new(FIRST));
-    let left = generation_at(&mut blocks, &mut disk, FIRST, reads);
+    let left = generation_at(&mut blocks, &mut disk, FIRST, &mut reads);
     assert!(rt; matches!((copied, edited, left), (Ok(2), Ok(3), Ok(1))));
     Ok(())
 }
 
 #[test]
 fn a_fresh_node_is_told_until_it_is_forgotten(rt: HostRuntime) -> Result<(), Fail> {
-    let mut reads = Steps::<Brand>::new(Blank::new(1));
-    edit_first(&rt, rt.alloc(), &mut reads)
+    edit_first::<Brand>(&rt, rt.alloc(), Blank::new(1))
 }
 
 // The fifth call of a disk is the first read, and fails.
-fn read_twice<L: Ledger>(rt: &impl Abort, alloc: Global, reads: &mut Steps<L>) -> Result<(), Fail> {
+fn read_twice<L: Ledger>(rt: &impl Abort, alloc: Global, blank: Blank) -> Result<(), Fail>
+    requires name { blank.name ≡ L.name }
+    requires parts { blank.parts ≡ L.parts }
+    requires some { 0 < blank.parts }
+{
+    let mut reads = Steps::<L>::new(blank);
     let mut disk = MemDisk::new(alloc);
     disk.fail_at(vec![in alloc; 5]?);
     let mut blocks = laid_out(alloc, &mut disk)?;
-    let failed = generation_at(&mut blocks, &mut disk, FIRST, reads);
-    let again = generation_at(&mut blocks, &mut disk, FIRST, reads);
+    let failed = generation_at(&mut blocks, &mut disk, FIRST, &mut reads);
+    let again = generation_at(&mut blocks, &mut disk, FIRST, &mut reads);
     assert!(rt; matches!((failed, again), (Err(BlockFault::Disk), Ok(1))));
     Ok(())
 }
 
 #[test]
 fn a_read_that_failed_is_done_again(rt: HostRuntime) -> Result<(), Fail> {
-    let mut reads = Steps::<Brand>::new(Blank::new(1));
-    read_twice(&rt, rt.alloc(), &mut reads)
+    read_twice::<Brand>(&rt, rt.alloc(), Blank::new(1))
 }
 
 // What is answered at the first leaf, again there, at the second leaf and at the first, where a bit of the first leaf is another from
@@ -263,21 +269,25 @@ fn a_read_that_failed_is_done_again(rt: HostRuntime) -> Result<(), Fail> {
 fn flipped_answers<L: Ledger>(
     alloc: Global,
     from: u64,
-    reads: &mut Steps<L>,
-) -> Result<[Result<u64, BlockFault>; 4], Fail> {
+    blank: Blank,
+) -> Result<[Result<u64, BlockFault>; 4], Fail>
+    requires name { blank.name ≡ L.name }
+    requires parts { blank.parts ≡ L.parts }
+    requires some { 0 < blank.parts }
+{
+    let mut reads = Steps::<L>::new(blank);
     let mut disk = FlipDisk::new(alloc, FIRST + 200, from);
     let mut blocks = laid_out(alloc, &mut disk)?;
     Ok([
-        generation_at(&mut blocks, &mut disk, FIRST, reads),
-        generation_at(&mut blocks, &mut disk, FIRST, reads),
-        generation_at(&mut blocks, &mut disk, SECOND, reads),
-        generation_at(&mut blocks, &mut disk, FIRST, reads),
+        generation_at(&mut blocks, &mut disk, FIRST, &mut reads),
+        generation_at(&mut blocks, &mut disk, FIRST, &mut reads),
+        generation_at(&mut blocks, &mut disk, SECOND, &mut reads),
+        generation_at(&mut blocks, &mut disk, FIRST, &mut reads),
     ])
 }
 
 #[test]
 fn a_changed_byte_is_found_or_not_read(rt: HostRuntime) -> Result<(), Fail> {
-    let mut reads = Steps::<Brand>::new(Blank::new(1));
     let csum = Some(Rule::Csum);
     let cases = [
         (1, [csum, csum, None, csum]),
@@ -286,7 +296,7 @@ fn a_changed_byte_is_found_or_not_read(rt: HostRuntime) -> Result<(), Fail> {
         (4, [None, None, None, None]),
     ];
     for (from, [first, again, second, last]) in cases {
-        let found = flipped_answers(rt.alloc(), from, &mut reads)?;
+        let found = flipped_answers::<Brand>(rt.alloc(), from, Blank::new(1))?;
         assert!(rt; is_right(found[0], FIRST, first), "from {from}");
         assert!(rt; is_right(found[1], FIRST, again), "from {from}");
         assert!(rt; is_right(found[2], SECOND, second), "from {from}");
