@@ -9,6 +9,8 @@ mod next;
 mod numbers;
 mod parse;
 mod reply;
+#[cfg(test)]
+mod tests;
 mod text;
 mod words;
 
