@@ -2,17 +2,13 @@
 #![tactic(auto)]
 
 use anyhow::{Context, Result, anyhow};
-use qg_cases::{Case, Cases, Program, Report, judge_case, read_case};
+use qg_cases::{Case, Cases, Program, Report, case_names, case_text, judge_case, read_case};
 use qg_disk::MemDisk;
 use qg_edge::{MemSink, MemSource};
 use qg_program::run_program;
 use std::alloc::Global;
-use std::fs;
 use std::process::ExitCode;
 use std::rt::Files;
-
-/// How the name of a file of cases ends.
-const ENDING: &str = ".case";
 
 /// The program itself.
 #[derive(Drop)]
@@ -32,31 +28,16 @@ impl Program for Whole {
     }
 }
 
-// The names of the files of cases in the folder, without the ending, in order.
-fn names<R: Files + AllocGlobal + Clone + Drop>(rt: &R) -> Result<Vec<String>> {
-    let mut names = Vec::new(rt.alloc());
-    for entry in fs::read_dir(rt, ".")? {
-        let entry = entry?;
-        if let Some(name) = entry.file_name().strip_suffix(ENDING) {
-            names.push(String::from_str(rt.alloc(), name)?)?;
-        }
-    }
-    names.sort()?;
-    Ok(names)
-}
-
 // Reads the file of a name.
 fn read_file<R: Files + AllocGlobal>(rt: &R, name: &str) -> Result<Case> {
-    let alloc = rt.alloc();
-    let path = format!(in alloc; "{name}{ENDING}")?;
-    let text = fs::read_to_string(rt, path.as_str()).context(format_args!("{path}"))?;
-    read_case(alloc, name, text.as_str()).context(format_args!("{path}"))
+    let text = case_text(rt, name)?;
+    read_case(rt.alloc(), name, text.as_str()).context(format_args!("{name}"))
 }
 
 // Reads all files.
 fn read_files<R: Files + AllocGlobal + Clone + Drop>(rt: &R) -> Result<Cases> {
     let mut cases = Cases::new(rt.alloc());
-    for name in names(rt)?.iter() {
+    for name in case_names(rt)?.iter() {
         let case = read_file(rt, name.as_str())?;
         cases.add(case).map_err(|_| anyhow!("memory was refused"))?;
     }

@@ -5,6 +5,4 @@ mod blocks;
 mod reading;
 
 pub use blocks::Blocks;
-
-#[cfg(test)]
-mod tests;
+pub use reading::has_slot;

@@ -49,7 +49,7 @@ pub(crate) fn read_at<D: Disk>(
 
 /// Whether an address is that of a slot which ends inside a disk of so many bytes.
 #[tactic(auto, unfolding(crate::specs::Standing::has_slot))]
-pub(crate) fn has_slot(sizes: &Sizes, bytes: u64, address: Address) -> bool
+pub fn has_slot(sizes: &Sizes, bytes: u64, address: Address) -> bool
     requires { IsTrue (is_served sizes.now) }
     ensures { result ≡ has_slot sizes.now bytes address }
 {

@@ -11,6 +11,3 @@ mod writing;
 pub use laws::{reads_back, writes_back};
 pub use reading::{is_zero, u32_at, u64_at};
 pub use writing::{put_bytes, put_u32, put_u64, put_zeros};
-
-#[cfg(test)]
-mod tests;

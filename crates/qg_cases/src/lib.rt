@@ -1,13 +1,14 @@
 //! Cases of the program as data: the lines of a file say which words are called, over which disk, source and sink, and what is wanted.
 //!
-//! `read_case` reads a file's lines, and `judge_case` does what they say and reports what came in place of what was wanted. The program
-//! itself is behind `Program`.
+//! `case_names` and `case_text` find the files, `read_case` reads a file's lines, and `judge_case` does what they say and reports what
+//! came in place of what was wanted. The program itself is behind `Program`.
 #![tactic(auto)]
 
 mod calls;
 mod case;
 mod change;
 mod fault;
+mod files;
 mod judge;
 mod lines;
 mod numbers;
@@ -16,12 +17,11 @@ mod read;
 mod report;
 mod run;
 mod steps;
-#[cfg(test)]
-mod tests;
 mod text;
 
 pub use case::{Case, Number, Part, Plan, Run, Step, Wanted};
 pub use fault::{CaseFault, Complaint, NoMemory};
+pub use files::{case_names, case_text};
 pub use judge::{Cases, judge_case};
 pub use read::read_case;
 pub use report::Report;

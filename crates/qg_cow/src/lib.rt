@@ -10,6 +10,3 @@ pub use cases::{Edits, Leaving};
 pub use copying::edits;
 pub use laws::{copying_turns_what_is_owed, leaving_turns_what_is_owed};
 pub use left::leaving;
-
-#[cfg(test)]
-mod tests;

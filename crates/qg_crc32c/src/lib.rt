@@ -77,6 +77,3 @@ fn remainder_after(register: u32, bytes: &[u8]) -> u32
     }
     after_words(rows.register(), end)
 }
-
-#[cfg(test)]
-mod tests;

@@ -10,8 +10,6 @@ mod fill;
 mod laws;
 mod memory;
 mod sure;
-#[cfg(test)]
-mod tests;
 mod traits;
 
 pub use call::{Bytes, Call, Request};

@@ -10,8 +10,6 @@ mod fault;
 mod memory;
 mod plan;
 mod sure;
-#[cfg(test)]
-mod tests;
 mod traits;
 
 pub use adapters::{StdSink, StdSource};

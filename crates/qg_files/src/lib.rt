@@ -15,6 +15,3 @@ pub use put::put_piece;
 pub use replace::replace_range;
 pub use split::{Split, split_range};
 pub use take::take_range;
-
-#[cfg(test)]
-mod tests;

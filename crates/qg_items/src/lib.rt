@@ -27,6 +27,3 @@ pub use quota::{
     QgroupStatus, read_info, read_limit, read_status, write_info, write_limit, write_status,
 };
 pub use root::{ROOT_ITEM_BYTES, RootItem, read_root, write_root};
-
-#[cfg(test)]
-mod tests;

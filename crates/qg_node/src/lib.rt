@@ -18,6 +18,3 @@ pub use node::{HEADER_BYTES, Header, ITEM_HEADER_BYTES, Node, POINTER_BYTES};
 pub use pointer::{Pointer, Pointers};
 pub use reading::read_node;
 pub use writing::write_node;
-
-#[cfg(test)]
-mod tests;

@@ -30,6 +30,3 @@ pub use refusal::Refusal;
 pub use rule::Rule;
 pub use sequence::{GroupList, OwnerList, Pieces, Rows, Sequence};
 pub use steps::Steps;
-
-#[cfg(test)]
-mod tests;

@@ -14,6 +14,3 @@ pub use kept::{Kept, What};
 pub use list::RefList;
 pub use order::{is_before, is_same};
 pub use qg_items::Reference;
-
-#[cfg(test)]
-mod tests;

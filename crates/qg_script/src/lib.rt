@@ -9,8 +9,6 @@ mod next;
 mod numbers;
 mod parse;
 mod reply;
-#[cfg(test)]
-mod tests;
 mod text;
 mod words;
 

@@ -19,6 +19,3 @@ pub use part::Weighed;
 pub use pointing::{first_key, pointer_to};
 pub use searching::{child_for, find_item};
 pub use splitting::split;
-
-#[cfg(test)]
-mod tests;

@@ -7,6 +7,3 @@ mod slots;
 mod space;
 
 pub use space::Space;
-
-#[cfg(test)]
-mod tests;

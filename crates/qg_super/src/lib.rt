@@ -14,6 +14,3 @@ pub use places::{DATA_BEGIN, FIRST_PLACE, SECOND_PLACE, SECTOR, SLOTS_BEGIN, SUP
 pub use sizes::Sizes;
 pub use superblock::Super;
 pub use text::{read_super, write_super};
-
-#[cfg(test)]
-mod tests;

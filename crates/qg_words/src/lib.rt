@@ -3,8 +3,6 @@
 
 mod form;
 mod number;
-#[cfg(test)]
-mod tests;
 
 pub use form::{Form, read_words};
 pub use number::decimal_of;

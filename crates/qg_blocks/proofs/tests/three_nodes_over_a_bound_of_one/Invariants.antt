@@ -1,4 +1,0 @@
-use Rattle.qg_blocks.proofs.tests.three_nodes_over_a_bound_of_one.Given as goal
-
-abbrev pub ghosts-visit_three : goal.ghosts-visit_three
-ghosts-visit_three g a = record { name = a.blank.name; parts = a.blank.parts }
