@@ -1,282 +1,220 @@
--- An image with two superblocks and four leaves is sound, and its state is fresh.
-use Rattle.std.proofs.Common.{◌≡◌, ℕ, true, false, List, [], ◌∷◌, length, Some, None, Ok, refl, sym, ap, ◌∙◌}
-use Rattle.std.specs.Prelude.{IsTrue, nat_le}
-use Rattle.std.specs.List.{AllByRecursion, filter_map}
+-- An image with the trees of a fresh one is sound, and its state is fresh: they are those of a commit to a state of generation 0.
+use Rattle.std.proofs.Common.{◌≡◌, ℕ, ◌+◌, ◌-◌, ◌≤◌, ◌<◌, true, List, [], ◌∷◌, ◌++◌, length, take, Some, None, Ok, refl, sym, ap, subst, ◌∙◌, append_assoc, arith, lit<}
+use Rattle.std.specs.Prelude.{IsTrue}
+use Rattle.std.specs.List.{AllByRecursion, list_all}
+use Rattle.std.specs.List.Sorted.{IsPermutation}
+use Rattle.std.proofs.lemmas.Bool.{ne_eqb}
+use Rattle.std.proofs.lemmas.List.{length-replicate}
+use Rattle.std.proofs.lemmas.List.Elements.{recursion_from_All}
+use Rattle.std.proofs.lemmas.List.Sorted.{Contains-permutation, IsPermutation-append_comm, IsPermutation-append_right, IsPermutation-sym, IsPermutation-trans, length_permutation}
+use Rattle.qg_bytes.specs.Fields.{zeros}
+use Rattle.qg_device.specs.History.{Event, Wrote, Cut, content}
+use Rattle.qg_disk.proofs.Sizes.{length-overlay}
+use Rattle.qg_num.specs.declared.counters.Counters.{Counters}
 use Rattle.qg_node.specs.declared.node.Node.{Node}
-use Rattle.std.proofs.Common.{eq-eqb, zero-add}
-use Rattle.qg_node.specs.declared.item.Item.{Item}
-use Rattle.qg_items.specs.ItemText.{root_text, status_text, info_text, limit_text}
-use Rattle.qg_items.specs.ItemReading.{root_read, status_read, info_read, limit_read}
+use Rattle.qg_node.specs.Nodes.{header_of}
+use Rattle.qg_items.specs.declared.root.RootItem.{RootItem}
 use Rattle.qg_super.specs.declared.sizes.Sizes.{Sizes}
 use Rattle.qg_super.specs.declared.superblock.Super.{Super}
-use Rattle.qg_super.specs.Places.{total_bytes, first_place, second_place}
-use Rattle.qg_image.specs.IsShaped.{is_shaped}
-use Rattle.qg_image.specs.FilesOf.{are_files, files_of}
-use Rattle.qg_image.specs.declared.part.QuotaPart.{QuotaPart}
-use Rattle.qg_image.specs.declared.part.QuotaPart.TheVariants.{Status, Info, Limits}
-use Rattle.qg_image.specs.ItemMeaning.{is_subvolume_number, root_part, quota_part}
-use Rattle.qg_state.specs.State.{Placed, layout_of, node_at}
-use Rattle.qg_state.specs.Reach.{reach, reach_of_root, pieces_of}
-use Rattle.qg_state.specs.Members.{members, is_below, leads}
-use Rattle.qg_state.specs.Counts.{referenced, exclusive, reach_of_group, is_reached_outside}
-use Rattle.qg_state.specs.Space.{present_extents}
-use Rattle.qg_verdict.specs.declared.tree.Tree.{Tree}
-use Rattle.qg_verdict.specs.declared.tree.Tree.TheVariants.{Roots, Extents, Quotas, Files}
-use Rattle.qg_verdict.specs.declared.expected.Expected.{Expected}
-use Rattle.qg_verdict.specs.Walk.{root_expected, root_told, is_item_of, way_failure, node_failure, node_found, walk_failure, tree_failure, deepest}
-use Rattle.qg_verdict.specs.ItemsUnder.{is_way}
-use Rattle.qg_image.specs.Table.{value_at}
-use Rattle.qg_verdict.specs.ImageState.{subvolume_roots, super_in, super_of, tree_items, tree_nodes, roots_in, extent_parts, quota_parts, layout_in, subvolumes_in, quota_told, state_in}
-use Rattle.qg_verdict.specs.StateOf.{StateOf}
-use Rattle.qg_verdict.specs.Verdict.{verdict, image_failure, are_roots, is_quota, are_few, space_failure, counts_failure, IsSound}
-use Rattle.qg_verdict.specs.Among.{found_among, node_among}
-use Rattle.qg_verdict.specs.OtherTrees.{subvolume_items, AreOtherTrees, IsOfFormat, IsTreeOfNodes}
-use Rattle.qg_verdict.specs.IsFresh.{fresh_state, fresh_leaf}
-use Rattle.qg_commit.proofs.Ways.{walked-is_way}
-use Rattle.qg_commit.specs.Fresh.{fresh_root, root_items, quota_items, fresh_super}
+use Rattle.qg_super.specs.Places.{is_served, is_slot, slot_at, sector, total_bytes}
+use Rattle.qg_super.specs.SuperText.{is_super}
+use Rattle.qg_state.specs.declared.quota.Group.{Group}
+use Rattle.qg_state.specs.Space.{is_free_slot}
+use Rattle.qg_state.specs.State.{State, Subvolume}
+use Rattle.qg_state.proofs.Contained.{contains_here}
+use Rattle.qg_verdict.specs.Walk.{node_found}
+use Rattle.qg_verdict.specs.IsFresh.{fresh_leaf, fresh_state}
+use Rattle.qg_verdict.specs.Verdict.{space_failure}
+use Rattle.qg_laid.specs.declared.laying.Laid.{Laid}
+use Rattle.qg_laid.specs.Anew.{BuildsAnew, all_exclusive, bytes_laid, one_group, stamp_after}
+use Rattle.qg_laid.specs.Holds.{HasCommit}
+use Rattle.qg_laid.specs.Trees.{AreForState, nodes_laid}
+use Rattle.qg_laid.proofs.Anew.{all_others, anew-StateOf, anew-others, extent_tree, quota_tree, root_tree}
+use Rattle.qg_laid.proofs.LaidAnew.{laid-BuildsAnew}
+use Rattle.qg_laid.proofs.Rebuilt.{each_contained}
+use Rattle.qg_laid.proofs.Sound.{state_laid}
+use Rattle.qg_commit.specs.Calls.{IsWritable, with_commit, with_image}
+use Rattle.qg_commit.specs.Fresh.{AreFreshTrees, fresh_nodes, fresh_root, fresh_slots, fresh_super, quota_items, root_items}
+use Rattle.qg_commit.specs.Mkfs.{HoldsFreshImage, IsFreshImage}
+use Rattle.qg_commit.proofs.FreshTrees.{extents_leaf, files_leaf, first_slots-IsDistinct, fresh_slots-IsDistinct, fresh_slots-are_slots, low_slot-is_slot, nodes_are, one_file, own_item, quotas_leaf, roots_leaf, some_bytes, superblock_is}
+use Rattle.qg_commit.proofs.LaidNodes.{laid-AreCommittable, laid-HasCommit, last_first}
+use Rattle.qg_commit.proofs.Placed.{all_moved}
 
--- ---- a tree of one leaf
+-- ---- the state of which the fresh image is the first commit
 
--- the walk of the tree meets no failure, and the leaf with its own items is all that the tree has
-pub record IsLeafTree (tree : Tree) (super : Super) (image : List ℕ) (expected : Expected) (owner address : ℕ) (own : List Item) : Type 0 where
-  pub walked : tree_failure tree super image expected address ≡ None
-  pub items : tree_items tree super image expected address ≡ own
-  pub nodes : tree_nodes tree super image expected address ≡ fresh_leaf owner address own ∷ []
+-- no files, and nothing is counted
+abbrev nothing : Counters
+nothing = record { rfer = 0; excl = 0 }
 
-leaf-tree_failure : (tree : Tree) (super : Super) (image : List ℕ) (expected : Expected) (owner address : ℕ) (own : List Item)
-    → node_found super image address ≡ Ok (fresh_leaf owner address own)
-    → node_failure tree super expected address (fresh_leaf owner address own) ≡ None → tree_failure tree super image expected address ≡ None
-unfolding tree_failure walk_failure
-leaf-tree_failure tree super image expected owner address own found none = rw found (rw none refl)
+abbrev no_group : Group
+no_group = record { counters = nothing; max_rfer = None; max_excl = None; stamp = 0 }
 
-tree_failure-is_way : (tree : Tree) (super : Super) (image : List ℕ) (expected : Expected) (address : ℕ)
-    → tree_failure tree super image expected address ≡ None → is_way tree super (node_found super image) expected address ≡ true
-unfolding tree_failure
-tree_failure-is_way tree super image expected address none = walked-is_way tree super (node_found super image) expected address none
+abbrev no_files : Subvolume
+no_files = record { files = []; root = 0; last_snapshot = 0 }
 
-leaf-IsLeafTree : (tree : Tree) (super : Super) (image : List ℕ) (expected : Expected) (owner address : ℕ) (own : List Item)
-    → node_found super image address ≡ Ok (fresh_leaf owner address own)
-    → node_failure tree super expected address (fresh_leaf owner address own) ≡ None
-    → IsLeafTree tree super image expected owner address own
-unfolding tree_items tree_nodes
-leaf-IsLeafTree tree super image expected owner address own found none =
-    let walked = leaf-tree_failure tree super image expected owner address own found none in
-    let way = tree_failure-is_way tree super image expected address walked in
-    record { walked = walked; items = rw way (rw found (rw found refl)); nodes = rw way (rw found (rw found refl)) }
-
--- ---- an image with four leaves
-
--- the image has both superblocks, is as long as they say, and has the four leaves
-pub record HasFresh (sizes : Sizes) (image : List ℕ) (root extents files quotas : ℕ) : Type 0 where
-  pub first : super_in image first_place ≡ Some (fresh_super sizes root)
-  pub second : super_in image second_place ≡ Some (fresh_super sizes root)
-  pub long : IsTrue (nat_le (total_bytes sizes) (length image))
-  pub root_leaf : node_found (fresh_super sizes root) image root ≡ Ok (fresh_leaf 1 root (root_items extents files quotas))
-  pub extents_leaf : node_found (fresh_super sizes root) image extents ≡ Ok (fresh_leaf 2 extents [])
-  pub files_leaf : node_found (fresh_super sizes root) image files ≡ Ok (fresh_leaf 5 files [])
-  pub quotas_leaf : node_found (fresh_super sizes root) image quotas ≡ Ok (fresh_leaf 8 quotas (quota_items sizes.nodesize))
-
--- bodies are read as they were written
-pub record ReadsBack (sizes : Sizes) (extents files quotas : ℕ) : Type 0 where
-  pub extents_root : root_read (root_text (fresh_root extents)) ≡ Some (fresh_root extents)
-  pub files_root : root_read (root_text (fresh_root files)) ≡ Some (fresh_root files)
-  pub quotas_root : root_read (root_text (fresh_root quotas)) ≡ Some (fresh_root quotas)
-  pub status : status_read (status_text (record { generation = 1; flags = 1; cursor = 0 })) ≡ Some (record { generation = 1; flags = 1; cursor = 0 })
-  pub info :
-      info_read (info_text (record { generation = 1; rfer = sizes.nodesize; rfer_cmpr = sizes.nodesize; excl = sizes.nodesize; excl_cmpr = sizes.nodesize }))
-      ≡ Some (record { generation = 1; rfer = sizes.nodesize; rfer_cmpr = sizes.nodesize; excl = sizes.nodesize; excl_cmpr = sizes.nodesize })
-  pub limit : limit_read (limit_text (record { flags = 0; max_rfer = 0; max_excl = 0 })) ≡ Some (record { flags = 0; max_rfer = 0; max_excl = 0 })
-
--- the leaves of the other trees
-abbrev pub fresh_others : Sizes → ℕ → ℕ → ℕ → ℕ → List Node
-fresh_others sizes root extents files quotas =
-    fresh_leaf 1 root (root_items extents files quotas) ∷ fresh_leaf 2 extents [] ∷ fresh_leaf 8 quotas (quota_items sizes.nodesize) ∷ []
-
--- ---- its trees, each a leaf that breaks no rule
-
-fresh-root_node : (sizes : Sizes) (root extents files quotas : ℕ) → ReadsBack sizes extents files quotas
-    → node_failure Roots (fresh_super sizes root) (root_expected None None) root (fresh_leaf 1 root (root_items extents files quotas)) ≡ None
-unfolding node_failure way_failure is_item_of root_part is_subvolume_number is_shaped
-fresh-root_node sizes root extents files quotas reads = rw reads.extents_root (rw reads.files_root (rw reads.quotas_root refl))
-
-fresh-extents_node : (sizes : Sizes) (root extents : ℕ) → node_failure Extents (fresh_super sizes root) (root_told (fresh_root extents)) extents (fresh_leaf 2 extents []) ≡ None
-unfolding node_failure way_failure is_shaped
-fresh-extents_node sizes root extents = refl
-
-fresh-quotas_node : (sizes : Sizes) (root extents files quotas : ℕ) → ReadsBack sizes extents files quotas
-    → node_failure Quotas (fresh_super sizes root) (root_told (fresh_root quotas)) quotas (fresh_leaf 8 quotas (quota_items sizes.nodesize)) ≡ None
-unfolding node_failure way_failure is_item_of quota_part is_shaped
-fresh-quotas_node sizes root extents files quotas reads = rw reads.status (rw reads.info (rw reads.limit refl))
-
-pub fresh-root_tree : (sizes : Sizes) (image : List ℕ) (root extents files quotas : ℕ) → HasFresh sizes image root extents files quotas
-    → ReadsBack sizes extents files quotas
-    → IsLeafTree Roots (fresh_super sizes root) image (root_expected None None) 1 root (root_items extents files quotas)
-fresh-root_tree sizes image root extents files quotas has reads =
-    leaf-IsLeafTree Roots (fresh_super sizes root) image (root_expected None None) 1 root (root_items extents files quotas) has.root_leaf
-    (fresh-root_node sizes root extents files quotas reads)
-
-pub fresh-extents_tree : (sizes : Sizes) (image : List ℕ) (root extents files quotas : ℕ) → HasFresh sizes image root extents files quotas
-    → IsLeafTree Extents (fresh_super sizes root) image (root_told (fresh_root extents)) 2 extents []
-fresh-extents_tree sizes image root extents files quotas has =
-    leaf-IsLeafTree Extents (fresh_super sizes root) image (root_told (fresh_root extents)) 2 extents [] has.extents_leaf (fresh-extents_node sizes root extents)
-
-pub fresh-files_tree : (sizes : Sizes) (image : List ℕ) (root extents files quotas : ℕ) → HasFresh sizes image root extents files quotas
-    → IsLeafTree Files (fresh_super sizes root) image (root_told (fresh_root files)) 5 files []
-unfolding node_failure way_failure is_shaped is_subvolume_number
-fresh-files_tree sizes image root extents files quotas has =
-    leaf-IsLeafTree Files (fresh_super sizes root) image (root_told (fresh_root files)) 5 files [] has.files_leaf refl
-
-pub fresh-quotas_tree : (sizes : Sizes) (image : List ℕ) (root extents files quotas : ℕ) → HasFresh sizes image root extents files quotas
-    → ReadsBack sizes extents files quotas
-    → IsLeafTree Quotas (fresh_super sizes root) image (root_told (fresh_root quotas)) 8 quotas (quota_items sizes.nodesize)
-fresh-quotas_tree sizes image root extents files quotas has reads =
-    leaf-IsLeafTree Quotas (fresh_super sizes root) image (root_told (fresh_root quotas)) 8 quotas (quota_items sizes.nodesize) has.quotas_leaf
-    (fresh-quotas_node sizes root extents files quotas reads)
-
--- ---- its state
-
-pub fresh-roots_in : (sizes : Sizes) (image : List ℕ) (root extents files quotas : ℕ) → HasFresh sizes image root extents files quotas
-    → ReadsBack sizes extents files quotas
-    → roots_in (fresh_super sizes root) image ≡ (2, fresh_root extents) ∷ (5, fresh_root files) ∷ (8, fresh_root quotas) ∷ []
-unfolding roots_in root_part is_subvolume_number
-fresh-roots_in sizes image root extents files quotas has reads =
-    let tree = fresh-root_tree sizes image root extents files quotas has reads in
-    rw tree.items (rw reads.extents_root (rw reads.files_root (rw reads.quotas_root refl)))
-
-pub fresh-quota_parts : (sizes : Sizes) (image : List ℕ) (root extents files quotas : ℕ) → HasFresh sizes image root extents files quotas
-    → ReadsBack sizes extents files quotas
-    → quota_parts (fresh_super sizes root) image
-    ≡ Status (record { generation = 1; flags = 1; cursor = 0 })
-    ∷ Info 5 (record { generation = 1; rfer = sizes.nodesize; rfer_cmpr = sizes.nodesize; excl = sizes.nodesize; excl_cmpr = sizes.nodesize })
-    ∷ Limits 5 (record { flags = 0; max_rfer = 0; max_excl = 0 })
-    ∷ []
-unfolding quota_parts quota_part
-fresh-quota_parts sizes image root extents files quotas has reads =
-    let roots = fresh-roots_in sizes image root extents files quotas has reads in
-    let tree = fresh-quotas_tree sizes image root extents files quotas has reads in
-    rw roots (rw tree.items (rw reads.status (rw reads.info (rw reads.limit refl))))
-
-pub fresh-extent_parts : (sizes : Sizes) (image : List ℕ) (root extents files quotas : ℕ) → HasFresh sizes image root extents files quotas
-    → ReadsBack sizes extents files quotas → extent_parts (fresh_super sizes root) image ≡ []
-unfolding extent_parts
-fresh-extent_parts sizes image root extents files quotas has reads =
-    let roots = fresh-roots_in sizes image root extents files quotas has reads in
-    let tree = fresh-extents_tree sizes image root extents files quotas has in
-    rw roots (rw tree.items refl)
-
-pub fresh-state_in : (sizes : Sizes) (image : List ℕ) (root extents files quotas : ℕ) → HasFresh sizes image root extents files quotas
-    → ReadsBack sizes extents files quotas
-    → state_in (fresh_super sizes root) image ≡ fresh_state sizes (fresh_others sizes root extents files quotas) files
-unfolding state_in layout_in subvolumes_in quota_told is_subvolume_number files_of are_files
-fresh-state_in sizes image root extents files quotas has reads =
-    let roots = fresh-roots_in sizes image root extents files quotas has reads in
-    let parts = fresh-quota_parts sizes image root extents files quotas has reads in
-    let none = fresh-extent_parts sizes image root extents files quotas has reads in
-    let root_tree = fresh-root_tree sizes image root extents files quotas has reads in
-    let extents_tree = fresh-extents_tree sizes image root extents files quotas has in
-    let files_tree = fresh-files_tree sizes image root extents files quotas has in
-    let quotas_tree = fresh-quotas_tree sizes image root extents files quotas has reads in
-    simp (roots, parts, none, root_tree.nodes, extents_tree.nodes, files_tree.nodes, quotas_tree.nodes, files_tree.items) refl
-
--- ---- no rule fails
-
--- the fresh state's counts are those of its root node alone
-pub fresh-counts_failure : (sizes : Sizes) (others : List Node) (files : ℕ)
-    → counts_failure (layout_of (fresh_state sizes others files)) (fresh_state sizes others files).quota ≡ None
-unfolding counts_failure referenced exclusive is_reached_outside reach_of_group members is_below leads reach reach_of_root pieces_of
-fresh-counts_failure sizes others files =
-    let leaf : Placed = record { node = fresh_leaf 5 files []; full = false } in
-    let here : node_at ((files, leaf) ∷ []) files ≡ Some leaf.node = rw (eq-eqb files files refl) refl in
-    simp (here, zero-add, eq-eqb sizes.nodesize sizes.nodesize refl) refl
-
-pub fresh-image_failure : (sizes : Sizes) (image : List ℕ) (root extents files quotas : ℕ) → HasFresh sizes image root extents files quotas
-    → ReadsBack sizes extents files quotas → image_failure (fresh_super sizes root) image ≡ None
-unfolding image_failure are_roots is_quota are_few are_files space_failure present_extents is_subvolume_number
-fresh-image_failure sizes image root extents files quotas has reads =
-    let roots = fresh-roots_in sizes image root extents files quotas has reads in
-    let parts = fresh-quota_parts sizes image root extents files quotas has reads in
-    let state = fresh-state_in sizes image root extents files quotas has reads in
-    let root_tree = fresh-root_tree sizes image root extents files quotas has reads in
-    let extents_tree = fresh-extents_tree sizes image root extents files quotas has in
-    let files_tree = fresh-files_tree sizes image root extents files quotas has in
-    let quotas_tree = fresh-quotas_tree sizes image root extents files quotas has reads in
-    let counts = fresh-counts_failure sizes (fresh_others sizes root extents files quotas) files in
-    let same_root = eq-eqb root root refl in
-    let same_nodesize = eq-eqb sizes.nodesize sizes.nodesize refl in
-    let same_slots = eq-eqb sizes.slots sizes.slots refl in
-    let same_sectors = eq-eqb sizes.sectors sizes.sectors refl in
-    rw has.long (rw has.first (rw has.second (rw root_tree.walked (rw roots (rw extents_tree.walked (rw quotas_tree.walked (rw parts (rw files_tree.walked
-    (rw files_tree.items (rw state (rw counts (simp (same_root, same_nodesize, same_slots, same_sectors) refl))))))))))))
-
--- ---- the two sentences
-
--- the image is sound
-pub fresh-sound : (sizes : Sizes) (image : List ℕ) (root extents files quotas : ℕ) → HasFresh sizes image root extents files quotas
-    → ReadsBack sizes extents files quotas → IsSound image
-unfolding verdict super_of
-fresh-sound sizes image root extents files quotas has reads =
-    rw has.first (rw has.second (fresh-image_failure sizes image root extents files quotas has reads))
-
--- it stands for the fresh state
-pub fresh-StateOf : (sizes : Sizes) (image : List ℕ) (root extents files quotas : ℕ) → HasFresh sizes image root extents files quotas
-    → ReadsBack sizes extents files quotas → StateOf image (fresh_state sizes (fresh_others sizes root extents files quotas) files)
-unfolding super_of
-fresh-StateOf sizes image root extents files quotas has reads = record {
-  sound = fresh-sound sizes image root extents files quotas has reads;
-  super = fresh_super sizes root;
-  chosen = rw has.first (rw has.second refl);
-  stands = sym (fresh-state_in sizes image root extents files quotas has reads);
+-- generation 0, with no node
+abbrev blank : Sizes → State
+blank sizes = record {
+  sizes = sizes;
+  generation = 0;
+  subvolumes = (5, no_files) ∷ [];
+  layout = [];
+  quota = Some (one_group no_group);
+  pending = [];
+  held = record { nodes = []; others = []; extents = [] };
 }
 
--- ---- the other trees, without the image
+-- each of its slots is free
+blank-free : (sizes : Sizes) (slots : List ℕ) → AllByRecursion (λ slot. IsTrue (is_slot sizes slot)) slots → list_all (is_free_slot (blank sizes)) slots ≡ true
+unfolding is_free_slot
+blank-free sizes [] are = refl
+blank-free sizes (slot ∷ slots) are = rw are.0 (blank-free sizes slots are.1)
 
--- a leaf by itself is a tree
-leaf-IsTreeOfNodes : (tree : Tree) (super : Super) (expected : Expected) (owner address : ℕ) (own : List Item) → node_failure tree super expected address (fresh_leaf owner address own) ≡ None
-    → IsTreeOfNodes tree super expected address (fresh_leaf owner address own ∷ []) own
-unfolding walk_failure
-leaf-IsTreeOfNodes tree super expected owner address own none =
-    let nodes = fresh_leaf owner address own ∷ [] in
-    let here : node_among nodes address ≡ Some (fresh_leaf owner address own) = rw (eq-eqb address address refl) refl in
-    let walked : walk_failure (node_failure tree super) (found_among nodes) deepest expected address ≡ None = rw here (rw none refl) in
-    let way = walked-is_way tree super (found_among nodes) expected address walked in
-    record { walked = walked; nodes_are = rw way (rw here (rw here refl)); items_are = rw way (rw here (rw here refl)) }
-
--- what the root tree's leaf says
-fresh-roots_said : (root extents files quotas : ℕ) (sizes : Sizes) → ReadsBack sizes extents files quotas
-    → filter_map root_part (root_items extents files quotas) ≡ (2, fresh_root extents) ∷ (5, fresh_root files) ∷ (8, fresh_root quotas) ∷ []
-unfolding root_part is_subvolume_number
-fresh-roots_said root extents files quotas sizes reads = rw reads.extents_root (rw reads.files_root (rw reads.quotas_root refl))
-
--- what the quota tree's leaf says
-fresh-quota_said : (sizes : Sizes) (extents files quotas : ℕ) → ReadsBack sizes extents files quotas → filter_map quota_part (quota_items sizes.nodesize)
-    ≡ Status (record { generation = 1; flags = 1; cursor = 0 })
-    ∷ Info 5 (record { generation = 1; rfer = sizes.nodesize; rfer_cmpr = sizes.nodesize; excl = sizes.nodesize; excl_cmpr = sizes.nodesize })
-    ∷ Limits 5 (record { flags = 0; max_rfer = 0; max_excl = 0 })
-    ∷ []
-unfolding quota_part
-fresh-quota_said sizes extents files quotas reads = rw reads.status (rw reads.info (rw reads.limit refl))
-
-pub fresh-AreOtherTrees : (sizes : Sizes) (root extents files quotas : ℕ) → ReadsBack sizes extents files quotas → AllByRecursion (IsOfFormat sizes.nodesize) (fresh_others sizes root extents files quotas)
-    → AreOtherTrees (fresh_state sizes (fresh_others sizes root extents files quotas) files) (fresh_others sizes root extents files quotas)
-unfolding quota_told subvolume_items is_subvolume_number
-fresh-AreOtherTrees sizes root extents files quotas reads formats = record {
-  format = formats;
-  root = root;
-  root_nodes = fresh_leaf 1 root (root_items extents files quotas) ∷ [];
-  root_items = root_items extents files quotas;
-  roots = leaf-IsTreeOfNodes Roots (fresh_super sizes root) (root_expected None None) 1 root (root_items extents files quotas) (fresh-root_node sizes root extents files quotas reads);
-  subvolumes = ap subvolume_roots (fresh-roots_said root extents files quotas sizes reads) ∙ (rw (eq-eqb files files refl) refl);
-  extent_root = fresh_root extents;
-  extents_named = ap (value_at 2) (fresh-roots_said root extents files quotas sizes reads);
-  extent_nodes = fresh_leaf 2 extents [] ∷ [];
-  extent_items = [];
-  extents = leaf-IsTreeOfNodes Extents (fresh_super sizes root) (root_told (fresh_root extents)) 2 extents [] (fresh-extents_node sizes root extents);
-  recorded = refl;
-  quota_root = Some (fresh_root quotas);
-  quotas_named = ap (value_at 8) (fresh-roots_said root extents files quotas sizes reads);
-  quota_nodes = fresh_leaf 8 quotas (quota_items sizes.nodesize) ∷ [];
-  quota_items = quota_items sizes.nodesize;
-  quotas = leaf-IsTreeOfNodes Quotas (fresh_super sizes root) (root_told (fresh_root quotas)) 8 quotas (quota_items sizes.nodesize) (fresh-quotas_node sizes root extents files quotas reads);
-  told = sym (ap (λ (parts : List QuotaPart). Some (quota_told parts)) (fresh-quota_said sizes extents files quotas reads));
-  all = refl;
+blank-AreForState : (sizes : Sizes) → is_served sizes ≡ true → AreForState (blank sizes) no_files no_group sizes 1 0 [] [] nothing 0 (fresh_slots sizes)
+unfolding space_failure
+blank-AreForState sizes served = record {
+  one = record { alone = refl; counted = refl; no_max_rfer = refl; no_max_excl = refl };
+  served = served;
+  same_sizes = refl;
+  generation_to_come = refl;
+  held = refl;
+  copied = refl;
+  counters_kept = refl;
+  stamp_kept = refl;
+  named = refl;
+  space = refl;
+  apart = fresh_slots-IsDistinct sizes served;
+  free = blank-free sizes (fresh_slots sizes) (recursion_from_All (λ slot. IsTrue (is_slot sizes slot)) (fresh_slots sizes) (fresh_slots-are_slots sizes served));
 }
+
+-- ---- lists
+
+-- what is moved by itself stays
+alone_moved : (nodes : List Node) (node : Node) → IsPermutation nodes (node ∷ []) → nodes ≡ node ∷ []
+alone_moved [] node moved = absurd (omega (arith, length_permutation [] (node ∷ []) moved))
+alone_moved (first ∷ []) node moved =
+    ap (λ (n : Node). n ∷ []) (each_contained (λ (n : Node). n ≡ node) (node ∷ []) first (refl, tt) (Contains-permutation (first ∷ []) (node ∷ []) first moved (contains_here first [])))
+alone_moved (first ∷ second ∷ nodes) node moved = absurd (omega (arith, length_permutation (first ∷ second ∷ nodes) (node ∷ []) moved))
+
+three_joined : (a b c : List Node) (x y z : Node) → a ≡ x ∷ [] → b ≡ y ∷ [] → c ≡ z ∷ [] → a ++ b ++ c ≡ x ∷ y ∷ z ∷ []
+three_joined a b c x y z first second third = rw (first, second, third) refl
+
+-- the order in which they are written
+written_first : (a b c d : List Node) → IsPermutation (d ++ b ++ a ++ c) (a ++ b ++ c ++ d)
+written_first a b c d =
+    let swapped = IsPermutation-append_right (d ++ b) (a ++ c) (c ++ a) (IsPermutation-append_comm a c) in
+    let front : (d ++ b) ++ (a ++ c) ≡ d ++ b ++ a ++ c = sym (append_assoc (d ++ b) a c) in
+    let back : (d ++ b) ++ (c ++ a) ≡ d ++ b ++ c ++ a = sym (append_assoc (d ++ b) c a) in
+    let moved : IsPermutation (d ++ b ++ a ++ c) (d ++ b ++ c ++ a) =
+    subst (λ (list : List Node). IsPermutation list (d ++ b ++ c ++ a)) front (subst (IsPermutation ((d ++ b) ++ (a ++ c))) back swapped) in
+    IsPermutation-trans (d ++ b ++ a ++ c) (d ++ b ++ c ++ a) (a ++ b ++ c ++ d) moved (last_first a b c d)
+
+-- ---- the state
+
+-- such is the state, told by what stands in the image
+fresh_same : (sizes : Sizes) (super : Super) (others : List Node) (subvolume : RootItem) (nodes : List Node) (stamp bytes at root : ℕ) → super ≡ fresh_super sizes at → subvolume ≡ fresh_root root
+    → nodes ≡ fresh_leaf 5 root [] ∷ [] → stamp ≡ 1 → bytes ≡ sizes.nodesize → state_laid super others subvolume [] nodes stamp bytes ≡ fresh_state sizes others root
+fresh_same sizes super others subvolume nodes stamp bytes at root leads named alone changed counted = rw (leads, named, alone, changed, counted) refl
+
+module _ (sizes : Sizes) (laid : Laid) (served : is_served sizes ≡ true) (trees : AreFreshTrees sizes laid) (image : List ℕ) (has : HasCommit laid.superblock (nodes_laid laid) image) where
+  abbrev built : BuildsAnew (blank sizes) no_files no_group laid.superblock (nodes_laid laid)
+  built = laid-BuildsAnew (blank sizes) no_files no_group sizes 1 0 [] [] nothing 0 (fresh_slots sizes) laid (blank-AreForState sizes served) trees
+
+  abbrev others : List Node
+  others = all_others (blank sizes) no_files no_group laid.superblock (nodes_laid laid) image built has
+
+  abbrev leaves : List Node
+  leaves = fresh_leaf 1 (slot_at sizes 0) (root_items (slot_at sizes 1) (slot_at sizes 2) (slot_at sizes 3))
+      ∷ fresh_leaf 2 (slot_at sizes 1) [] ∷ fresh_leaf 8 (slot_at sizes 3) (quota_items sizes.nodesize) ∷ []
+
+  others_are : others ≡ leaves
+  others_are =
+      let roots = (root_tree (blank sizes) no_files no_group laid.superblock (nodes_laid laid) image built has).is in
+      let extents = (extent_tree (blank sizes) no_files no_group laid.superblock (nodes_laid laid) image built has).is in
+      let quotas = (quota_tree (blank sizes) no_files no_group laid.superblock (nodes_laid laid) image built has).is in
+      three_joined roots.those extents.those quotas.those _ _ _
+      (alone_moved roots.those _ (subst (IsPermutation roots.those) (roots_leaf sizes laid served trees).nodes_are roots.same))
+      (alone_moved extents.those _ (subst (IsPermutation extents.those) (extents_leaf sizes laid served trees).nodes_are extents.same))
+      (alone_moved quotas.those _ (subst (IsPermutation quotas.those) (quotas_leaf sizes laid served trees).nodes_are quotas.same))
+
+  file_alone : built.files.built.reached.those ≡ fresh_leaf 5 (slot_at sizes 2) [] ∷ []
+  file_alone =
+      alone_moved built.files.built.reached.those _
+      (subst (IsPermutation built.files.built.reached.those) (files_leaf sizes laid served trees).nodes_are built.files.built.reached.same)
+
+  bytes_are : bytes_laid (blank sizes) no_files laid.files.nodes ≡ sizes.nodesize
+  bytes_are = rw (one_file sizes laid served trees) (omega arith)
+
+  stamp_is_one : stamp_after nothing (all_exclusive (bytes_laid (blank sizes) no_files laid.files.nodes)) 0 1 ≡ 1
+  stamp_is_one = ap (λ (bytes : ℕ). stamp_after nothing (all_exclusive bytes) 0 1) bytes_are ∙ changed where
+    changed : stamp_after nothing (all_exclusive sizes.nodesize) 0 1 ≡ 1
+    changed = rw (ne_eqb 0 sizes.nodesize (λ same. omega (arith, same, some_bytes sizes served))) refl
+
+  abbrev state : State
+  state = state_laid laid.superblock others built.subvolume [] built.files.built.reached.those
+      (stamp_after nothing (all_exclusive (bytes_laid (blank sizes) no_files laid.files.nodes)) 0 1) (bytes_laid (blank sizes) no_files laid.files.nodes)
+
+  pub fresh-IsFreshImage : IsFreshImage sizes image
+  fresh-IsFreshImage = record {
+    state = state;
+    stands = anew-StateOf (blank sizes) no_files no_group laid.superblock (nodes_laid laid) image built has;
+    fresh = record {
+      root = slot_at sizes 2;
+      roots = slot_at sizes 0;
+      root_items = root_items (slot_at sizes 1) (slot_at sizes 2) (slot_at sizes 3);
+      extents = slot_at sizes 1;
+      extent_items = [];
+      quotas = slot_at sizes 3;
+      quota_items = quota_items sizes.nodesize;
+      others = others;
+      leaves = others_are;
+      fresh = fresh_same sizes laid.superblock others built.subvolume built.files.built.reached.those _ _ (slot_at sizes 0) (slot_at sizes 2) (superblock_is sizes laid served trees)
+          (own_item sizes laid served trees) file_alone stamp_is_one bytes_are;
+      trees = anew-others (blank sizes) no_files no_group laid.superblock (nodes_laid laid) image built has;
+      apart = first_slots-IsDistinct sizes served;
+      in_slots = rw (low_slot-is_slot sizes 0 served (lit< tt), low_slot-is_slot sizes 1 served (lit< tt), low_slot-is_slot sizes 2 served (lit< tt), low_slot-is_slot sizes 3 served (lit< tt)) refl;
+    };
+  }
+
+-- ---- what the calls leave
+
+-- what was done before the commit makes the disk as long as the image
+abbrev emptied : Sizes → List Event → List Event
+emptied sizes before = Wrote (total_bytes sizes - sector) (zeros sector) ∷ Cut 0 ∷ before
+
+emptied-long : (sizes : Sizes) (before : List Event) → total_bytes sizes ≤ length (content (emptied sizes before))
+emptied-long sizes before =
+    omega (arith, length-overlay (total_bytes sizes - sector) (zeros sector) (take 0 (content before)), length-replicate {A = ℕ} 4096 0)
+
+-- the trees can be written
+pub fresh-writable : (sizes : Sizes) (laid : Laid) → is_served sizes ≡ true → is_super laid.superblock ≡ true → AreFreshTrees sizes laid
+    → AllByRecursion (IsWritable sizes.nodesize) (laid.roots.nodes ++ laid.extents.nodes ++ laid.files.nodes ++ laid.quotas.nodes)
+fresh-writable sizes laid served is trees =
+    let written = laid.roots.nodes ++ laid.extents.nodes ++ laid.files.nodes ++ laid.quotas.nodes in
+    let order = written_first laid.files.nodes laid.extents.nodes laid.quotas.nodes laid.roots.nodes in
+    let are = laid-AreCommittable sizes 1 0 [] [] nothing 0 (fresh_slots sizes) laid trees written order is (fresh_slots-are_slots sizes served) (fresh_slots-IsDistinct sizes served) in
+    subst (λ (n : ℕ). AllByRecursion (IsWritable n) written) (ap (λ (super : Super). super.nodesize) trees.leads) are.writable
+
+-- what a disk holds after the calls that make an image
+pub made-HoldsFreshImage : (sizes : Sizes) (laid : Laid) (before : List Event) → is_served sizes ≡ true → is_super laid.superblock ≡ true → AreFreshTrees sizes laid
+    → HoldsFreshImage sizes (Some (with_image (fresh_super sizes (slot_at sizes 0)) (fresh_nodes sizes) before))
+made-HoldsFreshImage sizes laid before served is trees =
+    let written = laid.roots.nodes ++ laid.extents.nodes ++ laid.files.nodes ++ laid.quotas.nodes in
+    let order = written_first laid.files.nodes laid.extents.nodes laid.quotas.nodes laid.roots.nodes in
+    let holds = laid-HasCommit sizes 1 0 [] [] nothing 0 (fresh_slots sizes) laid trees written order (emptied sizes before) is (fresh_slots-are_slots sizes served)
+    (fresh_slots-IsDistinct sizes served) (emptied-long sizes before) in
+    let image = content (with_commit laid.superblock written (emptied sizes before)) in
+    let back : IsPermutation (nodes_laid laid) written =
+    IsPermutation-trans (nodes_laid laid) (laid.files.nodes ++ laid.extents.nodes ++ laid.quotas.nodes ++ laid.roots.nodes) written
+    (last_first laid.files.nodes laid.extents.nodes laid.quotas.nodes laid.roots.nodes)
+    (IsPermutation-sym written (laid.files.nodes ++ laid.extents.nodes ++ laid.quotas.nodes ++ laid.roots.nodes) order) in
+    let has : HasCommit laid.superblock (nodes_laid laid) image = record {
+      first = holds.first;
+      second = holds.second;
+      long = holds.long;
+      found = all_moved (λ node. node_found laid.superblock image (header_of node).address ≡ Ok node) written (nodes_laid laid) back holds.found;
+    } in
+    let first : IsFreshImage sizes (content (with_commit laid.superblock written (emptied sizes before))) = fresh-IsFreshImage sizes laid served trees image has in
+    let named = subst (λ (super : Super). IsFreshImage sizes (content (with_commit super written (emptied sizes before)))) (superblock_is sizes laid served trees) first in
+    let now = subst (λ (nodes : List Node). IsFreshImage sizes (content (with_commit (fresh_super sizes (slot_at sizes 0)) nodes (emptied sizes before)))) (nodes_are sizes laid served trees) named in
+    record { events = with_image (fresh_super sizes (slot_at sizes 0)) (fresh_nodes sizes) before; told = refl; image = now }

@@ -6,14 +6,13 @@ use Rattle.std.specs.List.Sorted.{IsPermutation}
 use Rattle.std.proofs.lemmas.List.{drop-drop, take-append-drop}
 use Rattle.std.proofs.lemmas.List.Elements.{All-contains, All-from_recursion, Contains-append_left, Contains-get_or}
 use Rattle.std.proofs.lemmas.List.Sorted.{Contains-permutation, IsPermutation-append_comm, IsPermutation-append_right, IsPermutation-map, IsPermutation-trans}
-use Rattle.qg_device.specs.History.{content}
+use Rattle.qg_device.specs.History.{Event, content}
 use Rattle.qg_num.specs.declared.counters.Counters.{Counters}
 use Rattle.qg_node.specs.declared.node.Node.{Node}
 use Rattle.qg_node.specs.Nodes.{header_of}
 use Rattle.qg_node.specs.NodeText.{IsNode, IsNodeSize}
 use Rattle.qg_node.specs.Fits.{NodeFits}
 use Rattle.qg_node.proofs.Again.{text_again}
-use Rattle.qg_items.specs.declared.root.RootItem.{RootItem}
 use Rattle.qg_super.specs.declared.sizes.Sizes.{Sizes}
 use Rattle.qg_super.specs.declared.superblock.Super.{Super}
 use Rattle.qg_super.specs.Places.{is_slot, total_bytes}
@@ -26,7 +25,7 @@ use Rattle.qg_tree.specs.Build.{IsMadeFor}
 use Rattle.qg_laid.specs.declared.laying.Laid.{Laid}
 use Rattle.qg_laid.specs.declared.laying.Parts.{Parts}
 use Rattle.qg_laid.specs.Holds.{HasCommit}
-use Rattle.qg_laid.specs.Trees.{ArePartsOf, AreTreesLaid, AreTreesOf, CanBeLaid, IsCommitOf, nodes_laid}
+use Rattle.qg_laid.specs.Trees.{ArePartsOf, AreTreesMade, AreTreesOf, CanBeLaid, IsCommitOf, nodes_laid}
 use Rattle.qg_laid.proofs.Enough.{node_size}
 use Rattle.qg_commit.specs.Calls.{IsReadBack, with_commit}
 use Rattle.qg_commit.specs.Laying.{IsLaying}
@@ -41,7 +40,7 @@ both_all P [] back first second = second
 both_all P (x ∷ front) back first second = (first.0, both_all P front back first.1 second)
 
 -- the last list first
-last_first : {A : Type 0} (a b c d : List A) → IsPermutation (d ++ b ++ c ++ a) (a ++ b ++ c ++ d)
+pub last_first : {A : Type 0} (a b c d : List A) → IsPermutation (d ++ b ++ c ++ a) (a ++ b ++ c ++ d)
 last_first {A} a b c d =
     let front : IsPermutation (d ++ b ++ c ++ a) (a ++ (d ++ b ++ c)) = IsPermutation-append_comm (d ++ b ++ c) a in
     let inner : IsPermutation (d ++ (b ++ c)) ((b ++ c) ++ d) = IsPermutation-append_comm d (b ++ c) in
@@ -74,8 +73,8 @@ small size is = let bounds = node_size_bounds size is in omega arith
 
 -- ---- the nodes of a commit
 
-module _ (committed : Super) (root : RootItem) (files : List (ℕ × File)) (extents : List Element) (counters : Counters) (stamp : ℕ) (slots : List ℕ) (laid : Laid)
-    (trees : AreTreesLaid committed root files extents counters stamp slots laid) where
+module _ (sizes : Sizes) (generation last_snapshot : ℕ) (files : List (ℕ × File)) (extents : List Element) (counters : Counters) (stamp : ℕ) (slots : List ℕ) (laid : Laid)
+    (trees : AreTreesMade sizes generation last_snapshot files extents counters stamp slots laid) where
   abbrev own : List Node
   own = laid.files.nodes
 
@@ -110,44 +109,55 @@ module _ (committed : Super) (root : RootItem) (files : List (ℕ × File)) (ext
       subst (λ (list : List ℕ). Contains list slot) (take-append-drop (length in_slots) slots)
       (Contains-append_left (take (length in_slots) slots) (drop (length in_slots) slots) slot among)
 
-  formed : All (IsNode committed.nodesize) in_slots
+  formed : All (IsNode sizes.nodesize) in_slots
   formed =
-      let n = committed.nodesize in
-      let next = committed.generation + 1 in
-      let first = both_all (IsNode n) own empty (made_format n 5 next own trees.file_tree.stands.made) (made_format n 2 next empty trees.extent_tree.stands.made) in
-      let second = both_all (IsNode n) (own ++ empty) quotas first (made_format n 8 next quotas trees.quota_tree.stands.made) in
-      let all = both_all (IsNode n) (own ++ empty ++ quotas) laid.roots.nodes second (made_format n 1 next laid.roots.nodes trees.root_tree.stands.made) in
+      let n = sizes.nodesize in
+      let first = both_all (IsNode n) own empty (made_format n 5 generation own trees.file_tree.stands.made) (made_format n 2 generation empty trees.extent_tree.stands.made) in
+      let second = both_all (IsNode n) (own ++ empty) quotas first (made_format n 8 generation quotas trees.quota_tree.stands.made) in
+      let all = both_all (IsNode n) (own ++ empty ++ quotas) laid.roots.nodes second (made_format n 1 generation laid.roots.nodes trees.root_tree.stands.made) in
       All-from_recursion (IsNode n) in_slots all
-
-  -- a commit may write them
-  pub laid-AreCommittable : is_super committed ≡ true → All (λ slot. IsTrue (is_slot (sizes_of committed) slot)) slots → IsDistinct (λ a b. a == b) slots
-      → AreCommittable laid.superblock (nodes_laid laid)
-  laid-AreCommittable is are_slots apart =
-      let are = moved-AreCommittable committed in_slots (nodes_laid laid) moved (placed-AreCommittable committed slots in_slots is are_slots apart lie formed) in
-      let same : AreCommittable (record committed { generation = committed.generation + 1; root = laid.roots.root }) (nodes_laid laid) = record {
-        writable = are.writable;
-        in_slots = are.in_slots;
-        apart = are.apart;
-      } in
-      subst (λ (super : Super). AreCommittable super (nodes_laid laid)) (sym trees.leads) same
 
   fitting : All NodeFits in_slots
   fitting =
-      let next = committed.generation + 1 in
-      let n = committed.nodesize in
-      let first = both_all NodeFits own empty (made_fit n 5 next own trees.file_tree.stands.made) (made_fit n 2 next empty trees.extent_tree.stands.made) in
-      let second = both_all NodeFits (own ++ empty) quotas first (made_fit n 8 next quotas trees.quota_tree.stands.made) in
-      let all = both_all NodeFits (own ++ empty ++ quotas) laid.roots.nodes second (made_fit n 1 next laid.roots.nodes trees.root_tree.stands.made) in
+      let n = sizes.nodesize in
+      let first = both_all NodeFits own empty (made_fit n 5 generation own trees.file_tree.stands.made) (made_fit n 2 generation empty trees.extent_tree.stands.made) in
+      let second = both_all NodeFits (own ++ empty) quotas first (made_fit n 8 generation quotas trees.quota_tree.stands.made) in
+      let all = both_all NodeFits (own ++ empty ++ quotas) laid.roots.nodes second (made_fit n 1 generation laid.roots.nodes trees.root_tree.stands.made) in
       All-from_recursion NodeFits in_slots all
 
-  -- each is read from its text
-  pub laid-IsReadBack : IsNodeSize committed.nodesize → All (IsReadBack committed.nodesize) (nodes_laid laid)
-  laid-IsReadBack size = λ k d below.
-      let nodes = nodes_laid laid in
-      let has = Contains-permutation nodes in_slots (get_or nodes k d) moved (Contains-get_or nodes k d below) in
-      All-contains (IsReadBack committed.nodesize) in_slots (get_or nodes k d) each has where
-        each : All (IsReadBack committed.nodesize) in_slots
-        each = λ k d below. text_again committed.nodesize (get_or in_slots k d) (small committed.nodesize size) (fitting k d below) (formed k d below)
+  -- the superblock tells these sizes
+  pub laid-sizes : sizes_of laid.superblock ≡ sizes
+  laid-sizes = ap sizes_of trees.leads
+
+  same_size : laid.superblock.nodesize ≡ sizes.nodesize
+  same_size = ap (λ (super : Super). super.nodesize) trees.leads
+
+  -- a commit may write them, in whatever order
+  module _ (nodes : List Node) (order : IsPermutation nodes in_slots) where
+    pub laid-AreCommittable : is_super laid.superblock ≡ true → All (λ slot. IsTrue (is_slot sizes slot)) slots → IsDistinct (λ a b. a == b) slots
+        → AreCommittable laid.superblock nodes
+    laid-AreCommittable is are_slots apart =
+        let slots_are = subst (λ (s : Sizes). All (λ slot. IsTrue (is_slot s slot)) slots) (sym laid-sizes) are_slots in
+        let nodes_are = subst (λ (n : ℕ). All (IsNode n) in_slots) (sym same_size) formed in
+        moved-AreCommittable laid.superblock in_slots nodes order (placed-AreCommittable laid.superblock slots in_slots is slots_are apart lie nodes_are)
+
+    -- each is read from its text
+    laid-IsReadBack : IsNodeSize laid.superblock.nodesize → All (IsReadBack laid.superblock.nodesize) nodes
+    laid-IsReadBack size = λ k d below.
+        let has = Contains-permutation nodes in_slots (get_or nodes k d) order (Contains-get_or nodes k d below) in
+        All-contains (IsReadBack laid.superblock.nodesize) in_slots (get_or nodes k d) each has where
+          each : All (IsReadBack laid.superblock.nodesize) in_slots
+          each = λ k d below.
+              text_again laid.superblock.nodesize (get_or in_slots k d) (small laid.superblock.nodesize size) (fitting k d below)
+              (subst (λ (n : ℕ). All (IsNode n) in_slots) (sym same_size) formed k d below)
+
+    -- what a disk holds after the calls that write them
+    pub laid-HasCommit : (events : List Event) → is_super laid.superblock ≡ true → All (λ slot. IsTrue (is_slot sizes slot)) slots
+        → IsDistinct (λ a b. a == b) slots → total_bytes sizes ≤ length (content events)
+        → HasCommit laid.superblock nodes (content (with_commit laid.superblock nodes events))
+    laid-HasCommit events is are_slots apart long =
+        with_commit-HasCommit laid.superblock nodes events is (subst (λ (s : Sizes). total_bytes s ≤ length (content events)) (sym laid-sizes) long)
+        (laid-AreCommittable is are_slots apart) (laid-IsReadBack (node_size laid.superblock is))
 
 -- ---- what was laid out
 
@@ -155,16 +165,19 @@ pub laid-IsLaying : (parts : Parts) (slots : List ℕ) (laid : Laid) → is_supe
     → All (λ slot. IsTrue (is_slot (sizes_of parts.superblock.now) slot)) slots
     → ((old : State) (before : Subvolume) (group : Group) (image : List ℕ) → ArePartsOf old before group parts slots → HasCommit laid.superblock (nodes_laid laid) image → IsCommitOf old laid parts.files.now image)
     → IsLaying parts slots laid
-laid-IsLaying parts slots laid superblock trees can are_slots stands = record {
-  superblock = superblock;
-  trees = trees;
-  placed = laid-placed parts.superblock.now parts.root.now parts.files.now parts.extents.now parts.counters.now parts.stamp slots laid trees;
-  committed = λ events old before group enough is.
-      let super = parts.superblock.now in
-      let are = laid-AreCommittable super parts.root.now parts.files.now parts.extents.now parts.counters.now parts.stamp slots laid trees can.superblock are_slots can.room.apart in
-      let read = laid-IsReadBack super parts.root.now parts.files.now parts.extents.now parts.counters.now parts.stamp slots laid trees (node_size super can.superblock) in
-      let same : laid.superblock.nodesize ≡ super.nodesize = ap (λ (s : Super). s.nodesize) trees.leads in
-      let long = subst (λ (sizes : Sizes). total_bytes sizes ≤ length (content events)) (sym (ap sizes_of trees.leads)) enough in
-      stands old before group (content (with_commit laid.superblock (nodes_laid laid) events)) is
-      (with_commit-HasCommit laid.superblock (nodes_laid laid) events superblock long are (subst (λ (n : ℕ). All (IsReadBack n) (nodes_laid laid)) (sym same) read));
-}
+laid-IsLaying parts slots laid superblock trees can are_slots stands =
+    let sizes = sizes_of parts.superblock.now in
+    let next = parts.superblock.now.generation + 1 in
+    let last_snapshot = parts.root.now.last_snapshot in
+    let files = parts.files.now in
+    let extents = parts.extents.now in
+    let counters = parts.counters.now in
+    record {
+      superblock = superblock;
+      trees = trees;
+      placed = laid-placed sizes next last_snapshot files extents counters parts.stamp slots laid trees;
+      committed = λ events old before group enough is.
+          let order = moved sizes next last_snapshot files extents counters parts.stamp slots laid trees in
+          stands old before group (content (with_commit laid.superblock (nodes_laid laid) events)) is
+          (laid-HasCommit sizes next last_snapshot files extents counters parts.stamp slots laid trees (nodes_laid laid) order events superblock are_slots can.room.apart enough);
+    }

@@ -1,5 +1,3 @@
-pub mod Ways
-pub mod FreshImage
 pub mod Slots
 pub mod Ranges
 pub mod Written
@@ -9,7 +7,7 @@ pub mod Fronts
 pub mod LaidNodes
 pub mod CommitCalls
 pub mod ReadBack
-pub mod FreshNodes
-pub mod Made
+pub mod FreshTrees
+pub mod FreshImage
 pub mod MakingCalls
 pub mod Touched

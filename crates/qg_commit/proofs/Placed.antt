@@ -80,7 +80,7 @@ placed-AreCommittable super slots nodes is are_slots distinct placed are =
 flips : (a b : ℕ) → (a == b) ≡ (b == a)
 flips a b = grind (arith, nat_tests)
 
-all_moved : {A : Type 0} (P : A → Type 0) (xs ys : List A) → IsPermutation ys xs → All P xs → All P ys
+pub all_moved : {A : Type 0} (P : A → Type 0) (xs ys : List A) → IsPermutation ys xs → All P xs → All P ys
 all_moved P xs ys moved all = λ k d below. All-contains P xs (get_or ys k d) all (Contains-permutation ys xs (get_or ys k d) moved (Contains-get_or ys k d below))
 
 pub moved-AreCommittable : (super : Super) (nodes moved : List Node) → IsPermutation moved nodes → AreCommittable super nodes → AreCommittable super moved

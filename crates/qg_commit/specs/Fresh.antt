@@ -1,5 +1,5 @@
 -- The nodes and the superblock of an image that is just made: four leaves of generation 1 (this project's own).
-use Rattle.std.specs.Prelude.{ℕ, List, [], ◌∷◌}
+use Rattle.std.specs.Prelude.{ℕ, List, [], ◌∷◌, map}
 use Rattle.qg_node.specs.declared.item.Item.{Item}
 use Rattle.qg_node.specs.declared.node.Node.{Node}
 use Rattle.qg_items.specs.declared.tree.TheConstants.{ROOT_TREE, EXTENT_TREE, TOP_LEVEL, QUOTA_TREE}
@@ -9,6 +9,8 @@ use Rattle.qg_super.specs.declared.superblock.Super.{Super}
 use Rattle.qg_super.specs.Places.{slot_at}
 use Rattle.qg_verdict.specs.IsFresh.{fresh_leaf}
 use Rattle.qg_contents.specs.Written.{items_of_roots, status_at, info_of, items_of_quota}
+use Rattle.qg_laid.specs.declared.laying.Laid.{Laid}
+use Rattle.qg_laid.specs.Trees.{AreTreesMade}
 
 -- a tree of generation 1 whose root is a leaf at an address
 abbrev pub fresh_root : ℕ → RootItem
@@ -34,3 +36,12 @@ fresh_nodes sizes =
     ∷ fresh_leaf TOP_LEVEL (slot_at sizes 2) []
     ∷ fresh_leaf QUOTA_TREE (slot_at sizes 3) (quota_items sizes.nodesize)
     ∷ []
+
+-- the slots that the trees are laid out in, one behind the other: the third for the top-level subvolume, the second for the extent tree, the
+-- fourth for the quota tree, the first for the root tree; and those behind them, as a layout asks for more
+abbrev pub fresh_slots : Sizes → List ℕ
+fresh_slots sizes = map (slot_at sizes) (2 ∷ 1 ∷ 3 ∷ 0 ∷ 4 ∷ 5 ∷ 6 ∷ 7 ∷ 8 ∷ 9 ∷ 10 ∷ 11 ∷ 12 ∷ 13 ∷ [])
+
+-- the four trees of generation 1, without files, in these slots; before, the group counted nothing
+abbrev pub AreFreshTrees : Sizes → Laid → Type 0
+AreFreshTrees sizes laid = AreTreesMade sizes 1 0 [] [] (record { rfer = 0; excl = 0 }) 0 (fresh_slots sizes) laid

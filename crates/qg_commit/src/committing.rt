@@ -1,17 +1,14 @@
 // A commit.
-ghost use Rattle.std.specs.Prelude.{◌≡◌, ◌⊎◌, ◌≤◌, List, Some, length, All, OnOk, IfOk, IfErr, IsTrue};
-ghost use Rattle.std.specs.List.{AllByRecursion};
-ghost use Rattle.std.specs.Option.{option_map};
+ghost use Rattle.std.specs.Prelude.{◌≡◌, ◌⊎◌, ◌≤◌, List, Some, All, IfOk, IfErr, IsTrue};
 ghost use Rattle.qg_device.specs.Cause.{HasCause};
 ghost use Rattle.qg_device.specs.History.{Event};
-ghost use Rattle.qg_node.specs.NodeText.{IsNodeSize};
 ghost use Rattle.qg_super.specs.Places.{is_slot, total_bytes};
-ghost use Rattle.qg_super.specs.SuperText.{is_super, sizes_of};
+ghost use Rattle.qg_super.specs.SuperText.{sizes_of};
 ghost use Rattle.qg_laid.specs.Trees.{CanBeLaid, nodes_laid};
-ghost use Rattle.qg_commit.specs.Calls.{IsWritable, MadeFront, commit_calls, with_commit};
+ghost use Rattle.qg_commit.specs.Calls.{with_commit};
 ghost use Rattle.qg_commit.specs.Laying.{IsLaying, StopsLaying};
 
-use crate::write::{write_nodes, write_superblocks};
+use crate::write::{FourTrees, write_trees};
 use qg_disk::{Disk, DiskFault};
 use qg_laid::{Laid, Parts, lay_out};
 use qg_num::{Address, BlockFault};
@@ -47,30 +44,15 @@ pub fn commit<D: Disk>(
 {
     let laid = lay_out(alloc, parts, slots)?;
     let mut buffer = vec![in alloc; 0; parts.superblock.nodesize as usize]?;
-    match write_laid(disk, &laid, &mut buffer) {
+    let trees = FourTrees {
+        first: laid.roots.nodes.as_slice(),
+        second: laid.extents.nodes.as_slice(),
+        third: laid.quotas.nodes.as_slice(),
+        fourth: laid.files.nodes.as_slice(),
+    };
+    match write_trees(disk, &laid.superblock, &trees, &mut buffer) {
         Ok(()) => Ok(laid),
         Err(DiskFault::Failed) => Err(BlockFault::Disk),
         Err(DiskFault::NoMemory) => Err(BlockFault::NoMemory),
     }
-}
-
-// Writes the nodes of the four trees, over a buffer of a node's size, and then the superblocks.
-fn write_laid<D: Disk>(disk: &mut D, laid: &Laid, buffer: &mut [u8]) -> Result<(), DiskFault>
-    requires superblock { IsTrue (is_super laid.now.superblock) }
-    requires size { length buffer.old ≡ laid.now.superblock.nodesize }
-    requires node_size { IsNodeSize (length buffer.old) }
-    requires nodes { AllByRecursion (IsWritable (length buffer.old)) (nodes_laid laid.now) }
-    ensures calls { OnOk result (D.history disk.new
-        ≡ option_map (with_commit laid.now.superblock (nodes_laid laid.now)) (D.history disk.old)) }
-    ensures front { (events : List Event) → D.history disk.old ≡ Some events
-        → MadeFront (commit_calls laid.now.superblock (nodes_laid laid.now)) events (D.history disk.new) }
-    ensures no_less { D.size disk.old ≤ D.size disk.new }
-    ensures cause { HasCause DiskFault.Failed (D.faults disk.old) (D.faults disk.new) result }
-{
-    write_nodes(disk, laid.roots.nodes.as_slice(), buffer)?;
-    write_nodes(disk, laid.extents.nodes.as_slice(), buffer)?;
-    write_nodes(disk, laid.quotas.nodes.as_slice(), buffer)?;
-    write_nodes(disk, laid.files.nodes.as_slice(), buffer)?;
-    write_superblocks(disk, &laid.superblock)?;
-    Ok(())
 }

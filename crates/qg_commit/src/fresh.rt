@@ -1,93 +1,65 @@
-// The nodes of an image that is just made.
-ghost use Rattle.std.specs.Prelude.{◌≡◌, ◌<◌, IfOk, IsTrue};
+// The trees of an image that is just made.
+ghost use Rattle.std.specs.Prelude.{◌≡◌, ◌<◌, ◌++◌, IfOk, IsTrue};
 ghost use Rattle.qg_super.specs.Places.{is_served, slot_at};
-ghost use Rattle.qg_contents.specs.Writable.{IsWritableRoot};
-ghost use Rattle.qg_verdict.specs.IsFresh.{fresh_leaf};
-ghost use Rattle.qg_commit.specs.Fresh.{fresh_root, quota_items, fresh_nodes};
+ghost use Rattle.qg_super.specs.SuperText.{is_super};
+ghost use Rattle.qg_commit.specs.Fresh.{AreFreshTrees, fresh_nodes, fresh_slots, fresh_super};
 
-use qg_contents::{quota_items, root_items};
-use qg_items::RootItem;
-use qg_items::tree::{EXTENT_TREE, QUOTA_TREE, ROOT_TREE, TOP_LEVEL};
-use qg_node::{Header, Items, Node};
-use qg_num::{Address, Counters, Generation, GroupId, NoMemory, RootId};
+use qg_laid::{Contents, Laid, lay_trees};
+use qg_num::{Address, Counters, Generation, NoMemory};
 use qg_super::{SLOTS_BEGIN, Sizes};
 use std::alloc::Global;
 
 // The address of one of the first slots.
 #[tactic(auto, unfolding(qg_super::specs::Places::is_served))]
-pub fn slot_address(sizes: Sizes, slot: u64) -> u64
+fn slot(sizes: Sizes, number: u64) -> Address
     requires served { IsTrue (is_served sizes) }
-    requires few { slot < 64 }
-    ensures { result ≡ slot_at sizes slot }
+    requires few { number < 64 }
+    ensures { result ≡ slot_at sizes number }
 {
-    SLOTS_BEGIN + slot * sizes.nodesize
+    Address::new(SLOTS_BEGIN + number * sizes.nodesize)
 }
 
-// A tree of generation 1 whose root is a leaf at an address.
-fn root_of(address: u64) -> RootItem
-    ensures value { result ≡ fresh_root address }
-    ensures writable { IsWritableRoot result }
-{
-    RootItem {
-        generation: Generation::new(1),
-        bytenr: Address::new(address),
-        last_snapshot: Generation::new(0),
-        refs: 1,
-        level: 0,
-    }
-}
-
-// The quota tree's items, the top-level subvolume reaching one node of so many bytes.
-fn quotas(alloc: Global, nodesize: u64) -> Result<Items, NoMemory>
-    ensures { IfOk result (λ items. items ≡ quota_items nodesize) }
-{
-    let group = GroupId::from_number(TOP_LEVEL);
-    let counters = Counters {
-        rfer: nodesize,
-        excl: nodesize,
-    };
-    quota_items(
-        alloc,
-        Generation::new(1),
-        group,
-        &counters,
-        Generation::new(1),
-    )
-}
-
-// A leaf of generation 1.
-fn leaf(owner: u64, address: u64, items: Items) -> Node
-    ensures { result ≡ fresh_leaf owner address items }
-{
-    let header = Header {
-        address: Address::new(address),
-        generation: Generation::new(1),
-        owner: RootId::new(owner),
-        level: 0,
-    };
-    Node::Leaf { header, items }
-}
-
-/// The nodes of a fresh image: the root tree, the extent tree, the top-level subvolume and the quota tree, a leaf each,
-/// in the first slots (this project's own).
-pub fn nodes_of(alloc: Global, sizes: Sizes) -> Result<Vec<Node>, NoMemory>
+// The slots of the top-level subvolume, the extent tree, the quota tree and the root tree; a layout asks for 14.
+fn slots(sizes: Sizes) -> [Address; 14]
     requires { IsTrue (is_served sizes) }
-    ensures { IfOk result (λ nodes. nodes.items ≡ fresh_nodes sizes) }
+    ensures { result ≡ fresh_slots sizes }
 {
-    let root = slot_address(sizes, 0);
-    let extents = slot_address(sizes, 1);
-    let files = slot_address(sizes, 2);
-    let quotas_root = slot_address(sizes, 3);
-    let roots = root_items(
-        alloc,
-        &root_of(extents),
-        &root_of(files),
-        &root_of(quotas_root),
-    )?;
-    let mut nodes = Vec::new(alloc);
-    nodes.push(leaf(ROOT_TREE, root, roots))?;
-    nodes.push(leaf(EXTENT_TREE, extents, Items::new(alloc)))?;
-    nodes.push(leaf(TOP_LEVEL, files, Items::new(alloc)))?;
-    nodes.push(leaf(QUOTA_TREE, quotas_root, quotas(alloc, sizes.nodesize)?))?;
-    Ok(nodes)
+    [
+        slot(sizes, 2),
+        slot(sizes, 1),
+        slot(sizes, 3),
+        slot(sizes, 0),
+        slot(sizes, 4),
+        slot(sizes, 5),
+        slot(sizes, 6),
+        slot(sizes, 7),
+        slot(sizes, 8),
+        slot(sizes, 9),
+        slot(sizes, 10),
+        slot(sizes, 11),
+        slot(sizes, 12),
+        slot(sizes, 13),
+    ]
+}
+
+/// The trees of a fresh image: the root tree, the extent tree, the top-level subvolume and the quota tree, a leaf each,
+/// in the first slots, in this order (this project's own).
+pub fn lay_fresh(alloc: Global, sizes: Sizes) -> Result<Laid, NoMemory>
+    requires { IsTrue (is_served sizes) }
+    ensures trees { IfOk result (λ laid. AreFreshTrees sizes laid) }
+    ensures fits { IfOk result (λ laid. IsTrue (is_super laid.superblock)) }
+    ensures superblock { IfOk result (λ laid. laid.superblock ≡ fresh_super sizes (slot_at sizes 0)) }
+    ensures nodes { IfOk result (λ laid. laid.roots.nodes ++ laid.extents.nodes ++ laid.files.nodes ++ laid.quotas.nodes
+        ≡ fresh_nodes sizes) }
+{
+    let nothing = Counters { rfer: 0, excl: 0 };
+    let contents = Contents {
+        last_snapshot: Generation::new(0),
+        files: &[],
+        extents: &[],
+        counters: &nothing,
+        stamp: Generation::new(0),
+    };
+    let laid = lay_trees(alloc, sizes, Generation::new(1), &contents, &slots(sizes))?;
+    Ok(laid)
 }

@@ -1,5 +1,5 @@
 // A fresh image.
-ghost use Rattle.std.specs.Prelude.{◌≡◌, ◌≤◌, ◌↔◌, List, Some, OnOk, IsErrOf, IsTrue, false};
+ghost use Rattle.std.specs.Prelude.{◌≡◌, ◌≤◌, ◌↔◌, List, Some, OnOk, IsErrOf, false};
 ghost use Rattle.std.specs.Option.{option_map};
 ghost use Rattle.qg_device.specs.Cause.{HasCause};
 ghost use Rattle.qg_device.specs.History.{Event};
@@ -9,11 +9,10 @@ ghost use Rattle.qg_commit.specs.Calls.{with_image};
 ghost use Rattle.qg_commit.specs.Mkfs.{HoldsFreshImage};
 
 use crate::MkfsFault;
-use crate::fresh::{nodes_of, slot_address};
-use crate::write::write_commit;
+use crate::fresh::lay_fresh;
+use crate::write::{FourTrees, write_trees};
 use qg_disk::Disk;
-use qg_num::{Address, Generation};
-use qg_super::{SECTOR, Sizes, Super};
+use qg_super::{SECTOR, Sizes};
 use std::alloc::Global;
 
 /// Makes a fresh image of these sizes: generation 1, quota on, the top-level subvolume empty, its group with its counts
@@ -34,27 +33,16 @@ pub fn mkfs<D: Disk>(alloc: Global, disk: &mut D, sizes: Sizes) -> Result<(), Mk
     if !sizes.is_served() {
         return Err(MkfsFault::Size);
     }
-    let nodes = nodes_of(alloc, sizes)?;
+    let laid = lay_fresh(alloc, sizes)?;
     let mut buffer = vec![in alloc; 0; sizes.nodesize as usize]?;
-    let superblock = fresh_superblock(sizes);
+    let trees = FourTrees {
+        first: laid.roots.nodes.as_slice(),
+        second: laid.extents.nodes.as_slice(),
+        third: laid.files.nodes.as_slice(),
+        fourth: laid.quotas.nodes.as_slice(),
+    };
     disk.cut(0)?;
     disk.write_at(sizes.total_bytes() - SECTOR, &[0; SECTOR as usize])?;
-    write_commit(disk, &superblock, &nodes, &mut buffer)?;
+    write_trees(disk, &laid.superblock, &trees, &mut buffer)?;
     Ok(())
-}
-
-// The superblock of a fresh image.
-#[tactic(auto, unfolding(qg_super::specs::Places::is_served))]
-fn fresh_superblock(sizes: Sizes) -> Super
-    requires { IsTrue (is_served sizes) }
-    ensures { result ≡ fresh_super sizes (slot_at sizes 0) }
-{
-    Super {
-        generation: Generation::new(1),
-        root: Address::new(slot_address(sizes, 0)),
-        nodesize: sizes.nodesize as u32,
-        slots: sizes.slots,
-        sectors: sizes.sectors,
-        format: 1,
-    }
 }

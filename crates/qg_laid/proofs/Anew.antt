@@ -244,7 +244,7 @@ module _ (old : State) (before : Subvolume) (group : Group) (super : Super) (nod
     told = subst (λ (g : ℕ). filter_map quota_part b.quota_items ≡ quota_parts_laid g (all_exclusive bytes) stamp) (sym b.tells.generation) b.counted;
   }
 
-  abbrev all_others : List Node
+  abbrev pub all_others : List Node
   all_others = others super image b.extents b.quotas b.subvolume stamp before.files supers trees
 
   -- they are the nodes of the other trees, in another order
@@ -346,7 +346,7 @@ module _ (old : State) (before : Subvolume) (group : Group) (super : Super) (nod
       (AllByRecursion-append is (b.roots.built.reached.those ++ b.empty.built.reached.those) b.counts.built.reached.those
       (AllByRecursion-append is b.roots.built.reached.those b.empty.built.reached.those roots extents) quotas)
 
-  anew-others : AreOtherTrees state_anew all_others
+  pub anew-others : AreOtherTrees state_anew all_others
   anew-others =
       let named = AreNamed-laid b.extents b.subvolume b.quotas in
       record {

@@ -7,7 +7,9 @@ use Rattle.std.proofs.lemmas.List.{append_assoc, length-drop, map-append, take-a
 use Rattle.std.proofs.lemmas.Map.Keys.{IsDistinct-tail}
 use Rattle.qg_node.specs.declared.node.Node.{Node}
 use Rattle.qg_node.specs.NodeText.{IsNodeSize}
+use Rattle.qg_super.specs.declared.sizes.Sizes.{Sizes}
 use Rattle.qg_super.specs.declared.superblock.Super.{Super}
+use Rattle.qg_super.specs.Places.{is_served}
 use Rattle.qg_super.specs.SuperText.{is_super, sizes_of}
 use Rattle.qg_super.proofs.Served.{SizesFit-is_served, SuperFits-is_super}
 use Rattle.qg_state.specs.declared.element.Element.{Element}
@@ -16,7 +18,9 @@ use Rattle.qg_state.specs.Need.{nodes_filled}
 use Rattle.qg_verdict.specs.Verdict.{space_failure}
 use Rattle.qg_reach.proofs.SpaceRule.{bytes_fit}
 use Rattle.qg_tree.specs.Row.{address_of}
-use Rattle.qg_laid.specs.Trees.{AreEnough}
+use Rattle.qg_laid.specs.declared.laying.Contents.{Contents}
+use Rattle.qg_laid.specs.declared.laying.Parts.{Parts}
+use Rattle.qg_laid.specs.Trees.{AreEnough, CanBeLaid, CanBeTrees, superblock_laid}
 
 -- ---- how many nodes the small trees fill
 
@@ -71,18 +75,33 @@ pub node_size : (super : Super) → is_super super ≡ true → IsNodeSize super
 node_size super is = (SizesFit-is_served (sizes_of super) (SuperFits-is_super super is).served).node_size
 
 -- what bounds the bytes that extents take
-pub few_bytes : (super : Super) (extents : List Element) → is_super super ≡ true → space_failure (sizes_of super) extents ≡ None → bytes_of extents < 2 ^ 63
-few_bytes super extents is space =
-    let served = SizesFit-is_served (sizes_of super) (SuperFits-is_super super is).served in
-    omega (arith, bytes_fit (sizes_of super) extents space, served.sectors)
+pub few_bytes : (sizes : Sizes) (extents : List Element) → is_served sizes ≡ true → space_failure sizes extents ≡ None → bytes_of extents < 2 ^ 63
+few_bytes sizes extents served space = omega (arith, bytes_fit sizes extents space, (SizesFit-is_served sizes served).sectors)
 
--- the superblock of a later commit
-pub is_super-next : (super : Super) (next root : ℕ) → is_super super ≡ true → 1 ≤ next → next < 2 ^ 64 - 1 → root < 2 ^ 64
-    → is_super (record super { generation = next; root = root }) ≡ true
+-- the superblock that leads to the trees
+pub is_super-laid : (sizes : Sizes) (generation root : ℕ) → is_served sizes ≡ true → 1 ≤ generation → generation < 2 ^ 64 - 1 → root < 2 ^ 64
+    → is_super (superblock_laid sizes generation root) ≡ true
 unfolding is_super
-is_super-next super next root is some early fits =
-    let has = SuperFits-is_super super is in
-    let one : nat_le 1 next ≡ true = grind (arith, nat_tests) in
-    let last : nat_lt next 18446744073709551615 ≡ true = grind (arith, nat_tests) in
+is_super-laid sizes generation root served some early fits =
+    let one : nat_le 1 generation ≡ true = grind (arith, nat_tests) in
+    let last : nat_lt generation 18446744073709551615 ≡ true = grind (arith, nat_tests) in
     let low : nat_lt root 18446744073709551616 ≡ true = grind (arith, nat_tests) in
-    rw one (rw last (rw low (rw has.served (rw has.format refl))))
+    rw one (rw last (rw low (rw served refl)))
+
+-- ---- what a commit starts from
+
+-- the trees of the generation to come can be laid out
+pub CanBeLaid-trees : (parts : Parts) (contents : Contents) (slots : List ℕ) → contents.last_snapshot ≡ parts.root.now.last_snapshot → contents.files.now ≡ parts.files.now
+    → contents.extents.now ≡ parts.extents.now → contents.stamp ≡ parts.stamp → CanBeLaid parts slots
+    → CanBeTrees (sizes_of parts.superblock.now) (parts.superblock.now.generation + 1) contents slots
+CanBeLaid-trees parts contents slots copied files extents stamp can = record {
+  served = (SuperFits-is_super parts.superblock.now can.superblock).served;
+  some = omega arith;
+  early = omega (arith, can.generation);
+  copied = omega (arith, copied, can.copied);
+  stamp = omega (arith, stamp, can.stamp);
+  files = rw files can.files;
+  by = rw files can.by;
+  space = rw extents can.space;
+  room = rw files can.room;
+}

@@ -15,7 +15,6 @@ use Rattle.qg_items.specs.declared.tree.TheConstants.{ROOT_TREE, EXTENT_TREE, TO
 use Rattle.qg_super.specs.declared.sizes.Sizes.{Sizes}
 use Rattle.qg_super.specs.declared.superblock.Super.{Super}
 use Rattle.qg_super.specs.SuperText.{sizes_of}
-use Rattle.qg_super.proofs.Served.{SuperFits-is_super}
 use Rattle.qg_image.specs.declared.file.File.{File}
 use Rattle.qg_image.specs.ItemMeaning.{quota_part}
 use Rattle.qg_state.specs.declared.element.Element.{Element}
@@ -30,7 +29,7 @@ use Rattle.qg_tree.specs.Build.{IsBuilt}
 use Rattle.qg_tree.proofs.Frame.{IsDistinct-front}
 use Rattle.qg_laid.specs.declared.laying.Laid.{Laid}
 use Rattle.qg_laid.specs.Anew.{all_exclusive, BuildsAnew, BuildsFiles, BuildsOther, bytes_laid, one_group, quota_parts_laid, roots_laid, stamp_after}
-use Rattle.qg_laid.specs.Trees.{AreFor, AreTreesLaid, IsCommitOf, IsLaidState, nodes_laid, root_item_laid}
+use Rattle.qg_laid.specs.Trees.{AreForState, AreTreesMade, IsCommitOf, IsLaidState, nodes_laid, root_item_laid}
 use Rattle.qg_laid.specs.Holds.{HasCommit}
 use Rattle.qg_laid.proofs.Anew.{anew-Commits, anew-StateOf, anew-held, anew-nodes, anew-written, state_anew}
 use Rattle.qg_laid.proofs.Apart.{apart-at}
@@ -57,7 +56,7 @@ passes-drop p slots n all = (passes-parts p (take n slots) (drop n slots) (subst
 pub passes-take : (p : ℕ → Bool) (slots : List ℕ) (n : ℕ) → list_all p slots ≡ true → list_all p (take n slots) ≡ true
 passes-take p slots n all = (passes-parts p (take n slots) (drop n slots) (subst (λ (xs : List ℕ). list_all p xs ≡ true) (sym (take-append-drop n slots)) all)).0
 
-distinct-drop : (slots : List ℕ) (n : ℕ) → IsDistinct (λ a b. a == b) slots → IsDistinct (λ a b. a == b) (drop n slots)
+pub distinct-drop : (slots : List ℕ) (n : ℕ) → IsDistinct (λ a b. a == b) slots → IsDistinct (λ a b. a == b) (drop n slots)
 distinct-drop slots n apart = IsDistinct-back (take n slots) (drop n slots) (subst (IsDistinct (λ a b. a == b)) (sym (take-append-drop n slots)) apart)
 
 distinct-take : (slots : List ℕ) (n : ℕ) → IsDistinct (λ a b. a == b) slots → IsDistinct (λ a b. a == b) (take n slots)
@@ -76,34 +75,35 @@ built-front nodesize owner generation items slots nodes root level is = record {
   placed = is.placed ∙ sym (take_all (length nodes) (take (length nodes) slots) (omega (arith, length-take (length nodes) slots)));
   few = is.few;
   low = is.low;
+  single = is.single;
 }
 
 -- ---- all trees
 
-module _ (old : State) (before : Subvolume) (group : Group) (committed : Super) (root : RootItem) (files : List (ℕ × File)) (extents : List Element) (counters : Counters) (stamp : ℕ) (slots : List ℕ) (laid : Laid)
-    (is : AreFor old before group committed root files extents counters stamp slots) (trees : AreTreesLaid committed root files extents counters stamp slots laid) where
-  size : committed.nodesize ≡ old.sizes.nodesize
-  size = ap (λ (sizes : Sizes). sizes.nodesize) is.sizes
+module _ (old : State) (before : Subvolume) (group : Group) (sizes : Sizes) (generation last_snapshot : ℕ) (files : List (ℕ × File)) (extents : List Element) (counters : Counters) (stamp : ℕ) (slots : List ℕ) (laid : Laid)
+    (is : AreForState old before group sizes generation last_snapshot files extents counters stamp slots) (trees : AreTreesMade sizes generation last_snapshot files extents counters stamp slots laid) where
+  size : sizes.nodesize ≡ old.sizes.nodesize
+  size = ap (λ (sizes : Sizes). sizes.nodesize) is.same_sizes
 
-  next : committed.generation + 1 ≡ next_generation old
-  next = ap (λ (n : ℕ). n + 1) is.generation
+  pub next : generation ≡ next_generation old
+  next = is.generation_to_come
 
   -- behind the files' tree
   abbrev behind : List ℕ
   behind = drop (length laid.files.nodes) slots
 
-  files_built : BuildsFiles old before trees.file_tree.items (take (length laid.files.nodes) slots) laid.files.nodes laid.files.root laid.files.level
+  pub files_built : BuildsFiles old before trees.file_tree.items (take (length laid.files.nodes) slots) laid.files.nodes laid.files.root laid.files.level
   files_built = record {
-    built = rw (← size, ← next) (built-front committed.nodesize TOP_LEVEL (committed.generation + 1) trees.file_tree.items slots laid.files.nodes laid.files.root laid.files.level trees.file_tree.stands);
-    told = rw (← next, is.held) trees.file_tree.told;
+    built = rw (← size, ← next) (built-front sizes.nodesize TOP_LEVEL generation trees.file_tree.items slots laid.files.nodes laid.files.root laid.files.level trees.file_tree.stands);
+    told = rw (← next, is.held) trees.file_tree.told.told;
     distinct = distinct-take slots (length laid.files.nodes) is.apart;
     free = passes-take (is_free_slot old) slots (length laid.files.nodes) is.free;
-    served = rw (← is.sizes) (SuperFits-is_super committed is.super).served;
-    space = rw (← is.sizes, is.held, ← is.named) is.space;
+    served = rw (← is.same_sizes) is.served;
+    space = rw (← is.same_sizes, is.held, ← is.named) is.space;
   }
 
-  other_built : (tree : Tree) (owner : ℕ) (items : List Item) (those : List ℕ) (nodes : List Node) (from level : ℕ) → is_owner tree owner ≡ true
-      → IsBuilt committed.nodesize owner (committed.generation + 1) items those nodes from level → list_all (is_item_of tree (committed.generation + 1)) items ≡ true
+  pub other_built : (tree : Tree) (owner : ℕ) (items : List Item) (those : List ℕ) (nodes : List Node) (from level : ℕ) → is_owner tree owner ≡ true
+      → IsBuilt sizes.nodesize owner generation items those nodes from level → list_all (is_item_of tree generation) items ≡ true
       → IsDistinct (λ a b. a == b) those → list_all (is_free_slot old) those ≡ true → ((slot : ℕ) → Contains those slot → Contains behind slot)
       → BuildsOther tree owner old items those (take (length laid.files.nodes) slots) nodes from level
   other_built tree owner items those nodes from level owned built hold distinct free within = record {
@@ -115,15 +115,15 @@ module _ (old : State) (before : Subvolume) (group : Group) (committed : Super) 
     elsewhere = λ slot has front. apart-at slots (length laid.files.nodes) slot is.apart (within slot has) front;
   }
 
-  counted : filter_map quota_part trees.quota_tree.items
+  pub counted : filter_map quota_part trees.quota_tree.items
       ≡ quota_parts_laid (next_generation old) (all_exclusive (bytes_laid old before laid.files.nodes)) (stamp_after group.counters (all_exclusive (bytes_laid old before laid.files.nodes)) group.stamp (next_generation old))
-  counted = trees.quota_tree.told ∙ told where
-    told : quota_parts_laid (committed.generation + 1) laid.counters laid.stamp
+  counted = trees.quota_tree.told.told ∙ told where
+    told : quota_parts_laid generation laid.counters laid.stamp
         ≡ quota_parts_laid (next_generation old) (all_exclusive (bytes_laid old before laid.files.nodes)) (stamp_after group.counters (all_exclusive (bytes_laid old before laid.files.nodes)) group.stamp (next_generation old))
     told = rw (trees.stamped, trees.counted, is.counters_kept, is.stamp_kept, ← next, ← size, is.held, ← is.named) refl
 
   -- the nodes of the other trees lie one behind the other
-  others_apart : IsDistinct (λ a b. a == b) (map address_of (laid.roots.nodes ++ laid.extents.nodes ++ laid.quotas.nodes))
+  pub others_apart : IsDistinct (λ a b. a == b) (map address_of (laid.roots.nodes ++ laid.extents.nodes ++ laid.quotas.nodes))
   others_apart =
       let roots = laid.roots.nodes in
       let extents = laid.extents.nodes in
@@ -138,7 +138,7 @@ module _ (old : State) (before : Subvolume) (group : Group) (committed : Super) 
       subst (λ (nodes : List Node). IsDistinct (λ a b. a == b) (map address_of nodes)) (sym (append_assoc roots extents quotas))
       (IsDistinct-IsPermutation (λ a b. a == b) flips (map address_of (extents ++ quotas ++ roots)) (map address_of (roots ++ (extents ++ quotas))) moved front)
 
-  abbrev laid-BuildsAnew : BuildsAnew old before group laid.superblock (nodes_laid laid)
+  abbrev pub laid-BuildsAnew : BuildsAnew old before group laid.superblock (nodes_laid laid)
   laid-BuildsAnew =
       let after_extents = drop (length laid.extents.nodes) behind in
       let after_quotas = drop (length laid.quotas.nodes) after_extents in
@@ -151,11 +151,11 @@ module _ (old : State) (before : Subvolume) (group : Group) (committed : Super) 
       let empty : trees.extent_tree.items ≡ [] = trees.extent_tree.told in
       record {
         one = is.one;
-        extents = root_item_laid laid.extents (committed.generation + 1) 0;
-        subvolume = root_item_laid laid.files (committed.generation + 1) root.last_snapshot;
-        quotas = root_item_laid laid.quotas (committed.generation + 1) 0;
+        extents = root_item_laid laid.extents generation 0;
+        subvolume = root_item_laid laid.files generation last_snapshot;
+        quotas = root_item_laid laid.quotas generation 0;
         tells = record {
-          sizes = ap sizes_of trees.leads ∙ is.sizes;
+          sizes = ap sizes_of trees.leads ∙ is.same_sizes;
           generation = ap (λ (super : Super). super.generation) trees.leads ∙ next;
           last_snapshot = sym is.copied;
         };
@@ -170,7 +170,7 @@ module _ (old : State) (before : Subvolume) (group : Group) (committed : Super) 
         extent_slots = behind;
         extent_nodes = laid.extents.nodes;
         empty = other_built Extents EXTENT_TREE [] behind laid.extents.nodes laid.extents.root laid.extents.level refl
-            (subst (λ (items : List Item). IsBuilt committed.nodesize EXTENT_TREE (committed.generation + 1) items behind laid.extents.nodes laid.extents.root laid.extents.level) empty trees.extent_tree.stands)
+            (subst (λ (items : List Item). IsBuilt sizes.nodesize EXTENT_TREE generation items behind laid.extents.nodes laid.extents.root laid.extents.level) empty trees.extent_tree.stands)
             refl apart_behind free_behind (λ slot has. has);
         quota_items = trees.quota_tree.items;
         quota_slots = after_extents;
@@ -185,7 +185,7 @@ module _ (old : State) (before : Subvolume) (group : Group) (committed : Super) 
         roots = rw (ap (λ (super : Super). super.root) trees.leads)
             (other_built Roots ROOT_TREE trees.root_tree.items after_quotas laid.roots.nodes laid.roots.root laid.roots.level refl trees.root_tree.stands trees.root_tree.allowed
             apart_quotas free_quotas (λ slot has. contains-drop behind (length laid.extents.nodes) slot (contains-drop after_extents (length laid.quotas.nodes) slot has)));
-        named = trees.root_tree.told ∙ ap (λ (own : RootItem). roots_laid (root_item_laid laid.extents (committed.generation + 1) 0) own (root_item_laid laid.quotas (committed.generation + 1) 0)) trees.own_root;
+        named = trees.root_tree.told.told ∙ ap (λ (own : RootItem). roots_laid (root_item_laid laid.extents generation 0) own (root_item_laid laid.quotas generation 0)) trees.own_root;
         apart = others_apart;
         all = refl;
       }

@@ -4,4 +4,4 @@
 mod laying;
 mod trees;
 
-pub use laying::{Laid, Parts, lay_out};
+pub use laying::{Contents, Laid, Parts, lay_out, lay_trees};

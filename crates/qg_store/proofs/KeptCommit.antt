@@ -13,6 +13,7 @@ use Rattle.qg_items.specs.declared.root.RootItem.{RootItem}
 use Rattle.qg_items.specs.declared.tree.TheConstants.{TOP_LEVEL}
 use Rattle.qg_super.specs.declared.superblock.Super.{Super}
 use Rattle.qg_super.specs.SuperText.{is_super, sizes_of}
+use Rattle.qg_super.proofs.Served.{SuperFits-is_super}
 use Rattle.qg_image.specs.declared.file.File.{File}
 use Rattle.qg_state.specs.declared.quota.Group.{Group}
 use Rattle.qg_state.specs.Space.{present_extents}
@@ -27,7 +28,7 @@ use Rattle.qg_space.proofs.Agreements.{is_free_slot-state}
 use Rattle.qg_laid.specs.declared.laying.Laid.{Laid}
 use Rattle.qg_check.specs.IsImage.{extents_in}
 use Rattle.qg_laid.specs.Anew.{one_group, stamp_after}
-use Rattle.qg_laid.specs.Trees.{AreFor, AreTreesLaid, IsCommitOf, IsLaidState, nodes_laid}
+use Rattle.qg_laid.specs.Trees.{AreFor, AreTreesLaid, IsCommitOf, IsLaidState, nodes_laid, superblock_laid}
 use Rattle.qg_commit.specs.Calls.{with_commit}
 use Rattle.qg_store.specs.declared.kept.Kept.{Kept}
 use Rattle.qg_store.specs.Answering.{AnswersOn}
@@ -52,9 +53,9 @@ pub laid_for : (kept : Kept) (state : State) (slots : List ℕ) → IsKept kept 
     → AreFor state (subvolume_of kept) kept.group kept.superblock kept.root kept.files (extents_in kept.files) kept.group.counters kept.group.stamp slots
 laid_for kept state slots fits keeps may = record {
   one = record { alone = keeps.subvolumes; counted = keeps.quota; no_max_rfer = fits.no_max_rfer; no_max_excl = fits.no_max_excl };
-  super = fits.superblock;
-  sizes = keeps.sizes;
-  generation = keeps.generation;
+  served = (SuperFits-is_super kept.superblock fits.superblock).served;
+  same_sizes = keeps.sizes;
+  generation_to_come = ap (λ (n : ℕ). n + 1) keeps.generation;
   held = refl;
   copied = refl;
   counters_kept = refl;
@@ -88,7 +89,7 @@ extents_of_one state subvolume alone =
 module _ (old new : Kept) (laid : Laid) (slots : List ℕ)
     (trees : AreTreesLaid old.superblock old.root old.files (extents_in old.files) old.group.counters old.group.stamp slots laid) (commits : KeepsCommit old laid new) where
   -- the superblock of what is kept
-  super_now : new.superblock ≡ record old.superblock { generation = old.superblock.generation + 1; root = laid.roots.root }
+  super_now : new.superblock ≡ superblock_laid (sizes_of old.superblock) (old.superblock.generation + 1) laid.roots.root
   super_now = commits.superblock ∙ trees.leads
 
   generation_now : new.superblock.generation ≡ old.superblock.generation + 1

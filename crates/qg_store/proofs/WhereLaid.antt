@@ -10,6 +10,7 @@ use Rattle.qg_num.specs.declared.counters.Counters.{Counters}
 use Rattle.qg_node.specs.declared.node.Node.{Node}
 use Rattle.qg_items.specs.declared.root.RootItem.{RootItem}
 use Rattle.qg_super.specs.declared.superblock.Super.{Super}
+use Rattle.qg_super.specs.SuperText.{sizes_of}
 use Rattle.qg_image.specs.declared.file.File.{File}
 use Rattle.qg_state.specs.declared.element.Element.{Element}
 use Rattle.qg_space.specs.Holding.{Holding}
@@ -27,7 +28,7 @@ count_laid laid = length laid.files.nodes + (length laid.extents.nodes + length 
 module _ (committed : Super) (root : RootItem) (files : List (ℕ × File)) (extents : List Element) (counters : Counters) (stamp : ℕ) (slots : List ℕ) (laid : Laid)
     (trees : AreTreesLaid committed root files extents counters stamp slots laid) where
   abbrev all : List Node
-  all = in_slots committed root files extents counters stamp slots laid trees
+  all = in_slots (sizes_of committed) (committed.generation + 1) root.last_snapshot files extents counters stamp slots laid trees
 
   abbrev count : ℕ
   count = count_laid laid
@@ -41,7 +42,7 @@ module _ (committed : Super) (root : RootItem) (files : List (ℕ × File)) (ext
   )
 
   all_lie : map address_of all ≡ take (length all) slots
-  all_lie = lie committed root files extents counters stamp slots laid trees
+  all_lie = lie (sizes_of committed) (committed.generation + 1) root.last_snapshot files extents counters stamp slots laid trees
 
   pub within : count ≤ length slots
   within = omega (arith, counted, ap length all_lie, length-map all address_of, length-take (length all) slots)
@@ -52,7 +53,7 @@ module _ (committed : Super) (root : RootItem) (files : List (ℕ × File)) (ext
   -- the first so many slots are those of the nodes
   pub same_slots : (slot : ℕ) → Contains (take count slots) slot ↔ Contains (map address_of (nodes_laid laid)) slot
   same_slots slot =
-      let other = moved committed root files extents counters stamp slots laid trees in
+      let other = moved (sizes_of committed) (committed.generation + 1) root.last_snapshot files extents counters stamp slots laid trees in
       let into = Contains-permutation (map address_of all) (map address_of (nodes_laid laid)) slot (IsPermutation-map address_of all (nodes_laid laid) (IsPermutation-sym (nodes_laid laid) all other)) in
       let back = Contains-permutation (map address_of (nodes_laid laid)) (map address_of all) slot (IsPermutation-map address_of (nodes_laid laid) all other) in
       subst (λ front. Contains front slot ↔ Contains (map address_of (nodes_laid laid)) slot) (sym laid_front) (into, back)

@@ -39,6 +39,7 @@ pub record IsGrowing {A : Type 0} (own : Node → List A) (weight : A → ℕ) (
   pub weighs : total ≡ sum_by weight left
   pub heavy : 1 ≤ length row → capacity nodesize ≤ 4 * total
   pub count : capacity nodesize * length row + 4 * total ≤ 4 * sum_by weight parts
+  pub unbroken : sum_by weight parts ≤ capacity nodesize → length row ≡ 0
   pub some : 1 ≤ level → 1 ≤ length left
   pub room : 4 * sum_by weight parts < capacity nodesize * (length slots - length old)
 
@@ -57,6 +58,7 @@ module _ {A : Type 0} (own : Node → List A) (weight : A → ℕ) (nodesize own
     weighs = weighs;
     heavy = λ one. absurd (omega (arith, one));
     count = omega arith;
+    unbroken = λ light. refl;
     some = some;
     room = room;
   }
@@ -139,6 +141,7 @@ module _ {A : Type 0} (own : Node → List A) (weight : A → ℕ) (nodesize own
         weighs = omega (arith, parted);
         heavy = λ one. omega (arith, next.cut.left big, is.weighs, full);
         count = omega (arith, most, is.count, full, parted);
+        unbroken = λ light. absurd (omega (arith, light, big, is.weighs, is.count));
         some = λ one. more;
         room = is.room;
       }
@@ -167,6 +170,7 @@ module _ {A : Type 0} (own : Node → List A) (weight : A → ℕ) (nodesize own
         grown = ap (λ (front : List Node). front ++ node ∷ []) is.grown ∙ append_assoc old is.row (node ∷ []);
         pointed = ap (λ (front : List Pointer). front ++ pointer_to node ∷ []) is.pointed ∙ sym (map-append pointer_to is.row (node ∷ []));
         few = λ two. omega (arith, most, is.count, is.heavy (omega (arith, two, long)));
+        single = λ light. omega (arith, long, is.unbroken light);
       } where
         empty_is : (xs : List A) → length xs ≡ 0 → xs ≡ []
         empty_is [] h = refl

@@ -6,7 +6,9 @@ use Rattle.std.specs.List.{IsDistinct, list_all, sum_by}
 use Rattle.std.proofs.lemmas.List.{append-nil, length-map}
 use Rattle.qg_node.specs.declared.item.Item.{Item}
 use Rattle.qg_node.specs.declared.pointer.Pointer.{Pointer}
+use Rattle.qg_node.specs.declared.node.Header.{Header}
 use Rattle.qg_node.specs.declared.node.Node.{Node}
+use Rattle.qg_node.specs.declared.node.Node.TheVariants.{Leaf, Inner}
 use Rattle.qg_node.specs.Nodes.{is_ascending, item_bytes, items_bytes, own_items, own_pointers}
 use Rattle.qg_node.specs.NodeText.{IsNodeSize}
 use Rattle.qg_super.specs.declared.superblock.Super.{Super}
@@ -19,9 +21,9 @@ use Rattle.qg_verdict.specs.ItemsUnder.{is_way, items_under, nodes_of}
 use Rattle.qg_verdict.specs.declared.tree.Tree.{Tree}
 use Rattle.qg_verdict.specs.declared.expected.Expected.{Expected}
 use Rattle.qg_verdict.specs.Walk.{deepest, is_item_of, node_failure, root_expected, shape_failure, walk_failure, way_failure}
-use Rattle.qg_tree.specs.Build.{IsBuilt}
+use Rattle.qg_tree.specs.Build.{IsBuilt, IsOneLeaf}
 use Rattle.qg_verdict.specs.Among.{node_among, found_among}
-use Rattle.qg_tree.specs.Row.{pointer_to, PutsRow}
+use Rattle.qg_tree.specs.Row.{pointer_to, IsRow, PutsRow}
 use Rattle.qg_tree.proofs.Counts.{IsCounted, counted_leaves, counted_inners, fewer_above, most_on, room_above, wide}
 use Rattle.qg_tree.proofs.Frame.{Keeps-found, under_kept}
 use Rattle.qg_tree.proofs.Growing.{sum_by-same}
@@ -46,12 +48,46 @@ under_walk tree super nodes expected level root items way held =
     ap (λ (failure : Option Failure). when (is_none failure) (items_below (nodes_of (found_among nodes)) level root)) way
     ∙ under_kept (node_among nodes) (nodes_of (found_among nodes)) (Keeps-found nodes) level root items held
 
+-- ---- one leaf
+
+-- a single leaf has all the items, and there is no pointer but that to it
+pub record IsAlone (owner generation : ℕ) (items : List Item) (nodes : List Node) (level : ℕ) (pointers : List Pointer) : Type 0 where
+  pub pointer : Pointer
+  pub only : pointers ≡ pointer ∷ []
+  pub leaf : IsOneLeaf owner generation items nodes pointer.child level
+
+abbrev leaf_header : ℕ → ℕ → ℕ → ℕ → Header
+leaf_header address generation owner level = record { address = address; generation = generation; owner = owner; level = level }
+
+-- a row of one leaf is such
+row-IsAlone : (nodesize owner generation : ℕ) (slots : List ℕ) (items : List Item) (row : List Node) → length row ≡ 1 → IsRow own_items nodesize owner generation 0 slots items row
+    → IsAlone owner generation items row 0 (map pointer_to row)
+row-IsAlone nodesize owner generation slots items [] one is = absurd (omega (arith, one))
+row-IsAlone nodesize owner generation slots items (first ∷ second ∷ row) one is = absurd (omega (arith, one))
+row-IsAlone nodesize owner generation slots items (Inner header pointers ∷ []) one is = absurd (omega (arith, is.each.0.levelled.0, is.each.0.stands))
+row-IsAlone nodesize owner generation slots items (Leaf header own ∷ []) one is =
+    let whole : own ≡ items = sym (append-nil own) ∙ is.whole in
+    let headed : header ≡ leaf_header header.address generation owner 0 =
+    ap (λ (level : ℕ). leaf_header header.address header.generation header.owner level) is.each.0.stands
+    ∙ ap (λ (by : ℕ). leaf_header header.address header.generation by 0) is.each.0.owned
+    ∙ ap (λ (made : ℕ). leaf_header header.address made owner 0) is.each.0.made in
+    record {
+      pointer = pointer_to (Leaf header own);
+      only = refl;
+      leaf = record {
+        alone = ap (λ (given : Header). Leaf given own ∷ []) headed
+            ∙ ap (λ (all : List Item). Leaf (leaf_header header.address generation owner 0) all ∷ []) whole;
+        flat = refl;
+      };
+    }
+
 -- ---- level by level
 
 -- the levels so far
 pub record HasLevels (nodesize owner generation : ℕ) (items : List Item) (slots : List ℕ) (nodes : List Node) (level : ℕ) (pointers : List Pointer) : Type 0 where
   pub risen : HasRisen nodesize owner generation items slots nodes level pointers
   pub counted : IsCounted (nodes_filled nodesize (items_bytes items)) (length nodes) (length pointers) level
+  pub single : items_bytes items ≤ capacity nodesize → IsAlone owner generation items nodes level pointers
 
 module _ (nodesize owner generation : ℕ) (items : List Item) (slots : List ℕ) (size : IsNodeSize nodesize) (distinct : IsDistinct (λ a b. a == b) slots) where
   pub HasLevels-none : (nodes : List Node) (pointers : List Pointer) → is_ascending (map (λ item. item.key) items) ≡ true → 5 * nodes_filled nodesize (items_bytes items) + 1 ≤ length slots → length slots ≤ 16128
@@ -61,7 +97,11 @@ module _ (nodesize owner generation : ℕ) (items : List Item) (slots : List ℕ
       let risen : HasRisen nodesize owner generation items slots put.row 0 (map pointer_to put.row) = risen_leaves nodesize owner generation items slots put.row (omega (arith, big)) distinct ascending put.is in
       let counted : IsCounted (nodes_filled nodesize (items_bytes items)) (length put.row) (length put.row) 0 = counted_leaves nodesize (items_bytes items) (length put.row) (length slots) size put.is.some put.few room few in
       let made : HasLevels nodesize owner generation items slots put.row 0 (map pointer_to put.row) =
-      record { risen = risen; counted = subst (λ (n : ℕ). IsCounted (nodes_filled nodesize (items_bytes items)) (length put.row) n 0) (sym (length-map put.row pointer_to)) counted } in
+      record {
+        risen = risen;
+        counted = subst (λ (n : ℕ). IsCounted (nodes_filled nodesize (items_bytes items)) (length put.row) n 0) (sym (length-map put.row pointer_to)) counted;
+        single = λ light. row-IsAlone nodesize owner generation slots items put.row (put.single light) put.is;
+      } in
       rw (put.grown, put.pointed) made
 
   pub HasLevels-more : (nodes : List Node) (level : ℕ) (pointers : List Pointer) (new : List Node) (above : List Pointer) → HasLevels nodesize owner generation items slots nodes level pointers → 2 ≤ length pointers
@@ -76,6 +116,7 @@ module _ (nodesize owner generation : ℕ) (items : List Item) (slots : List ℕ
       let made : HasLevels nodesize owner generation items slots (nodes ++ put.row) (level + 1) (map pointer_to put.row) = record {
         risen = risen;
         counted = rw (length-append nodes put.row, length-map put.row pointer_to) counted;
+        single = λ light. absurd (omega (arith, many, ap length (is.single light).only));
       } in
       rw (put.grown, put.pointed) made
 
@@ -119,8 +160,12 @@ module _ (nodesize owner generation : ℕ) (items : List Item) (slots : List ℕ
         placed = is.risen.placed;
         few = is.counted.few;
         low = low;
+        single = λ light. leaf_of (is.single light);
       } in
       rw there made where
+        leaf_of : IsAlone owner generation items nodes level (only ∷ []) → IsOneLeaf owner generation items nodes only.child level
+        leaf_of is = subst (λ (pointer : Pointer). IsOneLeaf owner generation items nodes pointer.child level) (sym (ap (λ (pointers : List Pointer). get_or pointers 0 only) is.only)) is.leaf
+
         alone : (under : Option (List Item)) → option_and_then (λ first. option_and_then (λ rest. Some (first ++ rest)) (Some [])) under ≡ Some items → under ≡ Some items
         alone (Some own) h = ap (λ (all : List Item). Some all) (sym (append-nil own)) ∙ h
         alone None h = absurd cc

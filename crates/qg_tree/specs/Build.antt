@@ -5,10 +5,12 @@ use Rattle.std.specs.List.Sorted.{IsPermutation}
 use Rattle.qg_num.specs.declared.rule.Rule.TheVariants as rule
 use Rattle.qg_node.specs.declared.item.Item.{Item}
 use Rattle.qg_node.specs.declared.node.Node.{Node}
+use Rattle.qg_node.specs.declared.node.Node.TheVariants.{Leaf}
 use Rattle.qg_node.specs.Nodes.{header_of, items_bytes}
 use Rattle.qg_node.specs.NodeText.{IsNode}
 use Rattle.qg_node.specs.Fits.{NodeFits}
 use Rattle.qg_super.specs.declared.superblock.Super.{Super}
+use Rattle.qg_super.specs.Places.{capacity}
 use Rattle.qg_image.specs.Below.{items_below, nodes_below}
 use Rattle.qg_state.specs.Need.{nodes_filled}
 use Rattle.qg_verdict.specs.declared.failure.Failure.{Failure}
@@ -43,6 +45,11 @@ pub record Reaches (nodes : List Node) (level root : ℕ) : Type 0 where
   pub under : nodes_below (node_among nodes) level root ≡ Some those
   pub same : IsPermutation those nodes
 
+-- the tree is one leaf, which has all the items
+pub record IsOneLeaf (owner generation : ℕ) (items : List Item) (nodes : List Node) (root level : ℕ) : Type 0 where
+  pub alone : nodes ≡ Leaf (record { address = root; generation = generation; owner = owner; level = 0 }) items ∷ []
+  pub flat : level ≡ 0
+
 -- the nodes are a tree of these items: they lie in the first of the slots, in their order, and there are no more than the items' weight asks for
 pub record IsBuilt (nodesize owner generation : ℕ) (items : List Item) (slots : List ℕ) (nodes : List Node) (root level : ℕ) : Type 0 where
   -- in any image that allows such nodes, the items under the root are those given
@@ -58,3 +65,5 @@ pub record IsBuilt (nodesize owner generation : ℕ) (items : List Item) (slots 
   pub placed : map (λ node. (header_of node).address) nodes ≡ take (length nodes) slots
   pub few : length nodes ≤ 5 * nodes_filled nodesize (items_bytes items) + 1
   pub low : level ≤ deepest
+  -- items that fit in one leaf are one, in the first of the slots
+  pub single : items_bytes items ≤ capacity nodesize → IsOneLeaf owner generation items nodes root level

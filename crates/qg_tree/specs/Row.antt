@@ -50,3 +50,5 @@ pub record PutsRow {A : Type 0} (own : Node → List A) (weight : A → ℕ) (no
   pub grown : new ≡ old ++ row
   pub pointed : pointers ≡ map pointer_to row
   pub few : 2 ≤ length row → capacity nodesize * length row ≤ 4 * sum_by weight parts
+  -- what fits in one node is not cut
+  pub single : sum_by weight parts ≤ capacity nodesize → length row ≡ 1
