@@ -18,11 +18,11 @@ use Rattle.qg_verdict.specs.declared.failure.Failure.{Failure}
 use Rattle.qg_verdict.specs.declared.tree.Tree.{Tree}
 use Rattle.qg_verdict.specs.declared.expected.Expected.{Expected}
 use Rattle.qg_verdict.specs.Failure.{first_failure, unless}
-use Rattle.qg_verdict.specs.Walk.{begins_at, deepest, ends_before, found_failure, is_generation, is_item_of, is_owner, is_told, next_key, node_failure, pointers_failure, shape_failure, walk_failure, way_failure}
+use Rattle.qg_verdict.specs.Walk.{begins_at, deepest, ends_before, found_failure, is_generation, is_item_of, is_owner, is_told, node_failure, pointers_failure, shape_failure, walk_failure, way_failure}
 use Rattle.qg_walk.specs.declared.fault.OpenFault.{OpenFault}
 use Rattle.qg_walk.specs.declared.fault.OpenFault.TheVariants.{Disk}
 use Rattle.qg_walk.specs.Fault.{FailsAs, TellsFailure, failure_of}
-use Rattle.qg_walk.specs.Standing.{form_failure, levels_below, standing_failure}
+use Rattle.qg_walk.specs.Standing.{expected_below, form_failure, levels_below, standing_failure}
 
 -- ---- faults
 
@@ -43,7 +43,7 @@ neither None (Some failure) h = absurd cc
 neither (Some failure) b h = absurd cc
 
 -- the second is the first failure where the first is none
-second_alone : (a b : Option Failure) → a ≡ None → first_failure (a ∷ b ∷ []) ≡ b
+pub second_alone : (a b : Option Failure) → a ≡ None → first_failure (a ∷ b ∷ []) ≡ b
 second_alone a None h = rw h refl
 second_alone a (Some failure) h = rw h refl
 
@@ -97,14 +97,14 @@ pub IsFormed-form : (tree : Tree) (super : Super) (expected : Expected) (address
 IsFormed-form tree super expected address node none =
     IsFormed-way tree super expected address node (neither (way_failure tree super expected address node) (shape_failure super.nodesize expected address node) none).0
 
-node_failure-formed : (tree : Tree) (super : Super) (expected : Expected) (address : ℕ) (node : Node) → form_failure tree super expected address node ≡ None
+pub node_failure-formed : (tree : Tree) (super : Super) (expected : Expected) (address : ℕ) (node : Node) → form_failure tree super expected address node ≡ None
     → node_failure tree super expected address node ≡ unless (list_all (is_item_of tree super.generation) (own_items node)) rule.Item address
 unfolding node_failure
 node_failure-formed tree super expected address node none =
     third_alone (way_failure tree super expected address node) (shape_failure super.nodesize expected address node)
     (unless (list_all (is_item_of tree super.generation) (own_items node)) rule.Item address) none
 
-node_failure-form : (tree : Tree) (super : Super) (expected : Expected) (address : ℕ) (node : Node) (failure : Failure)
+pub node_failure-form : (tree : Tree) (super : Super) (expected : Expected) (address : ℕ) (node : Node) (failure : Failure)
     → form_failure tree super expected address node ≡ Some failure → node_failure tree super expected address node ≡ Some failure
 unfolding node_failure
 node_failure-form tree super expected address node failure is =
@@ -160,9 +160,6 @@ walk-inner tree super found depth expected address header pointers is none =
     rw is (second_alone (node_failure tree super expected address (Inner header pointers)) below (node_failure-formed tree super expected address (Inner header pointers) none))
 
 -- ---- the walk below pointers
-
-abbrev pub expected_below : ℕ → Option Key → Pointer → List Pointer → Expected
-expected_below level to pointer pointers = record { level = Some level; generation = Some pointer.generation; from = Some pointer.key; to = next_key to pointers }
 
 pub pointers-passed : (walk : Expected → ℕ → Option Failure) (level : ℕ) (to : Option Key) (pointer : Pointer) (pointers : List Pointer)
     → walk (expected_below level to pointer pointers) pointer.child ≡ None → pointers_failure walk level to (pointer ∷ pointers) ≡ pointers_failure walk level to pointers

@@ -21,36 +21,36 @@ use Rattle.qg_walk.specs.Added.{is_from, is_to, AreSpaced, AreWithin}
 
 -- ---- the order
 
-is_less : (answer : Ordering) → is_lt answer ≡ true → answer ≡ Less
+pub is_less : (answer : Ordering) → is_lt answer ≡ true → answer ≡ Less
 is_less Less h = refl
 is_less Equal h = absurd cc
 is_less Greater h = absurd cc
 
-not_greater : (a b : Ordering) → a ≡ ordering_reverse b → not (is_lt a) ≡ true → is_gt b ≡ false
+pub not_greater : (a b : Ordering) → a ≡ ordering_reverse b → not (is_lt a) ≡ true → is_gt b ≡ false
 not_greater a Less e h = refl
 not_greater a Equal e h = refl
 not_greater Less Greater e h = absurd cc
 not_greater Equal Greater e h = absurd cc
 not_greater Greater Greater e h = absurd cc
 
-not_less : (a b : Ordering) → a ≡ ordering_reverse b → is_gt b ≡ false → not (is_lt a) ≡ true
+pub not_less : (a b : Ordering) → a ≡ ordering_reverse b → is_gt b ≡ false → not (is_lt a) ≡ true
 not_less a Less e h = rw e refl
 not_less a Equal e h = rw e refl
 not_less a Greater e h = absurd cc
 
 -- what is not less than a key that is not less than another is not less than that one
-not_less_trans : (from key later : Key) → not (is_lt (key_cmp key from)) ≡ true → not (is_lt (key_cmp later key)) ≡ true → not (is_lt (key_cmp later from)) ≡ true
+pub not_less_trans : (from key later : Key) → not (is_lt (key_cmp key from)) ≡ true → not (is_lt (key_cmp later key)) ≡ true → not (is_lt (key_cmp later from)) ≡ true
 not_less_trans from key later h k =
     not_less (key_cmp later from) (key_cmp from later) (key_cmp_total.antisymm later from)
     (upto key_cmp_total from key later
     (not_greater (key_cmp key from) (key_cmp from key) (key_cmp_total.antisymm key from) h)
     (not_greater (key_cmp later key) (key_cmp key later) (key_cmp_total.antisymm later key) k))
 
-less_trans : (a b c : Key) → is_lt (key_cmp a b) ≡ true → is_lt (key_cmp b c) ≡ true → is_lt (key_cmp a c) ≡ true
+pub less_trans : (a b c : Key) → is_lt (key_cmp a b) ≡ true → is_lt (key_cmp b c) ≡ true → is_lt (key_cmp a c) ≡ true
 less_trans a b c h k = ap is_lt (key_cmp_total.trans a b c (is_less (key_cmp a b) h) (is_less (key_cmp b c) k))
 
 -- what is less than a key is less than one that is not less than it
-less_upto : (before key later : Key) → is_lt (key_cmp before key) ≡ true → not (is_lt (key_cmp later key)) ≡ true → is_lt (key_cmp before later) ≡ true
+pub less_upto : (before key later : Key) → is_lt (key_cmp before key) ≡ true → not (is_lt (key_cmp later key)) ≡ true → is_lt (key_cmp before later) ≡ true
 less_upto before key later h k =
     cases (key_cmp key later) refl (not_greater (key_cmp later key) (key_cmp key later) (key_cmp_total.antisymm later key) k) where
       cases : (answer : Ordering) → key_cmp key later ≡ answer → is_gt answer ≡ false → is_lt (key_cmp before later) ≡ true
@@ -58,7 +58,7 @@ less_upto before key later h k =
       cases Equal e upto = ap is_lt (sym (alike_right key_cmp_total key later before e)) ∙ h
       cases Greater e upto = absurd cc
 
-same_key-true : (a b : Key) → same_key a b ≡ true → a ≡ b
+pub same_key-true : (a b : Key) → same_key a b ≡ true → a ≡ b
 same_key-true a b same =
     let to_kind = and_parts ((a.objectid == b.objectid) && (a.kind == b.kind)) (a.offset == b.offset) same in
     let parts = and_parts (a.objectid == b.objectid) (a.kind == b.kind) to_kind.0 in
@@ -67,16 +67,16 @@ same_key-true a b same =
     let offset = eqb-true a.offset b.offset to_kind.1 in
     λ i. record { objectid = objectid i; kind = kind i; offset = offset i }
 
-not_less_itself : (key : Key) → not (is_lt (key_cmp key key)) ≡ true
+pub not_less_itself : (key : Key) → not (is_lt (key_cmp key key)) ≡ true
 not_less_itself key = ap (λ (answer : Ordering). not (is_lt answer)) (tied_itself key_cmp_total key)
 
 -- what is greater than a key is not less than it
-not_less_behind : (before key : Key) → is_lt (key_cmp before key) ≡ true → not (is_lt (key_cmp key before)) ≡ true
+pub not_less_behind : (before key : Key) → is_lt (key_cmp before key) ≡ true → not (is_lt (key_cmp key before)) ≡ true
 not_less_behind before key less = not_less (key_cmp key before) (key_cmp before key) (key_cmp_total.antisymm key before) (ap is_gt (is_less (key_cmp before key) less))
 
 -- ---- all of some keys
 
-list_all-weaker : {X : Type 0} (p q : X → Bool) → ((x : X) → p x ≡ true → q x ≡ true) → (xs : List X) → list_all p xs ≡ true → list_all q xs ≡ true
+pub list_all-weaker : {X : Type 0} (p q : X → Bool) → ((x : X) → p x ≡ true → q x ≡ true) → (xs : List X) → list_all p xs ≡ true → list_all q xs ≡ true
 list_all-weaker p q each [] h = refl
 list_all-weaker p q each (x ∷ xs) h =
     let parts = and_parts (p x) (list_all p xs) h in and_from (q x) (list_all q xs) (each x parts.0) (list_all-weaker p q each xs parts.1)
@@ -84,7 +84,7 @@ list_all-weaker p q each (x ∷ xs) h =
 pub list_all-both : {X : Type 0} (p : X → Bool) (xs ys : List X) → list_all p xs ≡ true → list_all p ys ≡ true → list_all p (xs ++ ys) ≡ true
 list_all-both p xs ys h k = list_all-append p xs ys ∙ and_from (list_all p xs) (list_all p ys) h k
 
-list_all-true : {X : Type 0} (xs : List X) → list_all (λ x. true) xs ≡ true
+pub list_all-true : {X : Type 0} (xs : List X) → list_all (λ x. true) xs ≡ true
 list_all-true [] = refl
 list_all-true (x ∷ xs) = list_all-true xs
 
@@ -114,16 +114,16 @@ ascending_on key [] back h to ascending from = ascending
 ascending_on key (first ∷ front) back h to ascending from =
     let tos = and_parts (is_lt (key_cmp first key)) (list_all (is_to (Some key)) front) to in ascends_on first key front back h tos.0 tos.1 ascending from
 
-is_from-later : (from : Option Key) (key later : Key) → is_from from key ≡ true → is_from (Some key) later ≡ true → is_from from later ≡ true
+pub is_from-later : (from : Option Key) (key later : Key) → is_from from key ≡ true → is_from (Some key) later ≡ true → is_from from later ≡ true
 is_from-later None key later h k = refl
 is_from-later (Some from) key later h k = not_less_trans from key later h k
 
-is_to-earlier : (to : Option Key) (key earlier : Key) → is_to to key ≡ true → is_to (Some key) earlier ≡ true → is_to to earlier ≡ true
+pub is_to-earlier : (to : Option Key) (key earlier : Key) → is_to to key ≡ true → is_to (Some key) earlier ≡ true → is_to to earlier ≡ true
 is_to-earlier None key earlier h k = refl
 is_to-earlier (Some to) key earlier h k = less_trans earlier key to k h
 
 -- keys end before one where each of them does
-ends_before-each : (to : Option Key) (keys : List Key) → ends_before to keys ≡ list_all (is_to to) keys
+pub ends_before-each : (to : Option Key) (keys : List Key) → ends_before to keys ≡ list_all (is_to to) keys
 ends_before-each None keys = sym (list_all-true keys)
 ends_before-each (Some to) keys = refl
 
@@ -144,7 +144,7 @@ AreWithin-append from to key front back h k first last = record {
 
 -- ---- the keys of a node
 
-begins_at-all : (from : Option Key) (keys : List Key) → begins_at from keys ≡ true → list_all (is_from from) keys ≡ true
+pub begins_at-all : (from : Option Key) (keys : List Key) → begins_at from keys ≡ true → list_all (is_from from) keys ≡ true
 begins_at-all None keys h = list_all-true keys
 begins_at-all (Some from) [] h = refl
 begins_at-all (Some from) (key ∷ keys) h =
@@ -159,7 +159,7 @@ AreWithin-own from to keys ascending begins ends = record { ascending = ascendin
 some-injective : {a b : Key} → Some a ≡ Some b → a ≡ b
 some-injective {a} {b} same = cc
 
-all_from : (from low : Key) (keys : List Key) → not (is_lt (key_cmp low from)) ≡ true → ascends_from low keys ≡ true → list_all (λ later. not (is_lt (key_cmp later from))) keys ≡ true
+pub all_from : (from low : Key) (keys : List Key) → not (is_lt (key_cmp low from)) ≡ true → ascends_from low keys ≡ true → list_all (λ later. not (is_lt (key_cmp later from))) keys ≡ true
 unfolding ascends_from
 all_from from low [] h ascends = refl
 all_from from low (key ∷ keys) h ascends =
@@ -205,13 +205,13 @@ ends_before-last to last (key ∷ keys) ascends is =
     let back : length (key ∷ keys) - 1 ≡ length keys = omega arith in
     ends_by_last to key last keys ascends (subst (λ n. slice_get (key ∷ keys) n ≡ Some last) back is)
 
-to_next : (to : Option Key) (key : Key) (pointers : List Pointer) → is_to to key ≡ true → ascends_from key (map (λ pointer. pointer.key) pointers) ≡ true
+pub to_next : (to : Option Key) (key : Key) (pointers : List Pointer) → is_to to key ≡ true → ascends_from key (map (λ pointer. pointer.key) pointers) ≡ true
     → is_to (next_key to pointers) key ≡ true
 unfolding ascends_from
 to_next to key [] last h = last
 to_next to key (next ∷ pointers) last h = (and_parts (is_lt (key_cmp key next.key)) (ascends_from next.key (map (λ pointer. pointer.key) pointers)) h).0
 
-ascending_behind : (key : Key) (keys : List Key) → ascends_from key keys ≡ true → is_ascending keys ≡ true
+pub ascending_behind : (key : Key) (keys : List Key) → ascends_from key keys ≡ true → is_ascending keys ≡ true
 unfolding ascends_from is_ascending
 ascending_behind key [] h = refl
 ascending_behind key (first ∷ keys) h = (and_parts (is_lt (key_cmp key first)) (ascends_from first keys) h).1

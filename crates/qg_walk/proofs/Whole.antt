@@ -23,7 +23,8 @@ use Rattle.qg_verdict.specs.ImageState.{level_in, tree_items, tree_nodes}
 use Rattle.qg_walk.specs.IsWalk.{IsWalk}
 use Rattle.qg_walk.specs.Added.{below_node, Found, HasAdded}
 use Rattle.qg_walk.specs.Held.{AreHeld}
-use Rattle.qg_walk.proofs.Failures.{expected_below, first_none, neither, none_of_two}
+use Rattle.qg_walk.specs.Standing.{expected_below}
+use Rattle.qg_walk.proofs.Failures.{first_none, neither, none_of_two}
 
 -- ---- a walk that keeps all rules keeps those on the way
 

@@ -1,5 +1,7 @@
 -- What stands at an address, and how it is judged (this project's own).
-use Rattle.std.specs.Prelude.{◌≡◌, ℕ, min, [], ◌∷◌, Option, Some, None, Result, Ok, Err, IsTrue}
+use Rattle.std.specs.Prelude.{◌≡◌, ℕ, min, List, [], ◌∷◌, Option, Some, None, Result, Ok, Err, IsTrue}
+use Rattle.qg_num.specs.declared.key.Key.{Key}
+use Rattle.qg_node.specs.declared.pointer.Pointer.{Pointer}
 use Rattle.qg_node.specs.declared.node.Node.{Node}
 use Rattle.qg_node.specs.Nodes.{header_of}
 use Rattle.qg_node.specs.NodeText.{IsNode}
@@ -10,7 +12,12 @@ use Rattle.qg_verdict.specs.declared.failure.Failure.{Failure}
 use Rattle.qg_verdict.specs.declared.tree.Tree.{Tree}
 use Rattle.qg_verdict.specs.declared.expected.Expected.{Expected}
 use Rattle.qg_verdict.specs.Failure.{first_failure}
-use Rattle.qg_verdict.specs.Walk.{way_failure, shape_failure, deepest}
+use Rattle.qg_verdict.specs.Walk.{next_key, way_failure, shape_failure, deepest}
+
+-- what is expected of the node of a level that a pointer leads to: the pointer's generation and key, and the next key on the way, that of
+-- the pointer behind it, if there is one
+abbrev pub expected_below : ℕ → Option Key → Pointer → List Pointer → Expected
+expected_below level to pointer pointers = record { level = Some level; generation = Some pointer.generation; from = Some pointer.key; to = next_key to pointers }
 
 -- the node was read in the slot at an address
 pub record StandsAt (super : Super) (address : ℕ) (node : Node) : Type 0 where

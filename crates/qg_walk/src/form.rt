@@ -1,20 +1,45 @@
-// The rules on a node that was read, from `depth` to `shape`.
+// What the way to a node leads to expect of it, and the rules from `depth` to `shape`.
 ghost use Rattle.std.specs.Prelude.{◌≡◌, ◌<◌, ◌≤◌, ◌&&◌, ◌^◌, ℕ, None, IsTrue};
 ghost use Rattle.qg_node.specs.Nodes.{is_ascending, own_keys, used_bytes};
 ghost use Rattle.qg_image.specs.IsShaped.{is_first, is_shaped};
-ghost use Rattle.qg_verdict.specs.Walk.{begins_at, ends_before, is_told, is_generation};
-ghost use Rattle.qg_walk.specs.Standing.{form_failure};
+ghost use Rattle.qg_verdict.specs.Walk.{begins_at, ends_before, is_told, is_generation, next_key};
+ghost use Rattle.qg_walk.specs.Standing.{expected_below, form_failure};
 
 use crate::keys;
-use qg_node::{HEADER_BYTES, Node};
+use qg_node::{HEADER_BYTES, Node, Pointer};
 use qg_num::{Address, Generation, Key, Rule};
 use qg_parts::TreePart;
 use qg_super::Super;
 use qg_verdict::{Expected, Failure};
 
-/// The first of the rules from `depth` to `shape` that a node breaks, which was read at an address.
+/// What is expected of the node of a level that a pointer leads to. `others` are the pointers behind it, `to` the next key on the way
+/// to its own node.
+pub fn expected_below(level: u8, to: Option<Key>, pointer: &Pointer, others: &[Pointer]) -> Expected
+    ensures { result ≡ expected_below level to pointer.now others.now }
+{
+    Expected {
+        level: Some(level),
+        generation: Some(pointer.generation),
+        from: Some(pointer.key),
+        to: next_key(to, others),
+    }
+}
+
+// The key of the first pointer, or else the one on the way.
+fn next_key(to: Option<Key>, pointers: &[Pointer]) -> Option<Key>
+    ensures { result ≡ next_key to pointers.now }
+{
+    match pointers.first() {
+        None => to,
+        Some(pointer) => Some(pointer.key),
+    }
+}
+
+/// The first of the rules from `depth` to `shape` that a node breaks, which lies at an address in bytes.
+///
+/// Of the superblock they ask the generation, which no node's is past, and the bytes of a node.
 #[tactic(auto, unfolding(qg_verdict::specs::Walk::way_failure))]
-pub(crate) fn form_failure<P: TreePart>(
+pub fn form_failure<P: TreePart>(
     superblock: &Super,
     expected: &Expected,
     address: Address,

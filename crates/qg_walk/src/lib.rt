@@ -11,5 +11,6 @@ mod walk;
 mod walked;
 
 pub use fault::OpenFault;
+pub use form::{expected_below, form_failure};
 pub use walk::walk_tree;
 pub use walked::Walked;

@@ -5,7 +5,7 @@ ghost use Rattle.qg_device.specs.Cause.{HasCause};
 ghost use Rattle.qg_device.specs.History.{Event, content};
 ghost use Rattle.qg_super.specs.Places.{is_served, is_slot, total_bytes};
 ghost use Rattle.qg_super.specs.SuperText.{sizes_of};
-ghost use Rattle.qg_verdict.specs.Walk.{next_key, node_failure, node_found, pointers_failure, tree_failure, walk_failure};
+ghost use Rattle.qg_verdict.specs.Walk.{node_failure, node_found, pointers_failure, tree_failure, walk_failure};
 ghost use Rattle.qg_parts.specs.Said.{AreSaid};
 ghost use Rattle.qg_walk.specs.Fault.{FailsAs, TellsFailure};
 ghost use Rattle.qg_walk.specs.Held.{AreHeld};
@@ -13,12 +13,13 @@ ghost use Rattle.qg_walk.specs.IsWalk.{IsWalk};
 ghost use Rattle.qg_walk.specs.Standing.{levels_below};
 ghost use Rattle.qg_walk.specs.Added.{AreSpaced, HasAdded, below_node, below_pointers, found_by};
 
+use crate::form::expected_below;
 use crate::items::add_said;
 use crate::visit::visit;
 use crate::{OpenFault, Walked};
 use qg_disk::Disk;
 use qg_node::{Node, Pointer};
-use qg_num::{Address, Key, Sequence};
+use qg_num::{Address, Sequence};
 use qg_parts::{PartList, TreePart};
 use qg_super::Super;
 use qg_verdict::Expected;
@@ -136,24 +137,9 @@ fn walk_pointers<P: TreePart, L: PartList<P>, D: Disk>(
 {
     let mut rest = pointers;
     'pointers: while let Some((pointer, others)) = rest.split_first() {
-        let below = Expected {
-            level: Some(level),
-            generation: Some(pointer.generation),
-            from: Some(pointer.key),
-            to: next_key(expected.to, others),
-        };
+        let below = expected_below(level, expected.to, pointer, others);
         walk::<P, L, D>(disk, superblock, buffer, walked, &below, pointer.child)?;
         rest = others;
     }
     Ok(())
-}
-
-// The key of the first pointer, or else the one on the way.
-fn next_key(to: Option<Key>, pointers: &[Pointer]) -> Option<Key>
-    ensures { result ≡ next_key to pointers.now }
-{
-    match pointers.first() {
-        None => to,
-        Some(pointer) => Some(pointer.key),
-    }
 }

@@ -3,8 +3,9 @@ use Rattle.std.proofs.lemmas.Result.{err_from_is_err_and, on_ok_weaker}
 use Rattle.qg_device.specs.History.{Event, content}
 use Rattle.qg_verdict.specs.Walk.{next_key, node_failure, node_found, walk_failure}
 use Rattle.qg_node.specs.declared.node.Node.TheVariants.{Inner}
+use Rattle.qg_walk.specs.Standing.{expected_below}
 use Rattle.qg_walk.specs.Added.{AreSpaced, HasAdded, below_node, found_by}
-use Rattle.qg_walk.proofs.Failures.{FailsAs-inner, FailsAs-leaf, IsFormed-form, expected_below, level_no_higher, level_within, levels_low, pointers-passed, walk-passed, walk-told}
+use Rattle.qg_walk.proofs.Failures.{FailsAs-inner, FailsAs-leaf, IsFormed-form, level_no_higher, level_within, levels_low, pointers-passed, walk-passed, walk-told}
 use Rattle.qg_walk.proofs.Growth.{HasAdded-inner, HasAdded-said, HasPassed-more, HasPassed-none, level_passed}
 use Rattle.qg_walk.proofs.KeyRanges.{AreSpaced-within, AreWithin-own}
 use Rattle.qg_walk.proofs.walk.+walk.Goals as goal
@@ -99,11 +100,11 @@ walk_pointers-pointers-preserved g t c =
     let spaced : AreSpaced from to (pointer ∷ others) = rw rest at c.pointers.invariant.spaced in
     let passes : (events : List Event) (depth : ℕ) → g.D.Disk.history c.args.disk.now ≡ Some events → level ≤ depth
     → walk_failure (node_failure tree super) (node_found super (content events)) depth (expected_below level to pointer others) pointer.child ≡ None =
-    λ events depth told low. rw c.next_key.ensures at (c.in_ok-walk.ensures.failure events depth (c.pointers.invariant.history ∙ told) (levels_low level depth low)) in
+    λ events depth told low. rw c.expected_below-below.ensures at (c.in_ok-walk.ensures.failure events depth (c.pointers.invariant.history ∙ told) (rw c.expected_below-below.ensures (levels_low level depth low))) in
     let below = expected_below level to pointer others in
     let old = g.D.Disk.history c.args.disk.now in
     let added : HasAdded tree g.P.TreePart.meaning super old (Some pointer.key) (next_key to others) (below_node super pointer.child) (found_by g.L.PartList.list c.pointers.walked) (found_by g.L.PartList.list c.walk.new.walked) =
-    rw (c.next_key.ensures, c.pointers.invariant.history) at c.in_ok-walk.ensures.added in
+    rw (c.expected_below-below.ensures, c.pointers.invariant.history) at c.in_ok-walk.ensures.added in
     record {
       history = c.in_ok-walk.ensures.history ∙ c.pointers.invariant.history;
       size = c.in_ok-walk.ensures.size ∙ c.pointers.invariant.size;
