@@ -15,14 +15,17 @@ use Rattle.qg_items.specs.declared.extent.Reference.{Reference}
 use Rattle.qg_state.specs.Record.{same_reference}
 use Rattle.qg_refs.specs.declared.counted.Counted.{Counted}
 use Rattle.qg_refs.specs.Order.{precedes}
-use Rattle.qg_refs.specs.Counts.{counted, count_of, Ascend, IsRefList, HasOneMore}
+use Rattle.qg_refs.specs.Counts.{counted, count_of, Ascend, IsRefList, HasOneMore, HasSoManyMore}
 use Rattle.qg_refs.proofs.RankOrder.{precedes_chain, precedes_differs, precedes_if_not, same_reference_is, same_itself, same_other_way}
 
 -- ---- counts
 
--- what one more of a reference adds to the count of another
+-- what so many more of a reference add to the count of another
+abbrev counted-by : ℕ → Reference → Reference → ℕ
+counted-by more other x = if same_reference other x then more else 0
+
 abbrev counted-one : Reference → Reference → ℕ
-counted-one other x = if same_reference other x then 1 else 0
+counted-one = counted-by 1
 
 pub count-cons : (entry : Counted) (xs : List Counted) (x : Reference) → count_of (entry ∷ xs) x ≡ counted x entry + count_of xs x
 unfolding count_of
@@ -203,10 +206,10 @@ set-counts xs i x n list inside at some =
           omega (arith, count-set xs i entry entry other inside, none, none');
     }
 
-pub insert-counts : (xs : List Counted) (i : ℕ) (x : Reference) → IsRefList xs → i ≤ length xs → IsPlace x xs i → count_of xs x ≡ 0
-    → IsSet xs (insert xs i (record { reference = x; count = 1 })) x 1
-insert-counts xs i x list bound point none =
-    let entry : Counted = record { reference = x; count = 1 } in
+pub insert-counts : (xs : List Counted) (i : ℕ) (x : Reference) (n : ℕ) → IsRefList xs → i ≤ length xs → IsPlace x xs i → count_of xs x ≡ 0 → 0 < n
+    → IsSet xs (insert xs i (record { reference = x; count = n })) x n
+insert-counts xs i x n list bound point none some =
+    let entry : Counted = record { reference = x; count = n } in
     let other : (d : Counted) → i < length xs → same_reference (get_or xs i d).reference x ≡ false = λ d h. elim (cases_Bool (same_reference (get_or xs i d).reference x)) [
       | inl same ↦
           let found = count-found x xs i d list.ascend h (same_reference_is (get_or xs i d).reference x same) in
@@ -216,7 +219,7 @@ insert-counts xs i x list bound point none =
     record {
       sound = record {
         ascend = ascend-insert xs i entry bound list.ascend (λ k d low. point.0 k d (omega arith) low) (place_behind x xs i list.ascend point other);
-        some = all-insert (λ e. 0 < e.count) xs i entry bound list.some (omega arith);
+        some = all-insert (λ e. 0 < e.count) xs i entry bound list.some some;
       };
       own = omega (arith, count-insert xs i entry x, counted-own x entry refl, none);
       others = λ q differs. omega (arith, count-insert xs i entry q, counted-other q entry differs);
@@ -237,17 +240,21 @@ remove-counts xs i x list inside at =
           omega (arith, count-remove xs i entry other inside is, none);
     }
 
--- a reference is there once more
-pub more-set : (xs new : List Counted) (x : Reference) (n : ℕ) → IsSet xs new x n → n ≡ count_of xs x + 1 → HasOneMore xs new x
-more-set xs new x n is more other = elim (cases_Bool (same_reference other x)) [
+-- a reference is there so many times more
+pub more-by : (xs new : List Counted) (x : Reference) (n more : ℕ) → IsSet xs new x n → n ≡ count_of xs x + more → HasSoManyMore xs new x more
+more-by xs new x n more is sum other = elim (cases_Bool (same_reference other x)) [
   | inl same ↦
-      let one : counted-one other x ≡ 1 = cond-true _ _ _ same in
+      let all : counted-by more other x ≡ more = cond-true _ _ _ same in
       let q : other ≡ x = same_reference_is other x same in
-      omega (arith, one, is.own, more, ap (count_of xs) q, ap (count_of new) q)
+      omega (arith, all, is.own, sum, ap (count_of xs) q, ap (count_of new) q)
   | inr differs ↦
-      let none : counted-one other x ≡ 0 = cond-false _ _ _ differs in
+      let none : counted-by more other x ≡ 0 = cond-false _ _ _ differs in
       omega (arith, none, is.others other differs)
 ]
+
+-- or once more
+pub more-set : (xs new : List Counted) (x : Reference) (n : ℕ) → IsSet xs new x n → n ≡ count_of xs x + 1 → HasOneMore xs new x
+more-set xs new x n is more = more-by xs new x n 1 is more
 
 -- or once less
 pub less-set : (xs new : List Counted) (x : Reference) (n : ℕ) → IsSet xs new x n → n + 1 ≡ count_of xs x → HasOneMore new xs x
@@ -291,12 +298,12 @@ pub less-seen : (xs now new : List Counted) (x : Reference) (n : ℕ) → xs ≡
 less-seen xs now new x n seen is less = subst (λ (old : List Counted). HasOneMore new old x) seen (less-set xs new x n is less)
 
 -- an entry of a reference that was not there
-pub insert-written : (xs ys zs new : List Counted) (i : ℕ) (x : Reference) → ys ≡ xs → zs ≡ xs → IsRefList xs → count_of ys x ≡ 0 → i ≤ length zs → IsPlace x zs i
-    → new ≡ insert xs i (record { reference = x; count = 1 }) → IsSet xs new x 1
-insert-written xs ys zs new i x searched placed list none bound point is =
-    subst (λ (ws : List Counted). IsSet xs ws x 1) (sym is)
-    (insert-counts xs i x list (subst (λ (ws : List Counted). i ≤ length ws) placed bound) (subst (λ (ws : List Counted). IsPlace x ws i) placed point)
-    (ap (λ (ws : List Counted). count_of ws x) (sym searched) ∙ none))
+pub insert-written : (xs ys zs new : List Counted) (i : ℕ) (x : Reference) (n : ℕ) → ys ≡ xs → zs ≡ xs → IsRefList xs → count_of ys x ≡ 0 → i ≤ length zs
+    → IsPlace x zs i → 0 < n → new ≡ insert xs i (record { reference = x; count = n }) → IsSet xs new x n
+insert-written xs ys zs new i x n searched placed list none bound point some is =
+    subst (λ (ws : List Counted). IsSet xs ws x n) (sym is)
+    (insert-counts xs i x n list (subst (λ (ws : List Counted). i ≤ length ws) placed bound) (subst (λ (ws : List Counted). IsPlace x ws i) placed point)
+    (ap (λ (ws : List Counted). count_of ws x) (sym searched) ∙ none) some)
 
 -- an entry that is taken out
 pub remove-written : (xs ys new : List Counted) (i : ℕ) (x : Reference) → ys ≡ xs → IsRefList xs → i < length ys → ((d : Counted) → (get_or ys i d).reference ≡ x) → new ≡ remove xs i → IsSet xs new x 0

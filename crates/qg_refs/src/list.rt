@@ -1,6 +1,6 @@
 // A count for each reference.
 ghost use Rattle.std.specs.Prelude.{◌≡◌, ◌-◌, ◌^◌, ◌<◌, ◌==◌, [], length, IfSome, IfNone, IfOk, OnOk, OnErr, slice_index_or};
-ghost use Rattle.qg_refs.specs.Counts.{count_of, HasOneMore, IsRefList};
+ghost use Rattle.qg_refs.specs.Counts.{count_of, HasOneMore, HasSoManyMore, IsRefList};
 
 use crate::Counted;
 use crate::place::{index_of, place_of};
@@ -74,6 +74,18 @@ impl RefList {
                 count: 1,
             },
         )?;
+        Ok(())
+    }
+
+    /// Puts a reference that is not there, with its count. Where memory is refused, nothing changes.
+    pub fn put(&mut self, reference: Reference, count: u32) -> Result<(), NoMemory>
+        requires some { 0 < count }
+        requires absent { count_of self.old reference ≡ 0 }
+        ensures ok { OnOk result (HasSoManyMore self.old self.new reference count) }
+        ensures err { OnErr result (self.new ≡ self.old) }
+    {
+        let index = place_of(self.counts.as_slice(), &reference);
+        self.counts.insert(index, Counted { reference, count })?;
         Ok(())
     }
 
