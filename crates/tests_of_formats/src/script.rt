@@ -1,9 +1,9 @@
 // Replies, written out by hand: those too that no script of today is answered.
-use qg_script::{Text, write_broken, write_differs, write_no_line, write_reply};
 use qg_num::{
     Address, Answer, Counters, Generation, GroupId, NoMemory, OwnerList, Piece, Pieces, Refusal,
     RootId, Row, Rows, Rule, Which,
 };
+use qg_script::{Text, write_broken, write_differs, write_no_line, write_reply};
 use std::alloc::Global;
 use std::process::Abort;
 use std::test::Fail;

@@ -1,6 +1,6 @@
 // Decimals and words by hand.
-use qg_words::{Form, decimal_of, read_words};
 use qg_super::Sizes;
+use qg_words::{Form, decimal_of, read_words};
 use std::test::Fail;
 
 #[test]

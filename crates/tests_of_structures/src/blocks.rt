@@ -9,8 +9,8 @@ ghost use Rattle.qg_blocks.specs.Writing.{HasWritten, IsPlaced};
 
 mod flip;
 
-use qg_blocks::{Blocks, has_slot};
 use flip::FlipDisk;
+use qg_blocks::{Blocks, has_slot};
 use qg_disk::{Disk, MemDisk};
 use qg_node::{Header, Items, Node, write_node};
 use qg_num::{Address, BlockFault, Generation, NoMemory, RootId, Rule, Steps};

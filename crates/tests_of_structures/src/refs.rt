@@ -1,5 +1,5 @@
-use qg_refs::{RefList, Reference, is_before};
 use qg_num::{Address, Ino, NoMemory, RootId};
+use qg_refs::{RefList, Reference, is_before};
 use std::alloc::Global;
 use std::test::Fail;
 

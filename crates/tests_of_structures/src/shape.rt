@@ -6,12 +6,12 @@ ghost use Rattle.qg_super.specs.Places.{capacity};
 ghost use Rattle.qg_shape.specs.Filled.{HasShortBodies};
 ghost use Rattle.qg_shape.specs.Parts.{IsInner, IsLeaf};
 
+use qg_node::{Body, Header, Item, Items, Node, Pointer, Pointers};
+use qg_num::{Address, Generation, Key, NoMemory, RootId};
 use qg_shape::{
     Joined, child_for, find_item, first_key, insert_item, insert_pointer, is_overfull, is_thin,
     join, pointer_to, remove_item, remove_pointer, replace_body, set_pointer, split,
 };
-use qg_node::{Body, Header, Item, Items, Node, Pointer, Pointers};
-use qg_num::{Address, Generation, Key, NoMemory, RootId};
 use std::alloc::Global;
 use std::test::Fail;
 

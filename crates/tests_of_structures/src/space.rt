@@ -1,7 +1,7 @@
 ghost use Rattle.std.specs.Prelude.{◌≡◌, IfOk};
 
-use qg_space::Space;
 use qg_num::{Address, NoMemory};
+use qg_space::Space;
 use std::alloc::Global;
 use std::test::Fail;
 

@@ -1,5 +1,0 @@
-pub mod Table
-pub mod Written
-pub mod Told
-pub mod Reading
-pub mod Laws
