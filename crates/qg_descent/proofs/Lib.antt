@@ -1,0 +1,10 @@
+pub mod Under
+pub mod Split
+pub mod Leads
+pub mod Parts
+pub mod Leaves
+pub mod Visits
+pub mod Reached
+pub mod Frames
+pub mod Walked
+pub mod Ranges

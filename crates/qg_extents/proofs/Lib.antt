@@ -1,0 +1,10 @@
+pub mod Tables
+pub mod ItemsSaid
+pub mod ItemsAscend
+pub mod Sayable
+pub mod Telling
+pub mod Records
+pub mod Back
+pub mod Agreeing
+pub mod Runs
+pub mod Singles

@@ -1,0 +1,5 @@
+pub mod Table
+pub mod Written
+pub mod Told
+pub mod Reading
+pub mod Laws

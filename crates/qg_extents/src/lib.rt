@@ -1,0 +1,19 @@
+//! The book of references in memory, and the extent tree's items that stand for it.
+#![tactic(auto)]
+
+mod book;
+mod extents;
+mod fault;
+mod gather;
+mod head;
+mod items;
+mod kept;
+mod laws;
+mod read;
+
+pub use extents::Extents;
+pub use fault::RefsFault;
+pub use laws::book_laws;
+
+#[cfg(test)]
+mod tests;

@@ -1,0 +1,3 @@
+pub mod Slots
+pub mod Lands
+pub mod Editing

@@ -1,0 +1,19 @@
+use Rattle.std.proofs.Common.{refl}
+use Rattle.std.proofs.lemmas.Result.{on_ok_weaker}
+use Rattle.qg_ground.specs.declared.ground.Ground.{Ground}
+use Rattle.qg_ground.proofs.Lands.{LetsGo-draft, Rests-after, Rests-draft, Takes-left}
+use Rattle.qg_ground.proofs.making.leave_node.Goals as goal
+
+pub returns-clause-rests : goal.returns-clause-rests
+returns-clause-rests g c generation drafted =
+    let mid : Ground = record { blocks = c.load.new.self; space = c.args.land.now.space } in
+    let history = g.D.Disk.history c.load.new.disk in
+    let first = Rests-draft c.args.land.now mid history generation c.load.ensures.draft c.load.ensures.bound refl c.load.ensures.backed drafted in
+    Rests-after c.args.land.now mid c.left.new.land history (g.D.Disk.history c.left.new.disk) generation first (c.left.ensures.rests generation first.drafted)
+
+pub returns-clause-takes : goal.returns-clause-takes
+returns-clause-takes g c generation drafted =
+    let mid : Ground = record { blocks = c.load.new.self; space = c.args.land.now.space } in
+    let rests = returns-clause-rests g c generation drafted in
+    on_ok_weaker c.left.result (λ gone. Takes-left c.args.land.now c.left.new.land c.args.at rests.sizes rests.held_slots (LetsGo-draft c.args.land.now mid c.left.new.land c.args.at c.load.ensures.draft refl gone))
+    c.left.ensures.gone

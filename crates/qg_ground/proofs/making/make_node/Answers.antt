@@ -1,0 +1,33 @@
+use Rattle.std.proofs.Common.{refl}
+use Rattle.qg_node.specs.Nodes.{header_of}
+use Rattle.qg_ground.proofs.Lands.{Makes-after, Rests-after, Rests-made, Rests-taken, Takes-made}
+use Rattle.qg_ground.proofs.making.make_node.Goals as goal
+
+pub returns-in_err-now-clause-rests : goal.returns-in_err-now-clause-rests
+returns-in_err-now-clause-rests g c =
+    let history = g.D.Disk.history c.args.disk.now in
+    Rests-taken c.args.land.now c.put_node.new.land history (header_of c.args.node).generation c.put_node.ensures.spares c.in_err-now.ensures.err
+    (c.put_node.ensures.backed history c.requires.backed) c.requires.drafted
+
+pub returns-in_err-made-clause-rests : goal.returns-in_err-made-clause-rests
+returns-in_err-made-clause-rests g c =
+    let history = g.D.Disk.history c.args.disk.now in
+    let put = Rests-made c.args.land.now c.put_node.new.land history c.in_ok-now.now (header_of c.args.node).generation c.args.node c.put_node.ensures.spares c.put_node.ensures.bound
+    (c.put_node.ensures.backed history c.requires.backed) c.in_ok-now.ensures.made c.requires.sound refl c.requires.drafted in
+    Rests-after c.args.land.now c.put_node.new.land c.made.new.land history (g.D.Disk.history c.made.new.disk) (header_of c.args.node).generation put
+    (c.made.ensures.rests (header_of c.args.node).generation put.drafted)
+
+pub returns-clause-rests : goal.returns-clause-rests
+returns-clause-rests g c =
+    let history = g.D.Disk.history c.args.disk.now in
+    let put = Rests-made c.args.land.now c.put_node.new.land history c.in_ok-now.now (header_of c.args.node).generation c.args.node c.put_node.ensures.spares c.put_node.ensures.bound
+    (c.put_node.ensures.backed history c.requires.backed) c.in_ok-now.ensures.made c.requires.sound refl c.requires.drafted in
+    Rests-after c.args.land.now c.put_node.new.land c.made.new.land history (g.D.Disk.history c.made.new.disk) (header_of c.args.node).generation put
+    (c.made.ensures.rests (header_of c.args.node).generation put.drafted)
+
+pub returns-clause-takes : goal.returns-clause-takes
+returns-clause-takes g c =
+    let rests = returns-clause-rests g c in
+    let takes = c.in_ok-made.ensures.takes in
+    Takes-made c.args.land.now c.made.new.land c.in_ok-now.now c.args.node c.requires.drafted.sizes rests.sizes rests.held_slots
+    (Makes-after c.args.land.now c.put_node.new.land c.made.new.land c.in_ok-now.now c.args.node c.in_ok-now.ensures.made takes.draft takes.slots)

@@ -1,0 +1,46 @@
+use Rattle.std.proofs.Common.{◌≡◌, List, refl, sym, ap, subst, ◌∙◌}
+use Rattle.std.specs.Prelude.{Option, Some}
+use Rattle.qg_device.specs.History.{Event}
+use Rattle.qg_node.specs.declared.node.Node.{Node}
+use Rattle.qg_node.specs.NodeText.{IsNode}
+use Rattle.qg_ground.specs.declared.ground.Ground.{Ground}
+use Rattle.qg_ground.specs.Changes.{node_at}
+use Rattle.qg_ground.proofs.Lands.{Copies-made, IsDrafted-copied, Rests-after, Rests-draft, Rests-spares, Rests-taken}
+use Rattle.qg_ground.proofs.owning.copy_out.Goals as goal
+
+pub returns-in_err-load-clause-rests : goal.returns-in_err-load-clause-rests
+returns-in_err-load-clause-rests g c =
+    let new : Ground = record { blocks = c.load.new.self; space = c.args.land.now.space } in
+    Rests-draft c.args.land.now new (g.D.Disk.history c.load.new.disk) c.args.next c.load.ensures.draft c.load.ensures.bound refl c.load.ensures.backed c.requires.drafted
+
+pub returns-in_err-copy-clause-rests : goal.returns-in_err-copy-clause-rests
+returns-in_err-copy-clause-rests g c =
+    let new : Ground = record { blocks = c.load.new.self; space = c.args.land.now.space } in
+    Rests-draft c.args.land.now new (g.D.Disk.history c.load.new.disk) c.args.next c.load.ensures.draft c.load.ensures.bound refl c.load.ensures.backed c.requires.drafted
+
+pub returns-in_err-put_node-clause-rests : goal.returns-in_err-put_node-clause-rests
+returns-in_err-put_node-clause-rests g c =
+    let mid : Ground = record { blocks = c.load.new.self; space = c.args.land.now.space } in
+    let history = g.D.Disk.history c.load.new.disk in
+    let first = Rests-draft c.args.land.now mid history c.args.next c.load.ensures.draft c.load.ensures.bound refl c.load.ensures.backed c.requires.drafted in
+    Rests-after c.args.land.now mid c.put_node.new.land history history c.args.next first
+    (Rests-taken mid c.put_node.new.land history c.args.next c.put_node.ensures.spares c.in_err-put_node.ensures.err (c.put_node.ensures.backed history c.load.ensures.backed) first.drafted)
+
+pub returns-clause-copied : goal.returns-clause-copied
+returns-clause-copied g c =
+    let mid : Ground = record { blocks = c.load.new.self; space = c.args.land.now.space } in
+    Copies-made c.args.land.now mid c.put_node.new.land (g.D.Disk.history c.args.disk.now) c.args.at c.in_ok-put_node.field-0 c.args.owner c.args.next c.peek.result.now c.in_ok-copy.copy
+    c.load.ensures.draft refl c.in_ok-put_node.ensures.made c.in_ok-copy.ensures
+    (λ node there. let held = c.in_ok-load.ensures.told node there in let lent = c.peek.ensures in cc)
+
+pub returns-clause-rests : goal.returns-clause-rests
+returns-clause-rests g c =
+    let mid : Ground = record { blocks = c.load.new.self; space = c.args.land.now.space } in
+    let history = g.D.Disk.history c.load.new.disk in
+    let first = Rests-draft c.args.land.now mid history c.args.next c.load.ensures.draft c.load.ensures.bound refl c.load.ensures.backed c.requires.drafted in
+    let kept = c.in_ok-load.ensures.kept c.peek.result.now c.requires.clean c.peek.ensures in
+    let sound : IsNode c.args.land.now.space.sizes.nodesize c.peek.result.now = subst (λ n. IsNode n c.peek.result.now) c.requires.drafted.sizes.nodesize kept.sound in
+    Rests-after c.args.land.now mid c.put_node.new.land history history c.args.next first
+    (Rests-spares mid c.put_node.new.land history c.args.next c.put_node.ensures.spares c.put_node.ensures.bound (c.put_node.ensures.backed history c.load.ensures.backed)
+    (IsDrafted-copied mid c.put_node.new.land c.in_ok-put_node.field-0 c.args.owner c.args.next c.peek.result.now c.in_ok-copy.copy c.put_node.ensures.spares c.in_ok-put_node.ensures.made
+    c.in_ok-copy.ensures sound first.drafted))

@@ -1,0 +1,44 @@
+use Rattle.std.proofs.Common.{◌≡◌, ◌≢◌, nat_eq, sym, ◌∙◌}
+use Rattle.std.specs.Prelude.{None}
+use Rattle.std.proofs.lemmas.Bool.{eq-eqb, not-true, true≢false}
+use Rattle.qg_blocks.specs.Told.{fresh_at}
+use Rattle.qg_blocks.proofs.Telling.{none_of}
+use Rattle.qg_ground.proofs.Lands.{Copies-back, IsCopied-copies, Rests-after, Takes-copied}
+use Rattle.qg_ground.proofs.owning.own_node.Goals.{then-ne+in_ok-copied, else-ne}
+use Rattle.qg_ground.proofs.owning.own_node.Goals as goal
+
+pub copied-requires-clause-copied : goal.copied-requires-clause-copied
+copied-requires-clause-copied g c =
+    let clean : fresh_at c.args.land.now.blocks.draft c.args.at ≡ None = none_of (fresh_at c.args.land.now.blocks.draft c.args.at) (sym c.if-is_fresh.ensures) in
+    let other : c.in_ok-now.now ≢ c.args.at = λ same. true≢false (sym (eq-eqb c.in_ok-now.now c.args.at same) ∙ not-true (nat_eq c.in_ok-now.now c.args.at) (sym c.if-ne.ensures)) in
+    IsCopied-copies c.args.land.now c.copy_out.new.land (g.D.Disk.history c.args.disk.now) (g.D.Disk.history c.copy_out.new.disk) c.args.at c.in_ok-now.now c.args.owner c.args.next
+    clean other c.in_ok-now.ensures.copied c.copy_out.ensures.disk.0
+
+pub returns-in_err-copied-clause-rests : goal.returns-in_err-copied-clause-rests
+returns-in_err-copied-clause-rests g c =
+    Rests-after c.args.land.now c.copy_out.new.land c.copied.new.land (g.D.Disk.history c.copy_out.new.disk) (g.D.Disk.history c.copied.new.disk) c.args.next c.copy_out.ensures.rests
+    (c.copied.ensures.rests c.args.next c.copy_out.ensures.rests.drafted)
+
+pub returns-clause-takes : goal.returns-clause-takes
+returns-clause-takes g c = elim c.if-ne.branch [
+  | then-ne+in_ok-copied w ↦
+      let rests = Rests-after c.args.land.now c.copy_out.new.land w.copied.new.land (g.D.Disk.history c.copy_out.new.disk) (g.D.Disk.history w.copied.new.disk) c.args.next c.copy_out.ensures.rests
+      (w.copied.ensures.rests c.args.next c.copy_out.ensures.rests.drafted) in
+      let copies = Copies-back c.args.land.now c.copy_out.new.land w.copied.new.land (g.D.Disk.history c.args.disk.now) c.args.at c.in_ok-now.now c.args.owner c.args.next
+      c.in_ok-now.ensures.copied c.in_ok-now.ensures.slots w.in_ok-copied.ensures.gives in
+      rw w.land-is
+      (Takes-copied c.args.land.now w.copied.new.land (g.D.Disk.history c.args.disk.now) c.args.at c.in_ok-now.now c.args.owner c.args.next c.requires.drafted.sizes rests.sizes rests.held_slots copies)
+  | else-ne w ↦
+      rw w.land-is
+      (Takes-copied c.args.land.now c.copy_out.new.land (g.D.Disk.history c.args.disk.now) c.args.at c.in_ok-now.now c.args.owner c.args.next c.requires.drafted.sizes
+      c.copy_out.ensures.rests.sizes c.copy_out.ensures.rests.held_slots c.in_ok-now.ensures.copied)
+]
+
+pub returns-clause-rests : goal.returns-clause-rests
+returns-clause-rests g c = elim c.if-ne.branch [
+  | then-ne+in_ok-copied w ↦
+      rw (w.land-is, w.disk-is)
+      (Rests-after c.args.land.now c.copy_out.new.land w.copied.new.land (g.D.Disk.history c.copy_out.new.disk) (g.D.Disk.history w.copied.new.disk) c.args.next c.copy_out.ensures.rests
+      (w.copied.ensures.rests c.args.next c.copy_out.ensures.rests.drafted))
+  | else-ne w ↦ rw (w.land-is, w.disk-is) c.copy_out.ensures.rests
+]

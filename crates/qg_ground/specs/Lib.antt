@@ -1,0 +1,3 @@
+pub mod Land
+pub mod Tellings
+pub mod Changes

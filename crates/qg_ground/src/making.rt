@@ -1,0 +1,76 @@
+// Nodes that a tree makes, and nodes that it leaves.
+ghost use Rattle.std.specs.Prelude.{◌≡◌, ◌+◌, ◌<◌, ◌≤◌, ℕ, List, [], ◌∷◌, ◌++◌, Option, Some, None, IfOk, OnOk};
+ghost use Rattle.qg_device.specs.Cause.{HasCause};
+ghost use Rattle.qg_device.specs.History.{Event, content};
+ghost use Rattle.qg_node.specs.declared.node.Node.{Node as NodeValue};
+ghost use Rattle.qg_node.specs.Nodes.{header_of};
+ghost use Rattle.qg_node.specs.NodeText.{IsNode};
+ghost use Rattle.qg_blocks.specs.Told.{Answers, BreaksNone, IsBacked, found, told};
+ghost use Rattle.qg_space.specs.Holding.{free_slots};
+ghost use Rattle.qg_ground.specs.Land.{IsDrafted, Rests};
+ghost use Rattle.qg_ground.specs.Changes.{Makes, Takes};
+ghost use Rattle.qg_ground.specs.Tellings.{Telling, LetsGo};
+ghost use Rattle.qg_ground.specs.Tellings.Telling.{Made, Left};
+
+use crate::putting::put_node;
+use crate::{Book, Ground};
+use qg_disk::Disk;
+use qg_node::Node;
+use qg_num::{Address, BlockFault, Steps};
+use std::sync::ledger::Ledger;
+
+/// Puts a new node into a free slot, whatever address it names, and tells the book. The answer is its address, in bytes. The node has a
+/// text, and the generation to come.
+pub fn make_node<D: Disk, L: Ledger, B: Book<D, L>>(
+    land: &mut Ground,
+    disk: &mut D,
+    book: &mut B,
+    node: Node,
+    reads: &mut Steps<L>,
+) -> Result<Address, BlockFault>
+    requires backed { IsBacked land.old.blocks (D.history disk.old) }
+    requires drafted { IsDrafted land.old (header_of node).generation }
+    requires sound { IsNode land.old.space.sizes.nodesize node }
+    requires stands { B.stands book.old land.old disk.old }
+    requires slots { 0 < free_slots land.old.space }
+    ensures made { IfOk result (λ now. Makes land.old land.new now node) }
+    ensures takes { OnOk result (Takes 1 (λ q. ⊥) land.old land.new) }
+    ensures rests { Rests land.old land.new (D.history disk.new) (header_of node).generation }
+    ensures told { (before : B) (log : List Telling) → B.follows before log book.old → IfOk result (λ now. B.follows before (log ++ Made now ∷ []) book.new) }
+    ensures stands { OnOk result (B.stands book.new land.new disk.new) }
+    ensures no_image { (events : List Event) → D.history disk.old ≡ Some events → BreaksNone result }
+    ensures disk { (D.history disk.new ≡ D.history disk.old) × (D.size disk.new ≡ D.size disk.old) }
+    ensures cause { HasCause BlockFault.Disk (D.faults disk.old) (D.faults disk.new) result }
+    ensures reads { (most : ℕ) → ((q : ℕ) → B.to_read book.old q ≤ most) → reads.new ≤ reads.old + most }
+{
+    let now = put_node(land, node)?;
+    book.made(land, disk, now, reads)?;
+    Ok(now)
+}
+
+/// The tree reaches the node at an address, in bytes, no more: it is read, and the book is told.
+///
+/// `Image` comes only where a rule is broken at `at`, and `Disk` only where the disk's count rose.
+pub fn leave_node<D: Disk, L: Ledger, B: Book<D, L>>(
+    land: &mut Ground,
+    disk: &mut D,
+    book: &mut B,
+    at: Address,
+    reads: &mut Steps<L>,
+) -> Result<(), BlockFault>
+    requires backed { IsBacked land.old.blocks (D.history disk.old) }
+    requires stands { B.stands book.old land.old disk.old }
+    ensures gone { OnOk result (LetsGo land.old land.new at) }
+    ensures takes { (generation : ℕ) → IsDrafted land.old generation → OnOk result (Takes 0 (λ q. q ≡ at) land.old land.new) }
+    ensures rests { (generation : ℕ) → IsDrafted land.old generation → Rests land.old land.new (D.history disk.new) generation }
+    ensures told { (node : NodeValue) → told land.old.blocks.draft (D.history disk.old) at ≡ Some node
+        → (before : B) (log : List Telling) → B.follows before log book.old → OnOk result (B.follows before (log ++ Left node ∷ []) book.new) }
+    ensures stands { OnOk result (B.stands book.new land.new disk.new) }
+    ensures answers { (events : List Event) → D.history disk.old ≡ Some events → Answers result at (found land.old.blocks.draft (content events) at) }
+    ensures disk { (D.history disk.new ≡ D.history disk.old) × (D.size disk.new ≡ D.size disk.old) }
+    ensures cause { HasCause BlockFault.Disk (D.faults disk.old) (D.faults disk.new) result }
+    ensures reads { reads.new ≤ reads.old + (1 + B.to_read book.old at) }
+{
+    land.blocks.load(disk, at, reads)?;
+    book.left(land, disk, at, reads)
+}

@@ -1,0 +1,128 @@
+// A node that a tree may edit.
+ghost use Rattle.std.specs.Prelude.{◌≡◌, ◌+◌, ◌<◌, ◌≤◌, false, ℕ, List, [], ◌∷◌, ◌++◌, Option, Some, None, Ok, IfOk, OnOk, IsSome, is_some, if◌then◌else◌};
+ghost use Rattle.qg_device.specs.Cause.{HasCause};
+ghost use Rattle.qg_device.specs.History.{Event, content};
+ghost use Rattle.qg_node.specs.declared.node.Node.{Node as NodeValue};
+ghost use Rattle.qg_node.specs.Nodes.{header_of};
+ghost use Rattle.qg_image.specs.Table.{with_number};
+ghost use Rattle.qg_blocks.specs.Told.{Answers, IsBacked, fresh_at, found, told};
+ghost use Rattle.qg_space.specs.Holding.{free_slots, is_free_slot};
+ghost use Rattle.qg_ground.specs.Land.{IsDrafted, Rests};
+ghost use Rattle.qg_ground.specs.Changes.{Copies, Owned, Takes};
+ghost use Rattle.qg_ground.specs.Tellings.{Telling, Spares, node_copy};
+ghost use Rattle.qg_ground.specs.Tellings.Telling.{Copied};
+
+use crate::putting::put_node;
+use crate::{Book, Ground};
+use qg_disk::Disk;
+use qg_node::{Header, Node, Pointers, copy_items};
+use qg_num::{Address, BlockFault, Generation, NoMemory, RootId, Steps};
+use std::alloc::Global;
+use std::sync::ledger::Ledger;
+
+/// The header of a copy, by a tree and of a generation.
+fn copied_header(header: Header, owner: RootId, generation: Generation) -> Header
+    ensures { result ≡ record header { owner = owner; generation = generation } }
+{
+    Header {
+        owner,
+        generation,
+        ..header
+    }
+}
+
+/// A copy of a node at the same address, by a tree and of a generation.
+fn copy_node(
+    alloc: Global,
+    node: &Node,
+    owner: RootId,
+    generation: Generation,
+) -> Result<Node, NoMemory>
+    ensures { IfOk result (λ copy. copy ≡ node_copy node.now (header_of node.now).address owner generation) }
+{
+    match node {
+        Node::Leaf { header, items } => Ok(Node::Leaf {
+            header: copied_header(*header, owner, generation),
+            items: copy_items(alloc, items.as_slice())?,
+        }),
+        Node::Inner { header, pointers } => Ok(Node::Inner {
+            header: copied_header(*header, owner, generation),
+            pointers: Pointers::from_slice(alloc, pointers.as_slice())?,
+        }),
+    }
+}
+
+/// Reads the node at an address and copies it to a free slot, where the copy is fresh. After an `Err` the slot may be taken.
+fn copy_out<D: Disk, L: Ledger>(
+    alloc: Global,
+    land: &mut Ground,
+    disk: &mut D,
+    at: Address,
+    owner: RootId,
+    next: Generation,
+    reads: &mut Steps<L>,
+) -> Result<Address, BlockFault>
+    requires backed { IsBacked land.old.blocks (D.history disk.old) }
+    requires drafted { IsDrafted land.old next }
+    requires clean { fresh_at land.old.blocks.draft at ≡ None }
+    requires slots { 0 < free_slots land.old.space }
+    ensures copied { IfOk result (λ now. Copies land.old land.new (D.history disk.old) at now owner next) }
+    ensures slots { IfOk result (λ now. land.new.space.slots ≡ with_number now land.old.space.slots) }
+    ensures spares { Spares land.old land.new }
+    ensures rests { Rests land.old land.new (D.history disk.new) next }
+    ensures answers { (events : List Event) → D.history disk.old ≡ Some events → Answers result at (found land.old.blocks.draft (content events) at) }
+    ensures disk { (D.history disk.new ≡ D.history disk.old) × (D.size disk.new ≡ D.size disk.old) }
+    ensures cause { HasCause BlockFault.Disk (D.faults disk.old) (D.faults disk.new) result }
+    ensures reads { reads.new ≡ reads.old + 1 }
+{
+    land.blocks.load(disk, at, reads)?;
+    let copy = copy_node(alloc, land.blocks.peek(at), owner, next)?;
+    Ok(put_node(land, copy)?)
+}
+
+/// Where a tree may edit the node at an address, in bytes. A fresh node is edited where it lies, and nothing changes. Any other is read
+/// and copied to a free slot; the copy is fresh, has the tree `owner` as owner and the generation `next` to come, and the book is told.
+///
+/// `Image` comes only where a rule is broken at `at`, and `Disk` only where the disk's count rose.
+pub fn own_node<D: Disk, L: Ledger, B: Book<D, L>>(
+    alloc: Global,
+    land: &mut Ground,
+    disk: &mut D,
+    book: &mut B,
+    at: Address,
+    owner: RootId,
+    next: Generation,
+    reads: &mut Steps<L>,
+) -> Result<Address, BlockFault>
+    requires backed { IsBacked land.old.blocks (D.history disk.old) }
+    requires drafted { IsDrafted land.old next }
+    requires stands { B.stands book.old land.old disk.old }
+    requires slots { 0 < free_slots land.old.space }
+
+    // What is edited, and what of slots and nodes is as it was.
+    ensures owned { IfOk result (λ now. Owned land.old land.new (D.history disk.old) at now owner next) }
+    ensures takes { OnOk result (Takes 1 (λ q. q ≡ at) land.old land.new) }
+    ensures rests { Rests land.old land.new (D.history disk.new) next }
+
+    // What the book is told.
+    ensures same { IsSome (fresh_at land.old.blocks.draft at) → (result ≡ Ok at) × (book.new ≡ book.old) }
+    ensures told { (node : NodeValue) → told land.old.blocks.draft (D.history disk.old) at ≡ Some node → fresh_at land.old.blocks.draft at ≡ None
+        → is_free_slot land.old.space at ≡ false → (before : B) (log : List Telling) → B.follows before log book.old
+        → IfOk result (λ now. B.follows before (log ++ Copied node now ∷ []) book.new) }
+    ensures stands { OnOk result (B.stands book.new land.new disk.new) }
+
+    // Answers have their causes.
+    ensures answers { (events : List Event) → D.history disk.old ≡ Some events → Answers result at (found land.old.blocks.draft (content events) at) }
+    ensures disk { (D.history disk.new ≡ D.history disk.old) × (D.size disk.new ≡ D.size disk.old) }
+    ensures cause { HasCause BlockFault.Disk (D.faults disk.old) (D.faults disk.new) result }
+    ensures reads { reads.new ≤ reads.old + (if is_some (fresh_at land.old.blocks.draft at) then 0 else 1 + B.to_read book.old at) }
+{
+    if land.blocks.is_fresh(at) {
+        return Ok(at);
+    }
+    let now = copy_out(alloc, land, disk, at, owner, next, reads)?;
+    if now != at {
+        book.copied(land, disk, at, now, reads)?;
+    }
+    Ok(now)
+}

@@ -1,0 +1,5 @@
+pub mod Linked
+pub mod Leading
+pub mod Places
+pub mod Marks
+pub mod Housed
