@@ -1,7 +1,7 @@
 -- References that are told, taken one by one.
-use Rattle.std.proofs.Common.{◌≡◌, ◌≢◌, ℕ, ◌+◌, ◌≤◌, ◌<◌, Bool, true, false, List, [], ◌∷◌, ◌++◌, length, take, drop, get_or, append-nil, Option, Some, None, refl, sym, ap, subst, ◌∙◌, arith, ◌⊎◌, inl, inr, ltb}
-use Rattle.std.specs.Prelude.{◌&&◌, ◌||◌, not, ◌==◌, if◌then◌else◌, nat_lt, nat_le}
-use Rattle.std.specs.List.{cons_option, list_any, list_all, sum_by}
+use Rattle.std.proofs.Common.{◌≡◌, ◌≢◌, ℕ, ◌+◌, ◌≤◌, ◌<◌, Bool, true, false, List, [], ◌∷◌, ◌++◌, length, take, drop, get_or, append-nil, Option, Some, None, refl, sym, ap, subst, ◌∙◌, arith, ◌⊎◌, inl, inr}
+use Rattle.std.specs.Prelude.{◌&&◌, ◌||◌, not, ◌==◌, if◌then◌else◌, nat_lt}
+use Rattle.std.specs.List.{cons_option, list_any, list_all}
 use Rattle.std.proofs.lemmas.List.{drop_more, take_more, take-append-drop}
 use Rattle.std.proofs.lemmas.List.Elements.{filter_map-append}
 use Rattle.qg_image.specs.declared.part.ExtentPart.{ExtentPart}
@@ -13,9 +13,9 @@ use Rattle.qg_items.specs.declared.extent.Reference.{Reference}
 use Rattle.qg_state.specs.Owed.{is_told_once, reference_told}
 use Rattle.qg_state.specs.Record.{same_reference}
 use Rattle.qg_refs.specs.declared.counted.Counted.{Counted}
-use Rattle.qg_refs.specs.Counts.{count_of, greatest_count, HasSoManyMore, IsRefList}
+use Rattle.qg_refs.specs.Counts.{count_of, greatest_count}
 use Rattle.qg_refs.proofs.Counting.{count-nil}
-use Rattle.qg_refs.proofs.RankOrder.{same_itself, same_other_way, same_reference_is}
+use Rattle.qg_refs.proofs.RankOrder.{same_itself, same_reference_is}
 use Rattle.qg_extents.specs.declared.gather.Gathered.{Gathered}
 use Rattle.qg_extents.specs.Told.{are_counted, is_count, told_count, told_in, told_sum}
 use Rattle.qg_extents.specs.Reading.{IsPartRefused, IsPartTaken, IsRefused, IsTaken}
@@ -57,8 +57,14 @@ is_among x told = list_any (λ other. same_reference other.0 x) told
 abbrev counts_of : Reference → Reference × ℕ → ℕ
 counts_of x entry = if same_reference x entry.0 then entry.1 else 0
 
-count-more : (told : Told) (entry : Reference × ℕ) (x : Reference) → told_count (told ++ entry ∷ []) x ≡ told_count told x + counts_of x entry
-count-more told entry x = omega (arith, sum_by-append (counts_of x) told (entry ∷ []), sum_by-cons (counts_of x) entry [])
+count-more : (told : Told) (entry : Reference × ℕ) (x : Reference)
+    → told_count (told ++ entry ∷ []) x ≡ told_count told x + counts_of x entry
+count-more told entry x = omega (
+  arith,
+  sum_by-append (counts_of x) told (entry ∷ []),
+  sum_by-cons
+      (counts_of x) entry [],
+)
 
 same_sides : (a b : Reference) → same_reference a b ≡ true → same_reference b a ≡ true
 same_sides a b same = subst (λ (c : Reference). same_reference c a ≡ true) (same_reference_is a b same) (same_itself a)
@@ -70,7 +76,8 @@ among_counts (entry ∷ told) x some = elim (cases_Bool (same_reference x entry.
   | inl same ↦ rw (same_sides x entry.0 same) refl
   | inr differs ↦
       let none : counts_of x entry ≡ 0 = cond-false _ _ _ differs in
-      or_true (same_reference entry.0 x) (is_among x told) (among_counts told x (omega (arith, some, sum_by-cons (counts_of x) entry told, none)))
+      or_true (same_reference entry.0 x) (is_among x told)
+      (among_counts told x (omega (arith, some, sum_by-cons (counts_of x) entry told, none)))
 ]
 
 is_count-some : (entry : Reference × ℕ) → is_count entry ≡ true → 0 < entry.1
@@ -80,7 +87,8 @@ is_count-most : (entry : Reference × ℕ) → is_count entry ≡ true → entry
 is_count-most entry is = grind (arith, nat_tests)
 
 -- one that does not count is not
-not_among : (told : Told) (x : Reference) → list_all is_count told ≡ true → told_count told x ≡ 0 → is_among x told ≡ false
+not_among : (told : Told) (x : Reference) → list_all is_count told ≡ true → told_count told x ≡ 0
+    → is_among x told ≡ false
 not_among [] x all none = refl
 not_among (entry ∷ told) x all none =
     let parts = both_of (is_count entry) (list_all is_count told) all in
@@ -88,20 +96,24 @@ not_among (entry ∷ told) x all none =
       | inl same ↦
           let own : counts_of x entry ≡ entry.1 = cond-true _ _ _ (same_sides entry.0 x same) in
           absurd (omega (arith, is_count-some entry parts.0, own, none, sum_by-cons (counts_of x) entry told))
-      | inr differs ↦ rw (differs, not_among told x parts.1 (omega (arith, none, sum_by-cons (counts_of x) entry told))) refl
+      | inr differs ↦ rw (differs, not_among told x parts.1 (omega (arith, none, sum_by-cons (counts_of x) entry told)))
+          refl
     ]
 
 -- ---- one more
 
-once-more : (told : Told) (entry : Reference × ℕ) → is_told_once told ≡ true → is_among entry.0 told ≡ false → is_told_once (told ++ entry ∷ []) ≡ true
+once-more : (told : Told) (entry : Reference × ℕ) → is_told_once told ≡ true → is_among entry.0 told ≡ false
+    → is_told_once (told ++ entry ∷ []) ≡ true
 once-more [] entry once apart = refl
 once-more (first ∷ told) entry once apart = elim (cases_Bool (same_reference first.0 entry.0)) [
   | inl same ↦ absurd (true≢false (sym (ap (λ (b : Bool). b || is_among entry.0 told) same) ∙ apart))
   | inr differs ↦
-      let parts = both_of (not (list_any (λ (other : Reference × ℕ). same_reference first.0 other.0) told)) (is_told_once told) once in
+      let parts = both_of (not (list_any (λ (other : Reference × ℕ). same_reference first.0 other.0) told))
+      (is_told_once told) once in
       let rest : is_among entry.0 told ≡ false = sym (ap (λ (b : Bool). b || is_among entry.0 told) differs) ∙ apart in
       and_true _ _
-      (ap not (list_any-append (λ (other : Reference × ℕ). same_reference first.0 other.0) told (entry ∷ [])) ∙ rw (differs) (not_or _ parts.0))
+      (ap not (list_any-append (λ (other : Reference × ℕ). same_reference first.0 other.0) told (entry ∷ []))
+      ∙ rw (differs) (not_or _ parts.0))
       (once-more told entry parts.1 rest)
 ]
   where
@@ -110,16 +122,19 @@ once-more (first ∷ told) entry once apart = elim (cases_Bool (same_reference f
     not_or false is = refl
 
 -- one that is among them already is told twice, whatever comes behind
-told_twice : (told rest : Told) (entry : Reference × ℕ) → is_among entry.0 told ≡ true → is_told_once (told ++ entry ∷ rest) ≡ false
+told_twice : (told rest : Told) (entry : Reference × ℕ) → is_among entry.0 told ≡ true
+    → is_told_once (told ++ entry ∷ rest) ≡ false
 told_twice [] rest entry among = absurd (true≢false (sym among))
-told_twice (first ∷ told) rest entry among = elim (either_of (same_reference first.0 entry.0) (is_among entry.0 told) among) [
-  | inl same ↦
-      let twice : list_any (λ (other : Reference × ℕ). same_reference first.0 other.0) (told ++ entry ∷ rest) ≡ true =
-      list_any-append (λ (other : Reference × ℕ). same_reference first.0 other.0) told (entry ∷ rest)
-      ∙ or_true _ _ (ap (λ (b : Bool). b || list_any (λ (other : Reference × ℕ). same_reference first.0 other.0) rest) same) in
-      false_and _ _ (ap not twice)
-  | inr later ↦ and_false _ _ (told_twice told rest entry later)
-]
+told_twice (first ∷ told) rest entry among = elim (either_of (same_reference first.0 entry.0)
+    (is_among entry.0 told) among) [
+      | inl same ↦
+          let twice : list_any (λ (other : Reference × ℕ). same_reference first.0 other.0) (told ++ entry ∷ rest) ≡ true =
+          list_any-append (λ (other : Reference × ℕ). same_reference first.0 other.0) told (entry ∷ rest)
+          ∙ or_true _ _ (ap (λ (b : Bool). b || list_any (λ (other : Reference × ℕ). same_reference first.0 other.0) rest)
+          same) in
+          false_and _ _ (ap not twice)
+      | inr later ↦ and_false _ _ (told_twice told rest entry later)
+    ]
 
 -- ---- what was taken so far, of so many references in all
 
@@ -139,20 +154,38 @@ so_far-none refs = record {
   fitting = λ x. omega (arith, count-nil x);
 }
 
-pub so_far-more : (refs : ℕ) (told : Told) (old new : Gathered) (x : Reference) (n : ℕ) → IsSoFar refs old.left told old.references → IsTaken old new x n
+pub so_far-more : (refs : ℕ) (told : Told) (old new : Gathered) (x : Reference) (n : ℕ)
+    → IsSoFar refs old.left told old.references → IsTaken old new x n
     → IsSoFar refs new.left (told ++ (x, n) ∷ []) new.references
 so_far-more refs told old new x n so taken =
     let absent : told_count told x ≡ 0 = sym (so.count x) ∙ taken.absent in
     record {
       once = once-more told (x, n) so.once (not_among told x so.counts absent);
       counts = list_all-append is_count told ((x, n) ∷ []) ∙ and_true _ _ so.counts (and_true _ _ taken.counted refl);
-      sum = omega (arith, so.sum, taken.left, sum_by-append (λ (entry : Reference × ℕ). entry.1) told ((x, n) ∷ []), sum_by-cons (λ (entry : Reference × ℕ). entry.1) (x, n) []);
-      count = λ y. taken.put y ∙ ap (λ (m : ℕ). m + (if same_reference y x then n else 0)) (so.count y) ∙ sym (count-more told (x, n) y);
+      sum = omega (
+        arith,
+        so.sum,
+        taken.left,
+        sum_by-append (λ (entry : Reference × ℕ). entry.1) told
+            ((x, n) ∷ []),
+        sum_by-cons (λ (entry : Reference × ℕ). entry.1) (x, n) [],
+      );
+      count = λ y. taken.put y ∙ ap (λ (m : ℕ). m + (if same_reference y x then n else 0)) (so.count y)
+          ∙ sym (count-more told (x, n) y);
       fitting = λ y. elim (cases_Bool (same_reference y x)) [
         | inl same ↦
             let is : y ≡ x = same_reference_is y x same in
             let all : (if same_reference y x then n else 0) ≡ n = cond-true _ _ _ same in
-            omega (arith, taken.put y, all, taken.absent, ap (count_of old.references) is, ap greatest_count is, is_count-most (x, n) taken.counted)
+            omega (
+              arith,
+              taken.put y,
+              all,
+              taken.absent,
+              ap
+                  (count_of old.references) is,
+              ap greatest_count is,
+              is_count-most (x, n) taken.counted,
+            )
         | inr differs ↦
             let none : (if same_reference y x then n else 0) ≡ 0 = cond-false _ _ _ differs in
             omega (arith, taken.put y, none, so.fitting y)
@@ -170,7 +203,8 @@ differ-eqb : (a b : ℕ) → a ≢ b → (a == b) ≡ false
 differ-eqb a b apart = grind (arith, nat_tests)
 
 -- one that is refused spoils them, whatever comes behind
-pub so_far-refused : (refs : ℕ) (told rest : Told) (old : Gathered) (x : Reference) (n : ℕ) → IsSoFar refs old.left told old.references → IsRefused old x n
+pub so_far-refused : (refs : ℕ) (told rest : Told) (old : Gathered) (x : Reference) (n : ℕ)
+    → IsSoFar refs old.left told old.references → IsRefused old x n
     → add_up refs (told ++ (x, n) ∷ rest) ≡ false
 so_far-refused refs told rest old x n so (inl uncountable) =
     uncounted refs (told ++ (x, n) ∷ rest)
@@ -179,9 +213,12 @@ so_far-refused refs told rest old x n so (inr (inl there)) =
     let among : is_among x told ≡ true = among_counts told x (omega (arith, so.count x, there)) in
     uncounted refs (told ++ (x, n) ∷ rest) (false_and _ _ (told_twice told rest (x, n) among))
 so_far-refused refs told rest old x n so (inr (inr more)) =
-    let sum : told_sum (told ++ (x, n) ∷ rest) ≡ told_sum told + told_sum ((x, n) ∷ rest) = sum_by-append (λ (entry : Reference × ℕ). entry.1) told ((x, n) ∷ rest) in
-    let head : told_sum ((x, n) ∷ rest) ≡ n + told_sum rest = sum_by-cons (λ (entry : Reference × ℕ). entry.1) (x, n) rest in
-    and_false _ _ (differ-eqb refs (told_sum (told ++ (x, n) ∷ rest)) (λ same. omega (arith, same, sum, head, so.sum, more)))
+    let sum : told_sum (told ++ (x, n) ∷ rest) ≡ told_sum told + told_sum ((x, n) ∷ rest) = sum_by-append
+    (λ (entry : Reference × ℕ). entry.1) told ((x, n) ∷ rest) in
+    let head : told_sum ((x, n) ∷ rest) ≡ n + told_sum rest = sum_by-cons (λ (entry : Reference × ℕ). entry.1)
+    (x, n) rest in
+    and_false _ _ (differ-eqb refs (told_sum (told ++ (x, n) ∷ rest))
+    (λ same. omega (arith, same, sum, head, so.sum, more)))
 
 -- the sum of none is 0, and of some is not
 counted_some : (told : Told) → are_counted told ≡ true → 0 < told_sum told
@@ -191,7 +228,8 @@ counted_some (entry ∷ told) counted =
     let first = is_count-some entry (both_of (is_count entry) (list_all is_count told) all.1).0 in
     omega (arith, first, sum_by-cons (λ (entry : Reference × ℕ). entry.1) entry told)
 
-pub so_far-short : (refs left : ℕ) (told : Told) (references : List Counted) → IsSoFar refs left told references → (refs ≡ 0) ⊎ (left ≢ 0) → add_up refs told ≡ false
+pub so_far-short : (refs left : ℕ) (told : Told) (references : List Counted) → IsSoFar refs left told references
+    → (refs ≡ 0) ⊎ (left ≢ 0) → add_up refs told ≡ false
 so_far-short refs left told references so (inl none) = elim (cases_Bool (are_counted told)) [
   | inl counted ↦
       let some = counted_some told counted in
@@ -205,14 +243,22 @@ told_some : (told : Told) → told_sum told ≢ 0 → nat_lt 0 (length told) ≡
 told_some [] some = absurd (some refl)
 told_some (entry ∷ told) some = grind (arith, nat_tests)
 
-pub so_far-sound : (refs : ℕ) (told : Told) (references : List Counted) → IsSoFar refs 0 told references → refs ≢ 0 → add_up refs told ≡ true
+pub so_far-sound : (refs : ℕ) (told : Told) (references : List Counted) → IsSoFar refs 0 told references → refs ≢ 0
+    → add_up refs told ≡ true
 so_far-sound refs told references so some =
-    and_true _ _ (and_true _ _ (told_some told (λ none. some (omega (arith, none, so.sum)))) (and_true _ _ so.once so.counts)) (eq-eqb refs (told_sum told) (omega (arith, so.sum)))
+    and_true _ _ (and_true _ _ (told_some told (λ none. some (omega (arith, none, so.sum))))
+    (and_true _ _ so.once so.counts)) (eq-eqb refs (told_sum told) (omega (arith, so.sum)))
 
 -- references with so many counts are some
-pub so_far-some : (refs : ℕ) (told : Told) (references : List Counted) → IsSoFar refs 0 told references → refs ≢ 0 → 0 < length references
+pub so_far-some : (refs : ℕ) (told : Told) (references : List Counted) → IsSoFar refs 0 told references → refs ≢ 0
+    → 0 < length references
 so_far-some refs told (entry ∷ references) so some = omega arith
-so_far-some refs told [] so some = absurd (some (omega (arith, so.sum, none told so.counts (λ x. sym (so.count x) ∙ count-nil x))))
+so_far-some refs told [] so some = absurd (some (omega (
+  arith,
+  so.sum,
+  none told so.counts
+      (λ x. sym (so.count x) ∙ count-nil x),
+)))
   where
     none : (all : Told) → list_all is_count all ≡ true → ((x : Reference) → told_count all x ≡ 0) → told_sum all ≡ 0
     none [] counts each = refl
@@ -223,12 +269,15 @@ so_far-some refs told [] so some = absurd (some (omega (arith, so.sum, none told
 
 -- ---- part by part
 
-pub part-taken : (refs : ℕ) (told : Told) (old new : Gathered) (part : Option (Reference × ℕ)) → IsSoFar refs old.left told old.references → IsPartTaken old new part
+pub part-taken : (refs : ℕ) (told : Told) (old new : Gathered) (part : Option (Reference × ℕ))
+    → IsSoFar refs old.left told old.references → IsPartTaken old new part
     → IsSoFar refs new.left (told ++ cons_option part []) new.references
-part-taken refs told old new None so taken = rw append-nil (subst (λ (g : Gathered). IsSoFar refs g.left told g.references) (sym taken) so)
+part-taken refs told old new None so taken = rw append-nil
+    (subst (λ (g : Gathered). IsSoFar refs g.left told g.references) (sym taken) so)
 part-taken refs told old new (Some entry) so taken = so_far-more refs told old new entry.0 entry.1 so taken
 
-pub part-refused : (refs : ℕ) (told rest : Told) (old : Gathered) (part : Option (Reference × ℕ)) → IsSoFar refs old.left told old.references → IsPartRefused old part
+pub part-refused : (refs : ℕ) (told rest : Told) (old : Gathered) (part : Option (Reference × ℕ))
+    → IsSoFar refs old.left told old.references → IsPartRefused old part
     → add_up refs (told ++ cons_option part rest) ≡ false
 part-refused refs told rest old None so refused = absurd refused
 part-refused refs told rest old (Some entry) so refused = so_far-refused refs told rest old entry.0 entry.1 so refused
@@ -236,10 +285,12 @@ part-refused refs told rest old (Some entry) so refused = so_far-refused refs to
 pub told-next : (here : List ExtentPart) (i : ℕ) (part : ExtentPart) → i < length here → part ≡ get_or here i part
     → told_in (take (i + 1) here) ≡ told_in (take i here) ++ cons_option (reference_told part) []
 told-next here i part inside is =
-    ap told_in (take_more here i part inside ∙ ap (λ (next : ExtentPart). take i here ++ next ∷ []) (sym is)) ∙ filter_map-append reference_told (take i here) (part ∷ [])
+    ap told_in (take_more here i part inside ∙ ap (λ (next : ExtentPart). take i here ++ next ∷ []) (sym is))
+    ∙ filter_map-append reference_told (take i here) (part ∷ [])
 
 pub told-cut : (here : List ExtentPart) (i : ℕ) (part : ExtentPart) → i < length here → part ≡ get_or here i part
     → told_in here ≡ told_in (take i here) ++ cons_option (reference_told part) (told_in (drop (i + 1) here))
 told-cut here i part inside is =
     ap told_in (sym (take-append-drop i here)) ∙ filter_map-append reference_told (take i here) (drop i here)
-    ∙ ap (λ (back : List ExtentPart). told_in (take i here) ++ told_in back) (drop_more here i part inside ∙ ap (λ (next : ExtentPart). next ∷ drop (i + 1) here) (sym is))
+    ∙ ap (λ (back : List ExtentPart). told_in (take i here) ++ told_in back)
+    (drop_more here i part inside ∙ ap (λ (next : ExtentPart). next ∷ drop (i + 1) here) (sym is))

@@ -4,7 +4,7 @@ use Rattle.std.specs.List.{list_all}
 use Rattle.qg_node.specs.declared.node.Header.{Header}
 use Rattle.qg_image.specs.declared.part.ExtentPart.{ExtentPart}
 use Rattle.qg_state.specs.State.{Layout}
-use Rattle.qg_state.specs.Owed.{Agrees, is_nothing, owed_to, what_at, What}
+use Rattle.qg_state.specs.Owed.{Agrees, is_nothing, owed_to, what_at}
 use Rattle.qg_state.specs.Owed.What.{Block}
 use Rattle.qg_refs.specs.declared.kept.Kept.{Kept}
 use Rattle.qg_refs.specs.Book.{AgreesWithOwed, Book}
@@ -15,7 +15,7 @@ use Rattle.qg_extents.specs.Written.{parts_of_book}
 
 -- ---- a book that is written and read
 
--- a record says all that is known: a data extent has no full mark, and a node has so many bytes and a level that is a byte
+-- a record says all that is known: a data extent has no full mark; a node has so many bytes, and its level is a byte
 pub record IsReadable (nodesize : ℕ) (kept : Kept) : Type 0 where
   pub extent : kept.what.level ≡ None → kept.full ≡ false
   pub node : (level : ℕ) → kept.what.level ≡ Some level → kept.what.bytes ≡ nodesize
@@ -28,7 +28,8 @@ pub record IsReadBack (nodesize : ℕ) (table : List (ℕ × Kept)) : Type 0 whe
   pub told : IsTold nodesize (parts_of_book table) (book_of table)
 
 abbrev pub ReadsBack : Type 0
-ReadsBack = (nodesize : ℕ) (table : List (ℕ × Kept)) → IsTable table → All (λ entry. IsReadable nodesize entry.1) table → IsReadBack nodesize table
+ReadsBack = (nodesize : ℕ) (table : List (ℕ × Kept)) → IsTable table → All (λ entry. IsReadable nodesize entry.1) table
+    → IsReadBack nodesize table
 
 -- ---- what is owed
 
@@ -48,4 +49,5 @@ pub record IsOwedBook (nodesize : ℕ) (layout : Layout) (parts : List ExtentPar
 
 abbrev pub ReadsOwed : Type 0
 ReadsOwed = (nodesize : ℕ) (layout : Layout) (parts : List ExtentPart) (book : Book)
-    → Agrees layout parts → IsOwing layout → AreFew parts → IsTold nodesize parts book → IsOwedBook nodesize layout parts book
+    → Agrees layout parts → IsOwing layout → AreFew parts → IsTold nodesize parts book
+    → IsOwedBook nodesize layout parts book

@@ -13,8 +13,10 @@ use Rattle.qg_extents.specs.Told.{are_counted, is_count, is_sound_record, refs_t
 pub record IsRun (parts : List ExtentPart) (from to : ℕ) : Type 0 where
   pub some : from < to
   pub bound : to ≤ length parts
-  pub same : (k : ℕ) (d : ExtentPart) → from ≤ k → k < to → part_address (slice_index_or parts k d) ≡ part_address (slice_index_or parts from d)
-  pub next : (d : ExtentPart) → to < length parts → part_address (slice_index_or parts to d) ≢ part_address (slice_index_or parts from d)
+  pub same : (k : ℕ) (d : ExtentPart) → from ≤ k → k < to
+      → part_address (slice_index_or parts k d) ≡ part_address (slice_index_or parts from d)
+  pub next : (d : ExtentPart) → to < length parts
+      → part_address (slice_index_or parts to d) ≢ part_address (slice_index_or parts from d)
 
 -- what a sound record tells; a node has so many bytes
 pub record IsHeadOf (nodesize : ℕ) (part : ExtentPart) (head : Head) : Type 0 where
@@ -32,7 +34,8 @@ pub record IsTaken (old new : Gathered) (reference : Reference) (count : ℕ) : 
 
 -- or it has no count that it may have, is there already, or has more than is left
 abbrev pub IsRefused : Gathered → Reference → ℕ → Type 0
-IsRefused old reference count = (is_count (reference, count) ≡ false) ⊎ (0 < count_of old.references reference) ⊎ (old.left < count)
+IsRefused old reference count =
+    (is_count (reference, count) ≡ false) ⊎ (0 < count_of old.references reference) ⊎ (old.left < count)
 
 -- so for what a part tells: a reference with its count, or none
 abbrev pub IsPartTaken : Gathered → Gathered → Option (Reference × ℕ) → Type 0

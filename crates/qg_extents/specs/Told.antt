@@ -1,4 +1,5 @@
--- When parts of the extent tree are the records of a book, and what they tell (this project's own). Addresses and lengths are in bytes.
+-- When parts of the extent tree are the records of a book, and what they tell (this project's own). Addresses and
+-- lengths are in bytes.
 use Rattle.std.specs.Prelude.{◌≡◌, ⊤, ℕ, Bool, true, false, ◌&&◌, ◌||◌, not, List, [], ◌∷◌, length, map, Option, Some, None, ◌==◌, nat_lt, nat_le, if◌then◌else◌, ◌≤◌}
 use Rattle.std.specs.List.{AllPairs, filter, filter_map, find, list_all, sum_by}
 use Rattle.std.specs.Option.{option_and_then}
@@ -43,7 +44,8 @@ are_counted told = nat_lt 0 (length told) && (is_told_once told && list_all is_c
 -- the flags are those of a data extent, or those of a node, whose level is a byte
 abbrev pub is_sound_record : ExtentPart → Bool
 is_sound_record (DataRecord address bytes extent) = extent.flags == 1
-is_sound_record (NodeRecord address level extent) = ((extent.flags == node_flags false) || (extent.flags == node_flags true)) && nat_lt level 256
+is_sound_record (NodeRecord address level extent) =
+    ((extent.flags == node_flags false) || (extent.flags == node_flags true)) && nat_lt level 256
 is_sound_record (Referenced address reference count) = false
 
 -- the sum of the counts, as a record tells it
@@ -54,8 +56,10 @@ refs_told (Referenced address reference count) = 0
 
 -- what a record tells; a node has so many bytes
 abbrev pub what_told : ℕ → ExtentPart → Option What
-what_told nodesize (DataRecord address bytes extent) = Some (record { bytes = bytes; level = None; generation = extent.generation })
-what_told nodesize (NodeRecord address level extent) = Some (record { bytes = nodesize; level = Some level; generation = extent.generation })
+what_told nodesize (DataRecord address bytes extent) =
+    Some (record { bytes = bytes; level = None; generation = extent.generation })
+what_told nodesize (NodeRecord address level extent) =
+    Some (record { bytes = nodesize; level = Some level; generation = extent.generation })
 what_told nodesize (Referenced address reference count) = None
 
 -- a record tells the full mark
@@ -78,7 +82,9 @@ the_record here = the_only (filter is_record here)
 
 -- parts at one address are what a book may have there: references, and one record with the sum of their counts
 unfoldable pub is_entry : List ExtentPart → Bool
-is_entry here = are_counted (told_in here) && some_passes (λ part. is_sound_record part && (refs_told part == told_sum (told_in here))) (the_record here)
+is_entry here =
+    are_counted (told_in here)
+    && some_passes (λ part. is_sound_record part && (refs_told part == told_sum (told_in here))) (the_record here)
 
 -- the parts at an address
 abbrev pub parts_at : List ExtentPart → ℕ → List ExtentPart
@@ -101,7 +107,8 @@ IsFault failure NoMemory = ⊤
 pub record IsTold (nodesize : ℕ) (parts : List ExtentPart) (book : Book) : Type 0 where
   pub what : (at : ℕ) → what_in (book at) ≡ option_and_then (what_told nodesize) (the_record (parts_at parts at))
   pub full : (at : ℕ) → full_in (book at) ≡ some_passes tells_full (the_record (parts_at parts at))
-  pub count : (at : ℕ) (reference : Reference) → count_at book at reference ≡ told_count (told_in (parts_at parts at)) reference
+  pub count : (at : ℕ) (reference : Reference)
+      → count_at book at reference ≡ told_count (told_in (parts_at parts at)) reference
 
 -- this is what parts at one address tell
 pub record IsEntryOf (nodesize : ℕ) (here : List ExtentPart) (kept : Kept) : Type 0 where

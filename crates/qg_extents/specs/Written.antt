@@ -1,5 +1,5 @@
--- The items of the extent tree that stand for a book (on-disk format, EXTENT_ITEM and what follows it). Addresses and lengths are in
--- bytes.
+-- The items of the extent tree that stand for a book (on-disk format, EXTENT_ITEM and what follows it). Addresses and
+-- lengths are in bytes.
 use Rattle.std.specs.Prelude.{ℕ, ◌+◌, ◌^◌, ◌<◌, Bool, List, [], ◌∷◌, map, Option, Some, None, IfSome, All}
 use Rattle.std.specs.List.{flat_map, sum_by}
 use Rattle.qg_node.specs.declared.item.Item.{Item}
@@ -13,7 +13,6 @@ use Rattle.qg_image.specs.declared.part.ExtentPart.TheVariants.{DataRecord, Node
 use Rattle.qg_parts.specs.Keys.{key_with}
 use Rattle.qg_state.specs.Owed.{node_flags}
 use Rattle.qg_refs.specs.declared.counted.Counted.{Counted}
-use Rattle.qg_refs.specs.declared.kept.What.{What}
 use Rattle.qg_refs.specs.declared.kept.Kept.{Kept}
 
 -- ---- what the items say
@@ -29,7 +28,11 @@ record_flags (Some level) full = node_flags full
 
 -- what the record's body says
 abbrev pub extent_of : Kept → ExtentItem
-extent_of kept = record { refs = refs_of kept.references; generation = kept.what.generation; flags = record_flags kept.what.level kept.full }
+extent_of kept = record {
+  refs = refs_of kept.references;
+  generation = kept.what.generation;
+  flags = record_flags kept.what.level kept.full;
+}
 
 -- the record of a data extent of so many bytes, or of a node of a level
 abbrev pub record_part : ℕ → ℕ → Option ℕ → ExtentItem → ExtentPart
@@ -61,9 +64,11 @@ item_at at kind offset body = record { key = key_with at kind offset; body = bod
 abbrev pub item_of_reference : ℕ → ℕ → Reference → ℕ → Item
 item_of_reference at number (KeyedBlock root) count = item_at at TREE_BLOCK_REF root []
 item_of_reference at number (KeyedData root ino offset) count =
-    item_at at EXTENT_DATA_REF number (data_ref_text (record { root = root; objectid = ino; offset = offset; count = count }))
+    item_at at EXTENT_DATA_REF number
+    (data_ref_text (record { root = root; objectid = ino; offset = offset; count = count }))
 item_of_reference at number (SharedBlock parent) count = item_at at SHARED_BLOCK_REF parent []
-item_of_reference at number (SharedData parent) count = item_at at SHARED_DATA_REF parent (shared_data_ref_text (record { count = count }))
+item_of_reference at number (SharedData parent) count =
+    item_at at SHARED_DATA_REF parent (shared_data_ref_text (record { count = count }))
 
 -- the number of the next EXTENT_DATA_REF, behind this reference
 abbrev pub number_behind : ℕ → Reference → ℕ
@@ -76,7 +81,8 @@ number_behind number (SharedData parent) = number
 abbrev pub items_of_references : ℕ → ℕ → List Counted → List Item
 items_of_references at number [] = []
 items_of_references at number (entry ∷ entries) =
-    item_of_reference at number entry.reference entry.count ∷ items_of_references at (number_behind number entry.reference) entries
+    item_of_reference at number entry.reference entry.count
+    ∷ items_of_references at (number_behind number entry.reference) entries
 
 -- the item of a record: an EXTENT_ITEM of so many bytes, or a METADATA_ITEM of a level
 abbrev pub record_item : ℕ → ℕ → Option ℕ → ExtentItem → Item

@@ -26,8 +26,8 @@ use std::collections::BTreeMap;
 use std::marker::Model;
 use std::sync::ledger::Ledger;
 
-/// The book of references in memory: for each address, in bytes, that has a reference, what is kept there (on-disk format,
-/// "backreferences"). A contract sees a table, ascending by address.
+/// The book of references in memory: for each address, in bytes, that has a reference, what is kept there (on-disk
+/// format, "backreferences"). A contract sees a table, ascending by address.
 #[derive(Drop)]
 pub struct Extents {
     alloc: Global,
@@ -57,8 +57,8 @@ impl Extents {
         }
     }
 
-    /// What is known of what begins at an address: nothing exactly where it has no reference. Land and disk are not asked, and stay as
-    /// they are.
+    /// What is known of what begins at an address: nothing exactly where it has no reference. Land and disk are not
+    /// asked, and stay as they are.
     pub fn what<G, D: Disk, L: Ledger>(
         &self,
         land: &mut G,
@@ -76,12 +76,14 @@ impl Extents {
         Ok(self.known(at))
     }
 
-    /// The extent tree's items for what is kept, by address: a record, then its references (on-disk format, EXTENT_ITEM and what
-    /// follows it). A sum of counts that doesn't fit 64 bits, of 2^32 references to one address at least, is answered as want of memory.
+    /// The extent tree's items for what is kept, by address: a record, then its references (on-disk format, EXTENT_ITEM
+    /// and what follows it). A sum of counts that doesn't fit 64 bits, of 2^32 references to one address at least, is
+    /// answered as want of memory.
     pub fn items(&self, alloc: Global) -> Result<Items, NoMemory>
         ensures exact { IfOk result (λ items. items ≡ items_of_book self.now) }
         ensures told { IfOk result (λ items. map extent_part items ≡ map (λ part. Some part) (parts_of_book self.now)) }
-        ensures allowed { IfOk result (λ items. (generation : ℕ) → All (λ entry. entry.1.what.generation ≤ generation) self.now
+        ensures allowed { IfOk result (λ items. (generation : ℕ)
+            → All (λ entry. entry.1.what.generation ≤ generation) self.now
             → IsTrue (list_all (is_item_of ExtentTree generation) items)) }
         ensures ascending { IfOk result (λ items. IsTrue (is_ascending (map (λ item. item.key) items))) }
         ensures short { IfOk result (λ items. All (λ item. length item.body ≤ 1024) items) }

@@ -16,8 +16,8 @@ struct Gathered {
     references: RefList,
 }
 
-/// The references that parts at one address tell, if there is one, each is told once and with a count that it may have, and this is the
-/// sum of the counts.
+/// The references that parts at one address tell, if there is one, each is told once and with a count that it may have,
+/// and this is the sum of the counts.
 pub(crate) fn read_references(
     alloc: Global,
     here: &[ExtentPart],
@@ -43,7 +43,8 @@ pub(crate) fn read_references(
 
 // Puts the reference of a part, if it tells one and that may be.
 fn gather_part(gathered: &mut Gathered, part: &ExtentPart) -> Result<bool, NoMemory>
-    ensures taken { IfOk result (λ taken. taken ≡ true → IsPartTaken gathered.old gathered.new (reference_told part.now)) }
+    ensures taken { IfOk result (λ taken. taken ≡ true
+        → IsPartTaken gathered.old gathered.new (reference_told part.now)) }
     ensures refused { IfOk result (λ taken. taken ≡ false → IsPartRefused gathered.old (reference_told part.now)) }
 {
     match part {

@@ -74,7 +74,11 @@ pub(crate) fn head_of(nodesize: u32, part: &ExtentPart) -> Option<Head>
 }
 
 fn make_head(bytes: u64, level: Option<u8>, generation: Generation, full: bool, refs: u64) -> Head
-    ensures { result ≡ record { what = record { bytes = bytes; level = level; generation = generation }; full = full; refs = refs } }
+    ensures { result ≡ record {
+      what = record { bytes = bytes; level = level; generation = generation };
+      full = full;
+      refs = refs;
+    } }
 {
     let what = What {
         bytes,

@@ -156,7 +156,8 @@ fn keyed_item(
 
 // A shared reference to a data extent.
 fn shared_item(alloc: Global, at: u64, parent: Address, count: u32) -> Result<Item, AllocError>
-    ensures exact { IfOk result (λ item. item ≡ item_at at SHARED_DATA_REF parent (shared_data_ref_text (record { count = count }))) }
+    ensures exact { IfOk result (λ item. item
+        ≡ item_at at SHARED_DATA_REF parent (shared_data_ref_text (record { count = count }))) }
     ensures parent { parent < 2 ^ 64 }
     ensures count { count < 2 ^ 32 }
 {

@@ -15,8 +15,8 @@ use qg_refs::Kept;
 use std::alloc::Global;
 
 impl Extents {
-    /// The book that parts of the extent tree tell, which stand by address. A node has so many bytes. The first address whose parts are
-    /// not what a book may have there is answered (on-disk format, EXTENT_ITEM and what follows it).
+    /// The book that parts of the extent tree tell, which stand by address. A node has so many bytes. The first address
+    /// whose parts are not what a book may have there is answered (on-disk format, EXTENT_ITEM and what follows it).
     pub fn read(alloc: Global, nodesize: u32, parts: &[ExtentPart]) -> Result<Extents, RefsFault>
         requires { AreInOrder parts.now }
         ensures told { IfOk result (λ extents. IsTold nodesize parts.now (book_of extents)) }

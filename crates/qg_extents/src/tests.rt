@@ -134,8 +134,8 @@ fn a_record_with_two_references_is_read(rt: HostRuntime) -> Result<(), Fail> {
     Ok(())
 }
 
-// What is known of the extent, how often a reference to it is there, and whether it is full: once it is added and marked, and once it is
-// dropped.
+// What is known of the extent, how often a reference to it is there, and whether it is full: once it is added and
+// marked, and once it is dropped.
 fn through_the_trait<L: Ledger>(
     alloc: Global,
     blank: Blank,

@@ -1,6 +1,6 @@
 -- Nodes and space after a node is put, and after a book did its part.
-use Rattle.std.proofs.Common.{◌≡◌, ◌≢◌, ◌⊎◌, ℕ, ◌+◌, ◌≤◌, Bool, true, false, List, [], arith, refl, sym, ap, subst, ◌∙◌, inl, inr}
-use Rattle.std.specs.Prelude.{Option, Some, None, IsSome, is_some, ◌==◌, if◌then◌else◌, Result, Ok, Err, Contains}
+use Rattle.std.proofs.Common.{◌≡◌, ◌≢◌, ◌⊎◌, ℕ, ◌+◌, Bool, true, false, List, [], arith, refl, sym, ap, subst, ◌∙◌, inl, inr}
+use Rattle.std.specs.Prelude.{Option, Some, None, IsSome, is_some, ◌==◌, if◌then◌else◌, Result, Err, Contains}
 use Rattle.std.proofs.lemmas.Bool.{true≢false}
 use Rattle.std.proofs.lemmas.Bool.Decides.{eqb_tells}
 use Rattle.std.specs.Ordering.{nat_cmp}
@@ -19,7 +19,7 @@ use Rattle.qg_super.specs.Places.{is_served, is_slot}
 use Rattle.qg_image.specs.Table.{with_number}
 use Rattle.qg_blocks.specs.Held.{Draft, Held}
 use Rattle.qg_blocks.specs.Told.{Answers, BreaksNone, IsBacked, IsNodeAt, first_of, fresh_at, told, told_or}
-use Rattle.qg_space.specs.Holding.{Holding, free_slots, has_slot, is_free_slot, without_slot}
+use Rattle.qg_space.specs.Holding.{Holding, is_free_slot, without_slot}
 use Rattle.qg_space.proofs.Members.{Contains-has_slot, Contains-without_slot}
 use Rattle.qg_ground.specs.declared.ground.Ground.{Ground}
 use Rattle.qg_ground.specs.Land.{IsDraftAt, IsDrafted, IsGround, Rests}

@@ -1,4 +1,4 @@
-use Rattle.std.proofs.Common.{◌≡◌, ◌+◌, ◌≤◌, ◌<◌, List, ◌++◌, ◌∷◌, length, take, drop, get_or, sym, ap, subst, ◌∙◌, arith}
+use Rattle.std.proofs.Common.{◌≡◌, ◌+◌, ◌<◌, List, ◌∷◌, length, take, drop, sym, ap, subst, ◌∙◌, arith}
 use Rattle.std.specs.Prelude.{All}
 use Rattle.std.proofs.lemmas.List.{drop_more, take_all}
 use Rattle.std.proofs.lemmas.List.Elements.{All-more}
@@ -13,19 +13,24 @@ loop-entry-preserved c =
     let i = c.loop-entry.entry-index in
     let entry = c.entry-item.result in
     let inside : i < length references = omega arith in
-    let split = drop_more references i entry inside ∙ ap (λ (e : Counted). e ∷ drop (i + 1) references) (sym c.entry-item.is) in
+    let split = drop_more references i entry inside ∙ ap (λ (e : Counted). e ∷ drop (i + 1) references)
+    (sym c.entry-item.is) in
     record {
-      items = references-put c.loop-entry.items c.push-in-loop-entry.new.self c.in_ok-reference_item.field-0 c.args.at c.loop-entry.number c.number_behind-number.result entry
-          (drop i references) (drop (i + 1) references) c.in_ok-push-2.ensures.ok c.in_ok-reference_item.ensures.exact c.number_behind-number.ensures.exact split
+      items = references-put c.loop-entry.items c.push-in-loop-entry.new.self c.in_ok-reference_item.field-0 c.args.at
+          c.loop-entry.number c.number_behind-number.result entry
+          (drop i references) (drop (i + 1) references) c.in_ok-push-2.ensures.ok c.in_ok-reference_item.ensures.exact
+          c.number_behind-number.ensures.exact split
           ∙ c.loop-entry.invariant.items;
       number = omega (arith, c.number_behind-number.ensures.bound, c.loop-entry.invariant.number);
-      fits = All-more CountedFits references i entry inside c.loop-entry.invariant.fits (subst CountedFits c.entry-item.is c.reference_item.ensures.fits);
+      fits = All-more CountedFits references i entry inside c.loop-entry.invariant.fits
+          (subst CountedFits c.entry-item.is c.reference_item.ensures.fits);
     }
 
 pub returns-clause-fits : goal.returns-clause-fits
 returns-clause-fits c =
     let references = c.as_slice-references.result.now in
-    let all : take c.loop-entry.entry-index references ≡ references = take_all c.loop-entry.entry-index references (omega arith) in
+    let all : take c.loop-entry.entry-index references ≡ references = take_all c.loop-entry.entry-index references
+    (omega arith) in
     let same = c.as_slice-references.ensures.same in
     record {
       address = omega arith;

@@ -7,5 +7,6 @@ abbrev pub invariant-loop-to : goal.invariant-loop-to
 invariant-loop-to l = record {
   order : l.from + 1 ≤ l.to;
   bound : l.to ≤ length l.parts;
-  same : (k : ℕ) (d : ExtentPart) → l.from ≤ k → k < l.to → part_address (get_or l.parts k d) ≡ part_address (get_or l.parts l.from d);
+  same : (k : ℕ) (d : ExtentPart) → l.from ≤ k → k < l.to
+      → part_address (get_or l.parts k d) ≡ part_address (get_or l.parts l.from d);
 }

@@ -1,10 +1,6 @@
-use Rattle.std.proofs.Common.{◌≡◌, List, refl, sym, ap, subst, ◌∙◌}
-use Rattle.std.specs.Prelude.{Option, Some}
-use Rattle.qg_device.specs.History.{Event}
-use Rattle.qg_node.specs.declared.node.Node.{Node}
+use Rattle.std.proofs.Common.{refl, subst}
 use Rattle.qg_node.specs.NodeText.{IsNode}
 use Rattle.qg_ground.specs.declared.ground.Ground.{Ground}
-use Rattle.qg_ground.specs.Changes.{node_at}
 use Rattle.qg_ground.proofs.Lands.{Copies-made, IsDrafted-copied, Rests-after, Rests-draft, Rests-spares, Rests-taken}
 use Rattle.qg_ground.proofs.owning.copy_out.Goals as goal
 

@@ -1,7 +1,7 @@
-use Rattle.std.proofs.Common.{◌≡◌, ap, refl}
+use Rattle.std.proofs.Common.{ap}
 use Rattle.qg_blocks.specs.Held.{Draft}
 use Rattle.qg_ground.specs.declared.ground.Ground.{Ground}
-use Rattle.qg_ground.specs.Changes.{Makes, node_at}
+use Rattle.qg_ground.specs.Changes.{node_at}
 use Rattle.qg_ground.proofs.Lands.{Makes-put, Spares-put, Spares-taken}
 use Rattle.qg_ground.proofs.putting.put_node.Goals as goal
 

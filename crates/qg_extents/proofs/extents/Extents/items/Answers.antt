@@ -1,4 +1,4 @@
-use Rattle.std.proofs.Common.{◌≡◌, ◌≤◌, ℕ, List, map, length, sym, ap, subst, ◌∙◌}
+use Rattle.std.proofs.Common.{◌≤◌, ℕ, List, map, length, sym, ap, subst, ◌∙◌}
 use Rattle.std.specs.Prelude.{All, Some}
 use Rattle.std.specs.List.{list_all}
 use Rattle.std.proofs.lemmas.List.Elements.{recursion_from_All}
@@ -39,7 +39,8 @@ returns-clause-ascending c =
 
 pub returns-clause-short : goal.returns-clause-short
 returns-clause-short c =
-    subst (λ (items : List Item). All (λ (item : Item). length item.body ≤ 1024) items) (sym c.in_ok-items_of_table.ensures.exact) (book-short c.self.inside.table.entries)
+    subst (λ (items : List Item). All (λ (item : Item). length item.body ≤ 1024) items)
+    (sym c.in_ok-items_of_table.ensures.exact) (book-short c.self.inside.table.entries)
 
 pub returns-clause-fit : goal.returns-clause-fit
 returns-clause-fit c =

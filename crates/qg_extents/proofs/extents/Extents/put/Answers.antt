@@ -7,4 +7,5 @@ invariant_of-self-2 c =
     let m = c.self.inside.table in
     let n = c.insert.new.self in
     table-put m.entries n.entries c.args.at (Some c.args.kept) c.self.invariant c.in_ok-insert.ensures.ordered
-    (updated_put m n c.value.result c.args.at (Some c.args.kept) c.value.ensures c.in_ok-insert.ensures.updates.0) c.requires
+    (updated_put m n c.value.result c.args.at (Some c.args.kept) c.value.ensures c.in_ok-insert.ensures.updates.0)
+    c.requires

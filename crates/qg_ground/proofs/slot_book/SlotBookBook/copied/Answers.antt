@@ -1,9 +1,6 @@
-use Rattle.std.proofs.Common.{◌≡◌, ap, refl}
-use Rattle.std.specs.Prelude.{None}
-use Rattle.qg_blocks.specs.Held.{Draft}
-use Rattle.qg_blocks.specs.Told.{fresh_at}
+use Rattle.std.proofs.Common.{refl}
 use Rattle.qg_ground.specs.declared.ground.Ground.{Ground}
-use Rattle.qg_ground.proofs.Lands.{Rests-given, fresh_at-told, none_first}
+use Rattle.qg_ground.proofs.Lands.{Rests-given}
 use Rattle.qg_ground.proofs.slot_book.SlotBookBook.copied.Goals as goal
 
 pub returns-clause-rests : goal.returns-clause-rests
