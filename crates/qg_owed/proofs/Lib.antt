@@ -9,3 +9,5 @@ pub mod Layouts
 pub mod OneAddress
 pub mod Things
 pub mod Collecting
+pub mod FirstFailure
+pub mod KeyOrder
