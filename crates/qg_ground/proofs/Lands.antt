@@ -18,7 +18,7 @@ use Rattle.qg_super.specs.declared.sizes.Sizes.{Sizes}
 use Rattle.qg_super.specs.Places.{is_served, is_slot}
 use Rattle.qg_image.specs.Table.{with_number}
 use Rattle.qg_blocks.specs.Held.{Draft, Held}
-use Rattle.qg_blocks.specs.Told.{Answers, BreaksNone, IsBacked, IsNodeAt, first_of, fresh_at, told, told_or}
+use Rattle.qg_blocks.specs.Told.{Answers, BreaksNone, IsBacked, IsNodeAt, first_of, fresh_at, held_at, told, told_or}
 use Rattle.qg_space.specs.Holding.{Holding, is_free_slot, without_slot}
 use Rattle.qg_space.proofs.Members.{Contains-has_slot, Contains-without_slot}
 use Rattle.qg_ground.specs.declared.ground.Ground.{Ground}
@@ -184,8 +184,8 @@ Makes-put old new now node put is free space telling =
 -- the copy of the node that is told
 pub Copies-made : (old mid new : Ground) (history : Option (List Event)) (at now owner generation : ℕ) (node copy : Node) → mid.blocks.draft ≡ old.blocks.draft → mid.space ≡ old.space
     → Makes mid new now copy → copy ≡ node_copy node (header_of node).address owner generation → ((n : Node) → told old.blocks.draft history at ≡ Some n → n ≡ node)
-    → Copies old new history at now owner generation
-Copies-made old mid new history at now owner generation node copy draft space makes made one =
+    → ((n : Node) → held_at old.blocks at ≡ Some n → n ≡ node) → Copies old new history at now owner generation
+Copies-made old mid new history at now owner generation node copy draft space makes made one lent =
     let is : node_at now copy ≡ node_copy node now owner generation = ap (λ (n : Node). node_at now n) made ∙ node_at-copy node (header_of node).address now owner generation in
     record {
       copy = node_at now copy;
@@ -197,6 +197,7 @@ Copies-made old mid new history at now owner generation node copy draft space ma
       owned = ap (λ (n : Node). (header_of n).owner) is ∙ node_copy-owner node now owner generation;
       dated = ap (λ (n : Node). (header_of n).generation) is ∙ node_copy-generation node now owner generation;
       same = λ n there. is ∙ ap (λ (m : Node). node_copy m now owner generation) (sym (one n there));
+      lent = λ n there. is ∙ ap (λ (m : Node). node_copy m now owner generation) (sym (lent n there));
       slots = inl (makes.slots ∙ ap (λ (h : Holding). with_number now h.slots) space);
     }
 
@@ -440,6 +441,7 @@ Copies-back old mid new history at now owner generation copies slots back = reco
   owned = copies.owned;
   dated = copies.dated;
   same = copies.same;
+  lent = copies.lent;
   slots = subst (λ (ns : List ℕ). MayLack at ns new.space.slots) slots back.slots;
 }
 

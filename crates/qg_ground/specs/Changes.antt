@@ -5,7 +5,7 @@ use Rattle.qg_node.specs.declared.node.Node.{Node}
 use Rattle.qg_node.specs.Nodes.{header_of}
 use Rattle.qg_image.specs.Table.{with_number}
 use Rattle.qg_cow.specs.Children.{with_header}
-use Rattle.qg_blocks.specs.Told.{fresh_at, told}
+use Rattle.qg_blocks.specs.Told.{fresh_at, held_at, told}
 use Rattle.qg_space.specs.Holding.{free_slots, has_slot, is_free_slot}
 use Rattle.qg_ground.specs.declared.ground.Ground.{Ground}
 use Rattle.qg_ground.specs.Tellings.{MayLack, node_copy}
@@ -27,14 +27,15 @@ pub record Makes (old new : Ground) (now : ℕ) (node : Node) : Type 0 where
   pub puts : Puts old new now (node_at now node)
   pub slots : new.space.slots ≡ with_number now old.space.slots
 
--- a node is copied: the copy is put, by this tree and of this generation, and of slots only the copy's is taken and only the node's own
--- may have been given back
+-- a node is copied: the copy is put, by this tree and of this generation. It is a copy of what is told, and over any disk of what is in
+-- memory. Of slots only the copy's is taken, and only the node's own may have been given back
 pub record Copies (old new : Ground) (history : Option (List Event)) (at now owner generation : ℕ) : Type 0 where
   pub copy : Node
   pub puts : Puts old new now copy
   pub owned : (header_of copy).owner ≡ owner
   pub dated : (header_of copy).generation ≡ generation
   pub same : (node : Node) → told old.blocks.draft history at ≡ Some node → copy ≡ node_copy node now owner generation
+  pub lent : (node : Node) → held_at old.blocks at ≡ Some node → copy ≡ node_copy node now owner generation
   pub slots : MayLack at (with_number now old.space.slots) new.space.slots
 
 -- a tree owns the node in the place of the one at an address: a fresh one is that node, and nothing changes; any other is copied

@@ -1,4 +1,5 @@
-use Rattle.std.proofs.Common.{refl, subst}
+use Rattle.std.proofs.Common.{ap, refl, subst}
+use Rattle.std.specs.Prelude.{is_some}
 use Rattle.qg_node.specs.NodeText.{IsNode}
 use Rattle.qg_ground.specs.declared.ground.Ground.{Ground}
 use Rattle.qg_ground.proofs.Lands.{Copies-made, IsDrafted-copied, Rests-after, Rests-draft, Rests-spares, Rests-taken}
@@ -28,6 +29,7 @@ returns-clause-copied g c =
     Copies-made c.args.land.now mid c.put_node.new.land (g.D.Disk.history c.args.disk.now) c.args.at c.in_ok-put_node.field-0 c.args.owner c.args.next c.peek.result.now c.in_ok-copy.copy
     c.load.ensures.draft refl c.in_ok-put_node.ensures.made c.in_ok-copy.ensures
     (λ node there. let held = c.in_ok-load.ensures.told node there in let lent = c.peek.ensures in cc)
+    (λ node there. let kept = c.load.ensures.same (ap is_some there) in let lent = c.peek.ensures in cc)
 
 pub returns-clause-rests : goal.returns-clause-rests
 returns-clause-rests g c =

@@ -1,0 +1,4 @@
+pub mod Lists
+pub mod Leaves
+pub mod Cuts
+pub mod Order

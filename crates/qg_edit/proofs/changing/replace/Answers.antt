@@ -1,0 +1,34 @@
+use Rattle.std.proofs.Common.{refl, sym, ◌∙◌}
+use Rattle.std.proofs.lemmas.Bool.{true≢false}
+use Rattle.qg_edit.proofs.Leaves.{edited-cut, IsNodeFor-header, ok-known, replaced, rest-cut}
+use Rattle.qg_edit.proofs.Lists.{has_key-goes}
+use Rattle.qg_node.specs.Nodes.{own_items}
+use Rattle.qg_edit.specs.declared.edit.Change.TheVariants.{Replace}
+use Rattle.qg_edit.proofs.changing.replace.Goals as goal
+
+pub cut-requires-clause-levelled : goal.cut-requires-clause-levelled
+cut-requires-clause-levelled c = (replaced c.args.nodesize c.args.leaf.now c.requires.leaf c.requires.sound c.args.key c.args.body c.in-Ok.place c.replace_body.new.node c.requires.short c.in-Ok.ensures.found c.replace_body.ensures).levelled
+
+pub cut-requires-clause-ascending : goal.cut-requires-clause-ascending
+cut-requires-clause-ascending c = (replaced c.args.nodesize c.args.leaf.now c.requires.leaf c.requires.sound c.args.key c.args.body c.in-Ok.place c.replace_body.new.node c.requires.short c.in-Ok.ensures.found c.replace_body.ensures).ascending
+
+pub cut-requires-clause-by_one : goal.cut-requires-clause-by_one
+cut-requires-clause-by_one c = (replaced c.args.nodesize c.args.leaf.now c.requires.leaf c.requires.sound c.args.key c.args.body c.in-Ok.place c.replace_body.new.node c.requires.short c.in-Ok.ensures.found c.replace_body.ensures).by_one
+
+pub returns-in-Ok-clause-edited : goal.returns-in-Ok-clause-edited
+returns-in-Ok-clause-edited c = edited-cut c.args.nodesize c.args.key (Replace c.args.body) c.args.leaf.now c.replace_body.new.node c.cut.new.node c.cut.result (replaced c.args.nodesize c.args.leaf.now c.requires.leaf c.requires.sound c.args.key c.args.body c.in-Ok.place c.replace_body.new.node c.requires.short c.in-Ok.ensures.found c.replace_body.ensures) c.cut.ensures.cut
+
+pub returns-in-Ok-clause-can : goal.returns-in-Ok-clause-can
+returns-in-Ok-clause-can c = ok-known _ c.cut.result (replaced c.args.nodesize c.args.leaf.now c.requires.leaf c.requires.sound c.args.key c.args.body c.in-Ok.place c.replace_body.new.node c.requires.short c.in-Ok.ensures.found c.replace_body.ensures).can
+
+pub returns-in-Ok-clause-node : goal.returns-in-Ok-clause-node
+returns-in-Ok-clause-node c = IsNodeFor-header c.args.nodesize c.args.leaf.now c.replace_body.new.node c.cut.new.node (replaced c.args.nodesize c.args.leaf.now c.requires.leaf c.requires.sound c.args.key c.args.body c.in-Ok.place c.replace_body.new.node c.requires.short c.in-Ok.ensures.found c.replace_body.ensures).header c.cut.ensures.node
+
+pub returns-in-Ok-clause-rest : goal.returns-in-Ok-clause-rest
+returns-in-Ok-clause-rest c = rest-cut c.args.nodesize c.args.leaf.now c.replace_body.new.node c.cut.result (replaced c.args.nodesize c.args.leaf.now c.requires.leaf c.requires.sound c.args.key c.args.body c.in-Ok.place c.replace_body.new.node c.requires.short c.in-Ok.ensures.found c.replace_body.ensures).header c.cut.ensures.rest
+
+pub returns-in-Ok-clause-sound : goal.returns-in-Ok-clause-sound
+returns-in-Ok-clause-sound c = λ can short. c.cut.ensures.sound ((replaced c.args.nodesize c.args.leaf.now c.requires.leaf c.requires.sound c.args.key c.args.body c.in-Ok.place c.replace_body.new.node c.requires.short c.in-Ok.ensures.found c.replace_body.ensures).short short)
+
+pub returns-in-Err-clause-sound : goal.returns-in-Err-clause-sound
+returns-in-Err-clause-sound c = λ can short. absurd (true≢false (sym can ∙ has_key-goes c.args.key (own_items c.args.leaf.now) c.in-Err.field-0 c.in-Err.ensures.absent))

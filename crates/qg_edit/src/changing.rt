@@ -1,0 +1,127 @@
+// An edit of one leaf.
+ghost use Rattle.std.specs.Prelude.{◌≡◌, IfOk, IfErr, OnOk, OnErr, map, slice_get, Some, length};
+ghost use Rattle.qg_node.specs.NodeText.{IsNode, IsNodeSize};
+ghost use Rattle.qg_node.specs.Nodes.{own_items};
+ghost use Rattle.qg_shape.specs.Filled.{HasShortBodies};
+ghost use Rattle.qg_shape.specs.Parts.{IsLeaf, with_items};
+ghost use Rattle.qg_shape.specs.Places.{GoesAt};
+ghost use Rattle.qg_blocks.specs.Told.{BreaksNone};
+ghost use Rattle.qg_edit.specs.Edits.{CanChange, CanEdit, IsShort, changed, edited};
+ghost use Rattle.qg_edit.specs.Outcome.{IsCutOf, IsNodeFor, RestIsNode};
+ghost use Rattle.qg_edit.specs.declared.edit.Change.TheVariants.{Insert, Replace, Remove};
+
+use crate::clearing::clear;
+use crate::cutting::{cut, misfit};
+use crate::{Change, Edit};
+use qg_node::{Body, Item, Node};
+use qg_num::{BlockFault, Key};
+use qg_shape::{find_item, insert_item, remove_item, replace_body};
+
+/// Edits a leaf. Where it then has too much it keeps a front, and the answer has the rest, which lies nowhere yet.
+///
+/// `Image` comes only where the leaf is not what the edit relies on, or has a body of more than 1024 bytes. After an `Err` it is still a
+/// node of its place.
+pub fn edit_leaf(leaf: &mut Node, nodesize: u32, edit: Edit) -> Result<Option<Node>, BlockFault>
+    requires size { IsNodeSize nodesize }
+    requires leaf { IsLeaf leaf.old }
+    requires sound { IsNode nodesize leaf.old }
+    requires short { IsShort edit.change }
+    ensures edited { IfOk result (λ rest. IsCutOf nodesize (with_items leaf.old (edited edit (own_items leaf.old))) leaf.new rest) }
+    ensures can { OnOk result (CanEdit edit (own_items leaf.old)) }
+    ensures node { IsNodeFor nodesize leaf.old leaf.new }
+    ensures rest { IfOk result (λ rest. RestIsNode nodesize leaf.old rest) }
+    ensures sound { CanEdit edit (own_items leaf.old) → HasShortBodies leaf.old → BreaksNone result }
+{
+    let Edit { key, change } = edit;
+    match change {
+        Change::Insert(body) => insert(leaf, nodesize, key, body),
+        Change::Replace(body) => replace(leaf, nodesize, key, body),
+        Change::Remove => remove(leaf, nodesize, key),
+        Change::Clear => {
+            clear(leaf);
+            Ok(None)
+        }
+    }
+}
+
+// The place of the item with a key; where there is none, the place that it would be put at.
+fn place_of(leaf: &Node, nodesize: u32, key: Key) -> Result<usize, usize>
+    requires leaf { IsLeaf leaf.now }
+    requires sound { IsNode nodesize leaf.now }
+    ensures found { IfOk result (λ place. slice_get (map (λ item. item.key) (own_items leaf.now)) place ≡ Some key) }
+    ensures absent { IfErr result (λ place. GoesAt (map (λ item. item.key) (own_items leaf.now)) key place) }
+{
+    match leaf {
+        Node::Leaf { items, .. } => find_item(items.as_slice(), key),
+        Node::Inner { .. } => unreachable!(),
+    }
+}
+
+fn insert(
+    leaf: &mut Node,
+    nodesize: u32,
+    key: Key,
+    body: Body,
+) -> Result<Option<Node>, BlockFault>
+    requires size { IsNodeSize nodesize }
+    requires leaf { IsLeaf leaf.old }
+    requires sound { IsNode nodesize leaf.old }
+    requires short { IsShort (Insert body) }
+    ensures edited { IfOk result (λ rest. IsCutOf nodesize (with_items leaf.old (changed key (Insert body) (own_items leaf.old))) leaf.new rest) }
+    ensures can { OnOk result (CanChange key (Insert body) (own_items leaf.old)) }
+    ensures node { IsNodeFor nodesize leaf.old leaf.new }
+    ensures rest { IfOk result (λ rest. RestIsNode nodesize leaf.old rest) }
+    ensures sound { CanChange key (Insert body) (own_items leaf.old) → HasShortBodies leaf.old → BreaksNone result }
+{
+    match place_of(leaf, nodesize, key) {
+        Ok(_) => Err(misfit(leaf)),
+        Err(place) => {
+            insert_item(leaf, place, Item { key, body })?;
+            cut(leaf, nodesize, place)
+        }
+    }
+}
+
+fn replace(
+    leaf: &mut Node,
+    nodesize: u32,
+    key: Key,
+    body: Body,
+) -> Result<Option<Node>, BlockFault>
+    requires size { IsNodeSize nodesize }
+    requires leaf { IsLeaf leaf.old }
+    requires sound { IsNode nodesize leaf.old }
+    requires short { IsShort (Replace body) }
+    ensures edited { IfOk result (λ rest. IsCutOf nodesize (with_items leaf.old (changed key (Replace body) (own_items leaf.old))) leaf.new rest) }
+    ensures can { OnOk result (CanChange key (Replace body) (own_items leaf.old)) }
+    ensures node { IsNodeFor nodesize leaf.old leaf.new }
+    ensures rest { IfOk result (λ rest. RestIsNode nodesize leaf.old rest) }
+    ensures sound { CanChange key (Replace body) (own_items leaf.old) → HasShortBodies leaf.old → BreaksNone result }
+{
+    match place_of(leaf, nodesize, key) {
+        Ok(place) => {
+            replace_body(leaf, place, body);
+            cut(leaf, nodesize, place)
+        }
+        Err(_) => Err(misfit(leaf)),
+    }
+}
+
+fn remove(leaf: &mut Node, nodesize: u32, key: Key) -> Result<Option<Node>, BlockFault>
+    requires size { IsNodeSize nodesize }
+    requires leaf { IsLeaf leaf.old }
+    requires sound { IsNode nodesize leaf.old }
+    ensures edited { IfOk result (λ rest. IsCutOf nodesize (with_items leaf.old (changed key Remove (own_items leaf.old))) leaf.new rest) }
+    ensures can { OnOk result (CanChange key Remove (own_items leaf.old)) }
+    ensures node { IsNodeFor nodesize leaf.old leaf.new }
+    ensures rest { IfOk result (λ rest. RestIsNode nodesize leaf.old rest) }
+    ensures sound { CanChange key Remove (own_items leaf.old) → HasShortBodies leaf.old → BreaksNone result }
+{
+    match place_of(leaf, nodesize, key) {
+        Ok(place) => {
+            let _item = remove_item(leaf, place);
+            Ok(None)
+        }
+        Err(_) => Err(misfit(leaf)),
+    }
+}

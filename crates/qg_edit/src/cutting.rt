@@ -1,0 +1,76 @@
+// A node that may have too much.
+ghost use Rattle.std.specs.Prelude.{◌≡◌, ◌+◌, ◌≤◌, ◌↔◌, length, IfOk, OnOk, OnErr, IsTrue};
+ghost use Rattle.std.specs.List.{All};
+ghost use Rattle.qg_node.specs.Nodes.{is_ascending, own_keys, used_bytes};
+ghost use Rattle.qg_node.specs.NodeText.{IsLevelled, IsNodeSize};
+ghost use Rattle.qg_shape.specs.Filled.{HasShortBodies};
+ghost use Rattle.qg_blocks.specs.Told.{BreaksNone};
+ghost use Rattle.qg_edit.specs.Outcome.{IsCutOf, IsNodeFor, RestIsNode};
+
+use crate::clearing::clear;
+use qg_node::{Item, Node};
+use qg_num::{BlockFault, Rule};
+use qg_shape::{is_overfull, split};
+
+/// The longest body of an item, in bytes.
+const LONGEST_BODY: usize = 1024;
+
+/// A node that what was read elsewhere does not agree with.
+pub(crate) fn misfit(node: &Node) -> BlockFault {
+    BlockFault::Image {
+        rule: Rule::Refs,
+        address: node.header().address,
+    }
+}
+
+/// Whether no body of the node is longer than a tree holds.
+pub(crate) fn has_short_bodies(node: &Node) -> bool
+    ensures { IsTrue result ↔ HasShortBodies node.now }
+{
+    match node {
+        Node::Leaf { items, .. } => are_short(items.as_slice()),
+        Node::Inner { .. } => true,
+    }
+}
+
+fn are_short(items: &[Item]) -> bool
+    ensures { IsTrue result ↔ All (λ item. length item.body ≤ 1024) items.now }
+{
+    items.iter().all(|item| item.body.len() <= LONGEST_BODY)
+}
+
+/// Cuts a node in two where it has too much, by an item at most. `newest` is where the item or pointer stands that was put in last.
+/// After an `Err` the node is empty, or as it was.
+pub(crate) fn cut(
+    node: &mut Node,
+    nodesize: u32,
+    newest: usize,
+) -> Result<Option<Node>, BlockFault>
+    requires size { IsNodeSize nodesize }
+    requires levelled { IsLevelled node.old }
+    requires ascending { IsTrue (is_ascending (own_keys node.old)) }
+    requires by_one { 101 + used_bytes node.old ≤ nodesize + 1049 }
+    ensures cut { IfOk result (λ rest. IsCutOf nodesize node.old node.new rest) }
+    ensures node { IsNodeFor nodesize node.old node.new }
+    ensures rest { IfOk result (λ rest. RestIsNode nodesize node.old rest) }
+    ensures sound { HasShortBodies node.old → BreaksNone result }
+{
+    if !is_overfull(node, nodesize) {
+        return Ok(None);
+    }
+    let address = node.header().address;
+    if !has_short_bodies(node) {
+        clear(node);
+        return Err(BlockFault::Image {
+            rule: Rule::Item,
+            address,
+        });
+    }
+    match split(node, nodesize, newest, address) {
+        Ok(rest) => Ok(Some(rest)),
+        Err(fault) => {
+            clear(node);
+            Err(BlockFault::from(fault))
+        }
+    }
+}
