@@ -8,3 +8,8 @@ pub mod Reached
 pub mod Frames
 pub mod Walked
 pub mod Ranges
+pub mod Branches
+pub mod BranchFrames
+pub mod BranchForms
+pub mod BranchWalk
+pub mod BranchOrder

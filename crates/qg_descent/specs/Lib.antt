@@ -1,3 +1,4 @@
 pub mod Tree
 pub mod Reading
 pub mod Way
+pub mod Branch
