@@ -67,9 +67,9 @@ each-get Under (first ∷ pointers) items each (suc place) pointer there =
 
 -- ---- what a branch is
 
-begin_front : (key : Key) (front back : List Item) → BeginAt key front → BeginAt key (front ++ back)
-begin_front key [] back h = absurd h
-begin_front key (item ∷ front) back h = h
+pub begin-front : (key : Key) (front back : List Item) → BeginAt key front → BeginAt key (front ++ back)
+begin-front key [] back h = absurd h
+begin-front key (item ∷ front) back h = h
 
 begin_keys : (key : Key) (items : List Item) → is_first key (map (λ (item : Item). item.key) items) ≡ true → BeginAt key items
 begin_keys key [] h = absurd cc
@@ -115,7 +115,7 @@ module _ (tree : Tree) (super : Super) (nodes : ℕ → Option Node) where
   begins_each level begins key (pointer ∷ pointers) items each first =
       let same = same_key-true pointer.key key first in
       let here = begins pointer each.0 each.3.0 each.3.1 in
-      subst (λ (zs : List Item). BeginAt key zs) (sym each.2) (begin_front key each.0 each.1 (subst (λ (k : Key). BeginAt k each.0) same here))
+      subst (λ (zs : List Item). BeginAt key zs) (sym each.2) (begin-front key each.0 each.1 (subst (λ (k : Key). BeginAt k each.0) same here))
 
   -- where its node begins at a key, so do its items
   pub branch-begins : (level address : ℕ) (items : List Item) → IsBranch tree super nodes level address items → (key : Key) (node : Node) → nodes address ≡ Some node
@@ -132,6 +132,12 @@ module _ (tree : Tree) (super : Super) (nodes : ℕ → Option Node) where
   -- the items under a pointer begin at its key
   pub branch-first : (level : ℕ) (pointer : Pointer) (items : List Item) → IsPointed super nodes pointer → IsBranch tree super nodes level pointer.child items → BeginAt pointer.key items
   branch-first level pointer items pointed branch = branch-begins level pointer.child items branch pointer.key pointed.node pointed.there pointed.first
+
+  -- and so do those under several pointers
+  pub branches-first : (level : ℕ) (pointer : Pointer) (pointers : List Pointer) (items : List Item) → AreBranches tree super nodes level (pointer ∷ pointers) items
+      → BeginAt pointer.key items
+  branches-first level pointer pointers items each =
+      subst (λ (xs : List Item). BeginAt pointer.key xs) (sym each.2) (begin-front pointer.key each.0 each.1 (branch-first level pointer each.0 each.3.0 each.3.1))
 
   -- one node tells one list of items
   one_each : (level : ℕ) → ((address : ℕ) (items others : List Item) → IsBranch tree super nodes level address items → IsBranch tree super nodes level address others → items ≡ others)

@@ -13,3 +13,5 @@ pub mod BranchFrames
 pub mod BranchForms
 pub mod BranchWalk
 pub mod BranchOrder
+pub mod BranchRanges
+pub mod BranchApart
