@@ -8,3 +8,10 @@ pub mod Reached
 pub mod Frames
 pub mod Walked
 pub mod Ranges
+pub mod Branches
+pub mod BranchFrames
+pub mod BranchForms
+pub mod BranchWalk
+pub mod BranchOrder
+pub mod BranchRanges
+pub mod BranchApart
