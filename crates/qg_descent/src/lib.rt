@@ -1,9 +1,16 @@
 //! Trees over nodes by address: what stands under a key, at or below one, or from one to another.
 #![tactic(auto)]
 
+mod editing;
+mod instead;
+mod joining;
 mod leaf;
+mod owning;
 mod reach;
 mod reading;
+mod rewriting;
+mod settling;
+mod standing;
 mod tree;
 mod way;
 

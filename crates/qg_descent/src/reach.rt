@@ -21,7 +21,7 @@ use std::sync::ledger::Ledger;
 
 impl Tree {
     // Sees to it that the node that a way has come to is in memory, and that it is what the way leads to expect.
-    fn visit<P: TreePart, D: Disk, L: Ledger>(
+    pub(crate) fn visit<P: TreePart, D: Disk, L: Ledger>(
         &self,
         blocks: &mut Blocks,
         disk: &mut D,

@@ -55,6 +55,20 @@ impl Tree {
         self.height
     }
 
+    // The number of the tree that makes its nodes.
+    pub(crate) fn owner(&self) -> RootId
+        ensures { result ≡ self.now.owner }
+    {
+        self.owner
+    }
+
+    // The generation to come.
+    pub(crate) fn next(&self) -> Generation
+        ensures { result ≡ self.now.next }
+    {
+        self.next
+    }
+
     // What is expected of the root.
     pub(crate) fn way(&self) -> Way
         ensures address { result.address ≡ self.now.address }

@@ -1,0 +1,60 @@
+// Two fresh neighbours.
+ghost use Rattle.std.specs.Prelude.{◌≡◌, ◌≢◌, ◌⊎◌, Some, IfOk, IsSome};
+ghost use Rattle.qg_node.specs.declared.node.Node.{Node as NodeValue};
+ghost use Rattle.qg_node.specs.Nodes.{header_of};
+ghost use Rattle.qg_node.specs.NodeText.{IsNode, IsNodeSize};
+ghost use Rattle.qg_shape.specs.Filled.{HasShortBodies, IsThin};
+ghost use Rattle.qg_blocks.specs.Lending.{with_fresh};
+ghost use Rattle.qg_blocks.specs.Told.{BreaksNone, fresh_at};
+ghost use Rattle.qg_edit.specs.Outcome.{IsInFront, cleared};
+ghost use Rattle.qg_descent.specs.Editing.{ArePair, AreRewritten, IsJoinedThere};
+
+use qg_edit::merge;
+use qg_ground::Ground;
+use qg_node::{Header, Items, Node};
+use qg_num::{Address, BlockFault};
+use qg_shape::Joined;
+use std::alloc::Global;
+use std::mem;
+
+// The fresh node at an address, where an empty leaf lies then.
+fn take_node(alloc: Global, land: &mut Ground, at: Address) -> Node
+    requires { IsSome (fresh_at land.old.blocks.draft at) }
+    ensures taken { fresh_at land.old.blocks.draft at ≡ Some result }
+    ensures left { land.new ≡ record land.old { blocks = with_fresh land.old.blocks at (cleared result) } }
+{
+    let node = land.blocks.get_mut(at);
+    let header = Header {
+        level: 0,
+        ..node.header()
+    };
+    let empty = Node::Leaf {
+        header,
+        items: Items::new(alloc),
+    };
+    mem::replace(node, empty)
+}
+
+// Joins the fresh nodes at two addresses. Where all is in the left one, an empty leaf lies in the place of the right one.
+pub(crate) fn join_nodes(
+    alloc: Global,
+    land: &mut Ground,
+    left: Address,
+    right: Address,
+) -> Result<Joined, BlockFault>
+    requires apart { left ≢ right }
+    requires pair { ArePair land.old left right }
+    ensures rewritten { AreRewritten land.old land.new left right }
+    ensures joined { IfOk result (λ joined. IsJoinedThere land.old land.new left right joined) }
+    ensures sound { (a b : NodeValue) → fresh_at land.old.blocks.draft left ≡ Some a → fresh_at land.old.blocks.draft right ≡ Some b
+        → IsInFront a b → HasShortBodies a → HasShortBodies b → BreaksNone result }
+{
+    let nodesize = land.blocks.nodesize();
+    let mut other = take_node(alloc, land, right);
+    let joined = merge(land.blocks.get_mut(left), &mut other, nodesize);
+    match joined {
+        Ok(Joined::Whole) => {}
+        _ => *land.blocks.get_mut(right) = other,
+    }
+    joined
+}

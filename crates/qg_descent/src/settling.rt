@@ -1,0 +1,181 @@
+// A child was edited: the pointers of its node are set, and a child that is not a quarter full is joined with its neighbour.
+ghost use Rattle.std.specs.Prelude.{◌≡◌, ◌≢◌, ⊤, ◌+◌, ◌*◌, ◌<◌, ◌≤◌, suc, ℕ, List, Option, None, Some, OnOk, IfOk, IsSome, MatchOption, length};
+ghost use Rattle.qg_device.specs.Cause.{HasCause};
+ghost use Rattle.qg_device.specs.History.{Event};
+ghost use Rattle.qg_node.specs.declared.item.Item.{Item as ItemValue};
+ghost use Rattle.qg_node.specs.declared.node.Node.{Node as NodeValue};
+ghost use Rattle.qg_node.specs.declared.pointer.Pointer.{Pointer as PointerValue};
+ghost use Rattle.qg_node.specs.declared.node.Header.{Header as HeaderValue};
+ghost use Rattle.qg_node.specs.Nodes.{header_of, own_pointers};
+ghost use Rattle.qg_node.specs.NodeText.{IsNode, IsNodeSize};
+ghost use Rattle.qg_num.specs.declared.fault.BlockFault.TheVariants as block;
+ghost use Rattle.qg_super.specs.declared.superblock.Super.{Super as SuperValue};
+ghost use Rattle.qg_verdict.specs.declared.tree.Tree.{Tree as TreeValue};
+ghost use Rattle.qg_shape.specs.Filled.{IsThin};
+ghost use Rattle.qg_shape.specs.Parts.{IsInner};
+ghost use Rattle.qg_blocks.specs.Told.{BreaksNone, fresh_at};
+ghost use Rattle.qg_space.specs.Holding.{free_slots};
+ghost use Rattle.qg_ground.specs.Land.{Rests};
+ghost use Rattle.qg_descent.specs.Editing.{CanLead, HasLed, IsEditable, IsFreshOn, IsRewritten, IsSettled, IsUnsettled, Moves, RestIsBehind, RestIsReady, StandsInstead, alone};
+
+use crate::Tree;
+use crate::instead::Instead;
+use crate::joining::join_nodes;
+use crate::rewriting::rewrite_pointers;
+use crate::way::neighbour_of;
+use qg_disk::Disk;
+use qg_ground::{Book, Ground, leave_node};
+use qg_node::Node;
+use qg_num::{Address, BlockFault, Key, Rule, Steps};
+use qg_parts::TreePart;
+use qg_shape::{Joined, is_thin, pointer_to};
+use std::alloc::Global;
+use std::sync::ledger::Ledger;
+
+impl Tree {
+    // Sets the pointers of the fresh node at an address to what stands in the place of one of its children, which are of a level. Where the
+    // node then has too much, the answer is what was cut off.
+    pub(crate) fn settle<P: TreePart, D: Disk, L: Ledger, B: Book<D, L>>(
+        &self,
+        alloc: Global,
+        land: &mut Ground,
+        disk: &mut D,
+        book: &mut B,
+        at: Address,
+        to: Option<Key>,
+        level: u8,
+        place: usize,
+        child: Instead,
+        reads: &mut Steps<L>,
+    ) -> Result<Option<Node>, BlockFault>
+        requires editable { IsEditable land.old (D.history disk.old) (D.size disk.old) self.now.next }
+        requires stands { B.stands book.old land.old disk.old }
+        requires slots { 0 < free_slots land.old.space }
+        requires parent { IsFreshOn land.old (level + 1) at }
+        requires inside { (node : NodeValue) → fresh_at land.old.blocks.draft at ≡ Some node → place < length (own_pointers node) }
+        requires child { StandsInstead land.old level child }
+        ensures parent { OnOk result (IsFreshOn land.new (level + 1) at) }
+        ensures ready { IfOk result (λ rest. RestIsReady land.old.space.sizes.nodesize (level + 1) self.now.next rest) }
+        ensures moves { OnOk result (Moves 1 (level + 1) land.old land.new) }
+        ensures settled { (items : List ItemValue) → (un : IsUnsettled P.tree self.now land.old (D.history disk.old) level at to place child items)
+            → IfOk result (λ rest. IsSettled P.tree self.now land.old land.new (D.history disk.old) level at place child un.pointers un.header items rest) }
+        ensures sound { (events : List Event) → D.history disk.old ≡ Some events → (items : List ItemValue)
+            → IsUnsettled P.tree self.now land.old (D.history disk.old) level at to place child items → BreaksNone result }
+        ensures rests { Rests land.old land.new (D.history disk.new) self.now.next }
+        ensures stands { OnOk result (B.stands book.new land.new disk.new) }
+        ensures disk { (D.history disk.new ≡ D.history disk.old) × (D.size disk.new ≡ D.size disk.old) }
+        ensures cause { HasCause BlockFault.Disk (D.faults disk.old) (D.faults disk.new) result }
+        ensures reads { (most : ℕ) → ((book : B) (q : ℕ) → B.to_read book q ≤ most) → reads.new ≤ reads.old + (3 + 2 * most) }
+    {
+        let is_joined = child.more.is_none()
+            && is_thin(land.blocks.peek(child.now), land.blocks.nodesize());
+        if is_joined {
+            return self.join_child::<P, D, L, B>(
+                alloc, land, disk, book, at, to, level, place, child.now, reads,
+            );
+        }
+        lead_to(land, at, place, place + 1, child)
+    }
+
+    // Joins a child that is not a quarter full with its neighbour, and sets the pointers of the fresh node at an address to both.
+    fn join_child<P: TreePart, D: Disk, L: Ledger, B: Book<D, L>>(
+        &self,
+        alloc: Global,
+        land: &mut Ground,
+        disk: &mut D,
+        book: &mut B,
+        at: Address,
+        to: Option<Key>,
+        level: u8,
+        place: usize,
+        child: Address,
+        reads: &mut Steps<L>,
+    ) -> Result<Option<Node>, BlockFault>
+        requires editable { IsEditable land.old (D.history disk.old) (D.size disk.old) self.now.next }
+        requires stands { B.stands book.old land.old disk.old }
+        requires slots { 0 < free_slots land.old.space }
+        requires parent { IsFreshOn land.old (level + 1) at }
+        requires inside { (node : NodeValue) → fresh_at land.old.blocks.draft at ≡ Some node → place < length (own_pointers node) }
+        requires child { IsFreshOn land.old level child }
+        requires thin { (node : NodeValue) → fresh_at land.old.blocks.draft child ≡ Some node → IsThin land.old.space.sizes.nodesize node }
+        ensures parent { OnOk result (IsFreshOn land.new (level + 1) at) }
+        ensures ready { IfOk result (λ rest. RestIsReady land.old.space.sizes.nodesize (level + 1) self.now.next rest) }
+        ensures moves { OnOk result (Moves 1 (level + 1) land.old land.new) }
+        ensures settled { (items : List ItemValue) → (un : IsUnsettled P.tree self.now land.old (D.history disk.old) level at to place (alone child) items)
+            → IfOk result (λ rest. IsSettled P.tree self.now land.old land.new (D.history disk.old) level at place (alone child) un.pointers un.header items rest) }
+        ensures sound { (events : List Event) → D.history disk.old ≡ Some events → (items : List ItemValue)
+            → IsUnsettled P.tree self.now land.old (D.history disk.old) level at to place (alone child) items → BreaksNone result }
+        ensures rests { Rests land.old land.new (D.history disk.new) self.now.next }
+        ensures stands { OnOk result (B.stands book.new land.new disk.new) }
+        ensures disk { (D.history disk.new ≡ D.history disk.old) × (D.size disk.new ≡ D.size disk.old) }
+        ensures cause { HasCause BlockFault.Disk (D.faults disk.old) (D.faults disk.new) result }
+        ensures reads { (most : ℕ) → ((book : B) (q : ℕ) → B.to_read book q ≤ most) → reads.new ≤ reads.old + (3 + 2 * most) }
+    {
+        let Some(beside) = neighbour_of(land.blocks.peek(at), to, level, place) else {
+            return Err(unfit(Rule::Shape, at));
+        };
+        let other = self.own::<P, D, L, B>(alloc, land, disk, book, &beside.way, reads)?;
+        if other == child {
+            return Err(unfit(Rule::Refs, at));
+        }
+        let is_first = beside.front == place;
+        let (left, right) = if is_first {
+            (child, other)
+        } else {
+            (other, child)
+        };
+        let more = match join_nodes(alloc, land, left, right)? {
+            Joined::Parted => Some(right),
+            Joined::Whole => {
+                leave_node(land, disk, book, right, reads)?;
+                None
+            }
+        };
+        lead_to(
+            land,
+            at,
+            beside.front,
+            beside.front + 2,
+            Instead { now: left, more },
+        )
+    }
+}
+
+// A node that does not fit what was read elsewhere.
+fn unfit(rule: Rule, address: Address) -> BlockFault
+    ensures { result ≡ block.Image rule address }
+{
+    BlockFault::Image { rule, address }
+}
+
+// Sets pointers of the fresh node at an address, from one index up to another, to what stands there instead. Where the node then has too
+// much, the answer is what was cut off.
+fn lead_to(
+    land: &mut Ground,
+    at: Address,
+    from: usize,
+    to: usize,
+    instead: Instead,
+) -> Result<Option<Node>, BlockFault>
+    requires size { IsNodeSize land.old.space.sizes.nodesize }
+    requires nodesize { land.old.blocks.draft.sizes.nodesize ≡ land.old.space.sizes.nodesize }
+    requires fresh { (IsSome (fresh_at land.old.blocks.draft instead.now)) × (MatchOption instead.more ⊤ (λ more. IsSome (fresh_at land.old.blocks.draft more))) }
+    requires parent { (node : NodeValue) × (fresh_at land.old.blocks.draft at ≡ Some node) × IsInner node × IsNode land.old.space.sizes.nodesize node × (to ≤ length (own_pointers node)) }
+    requires some { (from < to) × (to ≤ from + 2) }
+    ensures rewritten { (node : NodeValue) → fresh_at land.old.blocks.draft at ≡ Some node → IsRewritten land.old land.new at node }
+    ensures rest { (node : NodeValue) → fresh_at land.old.blocks.draft at ≡ Some node → IfOk result (λ rest. RestIsBehind land.old.space.sizes.nodesize node land.new at rest) }
+    ensures led { (tree : TreeValue) (super : SuperValue) (history : Option (List Event)) (level : ℕ) (pointers : List PointerValue) (header : HeaderValue) (items : List ItemValue)
+        → CanLead tree super land.old history level at from to instead pointers header items
+        → IfOk result (λ rest. HasLed tree super land.old land.new history level at from to instead pointers header items rest) }
+    ensures sound { (tree : TreeValue) (super : SuperValue) (history : Option (List Event)) (level : ℕ) (pointers : List PointerValue) (header : HeaderValue) (items : List ItemValue)
+        → CanLead tree super land.old history level at from to instead pointers header items → BreaksNone result }
+{
+    let now = pointer_to(land.blocks.peek(instead.now));
+    match instead.more {
+        None => rewrite_pointers(land, at, from, to, &[now]),
+        Some(more) => {
+            let behind = pointer_to(land.blocks.peek(more));
+            rewrite_pointers(land, at, from, to, &[now, behind])
+        }
+    }
+}
