@@ -15,3 +15,9 @@ pub mod BranchWalk
 pub mod BranchOrder
 pub mod BranchRanges
 pub mod BranchApart
+pub mod Leading
+pub mod Spliced
+pub mod Settled
+pub mod Rewritten
+pub mod Placed
+pub mod Cutting

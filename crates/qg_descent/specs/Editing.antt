@@ -107,10 +107,11 @@ pub record IsOwned (tree : Tree) (root : Root) (old new : Ground) (history : Opt
 abbrev pub alone : ℕ → Instead
 alone address = record { now = address; more = None }
 
--- what was cut off the node at an address, if anything: it has a text, and the node's level, owner and generation
-abbrev pub RestIsBehind : ℕ → Node → Ground → ℕ → Option Node → Type 0
-RestIsBehind nodesize old land at None = ⊤
-RestIsBehind nodesize old land at (Some rest) = IsNodeFor nodesize old rest × ((header_of rest).level ≡ (header_of old).level) × IsFreshOn land (header_of old).level at
+-- a fresh node lies at an address, and names it
+pub record IsNamed (land : Ground) (at : ℕ) : Type 0 where
+  pub node : Node
+  pub here : fresh_at land.blocks.draft at ≡ Some node
+  pub named : (header_of node).address ≡ at
 
 -- what holds of each node that stands there
 abbrev pub OfEach : (ℕ → Type 0) → Instead → Type 0
@@ -174,6 +175,11 @@ pub record IsPartEdited (tree : Tree) (root : Root) (old new : Ground) (history 
 abbrev pub RestIsReady : ℕ → ℕ → ℕ → Option Node → Type 0
 RestIsReady nodesize level generation None = ⊤
 RestIsReady nodesize level generation (Some node) = IsNode nodesize node × ((header_of node).level ≡ level) × ((header_of node).generation ≡ generation)
+
+-- the node at an address is of its level still, and so is what was cut off it
+pub record StaysCut (nodesize : ℕ) (old : Node) (land : Ground) (at : ℕ) (rest : Option Node) : Type 0 where
+  pub stays : IsFreshOn land (header_of old).level at
+  pub ready : RestIsReady nodesize (header_of old).level (header_of old).generation rest
 
 -- it lies in a slot that was free, if there is any; all other nodes are told as before, and no other slot is taken or given back
 abbrev pub IsPlacedBehind : Ground → Ground → ℕ → Option Node → Instead → Type 0
@@ -304,6 +310,7 @@ pub record CanLead (tree : Tree) (super : Super) (land : Ground) (history : Opti
   pub holds : HoldInstead tree super (told land.blocks.draft history) level instead mine
   pub after : AreBranches tree super (told land.blocks.draft history) level (drop to pointers) back
   pub full : FillsThere super.nodesize (told land.blocks.draft history) instead.now
+  pub size : IsNodeSize super.nodesize
   pub ascending : IsTrue (is_ascending (map (λ item. item.key) items))
 
 -- they are set: these lead to the same items. Nothing but the node is told otherwise

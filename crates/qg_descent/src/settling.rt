@@ -1,5 +1,5 @@
 // A child was edited: the pointers of its node are set, and a child that is not a quarter full is joined with its neighbour.
-ghost use Rattle.std.specs.Prelude.{◌≡◌, ◌≢◌, ⊤, ◌+◌, ◌*◌, ◌<◌, ◌≤◌, suc, ℕ, List, Option, None, Some, OnOk, IfOk, IsSome, MatchOption, length};
+ghost use Rattle.std.specs.Prelude.{◌≡◌, ◌≢◌, ◌+◌, ◌*◌, ◌<◌, ◌≤◌, suc, ℕ, List, Option, None, Some, OnOk, IfOk, length};
 ghost use Rattle.qg_device.specs.Cause.{HasCause};
 ghost use Rattle.qg_device.specs.History.{Event};
 ghost use Rattle.qg_node.specs.declared.item.Item.{Item as ItemValue};
@@ -16,7 +16,7 @@ ghost use Rattle.qg_shape.specs.Parts.{IsInner};
 ghost use Rattle.qg_blocks.specs.Told.{BreaksNone, fresh_at};
 ghost use Rattle.qg_space.specs.Holding.{free_slots};
 ghost use Rattle.qg_ground.specs.Land.{Rests};
-ghost use Rattle.qg_descent.specs.Editing.{CanLead, HasLed, IsEditable, IsFreshOn, IsRewritten, IsSettled, IsUnsettled, Moves, RestIsBehind, RestIsReady, StandsInstead, alone};
+ghost use Rattle.qg_descent.specs.Editing.{CanLead, HasLed, IsEditable, IsFreshOn, IsNamed, IsRewritten, IsSettled, IsUnsettled, Moves, OfEach, RestIsReady, StandsInstead, StaysCut, alone};
 
 use crate::Tree;
 use crate::instead::Instead;
@@ -159,11 +159,11 @@ fn lead_to(
 ) -> Result<Option<Node>, BlockFault>
     requires size { IsNodeSize land.old.space.sizes.nodesize }
     requires nodesize { land.old.blocks.draft.sizes.nodesize ≡ land.old.space.sizes.nodesize }
-    requires fresh { (IsSome (fresh_at land.old.blocks.draft instead.now)) × (MatchOption instead.more ⊤ (λ more. IsSome (fresh_at land.old.blocks.draft more))) }
+    requires fresh { OfEach (IsNamed land.old) instead }
     requires parent { (node : NodeValue) × (fresh_at land.old.blocks.draft at ≡ Some node) × IsInner node × IsNode land.old.space.sizes.nodesize node × (to ≤ length (own_pointers node)) }
     requires some { (from < to) × (to ≤ from + 2) }
     ensures rewritten { (node : NodeValue) → fresh_at land.old.blocks.draft at ≡ Some node → IsRewritten land.old land.new at node }
-    ensures rest { (node : NodeValue) → fresh_at land.old.blocks.draft at ≡ Some node → IfOk result (λ rest. RestIsBehind land.old.space.sizes.nodesize node land.new at rest) }
+    ensures rest { (node : NodeValue) → fresh_at land.old.blocks.draft at ≡ Some node → IfOk result (λ rest. StaysCut land.old.space.sizes.nodesize node land.new at rest) }
     ensures led { (tree : TreeValue) (super : SuperValue) (history : Option (List Event)) (level : ℕ) (pointers : List PointerValue) (header : HeaderValue) (items : List ItemValue)
         → CanLead tree super land.old history level at from to instead pointers header items
         → IfOk result (λ rest. HasLed tree super land.old land.new history level at from to instead pointers header items rest) }
