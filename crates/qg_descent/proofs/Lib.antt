@@ -15,3 +15,4 @@ pub mod BranchWalk
 pub mod BranchOrder
 pub mod BranchRanges
 pub mod BranchApart
+pub mod Rewritten

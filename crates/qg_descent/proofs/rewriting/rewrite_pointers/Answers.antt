@@ -1,19 +1,15 @@
-use Rattle.std.proofs.Common.{rules, ◌≡◌, ◌+◌, ◌-◌, ◌≤◌, ◌≢◌, ℕ, Some, IfOk, OnOk, IsSome, IsTrue, length, map, ◌*◌, ◌<◌, ◌/◌, ◌%◌, Bool, true, false, nat_eq, nat_lt, List, [], ◌∷◌, ◌++◌, slice_index_or, slice_set, bit_and, bit_or, Fits, w8, w32, w64, Bor, MutBor}
-use Rattle.qg_node.specs.declared.node.Node.{Node as NodeValue}
-use Rattle.qg_node.specs.Nodes.{header_of, is_ascending, own_items, own_pointers}
-use Rattle.qg_node.specs.NodeText.{IsNode, IsNodeSize}
-use Rattle.qg_shape.specs.Filled.{HasShortBodies, IsThin}
-use Rattle.qg_shape.specs.Parts.{IsInner, IsLeaf, with_items, with_pointers}
-use Rattle.qg_blocks.specs.Told.{BreaksNone, fresh_at}
-use Rattle.qg_edit.specs.Edits.{CanEdit, IsShort, edited}
+use Rattle.std.proofs.Common.{◌≡◌, ◌∙◌}
+use Rattle.qg_node.specs.declared.node.Node.{Node}
+use Rattle.qg_node.specs.Nodes.{own_pointers}
+use Rattle.qg_shape.specs.Parts.{with_pointers}
 use Rattle.qg_edit.specs.Outcome.{spliced}
-use Rattle.qg_descent.specs.Editing.{IsCutThere, IsRewritten}
+use Rattle.qg_descent.proofs.Rewritten.{IsCutThere-edited}
 use Rattle.qg_descent.proofs.rewriting.rewrite_pointers.Goals as goal
 
--- src/rewriting.rt:61:5
 pub splice-requires-clause-within : goal.splice-requires-clause-within
-splice-requires-clause-within c = ?
+splice-requires-clause-within c = c.requires.within c.get_mut.result.now c.get_mut.ensures.value
 
--- src/rewriting.rt:40:1
 pub returns-clause-cut : goal.returns-clause-cut
-returns-clause-cut c = ?
+returns-clause-cut c node is = IsCutThere-edited c.args.land.now c.args.at c.args.land.now.space.sizes.nodesize c.nodesize-nodesize.result c.get_mut.result.now c.splice.new.node node
+    (λ (n : Node). with_pointers n (spliced c.args.from c.args.to c.args.new.now (own_pointers n))) c.splice.result
+    c.get_mut.ensures.value (c.nodesize-nodesize.ensures ∙ c.requires.nodesize) c.splice.ensures.spliced c.splice.ensures.rest is
