@@ -16,3 +16,4 @@ pub mod BranchOrder
 pub mod BranchRanges
 pub mod BranchApart
 pub mod Rewritten
+pub mod Placed
