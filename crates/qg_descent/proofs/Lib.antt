@@ -17,3 +17,4 @@ pub mod BranchRanges
 pub mod BranchApart
 pub mod Rewritten
 pub mod Placed
+pub mod Owned
