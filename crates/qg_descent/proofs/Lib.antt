@@ -18,3 +18,4 @@ pub mod BranchApart
 pub mod Rewritten
 pub mod Placed
 pub mod Owned
+pub mod Pairs

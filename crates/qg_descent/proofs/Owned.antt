@@ -1,7 +1,6 @@
 -- A node of a tree that was judged, and is owned.
-use Rattle.std.proofs.Common.{◌≡◌, ◌≢◌, ◌⊎◌, ℕ, true, List, refl, sym, ap, subst, ◌∙◌, inl, inr}
+use Rattle.std.proofs.Common.{◌≡◌, ℕ, List, refl, sym, ap, subst, ◌∙◌, inl, inr}
 use Rattle.std.specs.Prelude.{Option, Some, None, Result, Ok, Err, IfOk, IsSome, OnOk}
-use Rattle.std.specs.Result.{result_ok}
 use Rattle.qg_device.specs.History.{Event, content}
 use Rattle.qg_num.specs.declared.fault.BlockFault.{BlockFault}
 use Rattle.qg_num.specs.declared.fault.BlockFault.TheVariants.{NoMemory, Disk, Image}
@@ -11,7 +10,7 @@ use Rattle.qg_verdict.specs.declared.expected.Expected.{Expected}
 use Rattle.qg_verdict.specs.declared.tree.Tree.{Tree}
 use Rattle.qg_blocks.specs.Held.{Draft, Held}
 use Rattle.qg_blocks.specs.Standing.{standing}
-use Rattle.qg_blocks.specs.Told.{Answers, BreaksNone, IsNodeAt, found, fresh_at, fresh_or, held_at, told, told_or}
+use Rattle.qg_blocks.specs.Told.{Answers, BreaksNone, IsNodeAt, found, fresh_at, fresh_or, told, told_or}
 use Rattle.qg_blocks.proofs.Telling.{fresh-held}
 use Rattle.qg_space.specs.Holding.{Holding, is_free_slot}
 use Rattle.qg_ground.specs.declared.ground.Ground.{Ground}
