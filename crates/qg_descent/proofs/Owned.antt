@@ -77,8 +77,8 @@ IsOwned-visited tree root old new history later expected at held (Err fault) vis
 IsOwned-visited tree root old new history later expected at held (Ok now) visited drafted after draft owned takes =
     some_or (fresh_at held.draft at) (IsOwned tree root old new history expected at now)
     (λ node here.
-      let both = owned.kept (IsSome-is (fresh_at held.draft at) node here) in
-      owned_kept tree root old new history expected at now held node visited drafted draft (sym (ap (λ (d : Draft). fresh_at d at) draft) ∙ here) both.0 both.1)
+    let both = owned.kept (IsSome-is (fresh_at held.draft at) node here) in
+    owned_kept tree root old new history expected at now held node visited drafted draft (sym (ap (λ (d : Draft). fresh_at d at) draft) ∙ here) both.0 both.1)
     (λ none. owned_copied tree root old new history later expected at now held visited drafted after draft (owned.copied none) takes)
 
 -- ---- what is answered
