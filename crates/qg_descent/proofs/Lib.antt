@@ -21,3 +21,5 @@ pub mod Settled
 pub mod Rewritten
 pub mod Placed
 pub mod Cutting
+pub mod Owned
+pub mod Pairs

@@ -1,16 +1,40 @@
+use Rattle.std.proofs.Common.{refl}
+use Rattle.qg_ground.specs.declared.ground.Ground.{Ground}
+use Rattle.qg_ground.proofs.Editing.{ArePlaced-drafted}
+use Rattle.qg_ground.proofs.Lands.{Rests-draft}
+use Rattle.qg_descent.proofs.Owned.{IsOwned-visited, owned-unbroken}
 use Rattle.qg_descent.proofs.tree.Tree.own.Goals as goal
 
 pub visit-requires : goal.visit-requires
-visit-requires g c = ?
+visit-requires g c = record {
+  readable = record {
+    backed = c.requires.editable.backed;
+    placed = ArePlaced-drafted c.args.land.now c.args.self.now.next (g.D.Disk.size c.args.disk.now) c.requires.editable.room c.requires.editable.drafted;
+  };
+}
 
 pub returns-in_err-visit-clause-rests : goal.returns-in_err-visit-clause-rests
-returns-in_err-visit-clause-rests g c = ?
+returns-in_err-visit-clause-rests g c =
+    Rests-draft c.args.land.now (record c.args.land.now { blocks = c.visit.new.blocks }) (g.D.Disk.history c.visit.new.disk) c.args.self.now.next
+    c.visit.ensures.read.draft c.visit.ensures.read.bound refl c.visit.ensures.readable.backed c.requires.editable.drafted
 
 pub own_node-requires-clause-drafted : goal.own_node-requires-clause-drafted
-own_node-requires-clause-drafted g c = ?
+own_node-requires-clause-drafted g c =
+    let mid : Ground = record c.args.land.now { blocks = c.visit.new.blocks } in
+    let rests = Rests-draft c.args.land.now mid (g.D.Disk.history c.visit.new.disk) c.args.self.now.next
+    c.visit.ensures.read.draft c.visit.ensures.read.bound refl c.visit.ensures.readable.backed c.requires.editable.drafted in
+    rw c.next.ensures rests.drafted
 
 pub returns-clause-owned : goal.returns-clause-owned
-returns-clause-owned g c = ?
+returns-clause-owned g c =
+    let mid : Ground = record c.args.land.now { blocks = c.visit.new.blocks } in
+    let rests = Rests-draft c.args.land.now mid (g.D.Disk.history c.visit.new.disk) c.args.self.now.next
+    c.visit.ensures.read.draft c.visit.ensures.read.bound refl c.visit.ensures.readable.backed c.requires.editable.drafted in
+    IsOwned-visited g.P.TreePart.tree c.args.self.now c.args.land.now c.own_node.new.land (g.D.Disk.history c.args.disk.now) (g.D.Disk.history c.visit.new.disk)
+    c.args.way.now.expected c.args.way.now.address c.visit.new.blocks c.own_node.result c.in_ok-visit.ensures.visited c.requires.editable.drafted rests.drafted c.visit.ensures.read.draft
+    (rw (c.owner.ensures, c.next.ensures) at c.own_node.ensures.owned) c.own_node.ensures.takes
 
 pub returns-clause-sound : goal.returns-clause-sound
-returns-clause-sound g c = ?
+returns-clause-sound g c node there formed =
+    owned-unbroken c.own_node.result c.visit.new.blocks.draft c.args.land.now.blocks.draft (g.D.Disk.history c.visit.new.disk) (g.D.Disk.history c.args.disk.now) c.args.way.now.address node
+    c.visit.ensures.read.draft c.visit.ensures.read.history (λ some. (c.own_node.ensures.same some).0) c.own_node.ensures.answers there
