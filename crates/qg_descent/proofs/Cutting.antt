@@ -79,3 +79,8 @@ inner-here land at node other here there inner =
     let that : Some node ≡ Some other = sym here ∙ there in
     let one : node ≡ other = cc in
     subst (λ (n : Node). IsInner n) (sym one) inner
+
+pub ready-same : (nodesize level generation level' generation' : ℕ) (rest : Option Node) → level ≡ level' → generation ≡ generation' → RestIsReady nodesize level generation rest
+    → RestIsReady nodesize level' generation' rest
+ready-same nodesize level generation level' generation' None a b ready = tt
+ready-same nodesize level generation level' generation' (Some node) a b ready = (ready.0, ready.1 ∙ a, ready.2 ∙ b)

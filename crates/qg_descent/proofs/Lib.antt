@@ -23,3 +23,5 @@ pub mod Placed
 pub mod Cutting
 pub mod Owned
 pub mod Pairs
+pub mod Served
+pub mod Unjoined

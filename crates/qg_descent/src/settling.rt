@@ -1,5 +1,5 @@
 // A child was edited: the pointers of its node are set, and a child that is not a quarter full is joined with its neighbour.
-ghost use Rattle.std.specs.Prelude.{◌≡◌, ◌≢◌, ◌+◌, ◌*◌, ◌<◌, ◌≤◌, suc, ℕ, List, Option, None, Some, OnOk, IfOk, length};
+ghost use Rattle.std.specs.Prelude.{◌≡◌, ◌≢◌, ◌+◌, ◌*◌, ◌<◌, ◌≤◌, suc, ℕ, List, Option, None, Some, OnOk, IfOk, IsSome, IsTrue, false, length};
 ghost use Rattle.qg_device.specs.Cause.{HasCause};
 ghost use Rattle.qg_device.specs.History.{Event};
 ghost use Rattle.qg_node.specs.declared.item.Item.{Item as ItemValue};
@@ -67,9 +67,7 @@ impl Tree {
         ensures cause { HasCause BlockFault.Disk (D.faults disk.old) (D.faults disk.new) result }
         ensures reads { (most : ℕ) → ((book : B) (q : ℕ) → B.to_read book q ≤ most) → reads.new ≤ reads.old + (3 + 2 * most) }
     {
-        let is_joined = child.more.is_none()
-            && is_thin(land.blocks.peek(child.now), land.blocks.nodesize());
-        if is_joined {
+        if is_too_thin(land, &child) {
             return self.join_child::<P, D, L, B>(
                 alloc, land, disk, book, at, to, level, place, child.now, reads,
             );
@@ -138,6 +136,21 @@ impl Tree {
             beside.front + 2,
             Instead { now: left, more },
         )
+    }
+}
+
+// Whether one node stands there, and is not a quarter full.
+fn is_too_thin(land: &Ground, child: &Instead) -> bool
+    requires size { IsNodeSize land.now.blocks.draft.sizes.nodesize }
+    requires fresh { IsSome (fresh_at land.now.blocks.draft child.now.now) }
+    ensures thin { IsTrue result → (child.entry.now ≡ alone child.entry.now.now) × ((node : NodeValue) → fresh_at land.now.blocks.draft child.entry.now.now ≡ Some node
+        → IsThin land.now.blocks.draft.sizes.nodesize node) }
+    ensures full { result ≡ false → child.entry.now.more ≡ None → (node : NodeValue) → fresh_at land.now.blocks.draft child.entry.now.now ≡ Some node
+        → IsThin land.now.blocks.draft.sizes.nodesize node → ⊥ }
+{
+    match child.more {
+        Some(_) => false,
+        None => is_thin(land.blocks.peek(child.now), land.blocks.nodesize()),
     }
 }
 

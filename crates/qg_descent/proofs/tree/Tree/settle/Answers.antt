@@ -1,46 +1,83 @@
+use Rattle.std.proofs.Common.{◌≡◌, ◌+◌, arith, refl, sym, ap, subst, ◌∙◌}
+use Rattle.std.specs.Prelude.{None, Some, length}
+use Rattle.std.proofs.lemmas.Result.{IfOk-weaker, on_ok_weaker}
+use Rattle.qg_node.specs.declared.node.Node.{Node}
+use Rattle.qg_node.specs.Nodes.{own_pointers}
+use Rattle.qg_blocks.specs.Told.{fresh_at}
+use Rattle.qg_descent.specs.Tree.{super_of}
+use Rattle.qg_edit.proofs.Leaves.{ok-known}
+use Rattle.qg_descent.proofs.Cutting.{ready-same, rewritten-moves, rewritten-rests, rewritten-spares}
+use Rattle.qg_descent.proofs.Served.{fresh-inner, instead-named, node-drafted, size-blocks, size-drafted}
+use Rattle.qg_descent.proofs.Settled.{settled}
+use Rattle.qg_descent.proofs.Unjoined.{can-lead}
 use Rattle.qg_descent.proofs.tree.Tree.settle.Goals as goal
 
-pub is_thin-is_joined-requires : goal.is_thin-is_joined-requires
-is_thin-is_joined-requires g c = ?
+pub is_too_thin-requires-clause-size : goal.is_too_thin-requires-clause-size
+is_too_thin-requires-clause-size g c = size-blocks c.args.land.now c.args.self.now.next c.requires.editable.drafted
 
-pub returns-then-is_joined-clause-settled : goal.returns-then-is_joined-clause-settled
-returns-then-is_joined-clause-settled g c = ?
+pub returns-then-is_too_thin-clause-settled : goal.returns-then-is_too_thin-clause-settled
+returns-then-is_too_thin-clause-settled g c = ?
 
-pub returns-then-is_joined-clause-sound : goal.returns-then-is_joined-clause-sound
-returns-then-is_joined-clause-sound g c = ?
+pub returns-then-is_too_thin-clause-sound : goal.returns-then-is_too_thin-clause-sound
+returns-then-is_too_thin-clause-sound g c = ?
 
 pub overflow_add-place : goal.overflow_add-place
 overflow_add-place g c = ?
 
 pub lead_to-requires-clause-size : goal.lead_to-requires-clause-size
-lead_to-requires-clause-size g c = ?
+lead_to-requires-clause-size g c = size-drafted c.args.land.now c.args.self.now.next c.requires.editable.drafted
 
 pub lead_to-requires-clause-fresh : goal.lead_to-requires-clause-fresh
-lead_to-requires-clause-fresh g c = ?
+lead_to-requires-clause-fresh g c = instead-named c.args.land.now c.args.self.now.next c.args.level c.args.child c.requires.editable.drafted c.requires.child
 
 pub lead_to-requires-clause-parent : goal.lead_to-requires-clause-parent
-lead_to-requires-clause-parent g c = ?
+lead_to-requires-clause-parent g c =
+    let node = c.requires.parent.node in
+    let inside = c.requires.inside node c.requires.parent.here in
+    (node, c.requires.parent.here, fresh-inner c.args.land.now c.args.self.now.next c.args.level c.args.at node c.requires.editable.drafted c.requires.parent c.requires.parent.here,
+    node-drafted c.args.land.now c.args.self.now.next c.args.at node c.requires.editable.drafted c.requires.parent.here, omega (arith, inside))
 
 pub returns-clause-parent : goal.returns-clause-parent
-returns-clause-parent g c = ?
+returns-clause-parent g c =
+    IfOk-weaker c.lead_to.result _ _ (λ rest cut. record { node = cut.stays.node; here = cut.stays.here; levelled = cut.stays.levelled ∙ c.requires.parent.levelled })
+    (c.lead_to.ensures.rest c.requires.parent.node c.requires.parent.here)
 
 pub returns-clause-ready : goal.returns-clause-ready
-returns-clause-ready g c = ?
+returns-clause-ready g c =
+    IfOk-weaker c.lead_to.result _ _
+    (λ rest cut. ready-same c.args.land.now.space.sizes.nodesize _ _ _ _ rest c.requires.parent.levelled (c.requires.editable.drafted.each c.args.at c.requires.parent.node c.requires.parent.here).dated cut.ready)
+    (c.lead_to.ensures.rest c.requires.parent.node c.requires.parent.here)
 
 pub returns-clause-moves : goal.returns-clause-moves
-returns-clause-moves g c = ?
+returns-clause-moves g c =
+    let low = c.requires.parent.levelled in
+    let moved = rewritten-moves c.args.land.now c.lead_to.new.land c.args.at c.args.self.now.next c.requires.parent.node c.requires.parent.here
+    (c.lead_to.ensures.rewritten c.requires.parent.node c.requires.parent.here) (c.args.level + 1) (omega (arith, low)) in
+    let count = moved.count in
+    ok-known _ c.lead_to.result (record { count = omega (arith, count); above = moved.above })
 
 pub returns-clause-settled : goal.returns-clause-settled
-returns-clause-settled g c = ?
+returns-clause-settled g c = λ items un.
+    let can = can-lead g.P.TreePart.tree c.args.self.now c.args.land.now (g.D.Disk.history c.args.disk.now) c.args.level c.args.at c.args.self.now.next c.args.to c.args.place c.args.child items
+    c.requires.editable.drafted c.requires.child (c.is_too_thin.ensures.full c.if-is_too_thin.false) un in
+    IfOk-weaker c.lead_to.result _ _
+    (λ rest led. settled g.P.TreePart.tree c.args.self.now c.args.land.now c.lead_to.new.land (g.D.Disk.history c.args.disk.now) c.args.level c.args.at c.args.to c.args.place c.args.child items rest un led)
+    (c.lead_to.ensures.led g.P.TreePart.tree (super_of c.args.self.now c.args.land.now.blocks.draft) (g.D.Disk.history c.args.disk.now) c.args.level un.pointers un.header items can)
 
 pub returns-clause-sound : goal.returns-clause-sound
-returns-clause-sound g c = ?
+returns-clause-sound g c = λ events told items un.
+    let can = can-lead g.P.TreePart.tree c.args.self.now c.args.land.now (g.D.Disk.history c.args.disk.now) c.args.level c.args.at c.args.self.now.next c.args.to c.args.place c.args.child items
+    c.requires.editable.drafted c.requires.child (c.is_too_thin.ensures.full c.if-is_too_thin.false) un in
+    c.lead_to.ensures.sound g.P.TreePart.tree (super_of c.args.self.now c.args.land.now.blocks.draft) (g.D.Disk.history c.args.disk.now) c.args.level un.pointers un.header items can
 
 pub returns-clause-rests : goal.returns-clause-rests
-returns-clause-rests g c = ?
+returns-clause-rests g c =
+    rewritten-rests c.args.land.now c.lead_to.new.land c.args.at c.args.self.now.next c.requires.parent.node c.requires.parent.here
+    (c.lead_to.ensures.rewritten c.requires.parent.node c.requires.parent.here) (g.D.Disk.history c.args.disk.now) c.requires.editable.backed c.requires.editable.drafted
 
 pub returns-clause-stands : goal.returns-clause-stands
 returns-clause-stands g c = ?
 
 pub returns-clause-cause : goal.returns-clause-cause
 returns-clause-cause g c = ?
+
