@@ -69,6 +69,7 @@ owned_copied tree root old new history later expected at now held visited drafte
       freed = takes.less;
     }
 
+-- either way it is owned
 pub IsOwned-visited : (tree : Tree) (root : Root) (old new : Ground) (history later : Option (List Event)) (expected : Expected) (at : ℕ) (held : Held) (result : Result ℕ BlockFault)
     → IsVisited tree (super_of root old.blocks.draft) expected old.blocks.draft history held at → IsDrafted old root.next → IsDrafted (record old { blocks = held }) root.next
     → held.draft ≡ old.blocks.draft → IfOk result (λ now. Owned (record old { blocks = held }) new later at now root.owner root.next) → OnOk result (Takes 1 (λ q. q ≡ at) (record old { blocks = held }) new)

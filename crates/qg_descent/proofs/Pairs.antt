@@ -60,6 +60,7 @@ fresh_here land at node old is = edited-here land at node (IsSome-is (fresh_at l
 
 -- ---- the pair, and an empty leaf in the place of the right one
 
+-- these are the two, which can be joined, and nothing but the empty leaf is changed yet
 pub record AreTaken (land taken : Ground) (left right nodesize : ℕ) (a b : Node) : Type 0 where
   pub differ : left ≢ right
   pub left_here : fresh_at land.blocks.draft left ≡ Some a
@@ -81,7 +82,7 @@ pub taken-left : (land taken : Ground) (left right : ℕ) (b : Node) → left �
     → IsSome (fresh_at taken.blocks.draft left)
 taken-left land taken left right b differ pair here is = IsSome-is (fresh_at taken.blocks.draft left) pair.a (taken_left land taken left right b differ here is ∙ pair.left_here)
 
--- and can be joined with the right one
+-- the two can be joined
 pub AreTaken-pair : (land taken : Ground) (left right nodesize : ℕ) (a b : Node) → left ≢ right → ArePair land left right → nodesize ≡ land.blocks.draft.sizes.nodesize
     → fresh_at land.blocks.draft right ≡ Some b → taken ≡ edited land right (cleared b) → fresh_at taken.blocks.draft left ≡ Some a → AreTaken land taken left right nodesize a b
 AreTaken-pair land taken left right nodesize a b differ pair size right_here is left_here =
@@ -230,6 +231,7 @@ IsJoinedThere-err land new left right fault result is = subst (λ (x : Result Jo
 
 -- ---- what is answered
 
+-- no rule is broken where the keys of the one are less than those of the other, and bodies are short
 pub BreaksNone-joined : (land taken : Ground) (left right nodesize : ℕ) (a b : Node) (result : Result Joined BlockFault) → AreTaken land taken left right nodesize a b
     → (IsInFront a b → HasShortBodies a → HasShortBodies b → BreaksNone result) → (c d : Node) → fresh_at land.blocks.draft left ≡ Some c → fresh_at land.blocks.draft right ≡ Some d
     → IsInFront c d → HasShortBodies c → HasShortBodies d → BreaksNone result
