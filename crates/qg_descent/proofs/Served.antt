@@ -1,6 +1,6 @@
 -- What is known of nodes and space in which a tree is edited.
 use Rattle.std.proofs.Common.{◌≡◌, ℕ, suc, ◌+◌, ◌*◌, ◌≤◌, ◌<◌, true, arith, refl, sym, ap, subst, ◌∙◌, inl, inr, Option, Some, None}
-use Rattle.std.specs.Prelude.{Bool, ◌==◌, ◌&&◌, ◌||◌, nat_le, length, MatchOption}
+use Rattle.std.specs.Prelude.{⊤, Bool, ◌==◌, ◌&&◌, ◌||◌, nat_le, length, MatchOption}
 use Rattle.std.proofs.lemmas.Bool.{and_parts, eqb-true, or_cases}
 use Rattle.qg_node.specs.declared.node.Node.{Node}
 use Rattle.qg_node.specs.declared.node.Node.TheVariants.{Leaf, Inner}
@@ -68,3 +68,10 @@ fresh-leaf land generation at node drafted fresh here =
 
 pub filled-not_thin : (nodesize : ℕ) (node : Node) → IsNode nodesize node → (IsThin nodesize node → ⊥) → IsFilled nodesize node
 filled-not_thin nodesize node sound full = record { fits = sound.fits; full = omega (arith, full) }
+
+-- ---- a node has not many pointers
+
+pub places-few : (size : ℕ) (node : Node) → IsNodeSize size → IsNode size node → length (own_pointers node) ≤ 500
+places-few size (Leaf header items) sized sound = omega arith
+places-few size (Inner header pointers) (inl small) sound = let fits = sound.fits in omega (arith, small, fits)
+places-few size (Inner header pointers) (inr large) sound = let fits = sound.fits in omega (arith, large, fits)

@@ -1,5 +1,5 @@
 // Two fresh neighbours.
-ghost use Rattle.std.specs.Prelude.{◌≡◌, ◌≢◌, ◌⊎◌, Some, IfOk, IsSome};
+ghost use Rattle.std.specs.Prelude.{◌≡◌, ◌≢◌, ◌⊎◌, Some, IfOk, IsErrOf, IsSome};
 ghost use Rattle.qg_node.specs.declared.node.Node.{Node as NodeValue};
 ghost use Rattle.qg_node.specs.Nodes.{header_of};
 ghost use Rattle.qg_node.specs.NodeText.{IsNode, IsNodeSize};
@@ -48,6 +48,7 @@ pub(crate) fn join_nodes(
     ensures joined { IfOk result (λ joined. IsJoinedThere land.old land.new left right joined) }
     ensures sound { (a b : NodeValue) → fresh_at land.old.blocks.draft left ≡ Some a → fresh_at land.old.blocks.draft right ≡ Some b
         → IsInFront a b → HasShortBodies a → HasShortBodies b → BreaksNone result }
+    ensures no_disk { IsErrOf result BlockFault.Disk → ⊥ }
 {
     let nodesize = land.blocks.nodesize();
     let mut other = take_node(alloc, land, right);

@@ -1,5 +1,5 @@
 // A child was edited: the pointers of its node are set, and a child that is not a quarter full is joined with its neighbour.
-ghost use Rattle.std.specs.Prelude.{◌≡◌, ◌≢◌, ◌+◌, ◌*◌, ◌<◌, ◌≤◌, suc, ℕ, List, Option, None, Some, OnOk, IfOk, IsSome, IsTrue, false, length};
+ghost use Rattle.std.specs.Prelude.{◌≡◌, ◌≢◌, ◌+◌, ◌*◌, ◌<◌, ◌≤◌, suc, ℕ, List, Option, None, Some, OnOk, IfOk, IsErrOf, IsSome, IsTrue, false, length};
 ghost use Rattle.qg_device.specs.Cause.{HasCause};
 ghost use Rattle.qg_device.specs.History.{Event};
 ghost use Rattle.qg_node.specs.declared.item.Item.{Item as ItemValue};
@@ -182,6 +182,7 @@ fn lead_to(
         → IfOk result (λ rest. HasLed tree super land.old land.new history level at from to instead pointers header items rest) }
     ensures sound { (tree : TreeValue) (super : SuperValue) (history : Option (List Event)) (level : ℕ) (pointers : List PointerValue) (header : HeaderValue) (items : List ItemValue)
         → CanLead tree super land.old history level at from to instead pointers header items → BreaksNone result }
+    ensures no_disk { IsErrOf result BlockFault.Disk → ⊥ }
 {
     let now = pointer_to(land.blocks.peek(instead.now));
     match instead.more {

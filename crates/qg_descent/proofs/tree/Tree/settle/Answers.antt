@@ -1,13 +1,17 @@
 use Rattle.std.proofs.Common.{◌≡◌, ◌+◌, arith, refl, sym, ap, subst, ◌∙◌}
-use Rattle.std.specs.Prelude.{None, Some, length}
+use Rattle.std.specs.Prelude.{IfOk, List, None, Some, length}
 use Rattle.std.proofs.lemmas.Result.{IfOk-weaker, on_ok_weaker}
+use Rattle.qg_device.specs.History.{Event}
+use Rattle.qg_node.specs.declared.item.Item.{Item}
 use Rattle.qg_node.specs.declared.node.Node.{Node}
 use Rattle.qg_node.specs.Nodes.{own_pointers}
-use Rattle.qg_blocks.specs.Told.{fresh_at}
+use Rattle.qg_blocks.specs.Told.{BreaksNone, fresh_at}
+use Rattle.qg_descent.specs.declared.instead.Instead.{Instead}
+use Rattle.qg_descent.specs.Editing.{IsSettled, IsUnsettled}
 use Rattle.qg_descent.specs.Tree.{super_of}
 use Rattle.qg_edit.proofs.Leaves.{ok-known}
 use Rattle.qg_descent.proofs.Cutting.{ready-same, rewritten-moves, rewritten-rests, rewritten-spares}
-use Rattle.qg_descent.proofs.Served.{fresh-inner, instead-named, node-drafted, size-blocks, size-drafted}
+use Rattle.qg_descent.proofs.Served.{fresh-inner, instead-named, node-drafted, places-few, size-blocks, size-drafted}
 use Rattle.qg_descent.proofs.Settled.{settled}
 use Rattle.qg_descent.proofs.Unjoined.{can-lead}
 use Rattle.qg_descent.proofs.tree.Tree.settle.Goals as goal
@@ -16,13 +20,25 @@ pub is_too_thin-requires-clause-size : goal.is_too_thin-requires-clause-size
 is_too_thin-requires-clause-size g c = size-blocks c.args.land.now c.args.self.now.next c.requires.editable.drafted
 
 pub returns-then-is_too_thin-clause-settled : goal.returns-then-is_too_thin-clause-settled
-returns-then-is_too_thin-clause-settled g c = ?
+returns-then-is_too_thin-clause-settled g c =
+    let thin = c.is_too_thin.ensures.thin c.if-is_too_thin.true in
+    subst (λ (child : Instead). (items : List Item) → (un : IsUnsettled g.P.TreePart.tree c.args.self.now c.args.land.now (g.D.Disk.history c.args.disk.now) c.args.level c.args.at c.args.to c.args.place child items)
+        → IfOk c.join_child.result (λ rest. IsSettled g.P.TreePart.tree c.args.self.now c.args.land.now c.join_child.new.land (g.D.Disk.history c.args.disk.now) c.args.level c.args.at c.args.place child un.pointers un.header items rest))
+    (sym thin.0) c.join_child.ensures.settled
 
 pub returns-then-is_too_thin-clause-sound : goal.returns-then-is_too_thin-clause-sound
-returns-then-is_too_thin-clause-sound g c = ?
+returns-then-is_too_thin-clause-sound g c =
+    let thin = c.is_too_thin.ensures.thin c.if-is_too_thin.true in
+    subst (λ (child : Instead). (events : List Event) → g.D.Disk.history c.args.disk.now ≡ Some events → (items : List Item) → IsUnsettled g.P.TreePart.tree c.args.self.now c.args.land.now (g.D.Disk.history c.args.disk.now) c.args.level c.args.at c.args.to c.args.place child items → BreaksNone c.join_child.result)
+    (sym thin.0) c.join_child.ensures.sound
 
 pub overflow_add-place : goal.overflow_add-place
-overflow_add-place g c = ?
+overflow_add-place g c =
+    let node = c.requires.parent.node in
+    let inside = c.requires.inside node c.requires.parent.here in
+    let few = places-few c.args.land.now.space.sizes.nodesize node (size-drafted c.args.land.now c.args.self.now.next c.requires.editable.drafted)
+    (node-drafted c.args.land.now c.args.self.now.next c.args.at node c.requires.editable.drafted c.requires.parent.here) in
+    omega (arith, inside, few)
 
 pub lead_to-requires-clause-size : goal.lead_to-requires-clause-size
 lead_to-requires-clause-size g c = size-drafted c.args.land.now c.args.self.now.next c.requires.editable.drafted
@@ -76,8 +92,15 @@ returns-clause-rests g c =
     (c.lead_to.ensures.rewritten c.requires.parent.node c.requires.parent.here) (g.D.Disk.history c.args.disk.now) c.requires.editable.backed c.requires.editable.drafted
 
 pub returns-clause-stands : goal.returns-clause-stands
-returns-clause-stands g c = ?
+returns-clause-stands g c =
+    let node = c.requires.parent.node in
+    let here = c.requires.parent.here in
+    let rewritten = c.lead_to.ensures.rewritten node here in
+    let rests = rewritten-rests c.args.land.now c.lead_to.new.land c.args.at c.args.self.now.next node here rewritten (g.D.Disk.history c.args.disk.now) c.requires.editable.backed c.requires.editable.drafted in
+    ok-known _ c.lead_to.result
+    (g.met.B.Book.lasts c.args.book.now c.args.land.now c.lead_to.new.land c.args.disk.now c.args.disk.now refl refl rests.backed
+    (rewritten-spares c.args.land.now c.lead_to.new.land c.args.at c.args.self.now.next node here rewritten) c.requires.stands)
 
 pub returns-clause-cause : goal.returns-clause-cause
-returns-clause-cause g c = ?
+returns-clause-cause g c = record { later = omega arith; rose = λ is. absurd (c.lead_to.ensures.no_disk is) }
 
