@@ -25,3 +25,4 @@ pub mod Owned
 pub mod Pairs
 pub mod Served
 pub mod Unjoined
+pub mod United

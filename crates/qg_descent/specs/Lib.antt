@@ -3,3 +3,4 @@ pub mod Reading
 pub mod Way
 pub mod Branch
 pub mod Editing
+pub mod Uniting

@@ -1,21 +1,28 @@
 // Two fresh neighbours.
-ghost use Rattle.std.specs.Prelude.{◌≡◌, ◌≢◌, ◌⊎◌, Some, IfOk, IsErrOf, IsSome};
+ghost use Rattle.std.specs.Prelude.{◌≡◌, ◌≢◌, ◌⊎◌, ◌+◌, ◌≤◌, ℕ, List, Some, OnOk, IfOk, IsErrOf, IsSome};
+ghost use Rattle.qg_device.specs.Cause.{HasCause};
+ghost use Rattle.qg_device.specs.History.{Event};
 ghost use Rattle.qg_node.specs.declared.node.Node.{Node as NodeValue};
 ghost use Rattle.qg_node.specs.Nodes.{header_of};
 ghost use Rattle.qg_node.specs.NodeText.{IsNode, IsNodeSize};
 ghost use Rattle.qg_shape.specs.Filled.{HasShortBodies, IsThin};
 ghost use Rattle.qg_blocks.specs.Lending.{with_fresh};
-ghost use Rattle.qg_blocks.specs.Told.{BreaksNone, fresh_at};
+ghost use Rattle.qg_blocks.specs.Told.{BreaksNone, IsBacked, fresh_at};
+ghost use Rattle.qg_ground.specs.Land.{IsDrafted, Rests};
 ghost use Rattle.qg_edit.specs.Outcome.{IsInFront, cleared};
 ghost use Rattle.qg_descent.specs.Editing.{ArePair, AreRewritten, IsJoinedThere};
+ghost use Rattle.qg_descent.specs.Uniting.{AreUnited};
 
+use crate::instead::Instead;
+use qg_disk::Disk;
 use qg_edit::merge;
-use qg_ground::Ground;
+use qg_ground::{Book, Ground, leave_node};
 use qg_node::{Header, Items, Node};
-use qg_num::{Address, BlockFault};
+use qg_num::{Address, BlockFault, Steps};
 use qg_shape::Joined;
 use std::alloc::Global;
 use std::mem;
+use std::sync::ledger::Ledger;
 
 // The fresh node at an address, where an empty leaf lies then.
 fn take_node(alloc: Global, land: &mut Ground, at: Address) -> Node
@@ -58,4 +65,42 @@ pub(crate) fn join_nodes(
         _ => *land.blocks.get_mut(right) = other,
     }
     joined
+}
+
+// Joins the fresh nodes at two addresses. The answer is what stands in their place; where all is in the left one, the right one is left.
+pub(crate) fn unite<D: Disk, L: Ledger, B: Book<D, L>>(
+    alloc: Global,
+    land: &mut Ground,
+    disk: &mut D,
+    book: &mut B,
+    left: Address,
+    right: Address,
+    reads: &mut Steps<L>,
+) -> Result<Instead, BlockFault>
+    requires backed { IsBacked land.old.blocks (D.history disk.old) }
+    requires stands { B.stands book.old land.old disk.old }
+    requires apart { left ≢ right }
+    requires pair { ArePair land.old left right }
+    ensures united { IfOk result (λ instead. AreUnited land.old land.new left right instead) }
+    ensures sound { (events : List Event) → D.history disk.old ≡ Some events → (a b : NodeValue) → fresh_at land.old.blocks.draft left ≡ Some a
+        → fresh_at land.old.blocks.draft right ≡ Some b → IsInFront a b → HasShortBodies a → HasShortBodies b → BreaksNone result }
+    ensures rests { (generation : ℕ) → IsDrafted land.old generation → Rests land.old land.new (D.history disk.new) generation }
+    ensures stands { OnOk result (B.stands book.new land.new disk.new) }
+    ensures disk { (D.history disk.new ≡ D.history disk.old) × (D.size disk.new ≡ D.size disk.old) }
+    ensures cause { HasCause BlockFault.Disk (D.faults disk.old) (D.faults disk.new) result }
+    ensures reads { (most : ℕ) → ((book : B) (q : ℕ) → B.to_read book q ≤ most) → reads.new ≤ reads.old + (1 + most) }
+{
+    match join_nodes(alloc, land, left, right)? {
+        Joined::Parted => Ok(Instead {
+            now: left,
+            more: Some(right),
+        }),
+        Joined::Whole => {
+            leave_node(land, disk, book, right, reads)?;
+            Ok(Instead {
+                now: left,
+                more: None,
+            })
+        }
+    }
 }

@@ -1,0 +1,36 @@
+-- Two neighbours in a tree, of which one isn't a quarter full (this project's own). Addresses are in bytes.
+use Rattle.std.specs.Prelude.{◌≡◌, ◌⊎◌, ◌≢◌, ℕ, ◌+◌, List, ◌++◌, map, Option, Some, None, IsTrue}
+use Rattle.std.specs.List.{All}
+use Rattle.qg_device.specs.History.{Event}
+use Rattle.qg_num.specs.declared.key.Key.{Key}
+use Rattle.qg_node.specs.declared.item.Item.{Item}
+use Rattle.qg_node.specs.declared.pointer.Pointer.{Pointer}
+use Rattle.qg_node.specs.Nodes.{is_ascending}
+use Rattle.qg_node.specs.declared.node.Node.{Node}
+use Rattle.qg_super.specs.declared.superblock.Super.{Super}
+use Rattle.qg_verdict.specs.declared.tree.Tree.{Tree}
+use Rattle.qg_blocks.specs.Told.{told}
+use Rattle.qg_space.specs.Holding.{is_free_slot}
+use Rattle.qg_ground.specs.declared.ground.Ground.{Ground}
+use Rattle.qg_ground.specs.Tellings.{LetsGo}
+use Rattle.qg_shape.specs.declared.joining.Joined.{Joined}
+use Rattle.qg_shape.specs.declared.joining.Joined.TheVariants.{Whole, Parted}
+use Rattle.qg_descent.specs.declared.instead.Instead.{Instead}
+use Rattle.qg_descent.specs.Branch.{IsBranch}
+use Rattle.qg_descent.specs.Tree.{Reaches, Root}
+use Rattle.qg_descent.specs.Editing.{AreRewritten, FillsThere, HoldInstead, IsBeside, IsJoinedThere, IsOwned, ReachesInstead, alone}
+
+-- ---- what becomes of both
+
+-- what stands there then: the left one alone, where all is in it and the right one was let go; else both
+abbrev pub EndsAs : Ground → Ground → ℕ → ℕ → Instead → Joined → Type 0
+EndsAs mid new left right instead Whole = (instead ≡ alone left) × LetsGo mid new right
+EndsAs mid new left right instead Parted = (instead ≡ record { now = left; more = Some right }) × (new ≡ mid)
+
+-- two fresh nodes were joined
+pub record AreUnited (old new : Ground) (left right : ℕ) (instead : Instead) : Type 0 where
+  pub mid : Ground
+  pub joined : Joined
+  pub rewritten : AreRewritten old mid left right
+  pub there : IsJoinedThere old mid left right joined
+  pub ends : EndsAs mid new left right instead joined
