@@ -26,3 +26,4 @@ pub mod Pairs
 pub mod Served
 pub mod Unjoined
 pub mod United
+pub mod Beside

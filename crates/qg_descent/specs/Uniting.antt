@@ -16,6 +16,8 @@ use Rattle.qg_ground.specs.Tellings.{LetsGo}
 use Rattle.qg_shape.specs.declared.joining.Joined.{Joined}
 use Rattle.qg_shape.specs.declared.joining.Joined.TheVariants.{Whole, Parted}
 use Rattle.qg_descent.specs.declared.instead.Instead.{Instead}
+use Rattle.qg_descent.specs.declared.pairing.Pair.{Pair}
+use Rattle.qg_descent.specs.declared.way.Neighbour.{Neighbour}
 use Rattle.qg_descent.specs.Branch.{IsBranch}
 use Rattle.qg_descent.specs.Tree.{Reaches, Root}
 use Rattle.qg_descent.specs.Editing.{AreRewritten, FillsThere, HoldInstead, IsBeside, IsJoinedThere, IsOwned, ReachesInstead, alone}
@@ -34,3 +36,15 @@ pub record AreUnited (old new : Ground) (left right : ℕ) (instead : Instead) :
   pub rewritten : AreRewritten old mid left right
   pub there : IsJoinedThere old mid left right joined
   pub ends : EndsAs mid new left right instead joined
+
+-- ---- the neighbour that a child is joined with
+
+-- the child at a place and the neighbour that was owned, from left to right
+pub record IsPaired (tree : Tree) (root : Root) (old new : Ground) (history : Option (List Event)) (pointers : List Pointer) (to : Option Key) (level place child : ℕ) (pair : Pair) : Type 0 where
+  pub beside : Neighbour
+  pub now : ℕ
+  pub is : IsBeside pointers to level place beside
+  pub owned : IsOwned tree root old new history beside.way.expected beside.way.address now
+  pub apart : now ≢ child
+  pub front : pair.front ≡ beside.front
+  pub sides : ((beside.front ≡ place) × (pair.left ≡ child) × (pair.right ≡ now)) ⊎ ((beside.front + 1 ≡ place) × (pair.left ≡ now) × (pair.right ≡ child))

@@ -4,6 +4,7 @@
 mod editing;
 mod instead;
 mod joining;
+mod pairing;
 mod leaf;
 mod owning;
 mod reach;

@@ -8,7 +8,6 @@ ghost use Rattle.qg_node.specs.declared.pointer.Pointer.{Pointer as PointerValue
 ghost use Rattle.qg_node.specs.declared.node.Header.{Header as HeaderValue};
 ghost use Rattle.qg_node.specs.Nodes.{header_of, own_pointers};
 ghost use Rattle.qg_node.specs.NodeText.{IsNode, IsNodeSize};
-ghost use Rattle.qg_num.specs.declared.fault.BlockFault.TheVariants as block;
 ghost use Rattle.qg_super.specs.declared.superblock.Super.{Super as SuperValue};
 ghost use Rattle.qg_verdict.specs.declared.tree.Tree.{Tree as TreeValue};
 ghost use Rattle.qg_shape.specs.Filled.{IsThin};
@@ -20,15 +19,14 @@ ghost use Rattle.qg_descent.specs.Editing.{CanLead, HasLed, IsEditable, IsFreshO
 
 use crate::Tree;
 use crate::instead::Instead;
-use crate::joining::join_nodes;
+use crate::joining::unite;
 use crate::rewriting::rewrite_pointers;
-use crate::way::neighbour_of;
 use qg_disk::Disk;
-use qg_ground::{Book, Ground, leave_node};
+use qg_ground::{Book, Ground};
 use qg_node::Node;
-use qg_num::{Address, BlockFault, Key, Rule, Steps};
+use qg_num::{Address, BlockFault, Key, Steps};
 use qg_parts::TreePart;
-use qg_shape::{Joined, is_thin, pointer_to};
+use qg_shape::{is_thin, pointer_to};
 use std::alloc::Global;
 use std::sync::ledger::Ledger;
 
@@ -109,33 +107,11 @@ impl Tree {
         ensures cause { HasCause BlockFault.Disk (D.faults disk.old) (D.faults disk.new) result }
         ensures reads { (most : ℕ) → ((book : B) (q : ℕ) → B.to_read book q ≤ most) → reads.new ≤ reads.old + (3 + 2 * most) }
     {
-        let Some(beside) = neighbour_of(land.blocks.peek(at), to, level, place) else {
-            return Err(unfit(Rule::Shape, at));
-        };
-        let other = self.own::<P, D, L, B>(alloc, land, disk, book, &beside.way, reads)?;
-        if other == child {
-            return Err(unfit(Rule::Refs, at));
-        }
-        let is_first = beside.front == place;
-        let (left, right) = if is_first {
-            (child, other)
-        } else {
-            (other, child)
-        };
-        let more = match join_nodes(alloc, land, left, right)? {
-            Joined::Parted => Some(right),
-            Joined::Whole => {
-                leave_node(land, disk, book, right, reads)?;
-                None
-            }
-        };
-        lead_to(
-            land,
-            at,
-            beside.front,
-            beside.front + 2,
-            Instead { now: left, more },
-        )
+        let pair = self.own_neighbour::<P, D, L, B>(
+            alloc, land, disk, book, at, to, level, place, child, reads,
+        )?;
+        let instead = unite(alloc, land, disk, book, pair.left, pair.right, reads)?;
+        lead_to(land, at, pair.front, pair.front + 2, instead)
     }
 }
 
@@ -152,13 +128,6 @@ fn is_too_thin(land: &Ground, child: &Instead) -> bool
         Some(_) => false,
         None => is_thin(land.blocks.peek(child.now), land.blocks.nodesize()),
     }
-}
-
-// A node that does not fit what was read elsewhere.
-fn unfit(rule: Rule, address: Address) -> BlockFault
-    ensures { result ≡ block.Image rule address }
-{
-    BlockFault::Image { rule, address }
 }
 
 // Sets pointers of the fresh node at an address, from one index up to another, to what stands there instead. Where the node then has too
