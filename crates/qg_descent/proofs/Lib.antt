@@ -27,3 +27,4 @@ pub mod Served
 pub mod Unjoined
 pub mod United
 pub mod Beside
+pub mod OwnedBranch
