@@ -28,3 +28,5 @@ pub mod Unjoined
 pub mod United
 pub mod Beside
 pub mod OwnedBranch
+pub mod Paired
+pub mod PairedHolds

@@ -55,3 +55,8 @@ get-drop zero xs i x high is = (i, is)
 get-drop (suc n) [] i x high is = absurd cc
 get-drop (suc n) (z ∷ xs) zero x high is = absurd (omega arith)
 get-drop (suc n) (z ∷ xs) (suc i) x high is = get-drop n xs i x (omega (arith, high)) is
+
+pub got-inside : {A : Type 0} (i : ℕ) (xs : List A) (x : A) → slice_get xs i ≡ Some x → i < length xs
+got-inside i [] x is = absurd cc
+got-inside zero (y ∷ xs) x is = omega arith
+got-inside (suc i) (y ∷ xs) x is = let low = got-inside i xs x is in omega (arith, low)

@@ -9,6 +9,8 @@ use Rattle.qg_blocks.proofs.Telling.{fresh-held}
 use Rattle.qg_descent.specs.Editing.{IsBeside}
 use Rattle.qg_descent.proofs.Beside.{beside-apart}
 use Rattle.qg_descent.proofs.OwnedBranch.{owned-branch}
+use Rattle.qg_descent.proofs.Paired.{are-pair}
+use Rattle.qg_descent.proofs.PairedHolds.{holds-pair}
 use Rattle.qg_descent.proofs.Served.{fresh-inner}
 use Rattle.qg_descent.proofs.tree.Tree.own_neighbour.Goals as goal
 
