@@ -1,5 +1,6 @@
 -- The neighbour of a child that was edited.
-use Rattle.std.proofs.Common.{◌≡◌, ◌≢◌, ◌⊎◌, ℕ, ◌+◌, List, arith, refl, sym, subst, ◌∙◌, inl, inr, Option}
+use Rattle.std.proofs.Common.{◌≡◌, ◌≢◌, ◌⊎◌, ℕ, ◌+◌, ◌≤◌, ◌<◌, List, take, drop, arith, refl, sym, subst, ◌∙◌, inl, inr, Option, Some}
+use Rattle.std.specs.Prelude.{slice_get}
 use Rattle.qg_device.specs.History.{Event}
 use Rattle.qg_num.specs.declared.key.Key.{Key}
 use Rattle.qg_node.specs.declared.item.Item.{Item}
@@ -8,9 +9,29 @@ use Rattle.qg_verdict.specs.declared.tree.Tree.{Tree}
 use Rattle.qg_blocks.specs.Told.{told}
 use Rattle.qg_ground.specs.declared.ground.Ground.{Ground}
 use Rattle.qg_descent.specs.declared.way.Neighbour.{Neighbour}
-use Rattle.qg_descent.specs.Tree.{Reaches, Root}
+use Rattle.qg_descent.specs.declared.instead.Instead.{Instead}
+use Rattle.qg_descent.specs.Tree.{Reaches, Root, super_of}
+use Rattle.qg_descent.specs.Branch.{IsBranch, IsPointed}
 use Rattle.qg_descent.specs.Editing.{IsBeside, IsOwned, IsUnsettled, alone}
+use Rattle.qg_descent.proofs.Branches.{each-get}
 use Rattle.qg_descent.proofs.BranchFrames.{reach-top}
+use Rattle.qg_descent.proofs.Spliced.{get-drop, get-take}
+
+-- what is under another child
+module _ (tree : Tree) (root : Root) (land : Ground) (history : Option (List Event)) (level at : ℕ) (to : Option Key) (place : ℕ) (child : Instead) (items : List Item)
+    (un : IsUnsettled tree root land history level at to place child items) where
+  Under : Pointer → List Item → Type 0
+  Under p under = IsPointed (super_of root land.blocks.draft) (told land.blocks.draft history) p × IsBranch tree (super_of root land.blocks.draft) (told land.blocks.draft history) level p.child under
+
+  pub other-branch : (i : ℕ) (pointer : Pointer) → (i < place) ⊎ (place + 1 ≤ i) → slice_get un.pointers i ≡ Some pointer
+      → (under : List Item) × IsPointed (super_of root land.blocks.draft) (told land.blocks.draft history) pointer
+      × IsBranch tree (super_of root land.blocks.draft) (told land.blocks.draft history) level pointer.child under
+  unfolding Under
+  other-branch i pointer (inl low) there =
+      let row = each-get Under (take place un.pointers) un.front un.before i pointer (get-take place un.pointers i pointer low there) in (row.0, row.2.0, row.2.1)
+  other-branch i pointer (inr high) there =
+      let at = get-drop (place + 1) un.pointers i pointer high there in
+      let row = each-get Under (drop (place + 1) un.pointers) un.back un.after at.0 pointer at.1 in (row.0, row.2.0, row.2.1)
 
 -- its index is another one
 pub beside-differs : (pointers : List Pointer) (to : Option Key) (level place : ℕ) (beside : Neighbour) → (is : IsBeside pointers to level place beside) → is.other ≢ place

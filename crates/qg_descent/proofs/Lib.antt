@@ -30,3 +30,4 @@ pub mod Beside
 pub mod OwnedBranch
 pub mod Paired
 pub mod PairedHolds
+pub mod PairedFrames

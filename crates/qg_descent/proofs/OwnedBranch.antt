@@ -73,6 +73,20 @@ module _ (tree : Tree) (root : Root) (land new : Ground) (history : Option (List
             (made, copy_inner header pointers owned.node owned.mine now root.owner root.next one copied.0, λ member. member_made tree root land level made makes high refl refl)
       ]
 
+  -- a node is not reached below itself
+  below_top : (super : Super) (level : ℕ) (header : Header) (pointers : List Pointer) (items : List Item) → told land.blocks.draft history at ≡ Some (Inner header pointers) → header.level ≡ suc level
+      → AreBranches tree super (told land.blocks.draft history) level pointers items
+      → (place : ℕ) (pointer : Pointer) → slice_get pointers place ≡ Some pointer → (q : ℕ) → Reaches (told land.blocks.draft history) level pointer.child q → q ≢ at
+  below_top super level header pointers items here high each place pointer there q reaches same =
+      let under = each-get (λ (p : Pointer) (xs : List Item). IsPointed super (told land.blocks.draft history) p × IsBranch tree super (told land.blocks.draft history) level p.child xs)
+      pointers items each place pointer there in
+      let low = branch-level tree super (told land.blocks.draft history) level pointer.child under.0 under.2.1 q reaches in
+      let is : Some low.0 ≡ Some (Inner header pointers) = sym low.1 ∙ ap (told land.blocks.draft history) same ∙ here in
+      let one : low.0 ≡ Inner header pointers = cc in
+      let level_is : (header_of low.0).level ≡ suc level = ap (λ (n : Node). (header_of n).level) one ∙ high in
+      let upto = low.2 in
+      omega (arith, level_is, upto)
+
   -- nothing that is reached below the node is the one that is owned
   below_apart : (level : ℕ) (header : Header) (pointers : List Pointer) (items : List Item) → told land.blocks.draft history at ≡ Some (Inner header pointers) → header.level ≡ suc level
       → AreBranches tree (super_of root land.blocks.draft) (told land.blocks.draft history) level pointers items
@@ -80,15 +94,7 @@ module _ (tree : Tree) (root : Root) (land new : Ground) (history : Option (List
       → (place : ℕ) (pointer : Pointer) → slice_get pointers place ≡ Some pointer → (q : ℕ) → Reaches (told land.blocks.draft history) level pointer.child q → q ≢ now
   unfolding Reaches
   below_apart level header pointers items here high each free place pointer there q reaches same = elim owned.same [
-    | inl kept ↦
-        let under = each-get (λ (p : Pointer) (xs : List Item). IsPointed (super_of root land.blocks.draft) (told land.blocks.draft history) p
-        × IsBranch tree (super_of root land.blocks.draft) (told land.blocks.draft history) level p.child xs) pointers items each place pointer there in
-        let low = branch-level tree (super_of root land.blocks.draft) (told land.blocks.draft history) level pointer.child under.0 under.2.1 q reaches in
-        let is : Some low.0 ≡ Some (Inner header pointers) = sym low.1 ∙ ap (told land.blocks.draft history) (same ∙ kept.1) ∙ here in
-        let one : low.0 ≡ Inner header pointers = cc in
-        let level_is : (header_of low.0).level ≡ suc level = ap (λ (n : Node). (header_of n).level) one ∙ high in
-        let upto = low.2 in
-        omega (arith, level_is, upto)
+    | inl kept ↦ below_top (super_of root land.blocks.draft) level header pointers items here high each place pointer there q reaches (same ∙ kept.1)
     | inr copied ↦ free q (subst (λ (a : ℕ). IsTrue (is_free_slot land.space a)) (sym same) copied.1) (inr (Inner header pointers, here, place, pointer, there, reaches))
   ]
 
@@ -113,7 +119,7 @@ module _ (tree : Tree) (root : Root) (land new : Ground) (history : Option (List
   -- and the same is reached from it, but for itself
   pub owned-reach : (level : ℕ) (items : List Item) → IsBranch tree (super_of root land.blocks.draft) (told land.blocks.draft history) level at items
       → ((q : ℕ) → IsTrue (is_free_slot land.space q) → Reaches (told land.blocks.draft history) level at q → ⊥)
-      → (q : ℕ) → Reaches (told new.blocks.draft history) level now q → (q ≡ now) ⊎ Reaches (told land.blocks.draft history) level at q
+      → (q : ℕ) → Reaches (told new.blocks.draft history) level now q → (q ≡ now) ⊎ (Reaches (told land.blocks.draft history) level at q × (q ≢ at))
   unfolding IsBranch Reaches
   owned-reach zero items branch free q reaches = inl reaches
   owned-reach (suc level) items branch free q (inl here) = inl here
@@ -122,6 +128,7 @@ module _ (tree : Tree) (root : Root) (land new : Ground) (history : Option (List
       let one : Some node ≡ Some (Inner inner.0 branch.1) = sym is ∙ mine-told ∙ ap Some inner.1 in
       let same : node ≡ Inner inner.0 branch.1 = cc in
       let at_place : slice_get branch.1 place ≡ Some pointer = subst (λ (n : Node). slice_get (own_pointers n) place ≡ Some pointer) same there in
-      inr (inr (Inner branch.0 branch.1, branch.2, place, pointer, at_place,
-      reach-same (told land.blocks.draft history) (told new.blocks.draft history) level pointer.child
-      (λ r below. owned.others history r (below_apart level branch.0 branch.1 items branch.2 branch.3.levelled branch.4 free place pointer at_place r below)) q reaches))
+      let was = reach-same (told land.blocks.draft history) (told new.blocks.draft history) level pointer.child
+      (λ r below. owned.others history r (below_apart level branch.0 branch.1 items branch.2 branch.3.levelled branch.4 free place pointer at_place r below)) q reaches in
+      inr (inr (Inner branch.0 branch.1, branch.2, place, pointer, at_place, was),
+      below_top (super_of root land.blocks.draft) level branch.0 branch.1 items branch.2 branch.3.levelled branch.4 place pointer at_place q was)

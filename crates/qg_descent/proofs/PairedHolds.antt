@@ -49,26 +49,26 @@ pub record HoldPair (tree : Tree) (super : Super) (nodes : ℕ → Option Node) 
 module _ (tree : Tree) (root : Root) (land new : Ground) (history : Option (List Event)) (level at : ℕ) (to : Option Key) (place child : ℕ) (items : List Item)
     (un : IsUnsettled tree root land history level at to place (alone child) items) (pair : Pair) (is : IsPaired tree root land new history un.pointers to level place child pair) (makes : CanMake tree root) where
   -- the neighbour was owned where its pointer leads
-  owned_there : IsOwned tree root land new history is.beside.way.expected is.is.way.pointer.child is.now
-  owned_there = subst (λ (a : ℕ). IsOwned tree root land new history is.beside.way.expected a is.now) is.is.way.child is.owned
+  pub owned-there : IsOwned tree root land new history is.beside.way.expected is.is.way.pointer.child is.now
+  owned-there = subst (λ (a : ℕ). IsOwned tree root land new history is.beside.way.expected a is.now) is.is.way.child is.owned
 
   differs : is.is.other ≢ place
   differs = beside-differs un.pointers to level place is.beside is.is
 
-  free_there : (q : ℕ) → IsTrue (is_free_slot land.space q) → Reaches (told land.blocks.draft history) level is.is.way.pointer.child q → ⊥
-  free_there q free reaches = un.free q free (inr (is.is.other, is.is.way.pointer, differs, is.is.way.there, reaches))
+  pub free-there : (q : ℕ) → IsTrue (is_free_slot land.space q) → Reaches (told land.blocks.draft history) level is.is.way.pointer.child q → ⊥
+  free-there q free reaches = un.free q free (inr (is.is.other, is.is.way.pointer, differs, is.is.way.there, reaches))
 
   -- nothing that the child or another one reaches is told otherwise then
-  child_apart : (q : ℕ) → Reaches (told land.blocks.draft history) level child q → q ≢ is.now
-  child_apart q reaches same = elim owned_there.same [
+  pub child-apart : (q : ℕ) → Reaches (told land.blocks.draft history) level child q → q ≢ is.now
+  child-apart q reaches same = elim owned-there.same [
     | inl kept ↦
         un.alone is.is.other is.is.way.pointer differs is.is.way.there is.is.way.pointer.child (reach-top (told land.blocks.draft history) level is.is.way.pointer.child)
         (inl (subst (λ (a : ℕ). Reaches (told land.blocks.draft history) level child a) (same ∙ kept.1) reaches))
     | inr copied ↦ un.free is.now copied.1 (inl (inl (subst (λ (a : ℕ). Reaches (told land.blocks.draft history) level child a) same reaches)))
   ]
 
-  other_apart : (i : ℕ) (pointer : Pointer) → i ≢ place → i ≢ is.is.other → slice_get un.pointers i ≡ Some pointer → (q : ℕ) → Reaches (told land.blocks.draft history) level pointer.child q → q ≢ is.now
-  other_apart i pointer not_child not_beside there q reaches same = elim owned_there.same [
+  pub other-apart : (i : ℕ) (pointer : Pointer) → i ≢ place → i ≢ is.is.other → slice_get un.pointers i ≡ Some pointer → (q : ℕ) → Reaches (told land.blocks.draft history) level pointer.child q → q ≢ is.now
+  other-apart i pointer not_child not_beside there q reaches same = elim owned-there.same [
     | inl kept ↦
         un.apart i is.is.other pointer is.is.way.pointer not_child differs not_beside there is.is.way.there is.is.way.pointer.child
         (subst (λ (a : ℕ). Reaches (told land.blocks.draft history) level pointer.child a) (same ∙ kept.1) reaches) (reach-top (told land.blocks.draft history) level is.is.way.pointer.child)
@@ -78,11 +78,11 @@ module _ (tree : Tree) (root : Root) (land new : Ground) (history : Option (List
   child_holds : IsBranch tree (super_of root land.blocks.draft) (told new.blocks.draft history) level child un.holds.mine
   child_holds =
       branch-same tree (super_of root land.blocks.draft) (told land.blocks.draft history) (told new.blocks.draft history) level child un.holds.mine un.holds.here
-      (λ q reaches. owned_there.others history q (child_apart q reaches))
+      (λ q reaches. owned-there.others history q (child-apart q reaches))
 
   now_holds : (under : List Item) → IsBranch tree (super_of root land.blocks.draft) (told land.blocks.draft history) level is.is.way.pointer.child under
       → IsBranch tree (super_of root land.blocks.draft) (told new.blocks.draft history) level is.now under
-  now_holds under branch = owned-branch tree root land new history is.beside.way.expected is.is.way.pointer.child is.now owned_there makes level under branch free_there
+  now_holds under branch = owned-branch tree root land new history is.beside.way.expected is.is.way.pointer.child is.now owned-there makes level under branch free-there
 
   -- the others in front, and those behind
   front_stays : (n : ℕ) (front : List Item) → n ≤ place → n ≤ is.is.other → AreBranches tree (super_of root land.blocks.draft) (told land.blocks.draft history) level (take n un.pointers) front
@@ -92,7 +92,7 @@ module _ (tree : Tree) (root : Root) (land new : Ground) (history : Option (List
       (λ i pointer there q reaches.
       let found = take-get n un.pointers i pointer there in
       let low = found.0 in
-      owned_there.others history q (other_apart i pointer (λ same. omega (arith, same, low, upto)) (λ same. omega (arith, same, low, upto_other)) found.1 q reaches))
+      owned-there.others history q (other-apart i pointer (λ same. omega (arith, same, low, upto)) (λ same. omega (arith, same, low, upto_other)) found.1 q reaches))
 
   back_stays : (n : ℕ) (back : List Item) → place < n → is.is.other < n → AreBranches tree (super_of root land.blocks.draft) (told land.blocks.draft history) level (drop n un.pointers) back
       → AreBranches tree (super_of root land.blocks.draft) (told new.blocks.draft history) level (drop n un.pointers) back
@@ -101,7 +101,7 @@ module _ (tree : Tree) (root : Root) (land new : Ground) (history : Option (List
       (λ i pointer there q reaches.
       let found = drop-get n un.pointers i pointer there in
       let high = found.1 in
-      owned_there.others history q (other_apart found.0 pointer (λ same. omega (arith, same, high, from)) (λ same. omega (arith, same, high, from_other)) found.2 q reaches))
+      owned-there.others history q (other-apart found.0 pointer (λ same. omega (arith, same, high, from)) (λ same. omega (arith, same, high, from_other)) found.2 q reaches))
 
   mine_is : un.mine ≡ un.holds.mine ++ []
   mine_is = un.holds.items_are ∙ ap (λ (xs : List Item). un.holds.mine ++ xs) un.holds.behind

@@ -16,10 +16,10 @@ use Rattle.qg_descent.specs.declared.instead.Instead.{Instead}
 use Rattle.qg_descent.specs.Tree.{Reaches, Root, super_of}
 use Rattle.qg_descent.specs.Branch.{AreBranches, IsBranch, IsPointed}
 use Rattle.qg_descent.specs.Editing.{FillsThere, HasLed, IsSettled, IsUnsettled, ReachesEach, ReachesInstead, ReachesParts}
-use Rattle.qg_descent.proofs.Branches.{each-get}
+use Rattle.qg_descent.proofs.Beside.{other-branch}
 use Rattle.qg_descent.proofs.BranchFrames.{reach-same}
 use Rattle.qg_descent.proofs.Leading.{not-above}
-use Rattle.qg_descent.proofs.Spliced.{get-drop, get-take, spliced-get}
+use Rattle.qg_descent.proofs.Spliced.{spliced-get}
 
 -- what is told behind, if anything is, is what stands in the second place
 only_more : (o : Option ℕ) (more : List Pointer) → MatchOption o (more ≡ []) (λ address. (pointer : Pointer) × (more ≡ pointer ∷ []) × (pointer.child ≡ address))
@@ -64,23 +64,12 @@ module _ (tree : Tree) (root : Root) (land new : Ground) (history : Option (List
       let was = back only.0 un.holds.rest behind.0 q (subst (λ (a : ℕ). Reaches (told new.blocks.draft history) level a q) only.2 reaches) in
       inr (subst (λ (o : Option ℕ). MatchOption o ⊥ (λ more. Reaches (told land.blocks.draft history) level more q)) (sym only.1) was)
 
-  Under : Pointer → List Item → Type 0
-  Under p under = IsPointed (super_of root land.blocks.draft) (told land.blocks.draft history) p × IsBranch tree (super_of root land.blocks.draft) (told land.blocks.draft history) level p.child under
-
-  other_branch : (j : ℕ) (p : Pointer) → (j < place) ⊎ (place + 1 ≤ j) → slice_get un.pointers j ≡ Some p
-      → (under : List Item) × IsBranch tree (super_of root land.blocks.draft) (told land.blocks.draft history) level p.child under
-  unfolding Under
-  other_branch j p (inl low) there = let row = each-get Under (take place un.pointers) un.front un.before j p (get-take place un.pointers j p low there) in (row.0, row.2.1)
-  other_branch j p (inr high) there =
-      let at = get-drop (place + 1) un.pointers j p high there in
-      let row = each-get Under (drop (place + 1) un.pointers) un.back un.after at.0 p at.1 in (row.0, row.2.1)
-
   reached : (q : ℕ) → ReachesEach (told new.blocks.draft history) level (take place un.pointers ++ (led.now ∷ led.more) ++ drop (place + 1) un.pointers) q
       → ReachesParts (told land.blocks.draft history) level un.pointers place child q
   reached q (i, p, there, reaches) = found (spliced-get un.pointers (led.now ∷ led.more) place (place + 1) i p there) where
     found : ((j : ℕ) × ((j < place) ⊎ (place + 1 ≤ j)) × (slice_get un.pointers j ≡ Some p)) ⊎ ((k : ℕ) × (slice_get (led.now ∷ led.more) k ≡ Some p))
         → ReachesParts (told land.blocks.draft history) level un.pointers place child q
-    found (inl (j, apart, is)) = let other = other_branch j p apart is in stays j p apart is other.0 other.1 q reaches
+    found (inl (j, apart, is)) = let other = other-branch tree root land history level at to place child items un j p apart is in stays j p apart is other.0 other.2 q reaches
     found (inr (k, is)) = inl (comes k p is q reaches)
 
   pub settled : IsSettled tree root land new history level at place child un.pointers un.header items rest
