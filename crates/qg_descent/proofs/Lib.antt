@@ -31,3 +31,6 @@ pub mod OwnedBranch
 pub mod Paired
 pub mod PairedHolds
 pub mod PairedFrames
+pub mod UnitedHolds
+pub mod Led
+pub mod Rejoined

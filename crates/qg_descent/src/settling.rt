@@ -15,7 +15,7 @@ ghost use Rattle.qg_shape.specs.Parts.{IsInner};
 ghost use Rattle.qg_blocks.specs.Told.{BreaksNone, fresh_at};
 ghost use Rattle.qg_space.specs.Holding.{free_slots};
 ghost use Rattle.qg_ground.specs.Land.{Rests};
-ghost use Rattle.qg_descent.specs.Editing.{CanLead, HasLed, IsEditable, IsFreshOn, IsNamed, IsRewritten, IsSettled, IsUnsettled, Moves, OfEach, RestIsReady, StandsInstead, StaysCut, alone};
+ghost use Rattle.qg_descent.specs.Editing.{CanLead, CanMake, HasLed, IsEditable, IsFreshOn, IsNamed, IsRewritten, IsSettled, IsUnsettled, Moves, OfEach, RestIsReady, StandsInstead, StaysCut, alone};
 
 use crate::Tree;
 use crate::instead::Instead;
@@ -48,6 +48,7 @@ impl Tree {
     ) -> Result<Option<Node>, BlockFault>
         requires editable { IsEditable land.old (D.history disk.old) (D.size disk.old) self.now.next }
         requires stands { B.stands book.old land.old disk.old }
+        requires makes { CanMake P.tree self.now }
         requires slots { 0 < free_slots land.old.space }
         requires parent { IsFreshOn land.old (level + 1) at }
         requires inside { (node : NodeValue) → fresh_at land.old.blocks.draft at ≡ Some node → place < length (own_pointers node) }
@@ -89,6 +90,7 @@ impl Tree {
     ) -> Result<Option<Node>, BlockFault>
         requires editable { IsEditable land.old (D.history disk.old) (D.size disk.old) self.now.next }
         requires stands { B.stands book.old land.old disk.old }
+        requires makes { CanMake P.tree self.now }
         requires slots { 0 < free_slots land.old.space }
         requires parent { IsFreshOn land.old (level + 1) at }
         requires inside { (node : NodeValue) → fresh_at land.old.blocks.draft at ≡ Some node → place < length (own_pointers node) }

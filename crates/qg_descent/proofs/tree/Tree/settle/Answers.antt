@@ -77,7 +77,7 @@ returns-clause-settled g c = λ items un.
     let can = can-lead g.P.TreePart.tree c.args.self.now c.args.land.now (g.D.Disk.history c.args.disk.now) c.args.level c.args.at c.args.self.now.next c.args.to c.args.place c.args.child items
     c.requires.editable.drafted c.requires.child (c.is_too_thin.ensures.full c.if-is_too_thin.false) un in
     IfOk-weaker c.lead_to.result _ _
-    (λ rest led. settled g.P.TreePart.tree c.args.self.now c.args.land.now c.lead_to.new.land (g.D.Disk.history c.args.disk.now) c.args.level c.args.at c.args.to c.args.place c.args.child items rest un led)
+    (λ rest led. settled g.P.TreePart.tree c.args.self.now c.args.land.now c.lead_to.new.land (g.D.Disk.history c.args.disk.now) c.args.level c.args.at c.args.to c.args.place c.args.child items rest un can led)
     (c.lead_to.ensures.led g.P.TreePart.tree (super_of c.args.self.now c.args.land.now.blocks.draft) (g.D.Disk.history c.args.disk.now) c.args.level un.pointers un.header items can)
 
 pub returns-clause-sound : goal.returns-clause-sound
