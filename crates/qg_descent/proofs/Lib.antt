@@ -34,3 +34,4 @@ pub mod PairedFrames
 pub mod UnitedHolds
 pub mod Led
 pub mod Rejoined
+pub mod RejoinedHolds

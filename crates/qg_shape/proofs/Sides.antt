@@ -80,30 +80,30 @@ AreSides-filled nodesize left right wide alike same left_filled right_filled lev
     }
 
 -- the numbers of both fit where those of the whole do
-front_all : {A : Type 0} (P : A → Type 0) (front back : List A) → All P (front ++ back) → All P front
-front_all P front back all = subst (All P) (take-append_seam front back) (All-take P (length front) (front ++ back) all)
+pub front-all : {A : Type 0} (P : A → Type 0) (front back : List A) → All P (front ++ back) → All P front
+front-all P front back all = subst (All P) (take-append_seam front back) (All-take P (length front) (front ++ back) all)
 
-back_all : {A : Type 0} (P : A → Type 0) (front back : List A) → All P (front ++ back) → All P back
-back_all P front back all = subst (All P) (drop-append_seam front back) (All-drop P (length front) (front ++ back) all)
+pub back-all : {A : Type 0} (P : A → Type 0) (front back : List A) → All P (front ++ back) → All P back
+back-all P front back all = subst (All P) (drop-append_seam front back) (All-drop P (length front) (front ++ back) all)
 
 pub left_fits : (left right : Node) → AreAlike left right → NodeFits (whole_of left right) → NodeFits left
-left_fits (Leaf header items) right alike fits = (fits.0, front_all ItemFits items (own_items right) fits.1)
-left_fits (Inner header pointers) right alike fits = (fits.0, front_all PointerFits pointers (own_pointers right) fits.1)
+left_fits (Leaf header items) right alike fits = (fits.0, front-all ItemFits items (own_items right) fits.1)
+left_fits (Inner header pointers) right alike fits = (fits.0, front-all PointerFits pointers (own_pointers right) fits.1)
 
 pub right_fits : (left right : Node) → AreAlike left right → HeaderFits (header_of right) → NodeFits (whole_of left right) → NodeFits right
-right_fits (Leaf header items) (Leaf header' others) alike own fits = (own, back_all ItemFits items others fits.1)
+right_fits (Leaf header items) (Leaf header' others) alike own fits = (own, back-all ItemFits items others fits.1)
 right_fits (Leaf header items) (Inner header' pointers) alike own fits = absurd alike
 right_fits (Inner header pointers) (Leaf header' items) alike own fits = absurd alike
-right_fits (Inner header pointers) (Inner header' others) alike own fits = (own, back_all PointerFits pointers others fits.1)
+right_fits (Inner header pointers) (Inner header' others) alike own fits = (own, back-all PointerFits pointers others fits.1)
 
 abbrev AreShort : List Item → Type 0
 AreShort items = All (λ item. length item.body ≤ 1024) items
 
 pub left_short : (left right : Node) → AreAlike left right → HasShortBodies (whole_of left right) → HasShortBodies left
-left_short left right alike short = front_all (λ (item : Item). length item.body ≤ 1024) (own_items left) (own_items right) (subst AreShort (own_items-whole_of left right alike) short)
+left_short left right alike short = front-all (λ (item : Item). length item.body ≤ 1024) (own_items left) (own_items right) (subst AreShort (own_items-whole_of left right alike) short)
 
 pub right_short : (left right : Node) → AreAlike left right → HasShortBodies (whole_of left right) → HasShortBodies right
-right_short left right alike short = back_all (λ (item : Item). length item.body ≤ 1024) (own_items left) (own_items right) (subst AreShort (own_items-whole_of left right alike) short)
+right_short left right alike short = back-all (λ (item : Item). length item.body ≤ 1024) (own_items left) (own_items right) (subst AreShort (own_items-whole_of left right alike) short)
 
 -- ---- what a split and a join leave
 
