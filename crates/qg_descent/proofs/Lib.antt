@@ -35,3 +35,5 @@ pub mod UnitedHolds
 pub mod Led
 pub mod Rejoined
 pub mod RejoinedHolds
+pub mod RejoinedSettled
+pub mod InFront

@@ -1,15 +1,19 @@
 -- A child that is not a quarter full, and its neighbour, which was owned: what is under both.
-use Rattle.std.proofs.Common.{◌≡◌, ◌≢◌, ◌⊎◌, ℕ, suc, ◌+◌, ◌≤◌, ◌<◌, List, [], ◌∷◌, ◌++◌, take, drop, length, append_assoc, append-nil, arith, refl, sym, ap, subst, ◌∙◌, inl, inr, Option, Some, None}
+use Rattle.std.proofs.Common.{◌≡◌, ◌≢◌, ◌⊎◌, ℕ, suc, ◌+◌, ◌≤◌, ◌<◌, true, List, [], ◌∷◌, ◌++◌, take, drop, length, append_assoc, append-nil, arith, refl, sym, ap, subst, ◌∙◌, inl, inr, Option, Some, None}
 use Rattle.std.specs.Prelude.{IsTrue, slice_get}
-use Rattle.std.proofs.lemmas.Bool.{leb-true}
+use Rattle.std.specs.List.{All}
 use Rattle.qg_device.specs.History.{Event}
 use Rattle.qg_num.specs.declared.key.Key.{Key}
 use Rattle.qg_node.specs.declared.item.Item.{Item}
 use Rattle.qg_node.specs.declared.pointer.Pointer.{Pointer}
 use Rattle.qg_node.specs.declared.node.Node.{Node}
+use Rattle.qg_node.specs.Nodes.{is_ascending}
+use Rattle.qg_shape.specs.Filled.{HasShortBodies}
+use Rattle.qg_shape.proofs.Sides.{back-all, front-all}
+use Rattle.qg_edit.specs.Outcome.{IsInFront}
 use Rattle.qg_super.specs.declared.superblock.Super.{Super}
 use Rattle.qg_verdict.specs.declared.tree.Tree.{Tree}
-use Rattle.qg_blocks.specs.Told.{told}
+use Rattle.qg_blocks.specs.Told.{fresh_at, told}
 use Rattle.qg_space.specs.Holding.{is_free_slot}
 use Rattle.qg_ground.specs.declared.ground.Ground.{Ground}
 use Rattle.qg_descent.specs.declared.instead.Instead.{Instead}
@@ -21,6 +25,9 @@ use Rattle.qg_descent.specs.Uniting.{IsPaired}
 use Rattle.qg_descent.proofs.Beside.{beside-differs}
 use Rattle.qg_descent.proofs.Branches.{each-append}
 use Rattle.qg_descent.proofs.BranchFrames.{branch-same, branches-same, reach-same, reach-top}
+use Rattle.qg_descent.proofs.BranchOrder.{keys_of}
+use Rattle.qg_descent.proofs.BranchRanges.{ascending-first, ascending-others}
+use Rattle.qg_descent.proofs.InFront.{united-front, united-short}
 use Rattle.qg_descent.proofs.OwnedBranch.{owned-branch, owned-reach}
 use Rattle.qg_descent.proofs.Spliced.{drop-get, drop-there, take-get, take-there}
 
@@ -172,3 +179,25 @@ module _ (tree : Tree) (root : Root) (land new : Ground) (history : Option (List
       | inr before ↦ holds_front (let a = front.0 in let b = front.1 in omega (arith, a, b)) (is.front ∙ sym front.1) before.1 before.2
     ]
   ]
+
+  -- ---- and both can be joined
+
+  both_ascend : is_ascending (keys_of (holds-pair.ls ++ holds-pair.rs)) ≡ true
+  both_ascend =
+      ascending-first (holds-pair.ls ++ holds-pair.rs) holds-pair.back ((holds-pair.ls ++ holds-pair.rs) ++ holds-pair.back) refl
+      (ascending-others holds-pair.front ((holds-pair.ls ++ holds-pair.rs) ++ holds-pair.back) items holds-pair.items_are un.ascending)
+
+  both_short : All (λ (item : Item). length item.body ≤ 1024) (holds-pair.ls ++ holds-pair.rs)
+  both_short =
+      front-all (λ (item : Item). length item.body ≤ 1024) (holds-pair.ls ++ holds-pair.rs) holds-pair.back
+      (back-all (λ (item : Item). length item.body ≤ 1024) holds-pair.front ((holds-pair.ls ++ holds-pair.rs) ++ holds-pair.back)
+      (subst (λ (xs : List Item). All (λ (item : Item). length item.body ≤ 1024) xs) holds-pair.items_are un.short))
+
+  pub pair-front : (a b : Node) → fresh_at new.blocks.draft pair.left ≡ Some a → fresh_at new.blocks.draft pair.right ≡ Some b → IsInFront a b × HasShortBodies a × HasShortBodies b
+  pair-front a b first second = (
+    united-front tree (super_of root land.blocks.draft) new history level pair.left pair.right holds-pair.ls holds-pair.rs holds-pair.left_holds holds-pair.right_holds both_ascend a b first second,
+    united-short tree (super_of root land.blocks.draft) new history level pair.left holds-pair.ls holds-pair.left_holds
+        (front-all (λ (item : Item). length item.body ≤ 1024) holds-pair.ls holds-pair.rs both_short) a first,
+    united-short tree (super_of root land.blocks.draft) new history level pair.right holds-pair.rs holds-pair.right_holds
+        (back-all (λ (item : Item). length item.body ≤ 1024) holds-pair.ls holds-pair.rs both_short) b second,
+  )

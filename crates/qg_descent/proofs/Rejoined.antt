@@ -57,13 +57,6 @@ module _ (tree : Tree) (root : Root) (land mid new : Ground) (history later last
       (fresh_apart mid (header_of node).level level at pair.left node there refl left high) (fresh_apart mid (header_of node).level level at pair.right node there refl right high) in
       fresh_at-told mid.blocks.draft new.blocks.draft at told_same ∙ there
 
-  pub rejoined-parent : (at : ℕ) → IsFreshOn land (level + 1) at → IsFreshOn new (level + 1) at
-  rejoined-parent at parent = record {
-    node = parent.node;
-    here = rejoined-above at parent.node parent.here (let levelled = parent.levelled in omega (arith, levelled));
-    levelled = parent.levelled;
-  }
-
   pub rejoined-stands : StandsInstead new level instead
   rejoined-stands =
       united-stands mid new pair.left pair.right instead differ (are-pair tree root land mid history later pointers to level place child pair is rests fresh thin) united level left right

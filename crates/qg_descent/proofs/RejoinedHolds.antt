@@ -36,56 +36,56 @@ use Rattle.qg_descent.proofs.PairedHolds.{HoldPair, holds-pair}
 use Rattle.qg_descent.proofs.Rejoined.{rejoined-above}
 use Rattle.qg_descent.proofs.Served.{size-blocks}
 use Rattle.qg_descent.proofs.Spliced.{drop-get, spliced-get, take-get}
-use Rattle.qg_descent.proofs.UnitedHolds.{united-fills, united-free, united-front, united-gone, united-holds, united-reach, united-short, united-told}
+use Rattle.qg_descent.proofs.UnitedHolds.{united-fills, united-free, united-holds, united-told}
 
 module _ (tree : Tree) (root : Root) (land mid new : Ground) (history later last : Option (List Event)) (level at : ℕ) (to : Option Key) (place child : ℕ) (items : List Item)
     (un : IsUnsettled tree root land history level at to place (alone child) items) (pair : Pair) (instead : Instead) (is : IsPaired tree root land mid history un.pointers to level place child pair)
     (makes : CanMake tree root) (drafted : IsDrafted land root.next) (rests : Rests land mid later root.next) (fresh : IsFreshOn land level child) (thin : IsThinAt land child)
     (united : AreUnited mid new pair.left pair.right instead) (after : Rests mid new last root.next) where
-  differ : pair.left ≢ pair.right
+  pub differ : pair.left ≢ pair.right
   differ = pair-differ tree root land mid history later un.pointers to level place child pair is rests fresh thin
 
-  both : ArePair mid pair.left pair.right
+  pub both : ArePair mid pair.left pair.right
   both = are-pair tree root land mid history later un.pointers to level place child pair is rests fresh thin
 
-  hold : HoldPair tree (super_of root land.blocks.draft) (told mid.blocks.draft history) level un.pointers pair items
+  pub hold : HoldPair tree (super_of root land.blocks.draft) (told mid.blocks.draft history) level un.pointers pair items
   hold = holds-pair tree root land mid history level at to place child items un pair is makes
 
-  size : land.blocks.draft.sizes.nodesize ≡ mid.space.sizes.nodesize
+  pub size : land.blocks.draft.sizes.nodesize ≡ mid.space.sizes.nodesize
   size = drafted.sizes.nodesize ∙ sym (ap (λ (s : _). s.nodesize) rests.sizes)
 
   -- ---- where the others' pointers stand
 
   -- an index in front of both pointers, or behind them
-  abbrev IsAside : ℕ → Type 0
+  abbrev pub IsAside : ℕ → Type 0
   IsAside i = (i < pair.front) ⊎ (pair.front + 2 ≤ i)
 
-  aside_child : (i : ℕ) → IsAside i → i ≢ place
-  aside_child i (inl low) same = let f = is.front in elim is.is.pair [
+  pub aside-child : (i : ℕ) → IsAside i → i ≢ place
+  aside-child i (inl low) same = let f = is.front in elim is.is.pair [
     | inl behind ↦ let a = behind.0 in omega (arith, low, same, f, a)
     | inr front ↦ let a = front.0 in omega (arith, low, same, f, a)
   ]
-  aside_child i (inr high) same = let f = is.front in elim is.is.pair [
+  aside-child i (inr high) same = let f = is.front in elim is.is.pair [
     | inl behind ↦ let a = behind.0 in omega (arith, high, same, f, a)
     | inr front ↦ let a = front.0 in omega (arith, high, same, f, a)
   ]
 
-  aside_beside : (i : ℕ) → IsAside i → i ≢ is.is.other
-  aside_beside i (inl low) same = let f = is.front in elim is.is.pair [
+  pub aside-beside : (i : ℕ) → IsAside i → i ≢ is.is.other
+  aside-beside i (inl low) same = let f = is.front in elim is.is.pair [
     | inl behind ↦ let a = behind.0 in let b = behind.1 in omega (arith, low, same, f, a, b)
     | inr front ↦ let b = front.1 in omega (arith, low, same, f, b)
   ]
-  aside_beside i (inr high) same = let f = is.front in elim is.is.pair [
+  aside-beside i (inr high) same = let f = is.front in elim is.is.pair [
     | inl behind ↦ let a = behind.0 in let b = behind.1 in omega (arith, high, same, f, a, b)
     | inr front ↦ let b = front.1 in omega (arith, high, same, f, b)
   ]
 
-  aside_place : (i : ℕ) → IsAside i → (i < place) ⊎ (place + 1 ≤ i)
-  aside_place i (inl low) = let f = is.front in elim is.is.pair [
+  pub aside-place : (i : ℕ) → IsAside i → (i < place) ⊎ (place + 1 ≤ i)
+  aside-place i (inl low) = let f = is.front in elim is.is.pair [
     | inl behind ↦ inl (let a = behind.0 in omega (arith, low, f, a))
     | inr front ↦ inl (let a = front.0 in omega (arith, low, f, a))
   ]
-  aside_place i (inr high) = let f = is.front in elim is.is.pair [
+  aside-place i (inr high) = let f = is.front in elim is.is.pair [
     | inl behind ↦ inr (let a = behind.0 in omega (arith, high, f, a))
     | inr front ↦ inr (let a = front.0 in omega (arith, high, f, a))
   ]
@@ -95,18 +95,18 @@ module _ (tree : Tree) (root : Root) (land mid new : Ground) (history later last
   mid_stays : (i : ℕ) (pointer : Pointer) → IsAside i → slice_get un.pointers i ≡ Some pointer → (q : ℕ) → Reaches (told land.blocks.draft history) level pointer.child q
       → told mid.blocks.draft history q ≡ told land.blocks.draft history q
   mid_stays i pointer aside there =
-      pair-stays tree root land mid history later level at to place child items un pair is makes drafted rests i pointer (aside_child i aside) (aside_beside i aside) there
+      pair-stays tree root land mid history later level at to place child items un pair is makes drafted rests i pointer (aside-child i aside) (aside-beside i aside) there
 
   apart : (i : ℕ) (pointer : Pointer) → IsAside i → slice_get un.pointers i ≡ Some pointer → (q : ℕ) → Reaches (told land.blocks.draft history) level pointer.child q → (q ≢ pair.left) × (q ≢ pair.right)
   apart i pointer aside there =
-      pair-apart tree root land mid history later level at to place child items un pair is makes drafted rests i pointer (aside_child i aside) (aside_beside i aside) there
+      pair-apart tree root land mid history later level at to place child items un pair is makes drafted rests i pointer (aside-child i aside) (aside-beside i aside) there
 
   new_told : (q : ℕ) → q ≢ pair.left → q ≢ pair.right → told new.blocks.draft history q ≡ told mid.blocks.draft history q
   new_told = united-told mid new pair.left pair.right instead differ both united history
 
-  new_stays : (i : ℕ) (pointer : Pointer) → IsAside i → slice_get un.pointers i ≡ Some pointer → (q : ℕ) → Reaches (told land.blocks.draft history) level pointer.child q
+  pub new-stays : (i : ℕ) (pointer : Pointer) → IsAside i → slice_get un.pointers i ≡ Some pointer → (q : ℕ) → Reaches (told land.blocks.draft history) level pointer.child q
       → told new.blocks.draft history q ≡ told land.blocks.draft history q
-  new_stays i pointer aside there q reaches =
+  new-stays i pointer aside there q reaches =
       let not_both = apart i pointer aside there q reaches in
       new_told q not_both.0 not_both.1 ∙ mid_stays i pointer aside there q reaches
 
@@ -149,23 +149,3 @@ module _ (tree : Tree) (root : Root) (land mid new : Ground) (history later last
     size = size-blocks land root.next drafted;
     ascending = un.ascending;
   }
-
-  -- ---- and both could be joined
-
-  both_ascend : is_ascending (keys_of (hold.ls ++ hold.rs)) ≡ true
-  both_ascend =
-      ascending-first (hold.ls ++ hold.rs) hold.back ((hold.ls ++ hold.rs) ++ hold.back) refl
-      (ascending-others hold.front ((hold.ls ++ hold.rs) ++ hold.back) items hold.items_are un.ascending)
-
-  both_short : All (λ (item : Item). length item.body ≤ 1024) (hold.ls ++ hold.rs)
-  both_short =
-      front-all (λ (item : Item). length item.body ≤ 1024) (hold.ls ++ hold.rs) hold.back
-      (back-all (λ (item : Item). length item.body ≤ 1024) hold.front ((hold.ls ++ hold.rs) ++ hold.back)
-      (subst (λ (xs : List Item). All (λ (item : Item). length item.body ≤ 1024) xs) hold.items_are un.short))
-
-  pub rejoined-front : (a b : Node) → fresh_at mid.blocks.draft pair.left ≡ Some a → fresh_at mid.blocks.draft pair.right ≡ Some b → IsInFront a b × HasShortBodies a × HasShortBodies b
-  rejoined-front a b first second = (
-    united-front mid new pair.left pair.right instead differ both united tree (super_of root land.blocks.draft) history level hold.ls hold.rs hold.left_holds hold.right_holds size both_ascend a b first second,
-    united-short tree (super_of root land.blocks.draft) mid history level pair.left hold.ls hold.left_holds (front-all (λ (item : Item). length item.body ≤ 1024) hold.ls hold.rs both_short) a first,
-    united-short tree (super_of root land.blocks.draft) mid history level pair.right hold.rs hold.right_holds (back-all (λ (item : Item). length item.body ≤ 1024) hold.ls hold.rs both_short) b second,
-  )

@@ -127,15 +127,6 @@ record AreInners (tree : Tree) (super : Super) (nodes : ℕ → Option Node) (le
 fresh_is : (land : Ground) (history : Option (List Event)) (at : ℕ) (node there : Node) → fresh_at land.blocks.draft at ≡ Some node → told land.blocks.draft history at ≡ Some there → node ≡ there
 fresh_is land history at node there here is = let e = sym (told-fresh_at land.blocks.draft history at node here) ∙ is in cc
 
--- bodies are short in a node where they are under it
-pub united-short : (tree : Tree) (super : Super) (land : Ground) (history : Option (List Event)) (level at : ℕ) (items : List Item)
-    → IsBranch tree super (told land.blocks.draft history) level at items → All (λ item. length item.body ≤ 1024) items → (a : Node) → fresh_at land.blocks.draft at ≡ Some a → HasShortBodies a
-unfolding IsBranch
-united-short tree super land history zero at items branch short a here =
-    subst (λ (n : Node). HasShortBodies n) (sym (fresh_is land history at a (Leaf branch.0 items) here branch.1)) short
-united-short tree super land history (suc level) at items branch short a here =
-    subst (λ (n : Node). HasShortBodies n) (sym (fresh_is land history at a (Inner branch.0 branch.1) here branch.2)) (λ place item low. absurd (omega (arith, low)))
-
 fresh_level : (land : Ground) (level at : ℕ) (node : Node) → fresh_at land.blocks.draft at ≡ Some node → IsFreshOn land level at → (header_of node).level ≡ level
 fresh_level land level at node here fresh =
     let same : node ≡ fresh.node = let e = sym here ∙ fresh.here in cc in
@@ -339,12 +330,6 @@ module _ (old new : Ground) (left right : ℕ) (instead : Instead) (differ : lef
             (are.other, parts.1, told-fresh_at new.blocks.draft history right (Inner are.other parts.1) (two.there ∙ ap (λ (n : Node). Some n) parts.3), are.member_other, split.4),
           )
 
-      inner_front : is_ascending (keys_of (lefts ++ rights)) ≡ true → IsInFront pair.a pair.b
-      inner_front ascending =
-          ap (λ (n : Node). is_ascending (own_keys n ++ own_keys pair.b)) are.left_is ∙ ap (λ (n : Node). is_ascending (keys_to are.first ++ own_keys n)) are.right_is
-          ∙ ap is_ascending (sym (map-append (λ (pointer : Pointer). pointer.key) are.first are.second))
-          ∙ branches-keys tree super (told old.blocks.draft history) level (are.first ++ are.second) (lefts ++ rights) whole_each ascending
-
     -- ---- both are leaves
 
     module _ (lefts rights : List Item) (are : AreLeaves tree super pair.a pair.b lefts rights) where
@@ -368,11 +353,6 @@ module _ (old new : Ground) (left right : ℕ) (instead : Instead) (differ : lef
             (are.header, told-fresh_at new.blocks.draft history left (Leaf are.header parts.0) (two.here ∙ ap (λ (n : Node). Some n) parts.2), are.member),
             (are.other, told-fresh_at new.blocks.draft history right (Leaf are.other parts.1) (two.there ∙ ap (λ (n : Node). Some n) parts.3), are.member_other),
           )
-
-      leaf_front : is_ascending (keys_of (lefts ++ rights)) ≡ true → IsInFront pair.a pair.b
-      leaf_front ascending =
-          ap (λ (n : Node). is_ascending (own_keys n ++ own_keys pair.b)) are.left_is ∙ ap (λ (n : Node). is_ascending (keys_of lefts ++ own_keys n)) are.right_is
-          ∙ ap is_ascending (sym (map-append (λ (item : Item). item.key) lefts rights)) ∙ ascending
 
     -- ---- on any level
 
@@ -400,11 +380,6 @@ module _ (old new : Ground) (left right : ℕ) (instead : Instead) (differ : lef
         × IsBranch tree super (told new.blocks.draft history) level left mine × IsBranch tree super (told new.blocks.draft history) level right rest
     two_hold zero lefts rights holds holds_other two = leaf_two_hold lefts rights (leaves_of lefts rights holds holds_other) two
     two_hold (suc level) lefts rights holds holds_other two = inner_two_hold level lefts rights (inners_of level lefts rights holds holds_other) two
-
-    in_front : (level : ℕ) (lefts rights : List Item) → IsBranch tree super (told old.blocks.draft history) level left lefts → IsBranch tree super (told old.blocks.draft history) level right rights
-        → is_ascending (keys_of (lefts ++ rights)) ≡ true → IsInFront pair.a pair.b
-    in_front zero lefts rights holds holds_other ascending = leaf_front lefts rights (leaves_of lefts rights holds holds_other) ascending
-    in_front (suc level) lefts rights holds holds_other ascending = inner_front level lefts rights (inners_of level lefts rights holds holds_other) ascending
 
     module _ (level : ℕ) (lefts rights : List Item) (left_holds : IsBranch tree super (told old.blocks.draft history) level left lefts)
         (right_holds : IsBranch tree super (told old.blocks.draft history) level right rights) (size : super.nodesize ≡ old.space.sizes.nodesize) where
@@ -497,13 +472,3 @@ module _ (old new : Ground) (left right : ℕ) (instead : Instead) (differ : lef
             subst (λ (i : Instead). FillsThere super.nodesize (told new.blocks.draft history) i.now) (sym one.instead_is) (filled_new left (whole_of pair.a pair.b) one.here filled)
         | inr two ↦ subst (λ (i : Instead). FillsThere super.nodesize (told new.blocks.draft history) i.now) (sym two.instead_is) (filled_new left two.c two.here two.parted.left_filled)
       ]
-
-      -- ---- before they were joined
-
-      -- the left one's keys are less than the right one's
-      pub united-front : is_ascending (map (λ (item : Item). item.key) (lefts ++ rights)) ≡ true → (a b : Node) → fresh_at old.blocks.draft left ≡ Some a → fresh_at old.blocks.draft right ≡ Some b
-          → IsInFront a b
-      united-front ascending a b here there =
-          let first : pair.a ≡ a = let e = sym pair.left_here ∙ here in cc in
-          let second : pair.b ≡ b = let e = sym pair.right_here ∙ there in cc in
-          subst (λ (n : Node). IsInFront n b) first (subst (λ (n : Node). IsInFront pair.a n) second (in_front level lefts rights left_holds right_holds ascending))

@@ -12,7 +12,7 @@ use Rattle.qg_descent.proofs.OwnedBranch.{owned-branch}
 use Rattle.qg_descent.proofs.Paired.{are-pair}
 use Rattle.qg_descent.proofs.PairedHolds.{holds-pair}
 use Rattle.qg_descent.proofs.PairedFrames.{pair-fills}
-use Rattle.qg_descent.proofs.RejoinedHolds.{rejoined-can}
+use Rattle.qg_descent.proofs.RejoinedSettled.{rejoined-settled}
 use Rattle.qg_descent.proofs.Rejoined.{rejoined-count}
 use Rattle.qg_descent.proofs.Settled.{settled}
 use Rattle.qg_descent.proofs.Served.{fresh-inner}
