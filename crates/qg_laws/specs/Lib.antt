@@ -1,0 +1,5 @@
+pub mod Crashes
+pub mod Committing
+pub mod Superblocks
+pub mod Repairing
+pub mod Premise
