@@ -6,3 +6,4 @@ pub mod Stages
 pub mod Chosen
 pub mod Repaired
 pub mod Held
+pub mod CommitCalls

@@ -3,3 +3,4 @@ pub mod Committing
 pub mod Superblocks
 pub mod Repairing
 pub mod Premise
+pub mod CommitCalls

@@ -1,4 +1,5 @@
 // What a crash leaves of the two superblocks while a commit writes them.
+ghost use Rattle.qg_laws.specs.CommitCalls.{CallsCommit};
 ghost use Rattle.qg_laws.specs.Repairing.{KeepsWhatCounts};
 ghost use Rattle.qg_laws.specs.Superblocks.{LeavesAValidOne, LeavesTheNew, LeavesTheOld, LeavesOldOrNew};
 
@@ -19,4 +20,10 @@ pub fn two_places_leave_a_valid_one()
 /// an image does, it counts at any moment of that, under the same premise (this project's own).
 pub fn a_repair_keeps_what_counts()
     ensures { KeepsWhatCounts }
+{}
+
+/// A law: the device calls of a commit whose nodes lie in slots, as far as they came, are the writes and syncs of which
+/// `two_places_leave_a_valid_one` speaks (this project's own).
+pub fn the_calls_of_a_commit()
+    ensures { CallsCommit }
 {}
