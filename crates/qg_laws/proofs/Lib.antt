@@ -7,3 +7,4 @@ pub mod Chosen
 pub mod Repaired
 pub mod Held
 pub mod CommitCalls
+pub mod OpeningCalls

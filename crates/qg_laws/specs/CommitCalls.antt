@@ -1,14 +1,17 @@
--- That the device calls of a commit are the writes and syncs of which these laws speak (this project's own). Addresses are in bytes.
-use Rattle.std.specs.Prelude.{◌≡◌, ◌≤◌, ℕ, true, All, IsTrue, List, ◌∷◌, length, map}
+-- That the device calls of a commit, and those of opening, are the writes and syncs of which these laws speak (this project's own). Addresses are in
+-- bytes.
+use Rattle.std.specs.Prelude.{◌≡◌, ◌⊎◌, ◌≤◌, ℕ, true, All, IsTrue, List, ◌∷◌, length, map, Some}
 use Rattle.qg_device.specs.History.{Event, Wrote, Synced, content}
 use Rattle.qg_node.specs.declared.node.Node.{Node}
 use Rattle.qg_node.specs.Nodes.{header_of}
 use Rattle.qg_node.specs.NodeText.{node_text, IsNode}
 use Rattle.qg_super.specs.declared.superblock.Super.{Super}
-use Rattle.qg_super.specs.Places.{is_slot, total_bytes}
+use Rattle.qg_super.specs.Places.{first_place, second_place, is_slot, total_bytes}
 use Rattle.qg_super.specs.SuperText.{is_super, sizes_of}
 use Rattle.qg_commit.specs.Calls.{commit_calls, IsFront as IsFrontOfCalls}
+use Rattle.qg_commit.specs.Opened.{IsRepairing}
 use Rattle.qg_laws.specs.Committing.{Committing}
+use Rattle.qg_laws.specs.Repairing.{Repairing}
 
 -- a node that has a text, in a slot of the image
 pub record IsInSlot (super : Super) (node : Node) : Type 0 where
@@ -30,3 +33,8 @@ node_events nodesize nodes = map (λ node. Wrote (header_of node).address (node_
 abbrev pub CallsCommit : Type 0
 CallsCommit = (before : List Event) (nodes : List Node) (super : Super) (after : List Event) → MakingCalls before nodes super after
     → Committing before (node_events super.nodesize nodes) super after
+
+-- where opening writes a stale place of a disk that is as long as the image, the superblock that counts stands at the other one
+abbrev pub OpeningRepairs : Type 0
+OpeningRepairs = (events after : List Event) (opening : IsRepairing events (Some after)) → total_bytes (sizes_of opening.super) ≤ length (content events)
+    → Repairing events first_place second_place opening.super after ⊎ Repairing events second_place first_place opening.super after

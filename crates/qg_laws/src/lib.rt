@@ -6,5 +6,6 @@ mod superblocks;
 
 pub use crashes::{last_write_to_a_place, moments_between_calls, what_is_held_is_no_chance};
 pub use superblocks::{
-    a_repair_keeps_what_counts, the_calls_of_a_commit, two_places_leave_a_valid_one,
+    a_repair_keeps_what_counts, the_calls_of_a_commit, the_calls_of_opening,
+    two_places_leave_a_valid_one,
 };

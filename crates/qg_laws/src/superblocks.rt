@@ -1,5 +1,5 @@
 // What a crash leaves of the two superblocks while a commit writes them.
-ghost use Rattle.qg_laws.specs.CommitCalls.{CallsCommit};
+ghost use Rattle.qg_laws.specs.CommitCalls.{CallsCommit, OpeningRepairs};
 ghost use Rattle.qg_laws.specs.Repairing.{KeepsWhatCounts};
 ghost use Rattle.qg_laws.specs.Superblocks.{LeavesAValidOne, LeavesTheNew, LeavesTheOld, LeavesOldOrNew};
 
@@ -26,4 +26,10 @@ pub fn a_repair_keeps_what_counts()
 /// `two_places_leave_a_valid_one` speaks (this project's own).
 pub fn the_calls_of_a_commit()
     ensures { CallsCommit }
+{}
+
+/// A law: where opening writes a stale place, as far as it came, that is a repair of which `a_repair_keeps_what_counts`
+/// speaks (this project's own).
+pub fn the_calls_of_opening()
+    ensures { OpeningRepairs }
 {}
