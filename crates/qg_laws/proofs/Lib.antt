@@ -8,3 +8,4 @@ pub mod Repaired
 pub mod Held
 pub mod CommitCalls
 pub mod OpeningCalls
+pub mod Unwritten

@@ -1,18 +1,15 @@
 -- The device calls of opening as a write and a sync, of a place that is not the only one to hold the superblock that counts.
-use Rattle.std.proofs.Common.{◌≡◌, ◌∙◌, ◌⊎◌, inl, inr, ℕ, ◌+◌, ◌≤◌, Bool, true, false, List, [], ◌∷◌, length, refl, sym, ap, subst, arith, Option, Some, None, cond}
+use Rattle.std.proofs.Common.{◌≡◌, ◌∙◌, ◌⊎◌, inl, inr, ℕ, List, [], ◌∷◌, refl, sym, subst, arith, Option, Some, None, cond}
 use Rattle.std.specs.Prelude.{nat_lt}
 use Rattle.std.proofs.lemmas.Bool.{cases_Bool, cond-true, cond-false}
 use Rattle.qg_device.specs.History.{Event, Wrote, Tore, Synced, content}
 use Rattle.qg_super.specs.declared.superblock.Super.{Super}
-use Rattle.qg_super.specs.Places.{first_place, second_place, total_bytes}
-use Rattle.qg_super.specs.SuperText.{super_text, sizes_of, choose, same_super}
-use Rattle.qg_super.specs.NoChance.{super_bytes}
-use Rattle.qg_verdict.specs.ImageState.{super_in, super_of}
+use Rattle.qg_super.specs.Places.{first_place, second_place}
+use Rattle.qg_super.specs.SuperText.{super_text, choose, same_super}
+use Rattle.qg_verdict.specs.ImageState.{super_in}
 use Rattle.qg_check.specs.Stale.{stale_place}
 use Rattle.qg_commit.specs.Opening.{IsWriting}
-use Rattle.qg_commit.specs.Opened.{IsRepairing}
 use Rattle.qg_laws.specs.Committing.{IsFront}
-use Rattle.qg_laws.specs.Repairing.{Repairing}
 use Rattle.qg_laws.specs.CommitCalls.{OpeningRepairs}
 use Rattle.qg_laws.proofs.Chosen.{super_of-both}
 

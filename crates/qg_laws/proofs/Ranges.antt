@@ -9,10 +9,10 @@ use Rattle.qg_disk.proofs.Overlay.{get_or-overlay_in}
 use Rattle.qg_disk.proofs.Sizes.{length-overlay}
 
 -- how long a range inside some bytes is, and what its bytes are
-length-range : (at n : ℕ) (bytes : List ℕ) → at + n ≤ length bytes → length (range at n bytes) ≡ n
+pub length-range : (at n : ℕ) (bytes : List ℕ) → at + n ≤ length bytes → length (range at n bytes) ≡ n
 length-range at n bytes within = omega (arith, length-take n (drop at bytes), length-drop at bytes)
 
-get_or-range : (at n k : ℕ) (bytes : List ℕ) → k < n → get_or (range at n bytes) k 0 ≡ get_or bytes (at + k) 0
+pub get_or-range : (at n k : ℕ) (bytes : List ℕ) → k < n → get_or (range at n bytes) k 0 ≡ get_or bytes (at + k) 0
 get_or-range at n k bytes below = get_or-take n (drop at bytes) k 0 below ∙ get_or-drop at bytes k 0
 
 -- the range that was written has the bytes that were written

@@ -4,3 +4,4 @@ pub mod Superblocks
 pub mod Repairing
 pub mod Premise
 pub mod CommitCalls
+pub mod Unwritten

@@ -1,11 +1,18 @@
 // What a crash may leave of a disk, and which write was the last.
 ghost use Rattle.qg_laws.specs.Crashes.{IsOfWholePlace, StaysLeft};
 ghost use Rattle.qg_laws.specs.Premise.{HoldsTheNew, MeetsThePremise};
+ghost use Rattle.qg_laws.specs.Unwritten.{SparedStays};
 
 /// A law: what a crash may leave of a disk it may still leave after one event more, unless that is a sync. So a crash
 /// in the midst of a call leaves nothing that it may not leave right after it (this project's own).
 pub fn moments_between_calls()
     ensures { StaysLeft }
+{}
+
+/// A law: bytes that no write and no cut since a sync has touched stand in any image that a crash may leave (this
+/// project's own).
+pub fn what_is_not_written_stays()
+    ensures { SparedStays }
 {}
 
 /// A law: right after a write of a whole place, done or failed, the old bytes of the place are those that it held
