@@ -9,3 +9,4 @@ pub mod Held
 pub mod CommitCalls
 pub mod OpeningCalls
 pub mod Unwritten
+pub mod OtherNodes

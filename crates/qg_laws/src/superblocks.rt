@@ -1,5 +1,5 @@
 // What a crash leaves of the two superblocks while a commit writes them.
-ghost use Rattle.qg_laws.specs.CommitCalls.{CallsCommit, OpeningRepairs};
+ghost use Rattle.qg_laws.specs.CommitCalls.{CallsCommit, OpeningRepairs, OtherNodesStay};
 ghost use Rattle.qg_laws.specs.Repairing.{KeepsWhatCounts};
 ghost use Rattle.qg_laws.specs.Superblocks.{LeavesAValidOne, LeavesTheNew, LeavesTheOld, LeavesOldOrNew};
 
@@ -32,4 +32,10 @@ pub fn the_calls_of_a_commit()
 /// speaks (this project's own).
 pub fn the_calls_of_opening()
     ensures { OpeningRepairs }
+{}
+
+/// A law: what stands at an address at which a commit writes no node stands there in any image that a crash at a moment
+/// of the commit may leave (this project's own).
+pub fn other_nodes_stay()
+    ensures { OtherNodesStay }
 {}
