@@ -10,3 +10,4 @@ pub mod CommitCalls
 pub mod OpeningCalls
 pub mod Unwritten
 pub mod OtherNodes
+pub mod NewNodes

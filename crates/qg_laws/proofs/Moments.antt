@@ -62,7 +62,7 @@ begins_by : (step : Event) (steps events after : List Event) (moment : ℕ) → 
 begins_by step steps events after moment front same = ap (λ (m : ℕ). events_by m after) same ∙ front_begins (step ∷ steps) events after front
 
 -- how many events there are after one that failed
-fails_once-length : (event : Event) (events after : List Event) → FailsAfter event events after → length after ≤ length events + 1
+pub fails_once-length : (event : Event) (events after : List Event) → FailsAfter event events after → length after ≤ length events + 1
 fails_once-length event events after fails = elim (fails_once event events after fails) [
   | inl is ↦ omega (arith, ap length is)
   | inr one ↦ omega (arith, ap length one.1)

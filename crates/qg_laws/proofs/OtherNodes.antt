@@ -55,7 +55,7 @@ fails_newer place n (Cut len) events after spared fails = absurd fails
 fails_newer place n (CutShort len left) events after spared fails = absurd fails
 fails_newer place n Synced events after spared fails = none_newer place n events after fails
 
-front_newer : (place n : ℕ) (steps events after : List Event) → All (Spares place n) steps → IsFront steps events after → Newer place n events after
+pub front_newer : (place n : ℕ) (steps events after : List Event) → All (Spares place n) steps → IsFront steps events after → Newer place n events after
 front_newer place n [] events after spared is = none_newer place n events after is
 front_newer place n (step ∷ steps) events after spared (inl is) = none_newer place n events after is
 front_newer place n (step ∷ steps) events after spared (inr (inl fails)) = fails_newer place n step events after (spared 0 step (omega arith)) fails
@@ -89,19 +89,33 @@ nodes_spare super address (node ∷ nodes) slot all others =
     All-cons (Spares address super.nodesize) (Wrote (header_of node).address (node_text super.nodesize node)) (node_events super.nodesize nodes)
     (node_spares super address node slot (all 0 node (omega arith)) (others 0 node (omega arith))) (nodes_spare super address nodes slot rest more)
 
+pub superblock_spares_first : (super : Super) (address : ℕ) → IsBetween super.nodesize address
+    → Spares address super.nodesize (Wrote first_place (super_text first_place super))
+superblock_spares_first super address between =
+    spares_apart address super.nodesize first_place (super_text first_place super) (inr (omega (arith, length-super_text first_place super, between.begin)))
+
+pub superblock_spares_second : (super : Super) (address : ℕ) → IsBetween super.nodesize address
+    → Spares address super.nodesize (Wrote second_place (super_text second_place super))
+superblock_spares_second super address between =
+    spares_apart address super.nodesize second_place (super_text second_place super) (inl (omega (arith, between.end)))
+
+-- both superblocks, behind the sync of the nodes
+pub superblocks_rest_spare : (super : Super) (address : ℕ) → IsBetween super.nodesize address
+    → All (Spares address super.nodesize)
+    (Wrote first_place (super_text first_place super) ∷ Synced ∷ Wrote second_place (super_text second_place super) ∷ Synced ∷ [])
+superblocks_rest_spare super address between =
+    let spares = Spares address super.nodesize in
+    let last : All spares (Synced ∷ []) = All-cons spares Synced [] tt (λ k any below. absurd (omega arith)) in
+    let from_second = All-cons spares (Wrote second_place (super_text second_place super)) (Synced ∷ []) (superblock_spares_second super address between) last in
+    let from_sync = All-cons spares Synced (Wrote second_place (super_text second_place super) ∷ Synced ∷ []) tt from_second in
+    All-cons spares (Wrote first_place (super_text first_place super)) (Synced ∷ Wrote second_place (super_text second_place super) ∷ Synced ∷ [])
+    (superblock_spares_first super address between) from_sync
+
 superblocks_spare : (super : Super) (address : ℕ) → IsBetween super.nodesize address → All (Spares address super.nodesize) (superblock_events super)
 superblocks_spare super address between =
-    let spares = Spares address super.nodesize in
-    let first : spares (Wrote first_place (super_text first_place super)) =
-    spares_apart address super.nodesize first_place (super_text first_place super) (inr (omega (arith, length-super_text first_place super, between.begin))) in
-    let second : spares (Wrote second_place (super_text second_place super)) =
-    spares_apart address super.nodesize second_place (super_text second_place super) (inl (omega (arith, between.end))) in
-    let last : All spares (Synced ∷ []) = All-cons spares Synced [] tt (λ k any below. absurd (omega arith)) in
-    let from_second = All-cons spares (Wrote second_place (super_text second_place super)) (Synced ∷ []) second last in
-    let from_sync = All-cons spares Synced (Wrote second_place (super_text second_place super) ∷ Synced ∷ []) tt from_second in
-    let from_first = All-cons spares (Wrote first_place (super_text first_place super))
-    (Synced ∷ Wrote second_place (super_text second_place super) ∷ Synced ∷ []) first from_sync in
-    All-cons spares Synced (Wrote first_place (super_text first_place super) ∷ Synced ∷ Wrote second_place (super_text second_place super) ∷ Synced ∷ []) tt from_first
+    All-cons (Spares address super.nodesize) Synced
+    (Wrote first_place (super_text first_place super) ∷ Synced ∷ Wrote second_place (super_text second_place super) ∷ Synced ∷ []) tt
+    (superblocks_rest_spare super address between)
 
 -- what stands in the slot
 slot_stays : (before : List Event) (nodes : List Node) (super : Super) (after : List Event) (image : List ℕ) (moment address : ℕ)
@@ -124,7 +138,7 @@ slot_stays before nodes super after image moment address calls leaves slot other
 slice_range-range : (address n : ℕ) (image : List ℕ) → slice_range image address (address + n) ≡ range address n image
 slice_range-range address n image = let many : address + n - address ≡ n = omega arith in ap (λ (k : ℕ). take k (drop address image)) many
 
-found_same : (super : Super) (old new : List ℕ) (address : ℕ) → (is_slot (sizes_of super) address ≡ true → range address super.nodesize new ≡ range address super.nodesize old)
+pub found_same : (super : Super) (old new : List ℕ) (address : ℕ) → (is_slot (sizes_of super) address ≡ true → range address super.nodesize new ≡ range address super.nodesize old)
     → node_found super new address ≡ node_found super old address
 unfolding node_found
 found_same super old new address same = elim (cases_Bool (is_slot (sizes_of super) address)) [

@@ -1,6 +1,7 @@
 -- That the device calls of a commit, and those of opening, are the writes and syncs of which these laws speak (this project's own). Addresses are in
 -- bytes.
-use Rattle.std.specs.Prelude.{◌≡◌, ◌≢◌, ◌⊎◌, ◌≤◌, ℕ, true, All, IsTrue, List, ◌∷◌, length, map, Some}
+use Rattle.std.specs.Prelude.{◌≡◌, ◌≢◌, ◌⊎◌, ◌≤◌, ℕ, true, All, IsTrue, List, ◌∷◌, length, map, Some, Ok, ◌==◌}
+use Rattle.std.specs.List.{IsDistinct}
 use Rattle.qg_device.specs.History.{Event, Wrote, Synced, content}
 use Rattle.qg_device.specs.CrashSince.{LeavesSince}
 use Rattle.qg_node.specs.declared.node.Node.{Node}
@@ -10,9 +11,9 @@ use Rattle.qg_super.specs.declared.superblock.Super.{Super}
 use Rattle.qg_super.specs.Places.{first_place, second_place, is_slot, total_bytes}
 use Rattle.qg_super.specs.SuperText.{is_super, sizes_of}
 use Rattle.qg_verdict.specs.Walk.{node_found}
-use Rattle.qg_commit.specs.Calls.{commit_calls, IsFront as IsFrontOfCalls}
+use Rattle.qg_commit.specs.Calls.{commit_calls, IsReadBack, IsFront as IsFrontOfCalls}
 use Rattle.qg_commit.specs.Opened.{IsRepairing}
-use Rattle.qg_laws.specs.Committing.{Committing, begin_of}
+use Rattle.qg_laws.specs.Committing.{Committing, begin_of, nodes_synced}
 use Rattle.qg_laws.specs.Repairing.{Repairing}
 
 -- a node that has a text, in a slot of the image
@@ -47,3 +48,11 @@ abbrev pub OtherNodesStay : Type 0
 OtherNodesStay = (before : List Event) (nodes : List Node) (super reader : Super) (after : List Event) (image : List ℕ) (moment address : ℕ)
     → MakingCalls before nodes super after → LeavesSince (begin_of before) after image moment → sizes_of reader ≡ sizes_of super
     → All (λ node. (header_of node).address ≢ address) nodes → node_found reader image address ≡ node_found reader (content before) address
+
+-- nodes in slots of their own, each of which is read from its text, are found in any image that a crash may leave once they were made sure of
+abbrev pub NewNodesStand : Type 0
+NewNodesStand = (before : List Event) (nodes : List Node) (super : Super) (after : List Event) (image : List ℕ) (moment : ℕ)
+    → MakingCalls before nodes super after → LeavesSince (begin_of before) after image moment
+    → nodes_synced before (node_events super.nodesize nodes) ≤ moment
+    → IsDistinct (λ a b. a == b) (map (λ node. (header_of node).address) nodes) → All (IsReadBack super.nodesize) nodes
+    → All (λ node. node_found super image (header_of node).address ≡ Ok node) nodes

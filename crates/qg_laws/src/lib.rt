@@ -10,6 +10,6 @@ pub use crashes::{
     what_is_not_written_stays,
 };
 pub use superblocks::{
-    a_repair_keeps_what_counts, other_nodes_stay, the_calls_of_a_commit, the_calls_of_opening,
-    two_places_leave_a_valid_one,
+    a_repair_keeps_what_counts, new_nodes_stand, other_nodes_stay, the_calls_of_a_commit,
+    the_calls_of_opening, two_places_leave_a_valid_one,
 };

@@ -1,5 +1,5 @@
 // What a crash leaves of the two superblocks while a commit writes them.
-ghost use Rattle.qg_laws.specs.CommitCalls.{CallsCommit, OpeningRepairs, OtherNodesStay};
+ghost use Rattle.qg_laws.specs.CommitCalls.{CallsCommit, NewNodesStand, OpeningRepairs, OtherNodesStay};
 ghost use Rattle.qg_laws.specs.Repairing.{KeepsWhatCounts};
 ghost use Rattle.qg_laws.specs.Superblocks.{LeavesAValidOne, LeavesTheNew, LeavesTheOld, LeavesOldOrNew};
 
@@ -38,4 +38,10 @@ pub fn the_calls_of_opening()
 /// of the commit may leave (this project's own).
 pub fn other_nodes_stay()
     ensures { OtherNodesStay }
+{}
+
+/// A law: nodes that a commit wrote into slots of their own, and made sure of, are found there in any image that a crash
+/// at a later moment of the commit may leave (this project's own).
+pub fn new_nodes_stand()
+    ensures { NewNodesStand }
 {}
