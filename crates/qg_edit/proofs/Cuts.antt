@@ -1,18 +1,16 @@
 -- The parts of nodes that were cut, joined or spliced.
-use Rattle.std.proofs.Common.{◌≡◌, ◌⊎◌, ℕ, ◌+◌, ◌*◌, ◌<◌, ◌≤◌, true, false, List, [], ◌∷◌, ◌++◌, map, length, refl, sym, ap, subst, ◌∙◌, arith, take, drop, inl, inr}
-use Rattle.std.specs.Prelude.{Bool}
-use Rattle.qg_num.specs.declared.key.Key.{Key}
+use Rattle.std.proofs.Common.{◌≡◌, ℕ, ◌≤◌, true, sym, ap, subst, ◌∙◌, arith, inl, inr}
 use Rattle.qg_node.specs.declared.node.Header.{Header}
 use Rattle.qg_node.specs.declared.node.Node.{Node}
-use Rattle.qg_node.specs.Nodes.{header_of, is_ascending, own_keys, used_bytes}
+use Rattle.qg_node.specs.Nodes.{header_of, is_ascending, own_keys}
 use Rattle.qg_node.specs.NodeText.{IsLevelled, IsNode, IsNodeSize}
 use Rattle.qg_shape.specs.declared.joining.Joined.{Joined}
 use Rattle.qg_shape.specs.declared.joining.Joined.TheVariants.{Whole, Parted}
 use Rattle.qg_shape.specs.Outcomes.{IsJoined, IsSplit}
-use Rattle.qg_shape.specs.Parts.{AreAlike, whole_of}
+use Rattle.qg_shape.specs.Parts.{AreAlike}
 use Rattle.qg_shape.proofs.Edited.{alike_on}
 use Rattle.qg_shape.proofs.Sides.{AreSides-parted, AreSides-split, header_of-parted, header_of-split}
-use Rattle.qg_shape.proofs.Together.{header_of-whole_of, levelled_left, levelled_right, own_keys-whole_of}
+use Rattle.qg_shape.proofs.Together.{header_of-whole_of, levelled_left, own_keys-whole_of}
 use Rattle.qg_edit.specs.Outcome.{AreNodesAfter, IsInFront, IsNodeFor}
 
 pub large : (nodesize : ℕ) → IsNodeSize nodesize → 102 ≤ nodesize
@@ -67,16 +65,17 @@ nodes-joined nodesize left right new_left new_right Parted size a b same front j
     let alike = alike-levels nodesize left right a b same in
     let sides = AreSides-parted nodesize left right new_left new_right (large nodesize size) joined (sym same) (levelled_left left right a.levelled)
     (ap is_ascending (own_keys-whole_of left right alike) ∙ front) in
-    let header = header_of-parted nodesize left right new_left new_right joined in
-    (record {
-      sound = sides.left_node;
-      address = ap (λ (h : Header). h.address) header;
-      owner = ap (λ (h : Header). h.owner) header;
-      generation = ap (λ (h : Header). h.generation) header;
-    },
-    record {
-      sound = sides.right_node;
-      address = ap (λ (h : Header). h.address) joined.header;
-      owner = ap (λ (h : Header). h.owner) joined.header;
-      generation = ap (λ (h : Header). h.generation) joined.header;
-    })
+    let header = header_of-parted nodesize left right new_left new_right joined in (
+      record {
+        sound = sides.left_node;
+        address = ap (λ (h : Header). h.address) header;
+        owner = ap (λ (h : Header). h.owner) header;
+        generation = ap (λ (h : Header). h.generation) header;
+      },
+      record {
+        sound = sides.right_node;
+        address = ap (λ (h : Header). h.address) joined.header;
+        owner = ap (λ (h : Header). h.owner) joined.header;
+        generation = ap (λ (h : Header). h.generation) joined.header;
+      },
+    )

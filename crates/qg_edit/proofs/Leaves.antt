@@ -1,28 +1,30 @@
 -- A leaf, once its items are changed, and before it is cut.
-use Rattle.std.proofs.Common.{◌≡◌, ℕ, zero, suc, ◌+◌, ◌<◌, ◌≤◌, true, false, List, [], ◌∷◌, map, length, refl, sym, ap, subst, ◌∙◌, arith, take, drop, get_or, set, Option, Some, None, inl, inr}
-use Rattle.std.specs.Prelude.{Bool, not, insert, remove, slice_get, Result, Ok, Err, OnOk, IfOk}
+use Rattle.std.proofs.Common.{◌≡◌, ℕ, zero, suc, ◌+◌, ◌<◌, ◌≤◌, true, List, [], ◌∷◌, length, refl, sym, ap, subst, ◌∙◌, arith, get_or, set, Option, Some, None, inl, inr}
+use Rattle.std.specs.Prelude.{not, insert, remove, slice_get, ◌↔◌, IsSome, Result, Ok, Err, OnOk, OnErr, IfOk}
 use Rattle.std.specs.List.{All}
 use Rattle.std.proofs.lemmas.List.Elements.{All-set}
 use Rattle.std.proofs.lemmas.Option.{get_or_from_slice_get}
 use Rattle.qg_num.specs.declared.key.Key.{Key}
+use Rattle.qg_num.specs.declared.rule.Rule.TheVariants.{Refs, Item as ItemRule}
 use Rattle.qg_num.specs.declared.fault.BlockFault.{BlockFault}
+use Rattle.qg_num.specs.declared.fault.BlockFault.TheVariants.{NoMemory, Disk, Image}
 use Rattle.qg_node.specs.declared.item.Item.{Item}
 use Rattle.qg_node.specs.declared.pointer.Pointer.{Pointer}
 use Rattle.qg_node.specs.declared.node.Header.{Header}
 use Rattle.qg_node.specs.declared.node.Node.{Node}
 use Rattle.qg_node.specs.declared.node.Node.TheVariants.{Leaf, Inner}
-use Rattle.qg_node.specs.Nodes.{header_of, is_ascending, item_bytes, own_items, own_keys, used_bytes}
+use Rattle.qg_node.specs.Nodes.{header_of, is_ascending, own_items, own_keys, used_bytes}
 use Rattle.qg_node.specs.NodeText.{IsLevelled, IsNode, IsNodeSize}
-use Rattle.qg_shape.specs.Filled.{HasShortBodies}
-use Rattle.qg_shape.specs.Outcomes.{IsSplit}
+use Rattle.qg_shape.specs.Filled.{HasShortBodies, IsOverfull}
 use Rattle.qg_shape.specs.Parts.{IsInner, IsLeaf, with_items, with_pointers}
 use Rattle.qg_shape.specs.Places.{GoesAt}
-use Rattle.qg_shape.proofs.Edits.{All-insert, All-remove, insert_ascends, remove_ascends, set_ascends}
+use Rattle.qg_shape.proofs.Edits.{All-insert, All-remove, insert_ascends, remove_ascends}
 use Rattle.qg_shape.proofs.Edited.{HasItems-with_items, used_bytes-insert_item, used_bytes-remove_item, used_bytes-set_item}
 use Rattle.qg_edit.specs.declared.edit.Change.{Change}
 use Rattle.qg_edit.specs.declared.edit.Change.TheVariants.{Insert, Replace, Remove}
-use Rattle.qg_edit.specs.Edits.{CanChange, changed, with_item, without_key}
-use Rattle.qg_edit.specs.Outcome.{IsCutOf, IsNodeFor, RestIsNode, cleared}
+use Rattle.qg_edit.specs.Edits.{CanChange, changed}
+use Rattle.qg_edit.specs.Answering.{AnswersBy, CanCut, IsBrokenByChange, IsBrokenUnless, IsChangeable}
+use Rattle.qg_edit.specs.Outcome.{IsCutOf, IsNodeFor, IsOldOrCleared, RestIsNode, cleared}
 use Rattle.qg_edit.proofs.Lists.{has_key-goes, has_key-there, item-there, keys_of, with_item-goes, with_item-there, without_key-there}
 
 -- a node is what a change makes of a leaf, with an item too much at most
@@ -170,12 +172,48 @@ module _ (nodesize : ℕ) (leaf : Node) (leafy : IsLeaf leaf) (sound : IsNode no
       IsNodeFor-header nodesize leaf mid mid one.header
       (IsNodeFor-itself nodesize mid (record { levelled = one.levelled; ascending = one.ascending; fits = omega (arith, used, same, fits) }))
 
+  -- it has not too much then
+  pub removed-fits : (key : Key) (place : ℕ) (mid : Node) → slice_get (keys_of (own_items leaf)) place ≡ Some key → mid ≡ with_items leaf (remove (own_items leaf) place)
+      → IsOverfull nodesize (with_items leaf (changed key Remove (own_items leaf))) → ⊥
+  removed-fits key place mid there is over =
+      let fits = (removed-sound key place mid there is).sound.fits in
+      let same : used_bytes (with_items leaf (changed key Remove (own_items leaf))) ≡ used_bytes mid = ap used_bytes (removed key place mid there is).is in
+      omega (arith, fits, same, over)
+
 -- ---- what is answered
 
 pub edited-cut : (nodesize : ℕ) (key : Key) (change : Change) (leaf mid new : Node) (result : Result (Option Node) BlockFault) → IsChanged nodesize key change leaf mid
     → IfOk result (λ rest. IsCutOf nodesize mid new rest) → IfOk result (λ rest. IsCutOf nodesize (with_items leaf (changed key change (own_items leaf))) new rest)
 edited-cut nodesize key change leaf mid new (Ok rest) made cut = subst (λ (n : Node). IsCutOf nodesize n new rest) (sym made.is) cut
 edited-cut nodesize key change leaf mid new (Err fault) made cut = tt
+
+pub overfull-cut : (nodesize : ℕ) (key : Key) (change : Change) (leaf mid : Node) (result : Result (Option Node) BlockFault) → IsChanged nodesize key change leaf mid
+    → IfOk result (λ rest. IsSome rest ↔ IsOverfull nodesize mid) → IfOk result (λ rest. IsSome rest ↔ IsOverfull nodesize (with_items leaf (changed key change (own_items leaf))))
+overfull-cut nodesize key change leaf mid (Ok rest) made cut = subst (λ (n : Node). IsSome rest ↔ IsOverfull nodesize n) (sym made.is) cut
+overfull-cut nodesize key change leaf mid (Err fault) made cut = tt
+
+pub answers-cut : (nodesize : ℕ) (key : Key) (change : Change) (leaf mid : Node) (result : Result (Option Node) BlockFault) → IsChanged nodesize key change leaf mid
+    → AnswersBy (CanCut nodesize mid) (IsBrokenUnless ItemRule mid (CanCut nodesize mid)) result → AnswersBy (IsChangeable nodesize key change leaf) (IsBrokenByChange nodesize key change leaf) result
+answers-cut nodesize key change leaf mid (Ok rest) made cut = (made.can, subst (λ (n : Node). CanCut nodesize n) (sym made.is) cut)
+answers-cut nodesize key change leaf mid (Err (Image rule at)) made cut =
+    inr (made.can, (cut.0, (cut.1.0 ∙ ap (λ (h : Header). h.address) made.header, λ can. cut.1.1 (subst (λ (n : Node). CanCut nodesize n) made.is can))))
+answers-cut nodesize key change leaf mid (Err Disk) made cut = absurd cut
+answers-cut nodesize key change leaf mid (Err NoMemory) made cut = tt
+
+-- the leaf is not what the change relies on
+pub answers-misfit : (nodesize : ℕ) (key : Key) (change : Change) (leaf : Node) (fault : BlockFault) → fault ≡ Image Refs (header_of leaf).address
+    → (CanChange key change (own_items leaf) → ⊥) → AnswersBy {A = Option Node} (IsChangeable nodesize key change leaf) (IsBrokenByChange nodesize key change leaf) (Err fault)
+answers-misfit nodesize key change leaf fault is unless =
+    subst (λ (f : BlockFault). AnswersBy {A = Option Node} (IsChangeable nodesize key change leaf) (IsBrokenByChange nodesize key change leaf) (Err f)) (sym is)
+    (inl (refl, (refl, unless)))
+
+cleared-header : (a b : Node) → header_of a ≡ header_of b → cleared a ≡ cleared b
+cleared-header a b same = ap (λ (h : Header). Leaf (record h { level = 0 }) []) same
+
+pub err-cut : (nodesize : ℕ) (key : Key) (change : Change) (leaf mid new : Node) (result : Result (Option Node) BlockFault) → IsChanged nodesize key change leaf mid
+    → OnErr result (new ≡ cleared mid) → OnErr result (IsOldOrCleared leaf new)
+err-cut nodesize key change leaf mid new (Ok rest) made cut = tt
+err-cut nodesize key change leaf mid new (Err fault) made cut = inr (cut ∙ cleared-header mid leaf made.header)
 
 pub rest-cut : (nodesize : ℕ) (old mid : Node) (result : Result (Option Node) BlockFault) → header_of mid ≡ header_of old → IfOk result (λ rest. RestIsNode nodesize mid rest)
     → IfOk result (λ rest. RestIsNode nodesize old rest)

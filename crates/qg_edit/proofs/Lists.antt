@@ -1,13 +1,13 @@
 -- What an edit makes of items whose keys ascend, by the place of its key.
-use Rattle.std.proofs.Common.{◌≡◌, ℕ, zero, suc, ◌+◌, ◌<◌, ◌≤◌, true, false, List, [], ◌∷◌, ◌++◌, map, length, refl, sym, ap, subst, ◌∙◌, arith, take, drop, set, Option, Some, None}
-use Rattle.std.specs.Prelude.{Bool, not, ◌||◌, insert, remove, slice_get, if◌then◌else◌}
-use Rattle.std.specs.List.{filter, list_all, list_any}
+use Rattle.std.proofs.Common.{◌≡◌, ℕ, zero, suc, true, false, List, [], ◌∷◌, map, refl, sym, ap, subst, ◌∙◌, arith, take, set, Some}
+use Rattle.std.specs.Prelude.{Bool, ◌||◌, insert, remove, slice_get}
+use Rattle.std.specs.List.{list_all}
 use Rattle.std.specs.Ordering.{is_lt}
-use Rattle.std.proofs.lemmas.Bool.{and_from, and_parts, cases_Bool, false_from_ne_true, true≢false}
+use Rattle.std.proofs.lemmas.Bool.{and_parts, false_from_ne_true, true≢false}
 use Rattle.qg_num.specs.declared.key.Key.{Key}
 use Rattle.qg_num.specs.Key.{key_cmp}
 use Rattle.qg_node.specs.declared.item.Item.{Item}
-use Rattle.qg_node.specs.Nodes.{ascends_from, is_ascending}
+use Rattle.qg_node.specs.Nodes.{is_ascending}
 use Rattle.qg_image.specs.IsShaped.{same_key}
 use Rattle.qg_shape.specs.Places.{GoesAt}
 use Rattle.qg_shape.proofs.Ascending.{all_behind, ascending_tail_of, less_trans, not_itself, same_itself}

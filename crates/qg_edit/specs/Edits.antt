@@ -1,5 +1,5 @@
 -- What an edit makes of items in the order of their keys (on-disk format, "B-tree").
-use Rattle.std.specs.Prelude.{⊤, ℕ, ◌≤◌, Bool, true, false, not, List, [], ◌∷◌, length, IsTrue, if◌then◌else◌}
+use Rattle.std.specs.Prelude.{⊤, ◌≤◌, Bool, not, List, [], ◌∷◌, length, IsTrue, if◌then◌else◌}
 use Rattle.std.specs.List.{filter, list_any}
 use Rattle.std.specs.Ordering.{is_lt}
 use Rattle.qg_num.specs.Key.{key_cmp}

@@ -1,5 +1,5 @@
 -- What an edit leaves of one node (this project's own).
-use Rattle.std.specs.Prelude.{◌≡◌, ⊤, ℕ, ◌++◌, List, [], take, drop, Option, Some, None, IsTrue}
+use Rattle.std.specs.Prelude.{◌≡◌, ◌⊎◌, ⊤, ℕ, ◌++◌, List, [], take, drop, Option, Some, None, IsTrue}
 use Rattle.qg_node.specs.declared.pointer.Pointer.{Pointer}
 use Rattle.qg_node.specs.declared.node.Node.{Node}
 use Rattle.qg_node.specs.declared.node.Node.TheVariants.{Leaf}
@@ -33,6 +33,10 @@ spliced from to new pointers = take from pointers ++ new ++ drop to pointers
 -- an empty leaf in the place of a node
 abbrev pub cleared : Node → Node
 cleared node = Leaf (record (header_of node) { level = 0 }) []
+
+-- a node is as it was, or an empty leaf in its place
+abbrev pub IsOldOrCleared : Node → Node → Type 0
+IsOldOrCleared old new = (new ≡ old) ⊎ (new ≡ cleared old)
 
 -- two neighbours are nodes after they were joined; where all is in the left one, the right one need not be
 abbrev pub AreNodesAfter : ℕ → Node → Node → Node → Node → Joined → Type 0

@@ -1,13 +1,14 @@
 // An edit of one leaf.
-ghost use Rattle.std.specs.Prelude.{◌≡◌, IfOk, IfErr, OnOk, OnErr, map, slice_get, Some, length};
+ghost use Rattle.std.specs.Prelude.{◌≡◌, ◌↔◌, IfOk, IfErr, OnOk, OnErr, IsSome, map, slice_get, Some};
 ghost use Rattle.qg_node.specs.NodeText.{IsNode, IsNodeSize};
 ghost use Rattle.qg_node.specs.Nodes.{own_items};
-ghost use Rattle.qg_shape.specs.Filled.{HasShortBodies};
+ghost use Rattle.qg_shape.specs.Filled.{HasShortBodies, IsOverfull};
 ghost use Rattle.qg_shape.specs.Parts.{IsLeaf, with_items};
 ghost use Rattle.qg_shape.specs.Places.{GoesAt};
 ghost use Rattle.qg_blocks.specs.Told.{BreaksNone};
 ghost use Rattle.qg_edit.specs.Edits.{CanChange, CanEdit, IsShort, changed, edited};
-ghost use Rattle.qg_edit.specs.Outcome.{IsCutOf, IsNodeFor, RestIsNode};
+ghost use Rattle.qg_edit.specs.Answering.{AnswersBy, IsBrokenByChange, IsChangeable};
+ghost use Rattle.qg_edit.specs.Outcome.{IsCutOf, IsNodeFor, IsOldOrCleared, RestIsNode};
 ghost use Rattle.qg_edit.specs.declared.edit.Change.TheVariants.{Insert, Replace, Remove};
 
 use crate::clearing::clear;
@@ -19,18 +20,22 @@ use qg_shape::{find_item, insert_item, remove_item, replace_body};
 
 /// Edits a leaf. Where it then has too much it keeps a front, and the answer has the rest, which lies nowhere yet.
 ///
-/// `Image` comes only where the leaf is not what the edit relies on, or has a body of more than 1024 bytes. After an `Err` it is still a
-/// node of its place.
+/// `Image` names the leaf. It comes with the rule `refs` exactly where the leaf isn't what the edit relies on, and else
+/// with `item` exactly where it then has too much, and a body of more than 1024 bytes. After an `Err` the leaf is as it
+/// was, or empty.
 pub fn edit_leaf(leaf: &mut Node, nodesize: u32, edit: Edit) -> Result<Option<Node>, BlockFault>
     requires size { IsNodeSize nodesize }
     requires leaf { IsLeaf leaf.old }
     requires sound { IsNode nodesize leaf.old }
     requires short { IsShort edit.change }
     ensures edited { IfOk result (λ rest. IsCutOf nodesize (with_items leaf.old (edited edit (own_items leaf.old))) leaf.new rest) }
+    ensures overfull { IfOk result (λ rest. IsSome rest ↔ IsOverfull nodesize (with_items leaf.old (edited edit (own_items leaf.old)))) }
     ensures can { OnOk result (CanEdit edit (own_items leaf.old)) }
+    ensures answers { AnswersBy (IsChangeable nodesize edit.key edit.change leaf.old) (IsBrokenByChange nodesize edit.key edit.change leaf.old) result }
     ensures node { IsNodeFor nodesize leaf.old leaf.new }
     ensures rest { IfOk result (λ rest. RestIsNode nodesize leaf.old rest) }
     ensures sound { CanEdit edit (own_items leaf.old) → HasShortBodies leaf.old → BreaksNone result }
+    ensures err { OnErr result (IsOldOrCleared leaf.old leaf.new) }
 {
     let Edit { key, change } = edit;
     match change {
@@ -57,21 +62,19 @@ fn place_of(leaf: &Node, nodesize: u32, key: Key) -> Result<usize, usize>
     }
 }
 
-fn insert(
-    leaf: &mut Node,
-    nodesize: u32,
-    key: Key,
-    body: Body,
-) -> Result<Option<Node>, BlockFault>
+fn insert(leaf: &mut Node, nodesize: u32, key: Key, body: Body) -> Result<Option<Node>, BlockFault>
     requires size { IsNodeSize nodesize }
     requires leaf { IsLeaf leaf.old }
     requires sound { IsNode nodesize leaf.old }
     requires short { IsShort (Insert body) }
     ensures edited { IfOk result (λ rest. IsCutOf nodesize (with_items leaf.old (changed key (Insert body) (own_items leaf.old))) leaf.new rest) }
+    ensures overfull { IfOk result (λ rest. IsSome rest ↔ IsOverfull nodesize (with_items leaf.old (changed key (Insert body) (own_items leaf.old)))) }
     ensures can { OnOk result (CanChange key (Insert body) (own_items leaf.old)) }
+    ensures answers { AnswersBy (IsChangeable nodesize key (Insert body) leaf.old) (IsBrokenByChange nodesize key (Insert body) leaf.old) result }
     ensures node { IsNodeFor nodesize leaf.old leaf.new }
     ensures rest { IfOk result (λ rest. RestIsNode nodesize leaf.old rest) }
     ensures sound { CanChange key (Insert body) (own_items leaf.old) → HasShortBodies leaf.old → BreaksNone result }
+    ensures err { OnErr result (IsOldOrCleared leaf.old leaf.new) }
 {
     match place_of(leaf, nodesize, key) {
         Ok(_) => Err(misfit(leaf)),
@@ -82,21 +85,19 @@ fn insert(
     }
 }
 
-fn replace(
-    leaf: &mut Node,
-    nodesize: u32,
-    key: Key,
-    body: Body,
-) -> Result<Option<Node>, BlockFault>
+fn replace(leaf: &mut Node, nodesize: u32, key: Key, body: Body) -> Result<Option<Node>, BlockFault>
     requires size { IsNodeSize nodesize }
     requires leaf { IsLeaf leaf.old }
     requires sound { IsNode nodesize leaf.old }
     requires short { IsShort (Replace body) }
     ensures edited { IfOk result (λ rest. IsCutOf nodesize (with_items leaf.old (changed key (Replace body) (own_items leaf.old))) leaf.new rest) }
+    ensures overfull { IfOk result (λ rest. IsSome rest ↔ IsOverfull nodesize (with_items leaf.old (changed key (Replace body) (own_items leaf.old)))) }
     ensures can { OnOk result (CanChange key (Replace body) (own_items leaf.old)) }
+    ensures answers { AnswersBy (IsChangeable nodesize key (Replace body) leaf.old) (IsBrokenByChange nodesize key (Replace body) leaf.old) result }
     ensures node { IsNodeFor nodesize leaf.old leaf.new }
     ensures rest { IfOk result (λ rest. RestIsNode nodesize leaf.old rest) }
     ensures sound { CanChange key (Replace body) (own_items leaf.old) → HasShortBodies leaf.old → BreaksNone result }
+    ensures err { OnErr result (IsOldOrCleared leaf.old leaf.new) }
 {
     match place_of(leaf, nodesize, key) {
         Ok(place) => {
@@ -112,10 +113,13 @@ fn remove(leaf: &mut Node, nodesize: u32, key: Key) -> Result<Option<Node>, Bloc
     requires leaf { IsLeaf leaf.old }
     requires sound { IsNode nodesize leaf.old }
     ensures edited { IfOk result (λ rest. IsCutOf nodesize (with_items leaf.old (changed key Remove (own_items leaf.old))) leaf.new rest) }
+    ensures overfull { IfOk result (λ rest. IsSome rest ↔ IsOverfull nodesize (with_items leaf.old (changed key Remove (own_items leaf.old)))) }
     ensures can { OnOk result (CanChange key Remove (own_items leaf.old)) }
+    ensures answers { AnswersBy (IsChangeable nodesize key Remove leaf.old) (IsBrokenByChange nodesize key Remove leaf.old) result }
     ensures node { IsNodeFor nodesize leaf.old leaf.new }
     ensures rest { IfOk result (λ rest. RestIsNode nodesize leaf.old rest) }
     ensures sound { CanChange key Remove (own_items leaf.old) → HasShortBodies leaf.old → BreaksNone result }
+    ensures err { OnErr result (IsOldOrCleared leaf.old leaf.new) }
 {
     match place_of(leaf, nodesize, key) {
         Ok(place) => {

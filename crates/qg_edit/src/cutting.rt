@@ -1,11 +1,14 @@
 // A node that may have too much.
-ghost use Rattle.std.specs.Prelude.{◌≡◌, ◌+◌, ◌≤◌, ◌↔◌, length, IfOk, OnOk, OnErr, IsTrue};
+ghost use Rattle.std.specs.Prelude.{◌≡◌, ◌+◌, ◌≤◌, ◌↔◌, length, IfOk, OnErr, IsSome, IsTrue};
 ghost use Rattle.std.specs.List.{All};
-ghost use Rattle.qg_node.specs.Nodes.{is_ascending, own_keys, used_bytes};
+ghost use Rattle.qg_num.specs.declared.fault.BlockFault.TheVariants as fault;
+ghost use Rattle.qg_num.specs.declared.rule.Rule.TheVariants as rule;
+ghost use Rattle.qg_node.specs.Nodes.{header_of, is_ascending, own_keys, used_bytes};
 ghost use Rattle.qg_node.specs.NodeText.{IsLevelled, IsNodeSize};
-ghost use Rattle.qg_shape.specs.Filled.{HasShortBodies};
+ghost use Rattle.qg_shape.specs.Filled.{HasShortBodies, IsOverfull};
 ghost use Rattle.qg_blocks.specs.Told.{BreaksNone};
-ghost use Rattle.qg_edit.specs.Outcome.{IsCutOf, IsNodeFor, RestIsNode};
+ghost use Rattle.qg_edit.specs.Answering.{AnswersBy, CanCut, IsBrokenUnless};
+ghost use Rattle.qg_edit.specs.Outcome.{IsCutOf, IsNodeFor, RestIsNode, cleared};
 
 use crate::clearing::clear;
 use qg_node::{Item, Node};
@@ -16,9 +19,21 @@ use qg_shape::{is_overfull, split};
 const LONGEST_BODY: usize = 1024;
 
 /// A node that what was read elsewhere does not agree with.
-pub(crate) fn misfit(node: &Node) -> BlockFault {
+pub(crate) fn misfit(node: &Node) -> BlockFault
+    ensures { result ≡ fault.Image rule.Refs (header_of node.now).address }
+{
     BlockFault::Image {
         rule: Rule::Refs,
+        address: node.header().address,
+    }
+}
+
+/// A node with a body that is longer than a tree holds.
+pub(crate) fn overlong(node: &Node) -> BlockFault
+    ensures { result ≡ fault.Image rule.Item (header_of node.now).address }
+{
+    BlockFault::Image {
+        rule: Rule::Item,
         address: node.header().address,
     }
 }
@@ -39,33 +54,30 @@ fn are_short(items: &[Item]) -> bool
     items.iter().all(|item| item.body.len() <= LONGEST_BODY)
 }
 
-/// Cuts a node in two where it has too much, by an item at most. `newest` is where the item or pointer stands that was put in last.
-/// After an `Err` the node is empty, or as it was.
-pub(crate) fn cut(
-    node: &mut Node,
-    nodesize: u32,
-    newest: usize,
-) -> Result<Option<Node>, BlockFault>
+/// Cuts a node in two where it has too much, by an item at most. `newest` is where the item or pointer stands that was
+/// put in last. After an `Err` the node is an empty leaf.
+pub(crate) fn cut(node: &mut Node, nodesize: u32, newest: usize) -> Result<Option<Node>, BlockFault>
     requires size { IsNodeSize nodesize }
     requires levelled { IsLevelled node.old }
     requires ascending { IsTrue (is_ascending (own_keys node.old)) }
     requires by_one { 101 + used_bytes node.old ≤ nodesize + 1049 }
     ensures cut { IfOk result (λ rest. IsCutOf nodesize node.old node.new rest) }
+    ensures overfull { IfOk result (λ rest. IsSome rest ↔ IsOverfull nodesize node.old) }
+    ensures answers { AnswersBy (CanCut nodesize node.old) (IsBrokenUnless rule.Item node.old (CanCut nodesize node.old)) result }
     ensures node { IsNodeFor nodesize node.old node.new }
     ensures rest { IfOk result (λ rest. RestIsNode nodesize node.old rest) }
     ensures sound { HasShortBodies node.old → BreaksNone result }
+    ensures err { OnErr result (node.new ≡ cleared node.old) }
 {
     if !is_overfull(node, nodesize) {
         return Ok(None);
     }
-    let address = node.header().address;
     if !has_short_bodies(node) {
+        let fault = overlong(node);
         clear(node);
-        return Err(BlockFault::Image {
-            rule: Rule::Item,
-            address,
-        });
+        return Err(fault);
     }
+    let address = node.header().address;
     match split(node, nodesize, newest, address) {
         Ok(rest) => Ok(Some(rest)),
         Err(fault) => {

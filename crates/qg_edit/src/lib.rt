@@ -1,4 +1,5 @@
-//! What one edit of a tree does to one node: to the leaf that its key leads to, to the pointers above it, and to two neighbours.
+//! What one edit of a tree does to one node: to the leaf that its key leads to, to the pointers above it, and to two
+//! neighbours.
 #![tactic(auto)]
 
 mod changing;

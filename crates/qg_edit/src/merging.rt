@@ -6,17 +6,20 @@ ghost use Rattle.qg_shape.specs.Filled.{HasShortBodies, IsThin};
 ghost use Rattle.qg_shape.specs.Outcomes.{IsJoined};
 ghost use Rattle.qg_shape.specs.Parts.{AreAlike};
 ghost use Rattle.qg_blocks.specs.Told.{BreaksNone};
+ghost use Rattle.qg_edit.specs.Answering.{AnswersBy, CanMerge, IsBrokenByMerge};
 ghost use Rattle.qg_edit.specs.Outcome.{AreNodesAfter, IsInFront};
 
-use crate::cutting::{has_short_bodies, misfit};
+use crate::cutting::{has_short_bodies, misfit, overlong};
 use crate::ordering::are_joined;
 use qg_node::Node;
 use qg_num::BlockFault;
 use qg_shape::{Joined, join};
 
-/// Joins two neighbours of one level, of which one isn't a quarter full: into the left one where that fits, and else both take about a half.
+/// Joins two neighbours of one level, of which one isn't a quarter full: into the left one where that fits, and else
+/// both take about a half.
 ///
-/// `Image` comes only where their keys don't follow each other, or a body has more than 1024 bytes. After an `Err` both are as they were.
+/// `Image` comes exactly where their keys don't follow each other, with the rule `refs` and the left node, and else where
+/// a body has more than 1024 bytes, with `item` and the first node that has one. After an `Err` both are as they were.
 pub fn merge(left: &mut Node, right: &mut Node, nodesize: u32) -> Result<Joined, BlockFault>
     requires size { IsNodeSize nodesize }
     requires left { IsNode nodesize left.old }
@@ -25,12 +28,19 @@ pub fn merge(left: &mut Node, right: &mut Node, nodesize: u32) -> Result<Joined,
     requires thin { IsThin nodesize left.old ⊎ IsThin nodesize right.old }
     ensures joined { IfOk result (λ joined. IsJoined nodesize left.old right.old left.new right.new joined) }
     ensures nodes { IfOk result (λ joined. AreNodesAfter nodesize left.old right.old left.new right.new joined) }
+    ensures answers { AnswersBy (CanMerge left.old right.old) (IsBrokenByMerge left.old right.old) result }
     ensures sound { IsInFront left.old right.old → HasShortBodies left.old → HasShortBodies right.old → BreaksNone result }
     ensures left_err { OnErr result (left.new ≡ left.old) }
     ensures right_err { OnErr result (right.new ≡ right.old) }
 {
-    if !is_in_front(left, right) || !has_short_bodies(left) || !has_short_bodies(right) {
+    if !is_in_front(left, right) {
         return Err(misfit(left));
+    }
+    if !has_short_bodies(left) {
+        return Err(overlong(left));
+    }
+    if !has_short_bodies(right) {
+        return Err(overlong(right));
     }
     Ok(join(left, right, nodesize)?)
 }
@@ -50,7 +60,8 @@ fn is_in_front(left: &Node, right: &Node) -> bool
         Node::Inner { pointers, .. } => match right {
             Node::Leaf { .. } => unreachable!(),
             Node::Inner {
-                pointers: others, ..
+                pointers: others,
+                ..
             } => are_joined(pointers.as_slice(), others.as_slice()),
         },
     }

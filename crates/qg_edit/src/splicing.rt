@@ -1,10 +1,13 @@
 // Pointers in the place of others.
-ghost use Rattle.std.specs.Prelude.{◌≡◌, ◌+◌, ◌-◌, ◌≤◌, ◌<◌, ◌++◌, ◌↔◌, length, map, take, drop, IfOk, OnOk, OnErr, IsTrue};
+ghost use Rattle.std.specs.Prelude.{◌≡◌, ◌+◌, ◌-◌, ◌≤◌, ◌<◌, ◌++◌, ◌↔◌, length, map, take, drop, IfOk, OnOk, OnErr, IsSome, IsTrue};
 ghost use Rattle.qg_node.specs.NodeText.{IsNode, IsNodeSize};
+ghost use Rattle.qg_num.specs.declared.rule.Rule.TheVariants as rule;
 ghost use Rattle.qg_node.specs.Nodes.{is_ascending, own_pointers};
+ghost use Rattle.qg_shape.specs.Filled.{IsOverfull};
 ghost use Rattle.qg_shape.specs.Parts.{IsInner, with_pointers};
 ghost use Rattle.qg_blocks.specs.Told.{BreaksNone};
-ghost use Rattle.qg_edit.specs.Outcome.{IsCutOf, IsNodeFor, RestIsNode, spliced};
+ghost use Rattle.qg_edit.specs.Answering.{AnswersBy, CanSplice, IsBrokenUnless};
+ghost use Rattle.qg_edit.specs.Outcome.{IsCutOf, IsNodeFor, IsOldOrCleared, RestIsNode, spliced};
 
 use crate::clearing::clear;
 use crate::cutting::{cut, misfit};
@@ -12,10 +15,11 @@ use crate::ordering::{are_joined, do_ascend};
 use qg_node::{Node, Pointer};
 use qg_num::{BlockFault, NoMemory};
 
-/// Puts pointers in the place of those from one index up to another, one more at most. Where the node then has too much it keeps a front,
-/// and the answer has the rest, which lies nowhere yet.
+/// Puts one pointer or two in the place of those from one index up to another, so that there is one more at most. Where
+/// the node then has too much it keeps a front, and the answer has the rest, which lies nowhere yet.
 ///
-/// `Image` comes exactly where keys would not ascend. After an `Err` it is still a node of its place.
+/// `Image` comes exactly where keys would not ascend, with the rule `refs` and the node. After an `Err` the node is as it
+/// was, or an empty leaf.
 pub fn splice(
     node: &mut Node,
     nodesize: u32,
@@ -30,9 +34,12 @@ pub fn splice(
     requires some { 1 ≤ length new.now }
     requires few { (length new.now ≤ 2) × (length new.now ≤ to - from + 1) }
     ensures spliced { IfOk result (λ rest. IsCutOf nodesize (with_pointers node.old (spliced from to new.now (own_pointers node.old))) node.new rest) }
+    ensures overfull { IfOk result (λ rest. IsSome rest ↔ IsOverfull nodesize (with_pointers node.old (spliced from to new.now (own_pointers node.old)))) }
+    ensures answers { AnswersBy (CanSplice from to new.now node.old) (IsBrokenUnless rule.Refs node.old (CanSplice from to new.now node.old)) result }
     ensures node { IsNodeFor nodesize node.old node.new }
     ensures rest { IfOk result (λ rest. RestIsNode nodesize node.old rest) }
     ensures sound { IsTrue (is_ascending (map (λ pointer. pointer.key) (spliced from to new.now (own_pointers node.old)))) → BreaksNone result }
+    ensures err { OnErr result (IsOldOrCleared node.old node.new) }
 {
     if !go_there(node, from, to, new) {
         return Err(misfit(node));
@@ -74,12 +81,7 @@ fn are_in_order(front: &[Pointer], new: &[Pointer], back: &[Pointer]) -> bool
 }
 
 // After an `Err` some pointers are gone.
-fn put_pointers(
-    node: &mut Node,
-    from: usize,
-    to: usize,
-    new: &[Pointer],
-) -> Result<(), NoMemory>
+fn put_pointers(node: &mut Node, from: usize, to: usize, new: &[Pointer]) -> Result<(), NoMemory>
     requires inner { IsInner node.old }
     requires within { (from ≤ to) × (to ≤ length (own_pointers node.old)) }
     ensures ok { OnOk result (node.new ≡ with_pointers node.old (spliced from to new.now (own_pointers node.old))) }

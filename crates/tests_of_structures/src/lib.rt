@@ -6,6 +6,8 @@ mod blocks;
 #[cfg(test)]
 mod cow;
 #[cfg(test)]
+mod edit;
+#[cfg(test)]
 mod files;
 #[cfg(test)]
 mod refs;

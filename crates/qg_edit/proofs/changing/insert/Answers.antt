@@ -1,6 +1,6 @@
-use Rattle.std.proofs.Common.{refl, sym, ◌∙◌}
+use Rattle.std.proofs.Common.{sym, ◌∙◌}
 use Rattle.std.proofs.lemmas.Bool.{not-true, true≢false}
-use Rattle.qg_edit.proofs.Leaves.{edited-cut, inserted, IsNodeFor-header, ok-known, rest-cut}
+use Rattle.qg_edit.proofs.Leaves.{answers-cut, answers-misfit, edited-cut, inserted, overfull-cut, ok-known}
 use Rattle.qg_edit.proofs.Lists.{has_key-there}
 use Rattle.qg_node.specs.Nodes.{own_items}
 use Rattle.qg_edit.specs.declared.edit.Change.TheVariants.{Insert}
@@ -19,6 +19,23 @@ returns-in_ok-insert_item-in-Err-clause-edited c =
     edited-cut c.args.nodesize c.args.key (Insert c.args.body) c.args.leaf.now c.insert_item.new.node c.cut.new.node c.cut.result
     (inserted c.args.nodesize c.args.leaf.now c.requires.leaf c.requires.sound c.args.key c.args.body c.in-Err.place c.insert_item.new.node c.requires.short c.in-Err.ensures.absent
     c.in_ok-insert_item-in-Err.ensures.ok) c.cut.ensures.cut
+
+pub returns-in_ok-insert_item-in-Err-clause-overfull : goal.returns-in_ok-insert_item-in-Err-clause-overfull
+returns-in_ok-insert_item-in-Err-clause-overfull c =
+    overfull-cut c.args.nodesize c.args.key (Insert c.args.body) c.args.leaf.now c.insert_item.new.node c.cut.result
+    (inserted c.args.nodesize c.args.leaf.now c.requires.leaf c.requires.sound c.args.key c.args.body c.in-Err.place c.insert_item.new.node c.requires.short c.in-Err.ensures.absent
+    c.in_ok-insert_item-in-Err.ensures.ok) c.cut.ensures.overfull
+
+pub returns-in_ok-insert_item-in-Err-clause-answers : goal.returns-in_ok-insert_item-in-Err-clause-answers
+returns-in_ok-insert_item-in-Err-clause-answers c =
+    answers-cut c.args.nodesize c.args.key (Insert c.args.body) c.args.leaf.now c.insert_item.new.node c.cut.result
+    (inserted c.args.nodesize c.args.leaf.now c.requires.leaf c.requires.sound c.args.key c.args.body c.in-Err.place c.insert_item.new.node c.requires.short c.in-Err.ensures.absent
+    c.in_ok-insert_item-in-Err.ensures.ok) c.cut.ensures.answers
+
+pub returns-in-Ok-clause-answers : goal.returns-in-Ok-clause-answers
+returns-in-Ok-clause-answers c =
+    answers-misfit c.args.nodesize c.args.key (Insert c.args.body) c.args.leaf.now c.misfit.result c.misfit.ensures
+    (λ can. true≢false (sym (has_key-there c.args.key (own_items c.args.leaf.now) c.in-Ok.field-0 c.in-Ok.ensures.found) ∙ not-true _ can))
 
 pub returns-in_ok-insert_item-in-Err-clause-can : goal.returns-in_ok-insert_item-in-Err-clause-can
 returns-in_ok-insert_item-in-Err-clause-can c =

@@ -1,6 +1,6 @@
-use Rattle.std.proofs.Common.{refl, sym, ◌∙◌}
+use Rattle.std.proofs.Common.{sym, ◌∙◌}
 use Rattle.std.proofs.lemmas.Bool.{true≢false}
-use Rattle.qg_edit.proofs.Leaves.{edited-cut, IsNodeFor-header, ok-known, replaced, rest-cut}
+use Rattle.qg_edit.proofs.Leaves.{answers-cut, answers-misfit, edited-cut, err-cut, IsNodeFor-header, overfull-cut, ok-known, replaced, rest-cut}
 use Rattle.qg_edit.proofs.Lists.{has_key-goes}
 use Rattle.qg_node.specs.Nodes.{own_items}
 use Rattle.qg_edit.specs.declared.edit.Change.TheVariants.{Replace}
@@ -17,6 +17,20 @@ cut-requires-clause-by_one c = (replaced c.args.nodesize c.args.leaf.now c.requi
 
 pub returns-in-Ok-clause-edited : goal.returns-in-Ok-clause-edited
 returns-in-Ok-clause-edited c = edited-cut c.args.nodesize c.args.key (Replace c.args.body) c.args.leaf.now c.replace_body.new.node c.cut.new.node c.cut.result (replaced c.args.nodesize c.args.leaf.now c.requires.leaf c.requires.sound c.args.key c.args.body c.in-Ok.place c.replace_body.new.node c.requires.short c.in-Ok.ensures.found c.replace_body.ensures) c.cut.ensures.cut
+
+pub returns-in-Ok-clause-overfull : goal.returns-in-Ok-clause-overfull
+returns-in-Ok-clause-overfull c = overfull-cut c.args.nodesize c.args.key (Replace c.args.body) c.args.leaf.now c.replace_body.new.node c.cut.result (replaced c.args.nodesize c.args.leaf.now c.requires.leaf c.requires.sound c.args.key c.args.body c.in-Ok.place c.replace_body.new.node c.requires.short c.in-Ok.ensures.found c.replace_body.ensures) c.cut.ensures.overfull
+
+pub returns-in-Ok-clause-answers : goal.returns-in-Ok-clause-answers
+returns-in-Ok-clause-answers c = answers-cut c.args.nodesize c.args.key (Replace c.args.body) c.args.leaf.now c.replace_body.new.node c.cut.result (replaced c.args.nodesize c.args.leaf.now c.requires.leaf c.requires.sound c.args.key c.args.body c.in-Ok.place c.replace_body.new.node c.requires.short c.in-Ok.ensures.found c.replace_body.ensures) c.cut.ensures.answers
+
+pub returns-in-Ok-clause-err : goal.returns-in-Ok-clause-err
+returns-in-Ok-clause-err c = err-cut c.args.nodesize c.args.key (Replace c.args.body) c.args.leaf.now c.replace_body.new.node c.cut.new.node c.cut.result (replaced c.args.nodesize c.args.leaf.now c.requires.leaf c.requires.sound c.args.key c.args.body c.in-Ok.place c.replace_body.new.node c.requires.short c.in-Ok.ensures.found c.replace_body.ensures) c.cut.ensures.err
+
+pub returns-in-Err-clause-answers : goal.returns-in-Err-clause-answers
+returns-in-Err-clause-answers c =
+    answers-misfit c.args.nodesize c.args.key (Replace c.args.body) c.args.leaf.now c.misfit.result c.misfit.ensures
+    (λ can. true≢false (sym can ∙ has_key-goes c.args.key (own_items c.args.leaf.now) c.in-Err.field-0 c.in-Err.ensures.absent))
 
 pub returns-in-Ok-clause-can : goal.returns-in-Ok-clause-can
 returns-in-Ok-clause-can c = ok-known _ c.cut.result (replaced c.args.nodesize c.args.leaf.now c.requires.leaf c.requires.sound c.args.key c.args.body c.in-Ok.place c.replace_body.new.node c.requires.short c.in-Ok.ensures.found c.replace_body.ensures).can

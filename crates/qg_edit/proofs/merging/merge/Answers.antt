@@ -1,4 +1,3 @@
-use Rattle.std.proofs.Common.{refl, sym, ◌∙◌}
 use Rattle.qg_edit.proofs.Cuts.{nodes-joined}
 use Rattle.qg_edit.proofs.merging.merge.Goals as goal
 
