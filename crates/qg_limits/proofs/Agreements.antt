@@ -1,14 +1,25 @@
 -- The group over its limit, by a machine's quota.
-use Rattle.std.proofs.Common.{◌≡◌, ℕ, List, [], ◌∷◌, Option, map, refl, ap, ◌∙◌}
-use Rattle.std.specs.Prelude.{slice_get}
-use Rattle.std.specs.List.{All, cons_option, filter_map}
+use Rattle.std.specs.Ordering.{nat_cmp}
+use Rattle.std.specs.List.Sorted.{IsStrictlySortedBy}
+use Rattle.std.specs.declared.cmp.Ordering.TheVariants.{Less}
+use Rattle.std.proofs.lemmas.Bool.{cases_Bool, cond-false, cond-true}
+use Rattle.std.proofs.lemmas.Bool.Decides.{nat_tests}
+use Rattle.std.proofs.lemmas.List.Sums.{sum_by-cons}
+use Rattle.std.proofs.lemmas.Map.Keys.{sorted_head, sorted_tail}
+use Rattle.qg_state.specs.State.{Accepted}
+use Rattle.qg_state.specs.Members.{hierarchy_of, is_member}
+use Rattle.qg_state.specs.declared.quota.Quota.{Quota}
+use Rattle.std.proofs.Common.{◌≡◌, ℕ, List, [], ◌∷◌, Option, map, refl, ap, ◌∙◌, ◌<◌, ◌≤◌, Bool, false, sym, arith, inl, inr}
+use Rattle.std.specs.Prelude.{slice_get, if◌then◌else◌, ◌==◌, ◌||◌}
+use Rattle.std.specs.List.{All, AllByRecursion, cons_option, filter, filter_map, list_any}
 use Rattle.std.specs.Option.{option_map}
-use Rattle.std.proofs.lemmas.List.Elements.{All-head, All-tail}
+use Rattle.std.proofs.lemmas.List.Elements.{All-filter, All-head, All-tail}
 use Rattle.qg_num.specs.declared.counters.Which.{Which}
 use Rattle.qg_state.specs.declared.quota.Group.{Group}
-use Rattle.qg_state.specs.Limits.{first_over, limit_passed}
+use Rattle.qg_state.specs.Limits.{bytes_reserved, first_over, limit_passed, over}
 use Rattle.qg_limits.specs.Agreement.{IsLimitedAs, counted_groups}
-use Rattle.qg_limits.specs.Limit.{Limited, first_over_of, held_of, limited_group}
+use Rattle.qg_limits.proofs.Held.{one}
+use Rattle.qg_limits.specs.Limit.{Limited, first_over_of, held_of, limited_group, times_named}
 
 passed_is : (limited : Limited) (reserved : ℕ → ℕ) (n : ℕ) (entry : ℕ × Group) → IsLimitedAs limited reserved entry
     → limit_passed (held_of limited entry.0) n (limited_group limited (entry.0, entry.1.counters)).1 ≡ limit_passed (reserved entry.0) n entry.1
@@ -37,3 +48,40 @@ pub over_is : (limited : Limited) (reserved : ℕ → ℕ) (n : ℕ) (entries : 
     → first_over_of limited (counted_groups entries) n ≡ first_over reserved n entries
 unfolding first_over
 over_is limited reserved n entries all = ap (λ (found : List (ℕ × Which)). slice_get found 0) (over_each limited reserved n entries all)
+
+-- it is that of the definition over a machine's quota, where each group is limited so
+pub over_of_quota : (limited : Limited) (quota : Quota) (pending : List Accepted) (sub n : ℕ) → All (IsLimitedAs limited (bytes_reserved (hierarchy_of quota) pending)) quota.groups
+    → first_over_of limited (counted_groups (filter (λ entry. is_member (hierarchy_of quota) entry.0 sub) quota.groups)) n ≡ over quota pending sub n
+unfolding over
+over_of_quota limited quota pending sub n all =
+    over_is limited (bytes_reserved (hierarchy_of quota) pending) n (filter (λ entry. is_member (hierarchy_of quota) entry.0 sub) quota.groups)
+    (All-filter (λ (entry : ℕ × Group). is_member (hierarchy_of quota) entry.0 sub) (IsLimitedAs limited (bytes_reserved (hierarchy_of quota) pending)) quota.groups all)
+
+-- ---- a path that ascends
+
+-- a group isn't named by numbers that are all greater
+none_named : (group n : ℕ) (path : List ℕ) → group ≤ n → AllByRecursion (λ m. nat_cmp n m ≡ Less) path → times_named path group ≡ 0
+none_named group n [] le all = refl
+none_named group n (m ∷ path) le all =
+    let less : n < m = less_is n m all.0 in
+    let apart : (m == group) ≡ false = grind (arith, nat_tests) in
+    let none : one m group ≡ 0 = cond-false _ _ _ apart in
+    omega (arith, sum_by-cons (λ k. one k group) m path, none, none_named group n path le all.1) where
+      less_is : (a b : ℕ) → nat_cmp a b ≡ Less → a < b
+      less_is a b less = grind (arith, nat_tests)
+
+-- it names each group once
+pub named_once : (path : List ℕ) (group : ℕ) → IsStrictlySortedBy nat_cmp path → times_named path group ≡ (if list_any (λ n. n == group) path then 1 else 0)
+named_once [] group ascend = refl
+named_once (n ∷ path) group ascend = elim (cases_Bool (n == group)) [
+  | inl here ↦
+      let le : group ≤ n = grind (arith, nat_tests) in
+      let single : one n group ≡ 1 = cond-true _ _ _ here in
+      let rest : times_named path group ≡ 0 = none_named group n path le (sorted_head nat_cmp n path ascend) in
+      let all : times_named (n ∷ path) group ≡ 1 = omega (arith, sum_by-cons (λ k. one k group) n path, single, rest) in
+      all ∙ sym (ap (λ (b : Bool). if b || list_any (λ n. n == group) path then 1 else 0) here)
+  | inr apart ↦
+      let none : one n group ≡ 0 = cond-false _ _ _ apart in
+      let all : times_named (n ∷ path) group ≡ times_named path group = omega (arith, sum_by-cons (λ k. one k group) n path, none) in
+      all ∙ named_once path group (sorted_tail nat_cmp n path ascend) ∙ sym (ap (λ (b : Bool). if b || list_any (λ n. n == group) path then 1 else 0) apart)
+]

@@ -68,7 +68,7 @@ next_listed path i named entries inside is there =
 -- ---- what is held for each group of a path
 
 -- one where two groups are the same
-abbrev one : ℕ → ℕ → ℕ
+abbrev pub one : ℕ → ℕ → ℕ
 one named group = if named == group then 1 else 0
 
 -- one group of the path more
