@@ -1,5 +1,5 @@
 -- The groups above a group, found from the least on, and the subvolumes below it, found from the greatest on.
-use Rattle.std.proofs.Common.{◌≡◌, ℕ, ◌<◌, ◌≤◌, Bool, true, false, List, [], ◌∷◌, ◌++◌, length, refl, sym, ap, subst, ◌∙◌, arith, inl, inr, ◌⊎◌}
+use Rattle.std.proofs.Common.{◌≡◌, ℕ, ◌<◌, ◌≤◌, Bool, true, false, List, [], ◌∷◌, ◌++◌, sym, ap, subst, ◌∙◌, arith, inl, inr, ◌⊎◌}
 use Rattle.std.specs.Prelude.{◌&&◌, ◌||◌, ◌==◌, not}
 use Rattle.std.specs.List.{filter}
 use Rattle.std.specs.List.Sorted.{IsStrictlySortedBy}
@@ -259,8 +259,3 @@ pub with_members : (groups : BTreeSet ℕ) (up down : BTreeSet (ℕ × ℕ)) (hi
 with_members groups up down hierarchy last pending rest more kept is left has n =
     has n ∙ ap (λ (b : Bool). b || has_pair last n down.keys) (left n) ∙ ap (λ (b : Bool). (not (last == n) && has_number n pending) || b) (kept.turned n last)
     ∙ ap (λ (h : Hierarchy). (not (last == n) && has_number n pending) || has_pair n last h.pairs) is
-
--- a list without a first number is empty
-pub empty_is : (ns : List ℕ) → (0 < length ns → false ≡ true) → ns ≡ []
-empty_is [] none = refl
-empty_is (n ∷ ns) none = absurd (true≢false (sym (none (omega arith))))

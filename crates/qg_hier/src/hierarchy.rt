@@ -7,7 +7,7 @@ ghost use Rattle.qg_hier.specs.declared.fault.HierFault.TheVariants as why;
 ghost use Rattle.qg_hier.specs.Kept.{AreSubvolumes, IsLastAbove};
 
 use crate::HierFault;
-use crate::numbers::{groups_of, has_number, put_number, subvolumes_of, take_number};
+use crate::numbers::{groups_of, has_number, put_number, subvolumes_of, take_least, take_number};
 use crate::pairs::{first_other, has_pair, pairs_of, put_others, put_pair, take_others, take_pair};
 use qg_num::{GroupId, GroupList, RootId, Sequence};
 use std::alloc::Global;
@@ -146,7 +146,7 @@ impl Hierarchy {
         let mut pending = BTreeSet::new(self.alloc);
         put_number(&mut pending, number)?;
         let mut above = GroupList::new(self.alloc);
-        while let Some(next) = pending.pop_first() {
+        while let Some(next) = take_least(&mut pending) {
             above.push(GroupId::from_number(next))?;
             put_others(&self.up, next, &mut pending)?;
         }

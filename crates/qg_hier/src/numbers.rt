@@ -1,5 +1,5 @@
 // Sets of groups' numbers.
-ghost use Rattle.std.specs.Prelude.{◌≡◌, ◌==◌, ◌&&◌, ◌||◌, ℕ, not, IfOk, OnOk, OnErr};
+ghost use Rattle.std.specs.Prelude.{◌≡◌, ◌==◌, ◌&&◌, ◌||◌, ℕ, [], ◌∷◌, not, MatchOption, IfOk, OnOk, OnErr};
 ghost use Rattle.std.specs.List.{filter};
 ghost use Rattle.std.specs.Ordering.{nat_cmp};
 ghost use Rattle.std.specs.BTreeSet.{IsOrdered};
@@ -37,6 +37,14 @@ pub(crate) fn take_number(numbers: &mut BTreeSet<u64>, number: u64)
     ensures ordered { IsOrdered nat_cmp numbers.new }
 {
     numbers.remove(&number);
+}
+
+/// Takes the least number out of a set, if it has any.
+pub(crate) fn take_least(numbers: &mut BTreeSet<u64>) -> Option<u64>
+    ensures taken { MatchOption result (numbers.old.keys ≡ []) (λ least. numbers.old.keys ≡ least ∷ numbers.new.keys) }
+    ensures ordered { IsOrdered nat_cmp numbers.new }
+{
+    numbers.pop_first()
 }
 
 /// The groups of the numbers of a set, ascending.
