@@ -25,6 +25,13 @@ inner full = (inner_of 1081344 2 5 full (pointer 257 1048576 2 ∷ pointer 258 1
 abbrev pub to_extent : ℕ → Owing
 to_extent root = record { address = 67174400; reference = KeyedData root 257 0 }
 
+-- shared references to these, with the leaf and with the node above leaves as parent
+abbrev pub to_extent_shared : Owing
+to_extent_shared = record { address = 67174400; reference = SharedData 1048576 }
+
+abbrev pub to_leaves_shared : List Owing
+to_leaves_shared = record { address = 1048576; reference = SharedBlock 1081344 } ∷ record { address = 1064960; reference = SharedBlock 1081344 } ∷ []
+
 abbrev pub to_leaves : ℕ → List Owing
 to_leaves root = record { address = 1048576; reference = KeyedBlock root } ∷ record { address = 1064960; reference = KeyedBlock root } ∷ []
 
@@ -33,15 +40,24 @@ to_leaves root = record { address = 1048576; reference = KeyedBlock root } ∷ r
 shared_with_its_maker : copy_case 2 false 5 5 ≡ ShareOld
 shared_with_its_maker = refl
 
-shared_with_its_maker-extent_gains : children_gain ShareOld (leaf false) 5 ≡ record { address = 67174400; reference = SharedData 1048576 } ∷ []
+shared_with_its_maker-extent_gains : children_gain ShareOld (leaf false) 5 ≡ to_extent_shared ∷ []
 unfolding owed_by_node file_part inode_read extent_data_read inode_text extent_data_text u64_bytes u16_bytes u64_at
 shared_with_its_maker-extent_gains = refl
 
-shared_with_its_maker-leaves_gain :
-    children_gain ShareOld (inner false) 5
-    ≡ record { address = 1048576; reference = SharedBlock 1081344 } ∷ record { address = 1064960; reference = SharedBlock 1081344 } ∷ []
+shared_with_its_maker-leaves_gain : children_gain ShareOld (inner false) 5 ≡ to_leaves_shared
 unfolding owed_by_node
 shared_with_its_maker-leaves_gain = refl
+
+shared_with_its_maker-lose : children_lose ShareOld (inner false) ≡ []
+shared_with_its_maker-lose = refl
+
+-- the copy is reached in place of the old node
+shared_with_its_maker-losses : copy_losses ShareOld (leaf false) 5 ≡ record { address = 1048576; reference = KeyedBlock 5 } ∷ []
+shared_with_its_maker-losses = refl
+
+shared_with_its_maker-gains : copy_gains ShareOld (leaf false) 1097728 5 ≡ record { address = 1097728; reference = KeyedBlock 5 } ∷ to_extent_shared ∷ []
+unfolding owed_by_node file_part inode_read extent_data_read inode_text extent_data_text u64_bytes u16_bytes u64_at
+shared_with_its_maker-gains = refl
 
 shared_with_its_maker-old : old_after ShareOld (inner false) ≡ Some (inner true)
 shared_with_its_maker-old = refl
@@ -58,6 +74,13 @@ shared_with_another-gains = refl
 shared_with_another-losses : copy_losses AddKeyed (leaf false) 256 ≡ record { address = 1048576; reference = KeyedBlock 256 } ∷ []
 shared_with_another-losses = refl
 
+shared_with_another-leaves_gain : children_gain AddKeyed (inner false) 256 ≡ to_leaves 256
+unfolding owed_by_node
+shared_with_another-leaves_gain = refl
+
+shared_with_another-old : old_after AddKeyed (inner false) ≡ Some (inner false)
+shared_with_another-old = refl
+
 -- ---- a full node that its maker reaches again is copied as any other
 
 full_and_shared : copy_case 2 true 5 5 ≡ AddKeyed
@@ -72,10 +95,17 @@ full_and_alone-gain : children_gain TurnKeyed (inner true) 256 ≡ to_leaves 256
 unfolding owed_by_node
 full_and_alone-gain = refl
 
-full_and_alone-lose :
-    children_lose TurnKeyed (inner true) ≡ record { address = 1048576; reference = SharedBlock 1081344 } ∷ record { address = 1064960; reference = SharedBlock 1081344 } ∷ []
+full_and_alone-lose : children_lose TurnKeyed (inner true) ≡ to_leaves_shared
 unfolding owed_by_node
 full_and_alone-lose = refl
+
+full_and_alone-extent_gain : children_gain TurnKeyed (leaf true) 256 ≡ to_extent 256 ∷ []
+unfolding owed_by_node file_part inode_read extent_data_read inode_text extent_data_text u64_bytes u16_bytes u64_at
+full_and_alone-extent_gain = refl
+
+full_and_alone-extent_loses : children_lose TurnKeyed (leaf true) ≡ to_extent_shared ∷ []
+unfolding owed_by_node file_part inode_read extent_data_read inode_text extent_data_text u64_bytes u16_bytes u64_at
+full_and_alone-extent_loses = refl
 
 full_and_alone-old : old_after TurnKeyed (inner true) ≡ None
 full_and_alone-old = refl
@@ -89,6 +119,16 @@ alone-owed : owed_after TakeOver (inner false) 1097728 3 5 ≡ record { address 
 unfolding owed_by_node
 alone-owed = refl
 
+-- its children gain and lose nothing
+alone-gains : copy_gains TakeOver (inner false) 1097728 5 ≡ record { address = 1097728; reference = KeyedBlock 5 } ∷ []
+alone-gains = refl
+
+alone-losses : copy_losses TakeOver (inner false) 5 ≡ record { address = 1081344; reference = KeyedBlock 5 } ∷ []
+alone-losses = refl
+
+alone-old : old_after TakeOver (inner false) ≡ None
+alone-old = refl
+
 -- ---- a node is left
 
 last_reference : left_case 0 false 5 5 ≡ Goes
@@ -98,6 +138,16 @@ last_reference-lose : leaving_losses Goes (inner false) ≡ to_leaves 5
 unfolding owed_by_node
 last_reference-lose = refl
 
+last_reference-extent_loses : leaving_losses Goes (leaf true) ≡ to_extent_shared ∷ []
+unfolding owed_by_node file_part inode_read extent_data_read inode_text extent_data_text u64_bytes u16_bytes u64_at
+last_reference-extent_loses = refl
+
+last_reference-gain : leaving_gains Goes (inner false) ≡ []
+last_reference-gain = refl
+
+last_reference-after : left_after Goes (inner false) ≡ None
+last_reference-after = refl
+
 left_by_its_maker : left_case 1 false 5 5 ≡ TurnsFull
 left_by_its_maker = refl
 
@@ -105,12 +155,29 @@ left_by_its_maker-lose : leaving_losses TurnsFull (leaf false) ≡ to_extent 5 �
 unfolding owed_by_node file_part inode_read extent_data_read inode_text extent_data_text u64_bytes u16_bytes u64_at
 left_by_its_maker-lose = refl
 
-left_by_its_maker-gain : leaving_gains TurnsFull (leaf false) ≡ record { address = 67174400; reference = SharedData 1048576 } ∷ []
+left_by_its_maker-gain : leaving_gains TurnsFull (leaf false) ≡ to_extent_shared ∷ []
 unfolding owed_by_node file_part inode_read extent_data_read inode_text extent_data_text u64_bytes u16_bytes u64_at
 left_by_its_maker-gain = refl
 
+left_by_its_maker-leaves_lose : leaving_losses TurnsFull (inner false) ≡ to_leaves 5
+unfolding owed_by_node
+left_by_its_maker-leaves_lose = refl
+
+left_by_its_maker-leaves_gain : leaving_gains TurnsFull (inner false) ≡ to_leaves_shared
+unfolding owed_by_node
+left_by_its_maker-leaves_gain = refl
+
+left_by_its_maker-after : left_after TurnsFull (inner false) ≡ Some (inner true)
+left_by_its_maker-after = refl
+
 left_by_another : left_case 1 false 5 256 ≡ Stays
 left_by_another = refl
+
+left_by_another-gain : leaving_gains Stays (inner false) ≡ []
+left_by_another-gain = refl
+
+left_by_another-lose : leaving_losses Stays (inner false) ≡ []
+left_by_another-lose = refl
 
 full_and_left : left_case 1 true 5 5 ≡ Stays
 full_and_left = refl

@@ -1,5 +1,9 @@
 pub mod Cause
 pub mod History
 pub mod Crash
+pub mod CrashSince
+pub mod LastWrite
+pub mod NoChance
 pub mod Examples
 pub mod ExamplesOfCrashes
+pub mod ExamplesOfMoments

@@ -7,7 +7,7 @@ use Rattle.qg_disk.proofs.Overlay.{get_or-overlay_before, get_or-overlay_after}
 use Rattle.qg_disk.proofs.Sizes.{length-overlay}
 
 -- a write changes its range alone, whatever stood there
-Torn-overlay : (at n : ℕ) (bytes old : List ℕ) → length bytes ≤ n → Torn at n old (overlay at bytes old)
+pub Torn-overlay : (at n : ℕ) (bytes old : List ℕ) → length bytes ≤ n → Torn at n old (overlay at bytes old)
 Torn-overlay at n bytes old fits = record {
   same = λ place inside apart. elim apart [
     | inl before ↦ get_or-overlay_before at place bytes old before
@@ -18,12 +18,12 @@ Torn-overlay at n bytes old fits = record {
 }
 
 -- so does one that failed
-Torn-torn : (at n : ℕ) (left old : List ℕ) → length left ≤ n → Torn at n old (torn at left old)
+pub Torn-torn : (at n : ℕ) (left old : List ℕ) → length left ≤ n → Torn at n old (torn at left old)
 Torn-torn at n [] old fits = record { same = λ place inside apart. refl; no_shorter = omega arith; no_longer = omega arith }
 Torn-torn at n (byte ∷ bytes) old fits = Torn-overlay at n (byte ∷ bytes) old fits
 
 -- a cut that failed keeps what is in front of its length
-Shortened-cut : (len : ℕ) (left old : List ℕ) → Shortened len (length left) old (take len old ++ left)
+pub Shortened-cut : (len : ℕ) (left old : List ℕ) → Shortened len (length left) old (take len old ++ left)
 Shortened-cut len left old = record {
   same = λ place before inside.
       get_or_append_left (take len old) left 0 place (omega (arith, length-take len old)) ∙ get_or-take len old place 0 before;

@@ -1,3 +1,4 @@
 pub mod Overlay
 pub mod Sizes
 pub mod Images
+pub mod Crashes

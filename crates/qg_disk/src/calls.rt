@@ -1,7 +1,7 @@
 // The calls that a disk in memory answered, and what it holds by them.
 #![tactic(auto, unfolding(crate::specs::Call::history_of, crate::specs::Call::size_of))]
 
-ghost use Rattle.std.specs.Prelude.{◌≡◌, ◌+◌, ◌≤◌, List, [], ◌∷◌, ◌++◌, length, IfOk, OnOk, OnErr};
+ghost use Rattle.std.specs.Prelude.{◌≡◌, ◌+◌, ◌≤◌, All, List, [], ◌∷◌, ◌++◌, length, IfOk, OnOk, OnErr};
 ghost use Rattle.qg_device.specs.History.{Event, content, range};
 ghost use Rattle.qg_disk.specs.Call.{after_request, history_of, size_of, Fits};
 
@@ -20,15 +20,16 @@ pub struct Calls {
 }
 
 impl Model for Calls {
-    ghost use Rattle.std.specs.Prelude.{◌≡◌, List};
-    ghost use Rattle.qg_disk.specs.Call.{size_of};
+    ghost use Rattle.std.specs.Prelude.{◌≡◌, All, List};
+    ghost use Rattle.qg_disk.specs.Call.{size_of, Fits};
     ghost use Rattle.qg_disk.specs.declared.call.Call.{Call};
 
     ghost Value = { List Call };
 
     ghost view = { λ c. c.calls.items };
 
-    ghost invariant = { λ c. c.size ≡ size_of c.calls.items };
+    ghost invariant = { λ c. (c.size ≡ size_of c.calls.items)
+        × All (λ call. Fits call.request) c.calls.items };
 }
 
 impl Calls {
@@ -45,7 +46,8 @@ impl Calls {
 
     /// All of them, the oldest first.
     pub fn all(&self) -> &[Call]
-        ensures { result.now ≡ self.now }
+        ensures calls { result.now ≡ self.now }
+        ensures fit { All (λ call. Fits call.request) result.now }
     {
         &self.calls
     }

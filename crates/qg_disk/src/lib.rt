@@ -9,13 +9,16 @@ mod file;
 mod fill;
 mod laws;
 mod memory;
+mod replay;
 mod sure;
+mod tear;
 mod traits;
 
 pub use call::{Bytes, Call, Request};
 pub use fault::DiskFault;
 pub use file::FileDisk;
-pub use laws::leaves_what_it_holds;
+pub use laws::{crashes_leave_images, leaves_what_it_holds};
 pub use memory::MemDisk;
 pub use sure::SureDisk;
+pub use tear::Tear;
 pub use traits::Disk;

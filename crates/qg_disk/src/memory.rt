@@ -1,15 +1,19 @@
 // A disk in memory that fails where it is told to, and keeps a record of its calls.
 #![tactic(auto, unfolding(crate::specs::Call::history_of, crate::specs::Call::size_of, crate::specs::MemDisk::fails_next))]
 
-ghost use Rattle.std.specs.Prelude.{◌≡◌, ◌+◌, ◌-◌, ◌^◌, ◌<◌, ◌≤◌, List, [], length, max, Some, OnOk, IsErrOf};
+ghost use Rattle.std.specs.Prelude.{◌≡◌, ℕ, ◌+◌, ◌-◌, ◌^◌, ◌<◌, ◌≤◌, List, [], length, max, take, Some, IfOk, OnOk, IsErrOf};
 ghost use Rattle.qg_device.specs.Cause.{HasCause};
 ghost use Rattle.qg_device.specs.History.{Event, content, range};
-ghost use Rattle.qg_disk.specs.Call.{Fits};
+ghost use Rattle.qg_device.specs.Crash.{Leaves};
+ghost use Rattle.qg_disk.specs.Call.{history_of, Fits};
+ghost use Rattle.qg_disk.specs.Crashed.{crashed};
 ghost use Rattle.qg_disk.specs.Disk.{Writes, Cuts, Syncs};
 ghost use Rattle.qg_disk.specs.MemDisk.{memory_history, memory_size, memory_faults, fails_next, Answers};
 
 use crate::calls::Calls;
-use crate::{Call, Disk, DiskFault, Request};
+use crate::replay::crashed_calls;
+use crate::{Call, Disk, DiskFault, Request, Tear};
+use qg_num::NoMemory;
 use std::alloc::Global;
 use std::marker::Model;
 
@@ -69,6 +73,27 @@ impl MemDisk {
         ensures { self.new ≡ record self.old { last = k } }
     {
         self.last = k;
+    }
+
+    /// A new disk that holds what a crash after the first `k` calls leaves of this one, where it does the same to
+    /// all that no sync had made sure of then. The new disk has made sure of all of it, and no call of it is to fail.
+    /// Its record begins with calls that make what it holds, of which none failed.
+    pub fn crash(&self, alloc: Global, k: u64, tear: Tear) -> Result<MemDisk, NoMemory>
+        ensures content { IfOk result (λ disk. content (history_of disk.calls)
+            ≡ crashed tear (history_of (take k self.now.calls))) }
+        ensures sure { IfOk result (λ disk. (image : List ℕ) → Leaves (history_of disk.calls) image
+            → image ≡ content (history_of disk.calls)) }
+        ensures faults { IfOk result (λ disk. memory_faults disk ≡ 0) }
+        ensures failing { IfOk result (λ disk. disk.failing ≡ []) }
+        ensures last { IfOk result (λ disk. disk.last ≡ 2 ^ 64 - 1) }
+    {
+        let calls = self.calls.all();
+        let count = k.min(calls.len() as u64) as usize;
+        Ok(MemDisk {
+            calls: crashed_calls(alloc, &calls[..count], tear)?,
+            failing: Vec::new(alloc),
+            last: u64::MAX,
+        })
     }
 
     // Whether the next call is to fail.

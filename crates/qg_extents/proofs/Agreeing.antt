@@ -310,7 +310,7 @@ all_entries layout parts (part ∷ some) agrees owing few among =
       all_entries layout parts some agrees owing few (λ other is. among other (inr is)),
     )
 
-book_agrees : (nodesize : ℕ) (layout : Layout) (parts : List ExtentPart) (book : Book) → Agrees layout parts
+pub book_agrees : (nodesize : ℕ) (layout : Layout) (parts : List ExtentPart) (book : Book) → Agrees layout parts
     → IsTold nodesize parts book → AgreesWithOwed layout book
 unfolding owed_count
 book_agrees nodesize layout parts book agrees told at x =

@@ -8,3 +8,4 @@ pub mod Back
 pub mod Agreeing
 pub mod Runs
 pub mod Singles
+pub mod FreshRecords

@@ -4,6 +4,7 @@
 mod book;
 mod extents;
 mod fault;
+mod fresh;
 mod gather;
 mod head;
 mod items;
@@ -13,6 +14,7 @@ mod read;
 
 pub use extents::Extents;
 pub use fault::RefsFault;
+pub use fresh::fresh_records;
 pub use laws::book_laws;
 
 #[cfg(test)]

@@ -3,12 +3,13 @@ ghost use Rattle.std.specs.Prelude.{◌≡◌, ◌<◌};
 ghost use Rattle.qg_items.specs.declared.extent.Reference.TheVariants.{KeyedData};
 ghost use Rattle.qg_state.specs.Owed.{part_address};
 
-use crate::{Extents, RefsFault};
+use crate::{Extents, RefsFault, fresh_records};
 use qg_disk::{Disk, MemDisk};
 use qg_image::ExtentPart;
 use qg_items::{ExtentItem, Reference};
 use qg_num::{Address, BlockFault, Generation, Ino, NoMemory, RootId, Steps};
 use qg_refs::{RefBook, What};
+use qg_super::Sizes;
 use std::alloc::Global;
 use std::marker::Brand;
 use std::sync::ledger::{Blank, Ledger};
@@ -87,6 +88,29 @@ fn items_of_a_piece_and_its_clone(rt: HostRuntime) -> Result<(), Fail> {
     Ok(())
 }
 
+#[test]
+fn items_of_a_fresh_image(rt: HostRuntime) -> Result<(), Fail> {
+    let sizes = Sizes {
+        nodesize: 16384,
+        slots: 64,
+        sectors: 16,
+    };
+    let extents = fresh_records(rt.alloc(), sizes, Address::new(1081344))?;
+    let items = extents.items(rt.alloc())?;
+    let record: [u8; 24] = [
+        1, 0, 0, 0, 0, 0, 0, 0, 1, 0, 0, 0, 0, 0, 0, 0, 2, 0, 0, 0, 0, 0, 0, 0,
+    ];
+    let wanted: [(u8, u64, &[u8]); 2] = [(169, 0, &record), (176, 5, &[])];
+    assert_eq!(rt; items.len(), 2);
+    for (item, (kind, offset, body)) in items.as_slice().iter().zip(wanted.iter()) {
+        assert_eq!(rt; item.key.objectid, 1081344);
+        assert_eq!(rt; item.key.kind, *kind);
+        assert_eq!(rt; item.key.offset, *offset);
+        assert_eq!(rt; item.body.as_slice(), *body);
+    }
+    Ok(())
+}
+
 fn referenced(ino: u64, offset: u64) -> ExtentPart
     ensures { part_address result ≡ 67174400 }
 {
@@ -134,12 +158,12 @@ fn a_record_with_two_references_is_read(rt: HostRuntime) -> Result<(), Fail> {
     Ok(())
 }
 
-// What is known of the extent, how often a reference to it is there, and whether it is full: once it is added and
-// marked, and once it is dropped.
+// What is known of the extent, how often a reference to it is there, whether it is full, and how many references there
+// are: once it is added and marked, and once it is dropped.
 fn through_the_trait<L: Ledger>(
     alloc: Global,
     blank: Blank,
-) -> Result<[(Option<What>, u32, bool); 2], Fail>
+) -> Result<[(Option<What>, u32, bool, usize); 2], Fail>
     requires name { blank.name ≡ L.name }
     requires parts { blank.parts ≡ L.parts }
     requires some { 0 < blank.parts }
@@ -157,29 +181,31 @@ fn through_the_trait<L: Ledger>(
         &mut reads,
     )?;
     extents.set_full(&mut (), &mut disk, at, &mut reads)?;
-    let first = answers(&extents, &mut disk, at, &mut reads)?;
+    let first = answers(alloc, &extents, &mut disk, at, &mut reads)?;
     extents.drop_one(&mut (), &mut disk, at, of_file(5, 257, 0), &mut reads)?;
-    let second = answers(&extents, &mut disk, at, &mut reads)?;
+    let second = answers(alloc, &extents, &mut disk, at, &mut reads)?;
     Ok([first, second])
 }
 
 fn answers<D: Disk, L: Ledger>(
+    alloc: Global,
     extents: &Extents,
     disk: &mut D,
     at: Address,
     reads: &mut Steps<L>,
-) -> Result<(Option<What>, u32, bool), BlockFault> {
+) -> Result<(Option<What>, u32, bool, usize), BlockFault> {
     Ok((
         extents.what(&mut (), disk, at, reads)?,
         extents.count(&mut (), disk, at, of_file(5, 257, 0), reads)?,
         extents.is_full(&mut (), disk, at, reads)?,
+        extents.refs_of(alloc, &mut (), disk, at, reads)?.len(),
     ))
 }
 
 #[test]
 fn the_last_reference_takes_the_mark(rt: HostRuntime) -> Result<(), Fail> {
     let [first, second] = through_the_trait::<Brand>(rt.alloc(), Blank::new(1))?;
-    assert_eq!(rt; first, (Some(extent()), 1, true));
-    assert_eq!(rt; second, (None, 0, false));
+    assert_eq!(rt; first, (Some(extent()), 1, true, 1));
+    assert_eq!(rt; second, (None, 0, false, 0));
     Ok(())
 }

@@ -1,19 +1,21 @@
 // Tables by hand. Addresses and lengths are in bytes.
-ghost use Rattle.std.specs.Prelude.{IsTrue};
+ghost use Rattle.std.specs.Prelude.{◌≡◌, IfOk, IsTrue};
 ghost use Rattle.std.specs.List.Sorted.{IsNonDecreasingBy};
 ghost use Rattle.qg_state.specs.Owed.{part_address};
 
 use crate::fronts::address_of;
 use crate::{
-    Owing, Thing, owed_failure, owing_of_root, owings_of_node, sort_things, thing_of_extent,
-    thing_of_node,
+    Owing, Thing, owed_failure, owing_of_root, owings_of_node, references_failure, sort_things,
+    thing_of_extent, thing_of_node,
 };
+use qg_home::Linked;
 use qg_image::ExtentPart;
 use qg_items::kind::EXTENT_DATA;
 use qg_items::{EXTENT_DATA_BYTES, ExtentData, ExtentItem, Reference, write_extent_data};
 use qg_node::{Body, Header, Item, Items, Node, Pointer, Pointers};
-use qg_num::{Address, Generation, Ino, Key, NoMemory, RootId};
+use qg_num::{Address, Generation, Ino, Key, NoMemory, RootId, Rule, Sequence};
 use qg_state::Element;
+use qg_verdict::Failure;
 use std::alloc::Global;
 use std::test::Fail;
 
@@ -204,5 +206,78 @@ fn a_full_root_and_its_child(rt: HostRuntime) -> Result<(), Fail> {
         judged(rt.alloc(), &mut owings, &things, &parts)?,
         Some(CHILD)
     );
+    Ok(())
+}
+
+// What is told of a node that isn't full, with the subvolume that made it, and with or without a child.
+fn linked(
+    alloc: Global,
+    address: u64,
+    level: u8,
+    owner: u64,
+    child: Option<u64>,
+) -> Result<Linked, NoMemory>
+    ensures { IfOk result (λ node. node.address ≡ address) }
+{
+    let mut children = Sequence::new(alloc);
+    if let Some(child) = child {
+        children.push(Address::new(child))?;
+    }
+    Ok(Linked {
+        address: Address::new(address),
+        level,
+        owner: RootId::new(owner),
+        full: false,
+        children,
+    })
+}
+
+// The failure of the root of subvolume 5 and its child, by who made the child and by the flags of its record.
+fn failure(alloc: Global, owner: u64, flags: u64) -> Result<Option<Failure>, NoMemory> {
+    let mut owings = Vec::new(alloc);
+    owings.push(owing_of_root(RootId::new(5), Address::new(ROOT)))?;
+    owings_of_node(&inner(alloc)?, false, &mut owings)?;
+    let mut things = Vec::from_slice(
+        alloc,
+        &[node_there(ROOT, 1, false), node_there(CHILD, 0, false)],
+    )?;
+    sort_things(&mut things)?;
+    let parts = [
+        node_record(ROOT, 1, 2),
+        referenced(ROOT, from_tree()),
+        node_record(CHILD, 0, flags),
+        referenced(CHILD, from_tree()),
+    ];
+    if !do_ascend(&parts) {
+        return Err(NoMemory);
+    }
+    let roots = [(RootId::new(5), Address::new(ROOT))];
+    let nodes = [
+        linked(alloc, ROOT, 1, 5, Some(CHILD))?,
+        linked(alloc, CHILD, 0, owner, None)?,
+    ];
+    references_failure(
+        alloc,
+        &mut owings,
+        things.as_slice(),
+        &parts,
+        &roots,
+        &nodes,
+    )
+}
+
+#[test]
+fn refs_comes_before_home(rt: HostRuntime) -> Result<(), Fail> {
+    let address = Address::new(CHILD);
+    // Who made the child, the flags of its record, and the rule that fails at the child.
+    let cases = [
+        (5u64, 2u64, None),
+        (256, 2, Some(Rule::Home)),
+        (256, 258, Some(Rule::Refs)),
+    ];
+    for (owner, flags, rule) in cases {
+        let wanted = rule.map(|rule| Failure::Broken { rule, address });
+        assert_eq!(rt; failure(rt.alloc(), owner, flags)?, wanted);
+    }
     Ok(())
 }

@@ -1,4 +1,5 @@
 pub mod Places
 pub mod SuperText
+pub mod NoChance
 pub mod Laws
 pub mod Examples

@@ -1,7 +1,7 @@
 // Each public call once with ample memory, and what no clause says: what a file gives back.
 ghost use Rattle.std.specs.Prelude.{◌≤◌};
 
-use qg_disk::{Call, Disk, DiskFault, FileDisk, MemDisk, Request, SureDisk};
+use qg_disk::{Call, Disk, DiskFault, FileDisk, MemDisk, Request, SureDisk, Tear};
 use std::fs::{Metadata, OpenFile, OpenOptions};
 use std::io::{Read, Seek, SeekFrom, Write};
 use std::process::Abort;
@@ -149,6 +149,40 @@ fn keeps_no_array_of_its_length(rt: HostRuntime) {
     take_steps(&rt, &mut sure, &rows);
     let mut disk = MemDisk::new(rt.alloc());
     take_steps(&rt, &mut disk, &rows);
+}
+
+#[test]
+fn a_crash_tears_what_no_sync_made_sure_of(rt: HostRuntime) -> Result<(), Fail> {
+    let rows = [
+        done(Step::Write(0, &[1, 2, 3, 4]), 4),
+        done(Step::Sync, 4),
+        done(Step::Write(1, &[8, 9]), 4),
+        done(Step::Cut(3), 3),
+        fails(Step::Write(0, &[7, 7, 7, 7]), 3),
+    ];
+    let mut disk = MemDisk::new(rt.alloc());
+    disk.stop_after(4);
+    take_steps(&rt, &mut disk, &rows);
+    let left: [(u64, Tear, &[u8]); 12] = [
+        (0, Tear::New, &[]),
+        (1, Tear::Old, &[]),
+        (1, Tear::Split(2), &[1, 2]),
+        (2, Tear::Old, &[1, 2, 3, 4]),
+        (3, Tear::Old, &[1, 2, 3, 4]),
+        (3, Tear::Split(1), &[1, 8, 3, 4]),
+        (3, Tear::New, &[1, 8, 9, 4]),
+        (4, Tear::Old, &[1, 2, 3, 4]),
+        (4, Tear::Split(1), &[1, 8, 3]),
+        (4, Tear::New, &[1, 8, 9]),
+        (5, Tear::Split(1), &[7, 8, 3]),
+        (u64::MAX, Tear::New, &[7, 7, 9]),
+    ];
+    for (k, tear, want) in &left {
+        let mut crashed = disk.crash(rt.alloc(), *k, *tear)?;
+        assert_eq!(rt; crashed.len(), want.len() as u64);
+        read_back(&rt, &mut crashed, 0, want)?;
+    }
+    Ok(())
 }
 
 #[test]
