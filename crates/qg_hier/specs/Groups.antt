@@ -26,6 +26,7 @@ has_members hierarchy group = list_any (λ pair. pair.1 == group) hierarchy.pair
 
 -- ---- changes
 
+-- with this group too
 abbrev pub created : ℕ → Hierarchy → Hierarchy
 created group hierarchy = record hierarchy { groups = with_number group hierarchy.groups }
 
@@ -33,9 +34,11 @@ created group hierarchy = record hierarchy { groups = with_number group hierarch
 abbrev pub destroyed : ℕ → Hierarchy → Hierarchy
 destroyed group hierarchy = record { groups = filter (λ kept. not (kept == group)) hierarchy.groups; pairs = filter (λ pair. not (pair.0 == group)) hierarchy.pairs }
 
+-- with the relation of a member and its parent too
 abbrev pub assigned : ℕ → ℕ → Hierarchy → Hierarchy
 assigned member parent hierarchy = record hierarchy { pairs = with_pair (member, parent) hierarchy.pairs }
 
+-- without that relation
 abbrev pub unassigned : ℕ → ℕ → Hierarchy → Hierarchy
 unassigned member parent hierarchy = record hierarchy { pairs = filter (λ pair. not (same_pair pair (member, parent))) hierarchy.pairs }
 

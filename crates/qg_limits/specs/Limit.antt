@@ -27,6 +27,7 @@ no_maxima = record { rfer = None; excl = None }
 abbrev pub maxima_at : List (ℕ × Maxima) → ℕ → Maxima
 maxima_at maxima group = unwrap_or (value_at group maxima) no_maxima
 
+-- the same of what is set
 abbrev pub maxima_of : Limited → ℕ → Maxima
 maxima_of limited group = maxima_at limited.maxima group
 
@@ -44,6 +45,7 @@ with_max Excl max maxima = record maxima { excl = max }
 abbrev pub bytes_at : List (ℕ × ℕ) → ℕ → ℕ
 bytes_at held group = unwrap_or (value_at group held) 0
 
+-- the same of what is held
 abbrev pub held_of : Limited → ℕ → ℕ
 held_of limited group = bytes_at limited.held group
 
