@@ -1,26 +1,23 @@
 -- A fresh node that was edited where it lies, over any disk.
-use Rattle.std.proofs.Common.{◌≡◌, ◌≢◌, ℕ, ◌+◌, ◌≤◌, ◌<◌, arith, refl, sym, ap, subst, ◌∙◌, inl, inr, Option, Some, None}
-use Rattle.std.specs.Prelude.{IsSome, List, Result, Ok, Err, IfOk, OnOk}
+use Rattle.std.proofs.Common.{◌≡◌, ℕ, ◌≤◌, arith, sym, ap, subst, ◌∙◌, inl, inr, Option, Some, None}
+use Rattle.std.specs.Prelude.{List, Result, Ok, Err, IfOk}
 use Rattle.std.proofs.lemmas.Bool.Decides.{eqb_tells}
 use Rattle.qg_device.specs.History.{Event}
 use Rattle.qg_num.specs.declared.fault.BlockFault.{BlockFault}
 use Rattle.qg_node.specs.declared.node.Header.{Header}
 use Rattle.qg_node.specs.declared.node.Node.{Node}
 use Rattle.qg_node.specs.Nodes.{header_of}
-use Rattle.qg_node.specs.NodeText.{IsNode}
-use Rattle.qg_shape.specs.Outcomes.{IsSplit}
 use Rattle.qg_shape.proofs.Sides.{header_of-split}
 use Rattle.qg_shape.specs.Parts.{IsInner}
-use Rattle.qg_blocks.specs.Lending.{with_fresh}
 use Rattle.qg_blocks.specs.Told.{IsBacked, IsNodeAt, fresh_at}
-use Rattle.qg_space.specs.Holding.{Holding, free_slots}
+use Rattle.qg_space.specs.Holding.{free_slots}
 use Rattle.qg_ground.specs.declared.ground.Ground.{Ground}
 use Rattle.qg_ground.specs.Land.{IsDrafted, Rests}
 use Rattle.qg_ground.specs.Tellings.{Spares}
-use Rattle.qg_ground.proofs.Editing.{Rests-edited, Spares-edited, edited, edited-here, edited-others}
+use Rattle.qg_ground.proofs.Editing.{Rests-edited, Spares-edited, edited, edited-others}
 use Rattle.qg_ground.proofs.Lands.{IsSome-is, fresh_at-told}
-use Rattle.qg_edit.specs.Outcome.{IsCutOf, IsNodeFor, RestIsNode}
-use Rattle.qg_descent.specs.Editing.{IsCutThere, IsFreshOn, IsRewritten, KeepsAbove, Moves, RestIsReady, StaysCut}
+use Rattle.qg_edit.specs.Outcome.{IsCutOf, RestIsNode}
+use Rattle.qg_descent.specs.Editing.{IsCutThere, IsRewritten, Moves, RestIsReady, StaysCut}
 
 -- ---- the levels
 

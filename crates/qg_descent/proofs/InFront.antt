@@ -1,5 +1,5 @@
 -- Two fresh neighbours before they are joined.
-use Rattle.std.proofs.Common.{◌≡◌, ◌<◌, ℕ, zero, suc, true, List, ◌++◌, map, length, arith, refl, sym, ap, subst, ◌∙◌, Option, Some}
+use Rattle.std.proofs.Common.{◌≡◌, ℕ, zero, suc, true, List, ◌++◌, length, arith, sym, ap, subst, ◌∙◌, Option, Some}
 use Rattle.std.specs.Prelude.{◌≤◌}
 use Rattle.std.specs.List.{All}
 use Rattle.std.proofs.lemmas.List.{map-append}
@@ -8,7 +8,7 @@ use Rattle.qg_node.specs.declared.item.Item.{Item}
 use Rattle.qg_node.specs.declared.pointer.Pointer.{Pointer}
 use Rattle.qg_node.specs.declared.node.Node.{Node}
 use Rattle.qg_node.specs.declared.node.Node.TheVariants.{Leaf, Inner}
-use Rattle.qg_node.specs.Nodes.{is_ascending, own_keys}
+use Rattle.qg_node.specs.Nodes.{is_ascending}
 use Rattle.qg_super.specs.declared.superblock.Super.{Super}
 use Rattle.qg_verdict.specs.declared.tree.Tree.{Tree}
 use Rattle.qg_shape.specs.Filled.{HasShortBodies}
@@ -16,11 +16,10 @@ use Rattle.qg_blocks.specs.Told.{fresh_at, told}
 use Rattle.qg_ground.specs.declared.ground.Ground.{Ground}
 use Rattle.qg_ground.proofs.Lands.{told-fresh_at}
 use Rattle.qg_edit.specs.Outcome.{IsInFront}
-use Rattle.qg_descent.specs.Branch.{AreBranches, IsBranch, IsPointed}
+use Rattle.qg_descent.specs.Branch.{IsBranch, IsPointed}
 use Rattle.qg_descent.proofs.Branches.{each-join}
 use Rattle.qg_descent.proofs.BranchOrder.{keys_of}
 use Rattle.qg_descent.proofs.Leading.{branches-keys}
-use Rattle.qg_descent.proofs.Split.{keys_to}
 
 fresh_is : (land : Ground) (history : Option (List Event)) (at : ℕ) (node there : Node) → fresh_at land.blocks.draft at ≡ Some node → told land.blocks.draft history at ≡ Some there → node ≡ there
 fresh_is land history at node there here is = let e = sym (told-fresh_at land.blocks.draft history at node here) ∙ is in cc

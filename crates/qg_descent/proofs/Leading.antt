@@ -1,9 +1,9 @@
 -- Pointers of a fresh node that are set to what stands there instead.
-use Rattle.std.proofs.Common.{◌≡◌, ◌≢◌, ◌⊎◌, ℕ, suc, ◌+◌, ◌*◌, ◌≤◌, true, List, [], ◌∷◌, ◌++◌, map, take, drop, arith, refl, sym, ap, subst, ◌∙◌, inl, inr, Option, Some, None}
-use Rattle.std.specs.Prelude.{Bool, IsSome, MatchOption, nat_le, slice_get}
+use Rattle.std.proofs.Common.{◌≡◌, ◌≢◌, ℕ, suc, true, List, [], ◌∷◌, ◌++◌, take, drop, arith, refl, sym, ap, subst, ◌∙◌, Option, Some, None}
+use Rattle.std.specs.Prelude.{MatchOption}
 use Rattle.std.specs.List.{list_all}
 use Rattle.std.specs.Ordering.{is_lt}
-use Rattle.std.proofs.lemmas.List.{append-nil, append_assoc, map-append}
+use Rattle.std.proofs.lemmas.List.{append-nil, append_assoc}
 use Rattle.std.proofs.lemmas.Option.{MatchOption-at_none, MatchOption-at_some}
 use Rattle.std.proofs.lemmas.List.Folds.{list_all-map}
 use Rattle.qg_device.specs.History.{Event}
@@ -13,35 +13,32 @@ use Rattle.qg_node.specs.declared.item.Item.{Item}
 use Rattle.qg_node.specs.declared.pointer.Pointer.{Pointer}
 use Rattle.qg_node.specs.declared.node.Header.{Header}
 use Rattle.qg_node.specs.declared.node.Node.{Node}
-use Rattle.qg_node.specs.declared.node.Node.TheVariants.{Leaf, Inner}
-use Rattle.qg_node.specs.Nodes.{header_of, is_ascending, own_keys, used_bytes}
+use Rattle.qg_node.specs.declared.node.Node.TheVariants.{Inner}
+use Rattle.qg_node.specs.Nodes.{header_of, is_ascending}
 use Rattle.qg_node.specs.NodeText.{IsNodeSize}
 use Rattle.qg_super.specs.declared.superblock.Super.{Super}
-use Rattle.qg_super.specs.Places.{capacity}
-use Rattle.qg_image.specs.IsShaped.{is_first}
 use Rattle.qg_shape.specs.Filled.{IsFilled}
 use Rattle.qg_shape.specs.Pointing.{pointer_to}
 use Rattle.qg_shape.proofs.Ascending.{all_behind, ascending_round}
 use Rattle.qg_shape.proofs.Sides.{is_shaped-pointer_to}
 use Rattle.qg_verdict.specs.declared.tree.Tree.{Tree}
-use Rattle.qg_blocks.specs.Lending.{with_fresh}
 use Rattle.qg_blocks.specs.Told.{fresh_at, held_at, told}
 use Rattle.qg_blocks.proofs.Telling.{fresh-held}
 use Rattle.qg_ground.specs.declared.ground.Ground.{Ground}
-use Rattle.qg_ground.proofs.Editing.{edited, edited-here, edited-others}
+use Rattle.qg_ground.proofs.Editing.{edited-others}
 use Rattle.qg_ground.proofs.Lands.{IsSome-is, told-fresh_at}
 use Rattle.qg_edit.proofs.Cuts.{large}
 use Rattle.qg_descent.specs.declared.instead.Instead.{Instead}
 use Rattle.qg_descent.specs.Tree.{Reaches}
-use Rattle.qg_descent.specs.Branch.{AreBranches, IsBranch, IsMember, IsPointed}
+use Rattle.qg_descent.specs.Branch.{AreBranches, IsBranch, IsPointed}
 use Rattle.qg_descent.specs.Editing.{CanLead, FillsThere, HasLed, IsCutThere, IsNamed, IsRewritten}
 use Rattle.qg_descent.proofs.Split.{keys_to}
 use Rattle.qg_descent.proofs.Under.{BeginAt}
-use Rattle.qg_descent.proofs.Branches.{branch-first, branch-level, each-append, each-get, each-join}
+use Rattle.qg_descent.proofs.Branches.{branch-first, branch-level, each-get, each-join}
 use Rattle.qg_descent.proofs.BranchFrames.{branches-same}
 use Rattle.qg_descent.proofs.BranchForms.{shape-parts}
 use Rattle.qg_descent.proofs.BranchOrder.{keys_of}
-use Rattle.qg_descent.proofs.BranchRanges.{all-parts, ascending-first, ascending-others, pointers-all}
+use Rattle.qg_descent.proofs.BranchRanges.{all-parts, ascending-others, pointers-all}
 
 -- ---- the pointers' keys ascend where the items do
 
@@ -97,9 +94,13 @@ module _ (tree : Tree) (super : Super) (nodes : ℕ → Option Node) where
   pub two-lead : (level at more : ℕ) (node other : Node) (mine rest items : List Item) → nodes at ≡ Some node → (header_of node).address ≡ at → nodes more ≡ Some other → (header_of other).address ≡ more
       → IsNodeSize super.nodesize → FillsThere super.nodesize nodes at → FillsThere super.nodesize nodes more → items ≡ mine ++ rest → IsBranch tree super nodes level at mine
       → IsBranch tree super nodes level more rest → AreBranches tree super nodes level (pointer_to node ∷ pointer_to other ∷ []) items
-  two-lead level at more node other mine rest items there named others_there others_named size fills fills_more items_are branch branch_more =
-      (mine, rest, items_are, (pointed-there at node there named size (filled_told at node there fills), branch_at level at (pointer_to node) mine named branch),
-      one-leads level more other rest others_there others_named size fills_more branch_more)
+  two-lead level at more node other mine rest items there named others_there others_named size fills fills_more items_are branch branch_more = (
+    mine,
+    rest,
+    items_are,
+    (pointed-there at node there named size (filled_told at node there fills), branch_at level at (pointer_to node) mine named branch),
+    one-leads level more other rest others_there others_named size fills_more branch_more,
+  )
 
 -- ---- a node that is edited where it lies, above
 
@@ -192,7 +193,7 @@ module _ (tree : Tree) (super : Super) (land new : Ground) (history : Option (Li
   one_leads : instead.more ≡ None → AreBranches tree super (told land.blocks.draft history) level (pointer_to a ∷ []) can.mine
   one_leads none =
       let rest_none = MatchOption-at_none (can.holds.rest ≡ []) (λ more. IsBranch tree super (told land.blocks.draft history) level more can.holds.rest
-          × FillsThere super.nodesize (told land.blocks.draft history) instead.now × FillsThere super.nodesize (told land.blocks.draft history) more) none can.holds.behind in
+      × FillsThere super.nodesize (told land.blocks.draft history) instead.now × FillsThere super.nodesize (told land.blocks.draft history) more) none can.holds.behind in
       let whole : can.mine ≡ can.holds.mine = can.holds.items_are ∙ ap (λ (xs : List Item). can.holds.mine ++ xs) rest_none ∙ append-nil can.holds.mine in
       subst (λ (xs : List Item). AreBranches tree super (told land.blocks.draft history) level (pointer_to a ∷ []) xs) (sym whole)
       (one-leads tree super (told land.blocks.draft history) level instead.now a can.holds.mine told_now now_named can.size can.full can.holds.here)
@@ -220,7 +221,7 @@ module _ (tree : Tree) (super : Super) (land new : Ground) (history : Option (Li
     two_lead : AreBranches tree super (told land.blocks.draft history) level (pointer_to a ∷ pointer_to b ∷ []) can.mine
     two_lead =
         let behind = MatchOption-at_some (can.holds.rest ≡ []) (λ more. IsBranch tree super (told land.blocks.draft history) level more can.holds.rest
-            × FillsThere super.nodesize (told land.blocks.draft history) instead.now × FillsThere super.nodesize (told land.blocks.draft history) more) more some can.holds.behind in
+        × FillsThere super.nodesize (told land.blocks.draft history) instead.now × FillsThere super.nodesize (told land.blocks.draft history) more) more some can.holds.behind in
         two-lead tree super (told land.blocks.draft history) level instead.now more a b can.holds.mine can.holds.rest can.mine told_now now_named told_more more_named can.size behind.1 behind.2
         can.holds.items_are can.holds.here behind.0
 

@@ -1,5 +1,5 @@
 -- Pointers of a fresh node were set: what is reached from those that are new.
-use Rattle.std.proofs.Common.{◌≡◌, ◌≢◌, ℕ, zero, suc, List, [], ◌∷◌, refl, sym, ap, subst, ◌∙◌, inl, inr, Option, Some, None}
+use Rattle.std.proofs.Common.{◌≡◌, ℕ, zero, suc, List, [], ◌∷◌, refl, sym, ap, subst, ◌∙◌, inl, inr, Option, Some, None}
 use Rattle.std.specs.Prelude.{MatchOption, slice_get}
 use Rattle.std.proofs.lemmas.Option.{MatchOption-at_some}
 use Rattle.qg_device.specs.History.{Event}
@@ -47,6 +47,6 @@ module _ (tree : Tree) (super : Super) (land new : Ground) (history : Option (Li
   led-comes (suc k) p there q reaches =
       let only = only_more instead.more led.more led.leads_on k p there in
       let behind = MatchOption-at_some (can.holds.rest ≡ []) (λ more. IsBranch tree super (told land.blocks.draft history) level more can.holds.rest
-          × FillsThere super.nodesize (told land.blocks.draft history) instead.now × FillsThere super.nodesize (told land.blocks.draft history) more) only.0 only.1 can.holds.behind in
+      × FillsThere super.nodesize (told land.blocks.draft history) instead.now × FillsThere super.nodesize (told land.blocks.draft history) more) only.0 only.1 can.holds.behind in
       let was = led-back only.0 can.holds.rest behind.0 q (subst (λ (a : ℕ). Reaches (told new.blocks.draft history) level a q) only.2 reaches) in
       inr (subst (λ (o : Option ℕ). MatchOption o ⊥ (λ more. Reaches (told land.blocks.draft history) level more q)) (sym only.1) was)

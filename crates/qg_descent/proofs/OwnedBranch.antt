@@ -1,5 +1,5 @@
 -- What stands under a node that was owned.
-use Rattle.std.proofs.Common.{◌≡◌, ◌≢◌, ◌⊎◌, ℕ, zero, suc, ◌+◌, ◌≤◌, ◌<◌, true, List, arith, refl, sym, ap, subst, ◌∙◌, inl, inr, Option, Some, None}
+use Rattle.std.proofs.Common.{◌≡◌, ◌≢◌, ◌⊎◌, ℕ, zero, suc, ◌<◌, true, List, arith, refl, sym, ap, subst, ◌∙◌, inl, inr, Option, Some, None}
 use Rattle.std.specs.Prelude.{IsTrue, nat_le, nat_lt, slice_get}
 use Rattle.std.proofs.lemmas.Bool.{and_from, le-leb}
 use Rattle.qg_device.specs.History.{Event}
@@ -130,5 +130,7 @@ module _ (tree : Tree) (root : Root) (land new : Ground) (history : Option (List
       let at_place : slice_get branch.1 place ≡ Some pointer = subst (λ (n : Node). slice_get (own_pointers n) place ≡ Some pointer) same there in
       let was = reach-same (told land.blocks.draft history) (told new.blocks.draft history) level pointer.child
       (λ r below. owned.others history r (below_apart level branch.0 branch.1 items branch.2 branch.3.levelled branch.4 free place pointer at_place r below)) q reaches in
-      inr (inr (Inner branch.0 branch.1, branch.2, place, pointer, at_place, was),
-      below_top (super_of root land.blocks.draft) level branch.0 branch.1 items branch.2 branch.3.levelled branch.4 place pointer at_place q was)
+      inr (
+        inr (Inner branch.0 branch.1, branch.2, place, pointer, at_place, was),
+        below_top (super_of root land.blocks.draft) level branch.0 branch.1 items branch.2 branch.3.levelled branch.4 place pointer at_place q was,
+      )

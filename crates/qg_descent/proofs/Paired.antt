@@ -1,6 +1,5 @@
 -- A child that is not a quarter full, and its neighbour, which was owned: over any disk.
-use Rattle.std.proofs.Common.{◌≡◌, ◌≢◌, ◌⊎◌, ℕ, ◌+◌, ◌≤◌, ◌<◌, List, length, arith, refl, sym, ap, subst, ◌∙◌, inl, inr, Option, Some, None}
-use Rattle.std.specs.Prelude.{slice_get}
+use Rattle.std.proofs.Common.{◌≡◌, ◌≢◌, ◌⊎◌, ℕ, ◌+◌, ◌≤◌, ◌<◌, List, length, arith, refl, sym, ap, subst, ◌∙◌, inl, inr, Option, Some}
 use Rattle.qg_device.specs.History.{Event}
 use Rattle.qg_num.specs.declared.key.Key.{Key}
 use Rattle.qg_node.specs.declared.pointer.Pointer.{Pointer}
@@ -10,7 +9,6 @@ use Rattle.qg_node.specs.Nodes.{header_of, used_bytes}
 use Rattle.qg_shape.specs.Filled.{IsThin}
 use Rattle.qg_verdict.specs.declared.expected.Expected.{Expected}
 use Rattle.qg_verdict.specs.declared.tree.Tree.{Tree}
-use Rattle.qg_walk.specs.Standing.{expected_below}
 use Rattle.qg_blocks.specs.Told.{fresh_at}
 use Rattle.qg_ground.specs.declared.ground.Ground.{Ground}
 use Rattle.qg_ground.specs.Land.{IsDrafted, Rests}
@@ -47,7 +45,7 @@ module _ (tree : Tree) (root : Root) (land new : Ground) (history : Option (List
   ]
 
   pub owned-levelled : (level : ℕ) → expected.level ≡ Some level → (header_of owned.mine).level ≡ level
-  owned-levelled level told = 
+  owned-levelled level told =
       owned-level ∙ level-told expected.level level (header_of owned.node).level told (form-expected tree (super_of root land.blocks.draft) expected at owned.node owned.formed).level
 
 -- whether a node at an address is not a quarter full

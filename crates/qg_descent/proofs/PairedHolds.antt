@@ -1,5 +1,5 @@
 -- A child that is not a quarter full, and its neighbour, which was owned: what is under both.
-use Rattle.std.proofs.Common.{◌≡◌, ◌≢◌, ◌⊎◌, ℕ, suc, ◌+◌, ◌≤◌, ◌<◌, true, List, [], ◌∷◌, ◌++◌, take, drop, length, append_assoc, append-nil, arith, refl, sym, ap, subst, ◌∙◌, inl, inr, Option, Some, None}
+use Rattle.std.proofs.Common.{◌≡◌, ◌≢◌, ℕ, suc, ◌+◌, ◌≤◌, ◌<◌, true, List, [], ◌∷◌, ◌++◌, take, drop, length, append_assoc, append-nil, arith, refl, sym, ap, subst, ◌∙◌, inl, inr, Option, Some}
 use Rattle.std.specs.Prelude.{IsTrue, slice_get}
 use Rattle.std.specs.List.{All}
 use Rattle.qg_device.specs.History.{Event}
@@ -16,19 +16,18 @@ use Rattle.qg_verdict.specs.declared.tree.Tree.{Tree}
 use Rattle.qg_blocks.specs.Told.{fresh_at, told}
 use Rattle.qg_space.specs.Holding.{is_free_slot}
 use Rattle.qg_ground.specs.declared.ground.Ground.{Ground}
-use Rattle.qg_descent.specs.declared.instead.Instead.{Instead}
 use Rattle.qg_descent.specs.declared.pairing.Pair.{Pair}
 use Rattle.qg_descent.specs.Tree.{Reaches, Root, super_of}
 use Rattle.qg_descent.specs.Branch.{AreBranches, IsBranch, IsPointed}
-use Rattle.qg_descent.specs.Editing.{CanMake, IsOwned, IsUnsettled, ReachesParts, alone}
+use Rattle.qg_descent.specs.Editing.{CanMake, IsOwned, IsUnsettled, alone}
 use Rattle.qg_descent.specs.Uniting.{IsPaired}
 use Rattle.qg_descent.proofs.Beside.{beside-differs}
 use Rattle.qg_descent.proofs.Branches.{each-append}
-use Rattle.qg_descent.proofs.BranchFrames.{branch-same, branches-same, reach-same, reach-top}
+use Rattle.qg_descent.proofs.BranchFrames.{branch-same, branches-same, reach-top}
 use Rattle.qg_descent.proofs.BranchOrder.{keys_of}
 use Rattle.qg_descent.proofs.BranchRanges.{ascending-first, ascending-others}
 use Rattle.qg_descent.proofs.InFront.{united-front, united-short}
-use Rattle.qg_descent.proofs.OwnedBranch.{owned-branch, owned-reach}
+use Rattle.qg_descent.proofs.OwnedBranch.{owned-branch}
 use Rattle.qg_descent.proofs.Spliced.{drop-get, drop-there, take-get, take-there}
 
 regroup_behind : (front mine first others : List Item) → front ++ ((mine ++ []) ++ (first ++ others)) ≡ front ++ ((mine ++ first) ++ others)

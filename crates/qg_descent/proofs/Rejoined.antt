@@ -1,5 +1,5 @@
 -- A child was joined with its neighbour: what their node finds then, over any disk.
-use Rattle.std.proofs.Common.{◌≡◌, ◌≢◌, ℕ, ◌+◌, ◌≤◌, ◌<◌, List, length, arith, refl, sym, ap, subst, ◌∙◌, Option, Some, None}
+use Rattle.std.proofs.Common.{◌≡◌, ◌≢◌, ℕ, ◌≤◌, ◌<◌, List, arith, refl, sym, ap, ◌∙◌, Option, Some, None}
 use Rattle.std.specs.Prelude.{Err}
 use Rattle.qg_device.specs.History.{Event}
 use Rattle.qg_num.specs.declared.key.Key.{Key}

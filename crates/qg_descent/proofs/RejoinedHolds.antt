@@ -1,42 +1,29 @@
 -- A child was joined with its neighbour: what is under their node then.
-use Rattle.std.proofs.Common.{◌≡◌, ◌≢◌, ◌⊎◌, ℕ, suc, ◌+◌, ◌≤◌, ◌<◌, true, List, ◌∷◌, ◌++◌, map, take, drop, length, arith, refl, sym, ap, subst, ◌∙◌, inl, inr, Option, Some, None}
-use Rattle.std.specs.Prelude.{IsTrue, slice_get}
-use Rattle.std.specs.List.{All}
+use Rattle.std.proofs.Common.{◌≡◌, ◌≢◌, ◌⊎◌, ℕ, ◌+◌, ◌≤◌, ◌<◌, List, ◌++◌, take, drop, arith, sym, ap, ◌∙◌, inl, inr, Option, Some}
+use Rattle.std.specs.Prelude.{slice_get}
 use Rattle.qg_device.specs.History.{Event}
 use Rattle.qg_num.specs.declared.key.Key.{Key}
 use Rattle.qg_node.specs.declared.item.Item.{Item}
 use Rattle.qg_node.specs.declared.pointer.Pointer.{Pointer}
-use Rattle.qg_node.specs.declared.node.Node.{Node}
 use Rattle.qg_node.specs.declared.node.Node.TheVariants.{Inner}
-use Rattle.qg_node.specs.Nodes.{is_ascending}
 use Rattle.qg_verdict.specs.declared.tree.Tree.{Tree}
-use Rattle.qg_shape.specs.Filled.{HasShortBodies}
-use Rattle.qg_shape.proofs.Sides.{back-all, front-all}
 use Rattle.qg_blocks.specs.Told.{fresh_at, told}
-use Rattle.qg_space.specs.Holding.{Holding, is_free_slot}
 use Rattle.qg_ground.specs.declared.ground.Ground.{Ground}
 use Rattle.qg_ground.specs.Land.{IsDrafted, Rests}
-use Rattle.qg_edit.specs.Outcome.{IsInFront}
 use Rattle.qg_descent.specs.declared.instead.Instead.{Instead}
 use Rattle.qg_descent.specs.declared.pairing.Pair.{Pair}
 use Rattle.qg_descent.specs.Tree.{Reaches, Root, super_of}
-use Rattle.qg_descent.specs.Branch.{AreBranches, IsBranch, IsPointed}
-use Rattle.qg_descent.specs.Editing.{ArePair, CanLead, CanMake, HasLed, IsCutThere, IsFreshOn, IsSettled, IsUnsettled, ReachesEach, ReachesInstead, ReachesParts, alone}
+use Rattle.qg_descent.specs.Branch.{AreBranches}
+use Rattle.qg_descent.specs.Editing.{ArePair, CanLead, CanMake, IsFreshOn, IsUnsettled, alone}
 use Rattle.qg_descent.specs.Uniting.{AreUnited, IsPaired}
-use Rattle.qg_descent.proofs.Beside.{other-branch}
-use Rattle.qg_descent.proofs.Branches.{each-get}
 use Rattle.qg_descent.proofs.BranchFrames.{branches-same, reach-same}
-use Rattle.qg_descent.proofs.BranchOrder.{keys_of}
-use Rattle.qg_descent.proofs.BranchRanges.{ascending-first, ascending-others}
-use Rattle.qg_descent.proofs.Leading.{not-above}
-use Rattle.qg_descent.proofs.Led.{led-comes}
 use Rattle.qg_descent.proofs.Paired.{IsThinAt, are-pair, pair-differ}
-use Rattle.qg_descent.proofs.PairedFrames.{pair-apart, pair-fills, pair-free, pair-free_others, pair-freed, pair-others, pair-parts, pair-reach, pair-stays}
+use Rattle.qg_descent.proofs.PairedFrames.{pair-apart, pair-fills, pair-stays}
 use Rattle.qg_descent.proofs.PairedHolds.{HoldPair, holds-pair}
 use Rattle.qg_descent.proofs.Rejoined.{rejoined-above}
 use Rattle.qg_descent.proofs.Served.{size-blocks}
-use Rattle.qg_descent.proofs.Spliced.{drop-get, spliced-get, take-get}
-use Rattle.qg_descent.proofs.UnitedHolds.{united-fills, united-free, united-holds, united-told}
+use Rattle.qg_descent.proofs.Spliced.{drop-get, take-get}
+use Rattle.qg_descent.proofs.UnitedHolds.{united-fills, united-holds, united-told}
 
 module _ (tree : Tree) (root : Root) (land mid new : Ground) (history later last : Option (List Event)) (level at : ℕ) (to : Option Key) (place child : ℕ) (items : List Item)
     (un : IsUnsettled tree root land history level at to place (alone child) items) (pair : Pair) (instead : Instead) (is : IsPaired tree root land mid history un.pointers to level place child pair)

@@ -1,5 +1,5 @@
 -- A child was joined with its neighbour, and the pointers of their node are set.
-use Rattle.std.proofs.Common.{◌≡◌, ◌≢◌, ◌⊎◌, ℕ, ◌+◌, ◌≤◌, ◌<◌, List, ◌∷◌, ◌++◌, take, drop, refl, sym, ap, subst, ◌∙◌, inl, inr, Option, Some}
+use Rattle.std.proofs.Common.{◌≡◌, ◌≢◌, ◌⊎◌, ℕ, ◌+◌, ◌≤◌, ◌<◌, List, ◌∷◌, ◌++◌, take, drop, ap, subst, ◌∙◌, inl, inr, Option, Some}
 use Rattle.std.specs.Prelude.{IsTrue, slice_get}
 use Rattle.qg_device.specs.History.{Event}
 use Rattle.qg_num.specs.declared.key.Key.{Key}
@@ -15,7 +15,7 @@ use Rattle.qg_ground.specs.Land.{IsDrafted, Rests}
 use Rattle.qg_descent.specs.declared.instead.Instead.{Instead}
 use Rattle.qg_descent.specs.declared.pairing.Pair.{Pair}
 use Rattle.qg_descent.specs.Tree.{Reaches, Root, super_of}
-use Rattle.qg_descent.specs.Editing.{ArePair, CanMake, HasLed, IsCutThere, IsFreshOn, IsSettled, IsUnsettled, ReachesEach, ReachesInstead, ReachesParts, alone}
+use Rattle.qg_descent.specs.Editing.{ArePair, CanMake, HasLed, IsCutThere, IsFreshOn, IsSettled, IsUnsettled, ReachesInstead, ReachesParts, alone}
 use Rattle.qg_descent.specs.Uniting.{AreUnited, IsPaired}
 use Rattle.qg_descent.proofs.Beside.{other-branch}
 use Rattle.qg_descent.proofs.BranchFrames.{reach-same}

@@ -1,13 +1,13 @@
 -- What is known of nodes and space in which a tree is edited.
-use Rattle.std.proofs.Common.{◌≡◌, ℕ, suc, ◌+◌, ◌*◌, ◌≤◌, ◌<◌, true, arith, refl, sym, ap, subst, ◌∙◌, inl, inr, Option, Some, None}
-use Rattle.std.specs.Prelude.{⊤, Bool, ◌==◌, ◌&&◌, ◌||◌, nat_le, length, MatchOption}
+use Rattle.std.proofs.Common.{◌≡◌, ℕ, ◌+◌, ◌≤◌, true, arith, sym, subst, ◌∙◌, inl, inr, Option, Some, None}
+use Rattle.std.specs.Prelude.{⊤, ◌==◌, ◌&&◌, ◌||◌, nat_le, length, MatchOption}
 use Rattle.std.proofs.lemmas.Bool.{and_parts, eqb-true, or_cases}
 use Rattle.qg_node.specs.declared.node.Node.{Node}
 use Rattle.qg_node.specs.declared.node.Node.TheVariants.{Leaf, Inner}
-use Rattle.qg_node.specs.Nodes.{header_of, own_pointers, used_bytes}
-use Rattle.qg_node.specs.NodeText.{IsLevelled, IsNode, IsNodeSize}
+use Rattle.qg_node.specs.Nodes.{own_pointers}
+use Rattle.qg_node.specs.NodeText.{IsNode, IsNodeSize}
 use Rattle.qg_super.specs.declared.sizes.Sizes.{Sizes}
-use Rattle.qg_super.specs.Places.{capacity, is_served}
+use Rattle.qg_super.specs.Places.{is_served}
 use Rattle.qg_shape.specs.Filled.{IsFilled, IsThin}
 use Rattle.qg_shape.specs.Parts.{IsInner, IsLeaf}
 use Rattle.qg_shape.proofs.Edited.{inner_above, leaf_at_zero}

@@ -1,5 +1,5 @@
 -- A child was edited, and the pointers of its node are set.
-use Rattle.std.proofs.Common.{◌≡◌, ◌≢◌, ◌⊎◌, ℕ, ◌+◌, ◌≤◌, ◌<◌, List, ◌∷◌, ◌++◌, take, drop, arith, sym, subst, ◌∙◌, inl, inr, Option, Some}
+use Rattle.std.proofs.Common.{◌≡◌, ◌⊎◌, ℕ, ◌+◌, ◌≤◌, ◌<◌, List, ◌∷◌, ◌++◌, take, drop, arith, subst, inl, inr, Option, Some}
 use Rattle.std.specs.Prelude.{IsTrue, slice_get}
 use Rattle.qg_device.specs.History.{Event}
 use Rattle.qg_num.specs.declared.key.Key.{Key}
@@ -12,7 +12,6 @@ use Rattle.qg_space.specs.Holding.{Holding, is_free_slot}
 use Rattle.qg_ground.specs.declared.ground.Ground.{Ground}
 use Rattle.qg_descent.specs.declared.instead.Instead.{Instead}
 use Rattle.qg_descent.specs.Tree.{Reaches, Root, super_of}
-use Rattle.qg_descent.specs.Branch.{IsBranch}
 use Rattle.qg_descent.specs.Editing.{CanLead, HasLed, IsSettled, IsUnsettled, ReachesEach, ReachesParts}
 use Rattle.qg_descent.proofs.Beside.{other-branch}
 use Rattle.qg_descent.proofs.Led.{led-back, led-comes}
@@ -27,8 +26,13 @@ module _ (tree : Tree) (root : Root) (land new : Ground) (history : Option (List
       → ReachesParts (told land.blocks.draft history) level un.pointers place child q
   stays j p apart there q reaches =
       let other = other-branch tree root land history level at to place child items un j p apart there in
-      inr (j, p, elim apart [ inl low ↦ (λ same. omega (arith, low, same)) | inr high ↦ (λ same. omega (arith, high, same)) ], there,
-      led-back tree (super_of root land.blocks.draft) land new history level at place (place + 1) child un.pointers un.header items rest can led p.child other.0 other.2 q reaches)
+      inr (
+        j,
+        p,
+        elim apart [ inl low ↦ (λ same. omega (arith, low, same)) | inr high ↦ (λ same. omega (arith, high, same)) ],
+        there,
+        led-back tree (super_of root land.blocks.draft) land new history level at place (place + 1) child un.pointers un.header items rest can led p.child other.0 other.2 q reaches,
+      )
 
   reached : (q : ℕ) → ReachesEach (told new.blocks.draft history) level (take place un.pointers ++ (led.now ∷ led.more) ++ drop (place + 1) un.pointers) q
       → ReachesParts (told land.blocks.draft history) level un.pointers place child q

@@ -1,5 +1,5 @@
 -- What stands at an index of a list in which some were put in the place of others.
-use Rattle.std.proofs.Common.{◌≡◌, ◌⊎◌, ℕ, zero, suc, ◌+◌, ◌≤◌, ◌<◌, List, [], ◌∷◌, ◌++◌, take, drop, length, arith, refl, ap, inl, inr, Some, None}
+use Rattle.std.proofs.Common.{◌≡◌, ◌⊎◌, ℕ, zero, suc, ◌≤◌, ◌<◌, List, [], ◌∷◌, ◌++◌, take, drop, length, arith, ap, inl, inr, Some}
 use Rattle.std.specs.Prelude.{slice_get}
 
 pub append-get : {A : Type 0} (xs ys : List A) (i : ℕ) (x : A) → slice_get (xs ++ ys) i ≡ Some x → (slice_get xs i ≡ Some x) ⊎ ((k : ℕ) × (slice_get ys k ≡ Some x))
@@ -26,6 +26,7 @@ spliced-get {A} xs new from to i x is = last (append-get (take from xs ++ new) (
       → ((j : ℕ) × ((j < from) ⊎ (to ≤ j)) × (slice_get xs j ≡ Some x)) ⊎ ((k : ℕ) × (slice_get new k ≡ Some x))
   first j (inl there) = let stays = take-get from xs j x there in inl (j, inl stays.0, stays.1)
   first j (inr new_one) = inr new_one
+
   last : (slice_get (take from xs ++ new) i ≡ Some x) ⊎ ((k : ℕ) × (slice_get (drop to xs) k ≡ Some x))
       → ((j : ℕ) × ((j < from) ⊎ (to ≤ j)) × (slice_get xs j ≡ Some x)) ⊎ ((k : ℕ) × (slice_get new k ≡ Some x))
   last (inl front) = first i (append-get (take from xs) new i x front)

@@ -1,13 +1,11 @@
 -- Two fresh neighbours that were joined, over any disk.
-use Rattle.std.proofs.Common.{◌≡◌, ◌≢◌, ℕ, ◌+◌, ◌≤◌, List, refl, sym, ap, subst, ◌∙◌, Option, Some, None}
-use Rattle.std.specs.Prelude.{IsSome, Err}
+use Rattle.std.proofs.Common.{◌≡◌, ◌≢◌, ℕ, List, sym, ap, subst, ◌∙◌, Option, Some, None}
+use Rattle.std.specs.Prelude.{Err}
 use Rattle.qg_device.specs.History.{Event}
-use Rattle.qg_num.specs.declared.rule.Rule.{Rule}
 use Rattle.qg_num.specs.declared.fault.BlockFault.{BlockFault}
 use Rattle.qg_num.specs.declared.fault.BlockFault.TheVariants.{NoMemory, Disk, Image}
 use Rattle.qg_node.specs.declared.node.Node.{Node}
 use Rattle.qg_blocks.specs.Held.{Draft}
-use Rattle.qg_blocks.specs.Lending.{with_fresh}
 use Rattle.qg_blocks.specs.Told.{Answers, BreaksNone, IsBacked, found, fresh_at, told}
 use Rattle.qg_blocks.proofs.Backing.{IsBacked-set}
 use Rattle.qg_ground.specs.declared.ground.Ground.{Ground}

@@ -1,15 +1,14 @@
 -- What stands of a part of a tree after two fresh neighbours in it were joined.
-use Rattle.std.proofs.Common.{◌≡◌, ◌≢◌, ◌⊎◌, ℕ, zero, suc, ◌+◌, ◌*◌, ◌≤◌, true, List, [], ◌∷◌, ◌++◌, map, length, arith, refl, sym, ap, subst, ◌∙◌, inl, inr, Option, Some, None}
+use Rattle.std.proofs.Common.{◌≡◌, ◌≢◌, ◌⊎◌, ℕ, zero, suc, ◌+◌, ◌*◌, ◌≤◌, true, List, [], ◌∷◌, ◌++◌, arith, refl, sym, ap, subst, ◌∙◌, inl, inr, Option, Some, None}
 use Rattle.std.specs.Prelude.{IsTrue, slice_get}
-use Rattle.std.specs.List.{All}
-use Rattle.std.proofs.lemmas.List.{append-nil, map-append}
+use Rattle.std.proofs.lemmas.List.{append-nil}
 use Rattle.qg_device.specs.History.{Event}
 use Rattle.qg_node.specs.declared.item.Item.{Item}
 use Rattle.qg_node.specs.declared.pointer.Pointer.{Pointer}
 use Rattle.qg_node.specs.declared.node.Header.{Header}
 use Rattle.qg_node.specs.declared.node.Node.{Node}
 use Rattle.qg_node.specs.declared.node.Node.TheVariants.{Leaf, Inner}
-use Rattle.qg_node.specs.Nodes.{header_of, is_ascending, own_items, own_keys, own_pointers, used_bytes}
+use Rattle.qg_node.specs.Nodes.{header_of, own_items, own_pointers, used_bytes}
 use Rattle.qg_super.specs.declared.superblock.Super.{Super}
 use Rattle.qg_super.specs.Places.{capacity}
 use Rattle.qg_verdict.specs.declared.tree.Tree.{Tree}
@@ -17,7 +16,7 @@ use Rattle.qg_blocks.specs.Told.{fresh_at, told}
 use Rattle.qg_space.specs.Holding.{Holding, free_slots, is_free_slot}
 use Rattle.qg_shape.specs.declared.joining.Joined.{Joined}
 use Rattle.qg_shape.specs.declared.joining.Joined.TheVariants.{Whole, Parted}
-use Rattle.qg_shape.specs.Filled.{Fits, HasShortBodies, IsFilled}
+use Rattle.qg_shape.specs.Filled.{Fits, IsFilled}
 use Rattle.qg_shape.specs.Outcomes.{IsParted}
 use Rattle.qg_shape.specs.Parts.{AreAlike, whole_of}
 use Rattle.qg_shape.proofs.Sides.{IsFilled-whole_of, header_of-parted}
@@ -25,7 +24,6 @@ use Rattle.qg_shape.proofs.Together.{header_of-whole_of}
 use Rattle.qg_ground.specs.declared.ground.Ground.{Ground}
 use Rattle.qg_ground.specs.Tellings.{LetsGo}
 use Rattle.qg_ground.proofs.Lands.{Takes-left, fresh_at-told, told-fresh_at}
-use Rattle.qg_edit.specs.Outcome.{IsInFront}
 use Rattle.qg_edit.proofs.Cuts.{alike-levels}
 use Rattle.qg_descent.specs.declared.instead.Instead.{Instead}
 use Rattle.qg_descent.specs.Tree.{Reaches}
@@ -34,10 +32,8 @@ use Rattle.qg_descent.specs.Editing.{ArePair, FillsThere, HoldInstead, IsFreshOn
 use Rattle.qg_descent.specs.Uniting.{AreUnited, EndsAs}
 use Rattle.qg_descent.proofs.Branches.{each-append, each-get, each-join}
 use Rattle.qg_descent.proofs.BranchFrames.{branches-same, reach-same, reach-top}
-use Rattle.qg_descent.proofs.BranchOrder.{keys_of}
-use Rattle.qg_descent.proofs.Leading.{branches-keys, not-above}
+use Rattle.qg_descent.proofs.Leading.{not-above}
 use Rattle.qg_descent.proofs.Spliced.{append-get}
-use Rattle.qg_descent.proofs.Split.{keys_to}
 use Rattle.qg_descent.proofs.United.{both-told}
 
 -- ---- what became of both

@@ -1,5 +1,5 @@
 -- An edit of a part of a tree by copy on write (this project's own). Addresses are in bytes.
-use Rattle.std.specs.Prelude.{◌≡◌, ◌≢◌, ⊤, ◌⊎◌, ℕ, suc, ◌+◌, ◌≤◌, ◌<◌, List, [], ◌∷◌, ◌++◌, map, take, drop, length, Option, Some, None, IsTrue, IsSome, MatchOption, slice_get}
+use Rattle.std.specs.Prelude.{◌≡◌, ◌≢◌, ⊤, ◌⊎◌, ℕ, suc, ◌+◌, ◌≤◌, ◌<◌, List, [], ◌∷◌, ◌++◌, map, take, drop, length, Option, Some, None, IsTrue, MatchOption, slice_get}
 use Rattle.std.specs.List.{All, list_all}
 use Rattle.std.specs.Ordering.{is_lt}
 use Rattle.qg_device.specs.History.{Event}
@@ -9,8 +9,8 @@ use Rattle.qg_node.specs.declared.item.Item.{Item}
 use Rattle.qg_node.specs.declared.pointer.Pointer.{Pointer}
 use Rattle.qg_node.specs.declared.node.Header.{Header}
 use Rattle.qg_node.specs.declared.node.Node.{Node}
-use Rattle.qg_node.specs.declared.node.Node.TheVariants.{Leaf, Inner}
-use Rattle.qg_node.specs.Nodes.{header_of, is_ascending, own_pointers}
+use Rattle.qg_node.specs.declared.node.Node.TheVariants.{Inner}
+use Rattle.qg_node.specs.Nodes.{header_of, is_ascending}
 use Rattle.qg_node.specs.NodeText.{IsNode, IsNodeSize}
 use Rattle.qg_super.specs.declared.superblock.Super.{Super}
 use Rattle.qg_super.specs.Places.{second_place}

@@ -1,16 +1,9 @@
 -- Two neighbours in a tree, of which one isn't a quarter full (this project's own). Addresses are in bytes.
-use Rattle.std.specs.Prelude.{◌≡◌, ◌⊎◌, ◌≢◌, ℕ, ◌+◌, List, ◌++◌, map, Option, Some, None, IsTrue}
-use Rattle.std.specs.List.{All}
+use Rattle.std.specs.Prelude.{◌≡◌, ◌⊎◌, ◌≢◌, ℕ, ◌+◌, List, Option, Some}
 use Rattle.qg_device.specs.History.{Event}
 use Rattle.qg_num.specs.declared.key.Key.{Key}
-use Rattle.qg_node.specs.declared.item.Item.{Item}
 use Rattle.qg_node.specs.declared.pointer.Pointer.{Pointer}
-use Rattle.qg_node.specs.Nodes.{is_ascending}
-use Rattle.qg_node.specs.declared.node.Node.{Node}
-use Rattle.qg_super.specs.declared.superblock.Super.{Super}
 use Rattle.qg_verdict.specs.declared.tree.Tree.{Tree}
-use Rattle.qg_blocks.specs.Told.{told}
-use Rattle.qg_space.specs.Holding.{is_free_slot}
 use Rattle.qg_ground.specs.declared.ground.Ground.{Ground}
 use Rattle.qg_ground.specs.Tellings.{LetsGo}
 use Rattle.qg_shape.specs.declared.joining.Joined.{Joined}
@@ -18,9 +11,8 @@ use Rattle.qg_shape.specs.declared.joining.Joined.TheVariants.{Whole, Parted}
 use Rattle.qg_descent.specs.declared.instead.Instead.{Instead}
 use Rattle.qg_descent.specs.declared.pairing.Pair.{Pair}
 use Rattle.qg_descent.specs.declared.way.Neighbour.{Neighbour}
-use Rattle.qg_descent.specs.Branch.{IsBranch}
-use Rattle.qg_descent.specs.Tree.{Reaches, Root}
-use Rattle.qg_descent.specs.Editing.{AreRewritten, FillsThere, HoldInstead, IsBeside, IsJoinedThere, IsOwned, ReachesInstead, alone}
+use Rattle.qg_descent.specs.Tree.{Root}
+use Rattle.qg_descent.specs.Editing.{AreRewritten, IsBeside, IsJoinedThere, IsOwned, alone}
 
 -- ---- what becomes of both
 

@@ -1,12 +1,11 @@
 //! Trees over nodes by address: what stands under a key, at or below one, or from one to another.
 #![tactic(auto)]
 
-mod editing;
 mod instead;
 mod joining;
-mod pairing;
 mod leaf;
 mod owning;
+mod pairing;
 mod reach;
 mod reading;
 mod rewriting;

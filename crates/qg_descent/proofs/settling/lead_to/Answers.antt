@@ -1,5 +1,4 @@
-use Rattle.std.proofs.Common.{◌≡◌, true, ◌∷◌, ◌++◌, take, drop, [], refl, sym, ap, subst}
-use Rattle.std.specs.Prelude.{None, Some}
+use Rattle.std.proofs.Common.{◌≡◌, true, ◌∷◌, ◌++◌, take, drop, [], sym, subst}
 use Rattle.std.proofs.lemmas.Option.{MatchOption-at_some}
 use Rattle.std.proofs.lemmas.Result.{IfOk-weaker}
 use Rattle.qg_node.specs.declared.pointer.Pointer.{Pointer}
@@ -11,7 +10,7 @@ use Rattle.qg_edit.specs.Outcome.{spliced}
 use Rattle.qg_edit.proofs.Leaves.{header-pointers}
 use Rattle.qg_descent.proofs.Cutting.{inner-here, stays-cut_ok}
 use Rattle.qg_descent.proofs.Split.{keys_to}
-use Rattle.qg_descent.specs.Editing.{CanLead, HasLed, IsCutThere, IsNamed}
+use Rattle.qg_descent.specs.Editing.{IsCutThere, IsNamed}
 use Rattle.qg_descent.proofs.Leading.{led-one, led-two, one-ascends, two-ascend}
 use Rattle.qg_descent.proofs.settling.lead_to.Goals as goal
 
@@ -21,7 +20,7 @@ returns-in-None-clause-led c = λ tree super history level pointers header items
     (λ rest cut. led-one tree super c.args.land.now c.rewrite_pointers.new.land history level c.args.at c.args.from c.args.to c.args.instead pointers header items can c.requires.fresh.0
     c.peek.result.now c.peek.ensures rest c.in-None.is c.rewrite_pointers.ensures.rewritten
     (subst (λ (p : Pointer). IsCutThere c.args.land.now.space.sizes.nodesize c.rewrite_pointers.new.land c.args.at (Inner header pointers)
-      (Inner header (take c.args.from pointers ++ (p ∷ []) ++ drop c.args.to pointers)) rest) c.pointer_to-now.ensures.pointer cut))
+    (Inner header (take c.args.from pointers ++ (p ∷ []) ++ drop c.args.to pointers)) rest) c.pointer_to-now.ensures.pointer cut))
     (c.rewrite_pointers.ensures.cut (Inner header pointers) can.here)
 
 pub returns-in-None-clause-sound : goal.returns-in-None-clause-sound
@@ -38,9 +37,9 @@ returns-in-Some-clause-led c = λ tree super history level pointers header items
     (λ rest cut. led-two tree super c.args.land.now c.rewrite_pointers-in-Some.new.land history level c.args.at c.args.from c.args.to c.args.instead pointers header items can c.requires.fresh.0
     c.peek.result.now c.peek.ensures c.in-Some.more c.in-Some.is named c.peek-in-Some.result.now c.peek-in-Some.ensures rest c.rewrite_pointers-in-Some.ensures.rewritten
     (subst (λ (p : Pointer). IsCutThere c.args.land.now.space.sizes.nodesize c.rewrite_pointers-in-Some.new.land c.args.at (Inner header pointers)
-      (Inner header (take c.args.from pointers ++ (p ∷ pointer_to c.peek-in-Some.result.now ∷ []) ++ drop c.args.to pointers)) rest) c.pointer_to-now.ensures.pointer
+    (Inner header (take c.args.from pointers ++ (p ∷ pointer_to c.peek-in-Some.result.now ∷ []) ++ drop c.args.to pointers)) rest) c.pointer_to-now.ensures.pointer
     (subst (λ (p : Pointer). IsCutThere c.args.land.now.space.sizes.nodesize c.rewrite_pointers-in-Some.new.land c.args.at (Inner header pointers)
-      (Inner header (take c.args.from pointers ++ (c.pointer_to-now.result ∷ p ∷ []) ++ drop c.args.to pointers)) rest) c.pointer_to-behind.ensures.pointer cut)))
+    (Inner header (take c.args.from pointers ++ (c.pointer_to-now.result ∷ p ∷ []) ++ drop c.args.to pointers)) rest) c.pointer_to-behind.ensures.pointer cut)))
     (c.rewrite_pointers-in-Some.ensures.cut (Inner header pointers) can.here)
 
 pub returns-in-Some-clause-sound : goal.returns-in-Some-clause-sound

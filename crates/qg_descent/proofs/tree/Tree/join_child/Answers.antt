@@ -1,5 +1,5 @@
-use Rattle.std.proofs.Common.{◌≡◌, ℕ, ◌+◌, arith, refl, sym, ap, subst, ◌∙◌}
-use Rattle.std.specs.Prelude.{IfOk, List, None, Option, Some, length}
+use Rattle.std.proofs.Common.{ℕ, ◌+◌, arith, refl, ap, subst, ◌∙◌}
+use Rattle.std.specs.Prelude.{Option}
 use Rattle.std.proofs.lemmas.Result.{IfOk-weaker, err_from_is_err_and}
 use Rattle.qg_node.specs.declared.node.Node.{Node}
 use Rattle.qg_node.specs.declared.node.Node.TheVariants.{Inner}
@@ -86,12 +86,15 @@ lead_to-requires-clause-parent g c =
     let high = c.requires.parent.levelled in
     let here = rejoined-above g.P.TreePart.tree c.args.self.now c.args.land.now c.own_neighbour.new.land c.unite.new.land (g.D.Disk.history c.args.disk.now) (g.D.Disk.history c.own_neighbour.new.disk)
     (g.D.Disk.history c.unite.new.disk) (own_pointers node) c.args.to c.args.level c.args.place c.args.child c.in_ok-pair.pair c.in_ok-instead.instead (c.in_ok-pair.ensures.paired node c.requires.parent.here)
-    c.own_neighbour.ensures.rests c.requires.child c.requires.thin c.in_ok-instead.ensures.united after c.args.at node c.requires.parent.here (omega (arith, high)) in
-    (node, here, fresh-inner c.unite.new.land c.args.self.now.next c.args.level c.args.at node after.drafted (record { node = node; here = here; levelled = c.requires.parent.levelled }) here,
-    node-drafted c.unite.new.land c.args.self.now.next c.args.at node after.drafted here,
-    pair-inside g.P.TreePart.tree c.args.self.now c.args.land.now c.own_neighbour.new.land (g.D.Disk.history c.args.disk.now) (g.D.Disk.history c.own_neighbour.new.disk) (own_pointers node) c.args.to
-    c.args.level c.args.place c.args.child c.in_ok-pair.pair (c.in_ok-pair.ensures.paired node c.requires.parent.here) c.own_neighbour.ensures.rests c.requires.child c.requires.thin
-    (c.requires.inside node c.requires.parent.here))
+    c.own_neighbour.ensures.rests c.requires.child c.requires.thin c.in_ok-instead.ensures.united after c.args.at node c.requires.parent.here (omega (arith, high)) in (
+      node,
+      here,
+      fresh-inner c.unite.new.land c.args.self.now.next c.args.level c.args.at node after.drafted (record { node = node; here = here; levelled = c.requires.parent.levelled }) here,
+      node-drafted c.unite.new.land c.args.self.now.next c.args.at node after.drafted here,
+      pair-inside g.P.TreePart.tree c.args.self.now c.args.land.now c.own_neighbour.new.land (g.D.Disk.history c.args.disk.now) (g.D.Disk.history c.own_neighbour.new.disk) (own_pointers node) c.args.to
+          c.args.level c.args.place c.args.child c.in_ok-pair.pair (c.in_ok-pair.ensures.paired node c.requires.parent.here) c.own_neighbour.ensures.rests c.requires.child c.requires.thin
+          (c.requires.inside node c.requires.parent.here),
+    )
 
 pub returns-clause-parent : goal.returns-clause-parent
 returns-clause-parent g c =
@@ -137,8 +140,8 @@ returns-clause-moves g c =
       count = omega (arith, owned, joined, count);
       above = λ q other here high. moved.above q other
           (rejoined-above g.P.TreePart.tree c.args.self.now c.args.land.now c.own_neighbour.new.land c.unite.new.land (g.D.Disk.history c.args.disk.now) (g.D.Disk.history c.own_neighbour.new.disk)
-    (g.D.Disk.history c.unite.new.disk) (own_pointers node) c.args.to c.args.level c.args.place c.args.child c.in_ok-pair.pair c.in_ok-instead.instead (c.in_ok-pair.ensures.paired node c.requires.parent.here)
-    c.own_neighbour.ensures.rests c.requires.child c.requires.thin c.in_ok-instead.ensures.united after q other here (omega (arith, high))) high;
+          (g.D.Disk.history c.unite.new.disk) (own_pointers node) c.args.to c.args.level c.args.place c.args.child c.in_ok-pair.pair c.in_ok-instead.instead (c.in_ok-pair.ensures.paired node c.requires.parent.here)
+          c.own_neighbour.ensures.rests c.requires.child c.requires.thin c.in_ok-instead.ensures.united after q other here (omega (arith, high))) high;
     })
 
 pub returns-clause-settled : goal.returns-clause-settled

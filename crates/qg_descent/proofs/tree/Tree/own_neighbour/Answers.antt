@@ -1,20 +1,12 @@
-use Rattle.std.proofs.Common.{◌≡◌, List, sym, subst, ◌∙◌}
+use Rattle.std.proofs.Common.{◌≡◌, sym, subst, ◌∙◌}
 use Rattle.std.proofs.lemmas.Bool.{eqb-true}
 use Rattle.qg_node.specs.declared.node.Node.{Node}
 use Rattle.qg_node.specs.declared.node.Node.TheVariants.{Inner}
-use Rattle.qg_node.specs.declared.pointer.Pointer.{Pointer}
 use Rattle.qg_node.specs.Nodes.{own_pointers}
 use Rattle.qg_shape.specs.Parts.{IsInner}
 use Rattle.qg_blocks.proofs.Telling.{fresh-held}
 use Rattle.qg_descent.specs.Editing.{IsBeside}
 use Rattle.qg_descent.proofs.Beside.{beside-apart}
-use Rattle.qg_descent.proofs.OwnedBranch.{owned-branch}
-use Rattle.qg_descent.proofs.Paired.{are-pair}
-use Rattle.qg_descent.proofs.PairedHolds.{holds-pair}
-use Rattle.qg_descent.proofs.PairedFrames.{pair-fills}
-use Rattle.qg_descent.proofs.RejoinedSettled.{rejoined-settled}
-use Rattle.qg_descent.proofs.Rejoined.{rejoined-count}
-use Rattle.qg_descent.proofs.Settled.{settled}
 use Rattle.qg_descent.proofs.Served.{fresh-inner}
 use Rattle.qg_descent.proofs.tree.Tree.own_neighbour.Goals as goal
 

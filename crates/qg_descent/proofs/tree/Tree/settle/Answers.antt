@@ -1,11 +1,9 @@
-use Rattle.std.proofs.Common.{◌≡◌, ◌+◌, arith, refl, sym, ap, subst, ◌∙◌}
-use Rattle.std.specs.Prelude.{IfOk, List, None, Some, length}
-use Rattle.std.proofs.lemmas.Result.{IfOk-weaker, on_ok_weaker}
+use Rattle.std.proofs.Common.{◌≡◌, ◌+◌, arith, refl, sym, subst, ◌∙◌}
+use Rattle.std.specs.Prelude.{IfOk, List, Some}
+use Rattle.std.proofs.lemmas.Result.{IfOk-weaker}
 use Rattle.qg_device.specs.History.{Event}
 use Rattle.qg_node.specs.declared.item.Item.{Item}
-use Rattle.qg_node.specs.declared.node.Node.{Node}
-use Rattle.qg_node.specs.Nodes.{own_pointers}
-use Rattle.qg_blocks.specs.Told.{BreaksNone, fresh_at}
+use Rattle.qg_blocks.specs.Told.{BreaksNone}
 use Rattle.qg_descent.specs.declared.instead.Instead.{Instead}
 use Rattle.qg_descent.specs.Editing.{IsSettled, IsUnsettled}
 use Rattle.qg_descent.specs.Tree.{super_of}
@@ -23,7 +21,7 @@ pub returns-then-is_too_thin-clause-settled : goal.returns-then-is_too_thin-clau
 returns-then-is_too_thin-clause-settled g c =
     let thin = c.is_too_thin.ensures.thin c.if-is_too_thin.true in
     subst (λ (child : Instead). (items : List Item) → (un : IsUnsettled g.P.TreePart.tree c.args.self.now c.args.land.now (g.D.Disk.history c.args.disk.now) c.args.level c.args.at c.args.to c.args.place child items)
-        → IfOk c.join_child.result (λ rest. IsSettled g.P.TreePart.tree c.args.self.now c.args.land.now c.join_child.new.land (g.D.Disk.history c.args.disk.now) c.args.level c.args.at c.args.place child un.pointers un.header items rest))
+    → IfOk c.join_child.result (λ rest. IsSettled g.P.TreePart.tree c.args.self.now c.args.land.now c.join_child.new.land (g.D.Disk.history c.args.disk.now) c.args.level c.args.at c.args.place child un.pointers un.header items rest))
     (sym thin.0) c.join_child.ensures.settled
 
 pub returns-then-is_too_thin-clause-sound : goal.returns-then-is_too_thin-clause-sound
@@ -49,9 +47,13 @@ lead_to-requires-clause-fresh g c = instead-named c.args.land.now c.args.self.no
 pub lead_to-requires-clause-parent : goal.lead_to-requires-clause-parent
 lead_to-requires-clause-parent g c =
     let node = c.requires.parent.node in
-    let inside = c.requires.inside node c.requires.parent.here in
-    (node, c.requires.parent.here, fresh-inner c.args.land.now c.args.self.now.next c.args.level c.args.at node c.requires.editable.drafted c.requires.parent c.requires.parent.here,
-    node-drafted c.args.land.now c.args.self.now.next c.args.at node c.requires.editable.drafted c.requires.parent.here, omega (arith, inside))
+    let inside = c.requires.inside node c.requires.parent.here in (
+      node,
+      c.requires.parent.here,
+      fresh-inner c.args.land.now c.args.self.now.next c.args.level c.args.at node c.requires.editable.drafted c.requires.parent c.requires.parent.here,
+      node-drafted c.args.land.now c.args.self.now.next c.args.at node c.requires.editable.drafted c.requires.parent.here,
+      omega (arith, inside),
+    )
 
 pub returns-clause-parent : goal.returns-clause-parent
 returns-clause-parent g c =
@@ -103,4 +105,3 @@ returns-clause-stands g c =
 
 pub returns-clause-cause : goal.returns-clause-cause
 returns-clause-cause g c = record { later = omega arith; rose = λ is. absurd (c.lead_to.ensures.no_disk is) }
-
