@@ -1,0 +1,87 @@
+// An edit of what stands under a node.
+ghost use Rattle.std.specs.Prelude.{◌≡◌, ◌≢◌, ◌+◌, ◌*◌, ◌<◌, ◌≤◌, suc, ℕ, List, None, Some, OnOk, IfOk, length};
+ghost use Rattle.qg_device.specs.Cause.{HasCause};
+ghost use Rattle.qg_device.specs.History.{Event};
+ghost use Rattle.qg_node.specs.declared.item.Item.{Item as ItemValue};
+ghost use Rattle.qg_blocks.specs.Told.{BreaksNone};
+ghost use Rattle.qg_space.specs.Holding.{free_slots};
+ghost use Rattle.qg_ground.specs.Land.{Rests};
+ghost use Rattle.qg_edit.specs.Edits.{IsShort};
+ghost use Rattle.qg_descent.specs.Editing.{CanMake, IsEditable, IsPartEdited, IsPartFit, Moves, StandsInstead};
+
+use crate::Tree;
+use crate::instead::Instead;
+use crate::rewriting::rewrite_leaf;
+use crate::standing::place_rest;
+use crate::way::{Way, place_for, way_at};
+use qg_disk::Disk;
+use qg_edit::Edit;
+use qg_ground::{Book, Ground};
+use qg_num::{BlockFault, Steps};
+use qg_parts::TreePart;
+use std::alloc::Global;
+use std::sync::ledger::Ledger;
+
+impl Tree {
+    // Edits the leaf that a key leads to, from the node of a level on that a way has come to. The answer is what stands in that node's place.
+    pub(crate) fn edit_under<P: TreePart, D: Disk, L: Ledger, B: Book<D, L>>(
+        &self,
+        alloc: Global,
+        land: &mut Ground,
+        disk: &mut D,
+        book: &mut B,
+        way: Way,
+        level: u8,
+        edit: Edit,
+        reads: &mut Steps<L>,
+    ) -> Result<Instead, BlockFault>
+        requires editable { IsEditable land.old (D.history disk.old) (D.size disk.old) self.now.next }
+        requires stands { B.stands book.old land.old disk.old }
+        requires makes { CanMake P.tree self.now }
+        requires slots { 2 * (level + 1) ≤ free_slots land.old.space }
+        requires levelled { way.expected.level ≡ Some level }
+        requires short { IsShort edit.change }
+        ensures stood { IfOk result (λ instead. StandsInstead land.new level instead) }
+        ensures moves { OnOk result (Moves (2 * (level + 1)) level land.old land.new) }
+        ensures edited { (items : List ItemValue) → IsPartFit P.tree self.now land.old (D.history disk.old) level way.expected way.address edit items
+            → IfOk result (λ instead. IsPartEdited P.tree self.now land.old land.new (D.history disk.old) level way.address edit items instead) }
+        ensures sound { (events : List Event) → D.history disk.old ≡ Some events → (items : List ItemValue)
+            → IsPartFit P.tree self.now land.old (D.history disk.old) level way.expected way.address edit items → BreaksNone result }
+        ensures rests { Rests land.old land.new (D.history disk.new) self.now.next }
+        ensures stands { OnOk result (B.stands book.new land.new disk.new) }
+        ensures disk { (D.history disk.new ≡ D.history disk.old) × (D.size disk.new ≡ D.size disk.old) }
+        ensures cause { HasCause BlockFault.Disk (D.faults disk.old) (D.faults disk.new) result }
+        ensures reads { (most : ℕ) → ((book : B) (q : ℕ) → B.to_read book q ≤ most) → reads.new ≤ reads.old + (5 + 4 * most) * (level + 1) }
+    {
+        let now = self.own::<P, D, L, B>(alloc, land, disk, book, &way, reads)?;
+        if level == 0 {
+            let rest = rewrite_leaf(land, now, edit)?;
+            return place_rest(land, disk, book, now, level, self.next(), rest, reads);
+        }
+        let place = place_for(land.blocks.peek(now), edit.key);
+        let below = way_at(land.blocks.peek(now), way.expected.to, level - 1, place);
+        let child = self.edit_under::<P, D, L, B>(
+            alloc,
+            land,
+            disk,
+            book,
+            below,
+            level - 1,
+            edit,
+            reads,
+        )?;
+        let rest = self.settle::<P, D, L, B>(
+            alloc,
+            land,
+            disk,
+            book,
+            now,
+            way.expected.to,
+            level - 1,
+            place,
+            child,
+            reads,
+        )?;
+        place_rest(land, disk, book, now, level, self.next(), rest, reads)
+    }
+}
