@@ -37,3 +37,4 @@ pub mod Rejoined
 pub mod RejoinedHolds
 pub mod RejoinedSettled
 pub mod InFront
+pub mod Around

@@ -53,11 +53,10 @@ impl Tree {
         ensures cause { HasCause BlockFault.Disk (D.faults disk.old) (D.faults disk.new) result }
         ensures reads { (most : ℕ) → ((book : B) (q : ℕ) → B.to_read book q ≤ most) → reads.new ≤ reads.old + (5 + 4 * most) * (level + 1) }
     {
-        let now = self.own::<P, D, L, B>(alloc, land, disk, book, &way, reads)?;
         if level == 0 {
-            let rest = rewrite_leaf(land, now, edit)?;
-            return place_rest(land, disk, book, now, level, self.next(), rest, reads);
+            return self.edit_there::<P, D, L, B>(alloc, land, disk, book, &way, edit, reads);
         }
+        let now = self.own::<P, D, L, B>(alloc, land, disk, book, &way, reads)?;
         let place = place_for(land.blocks.peek(now), edit.key);
         let below = way_at(land.blocks.peek(now), way.expected.to, level - 1, place);
         let child = self.edit_under::<P, D, L, B>(
@@ -83,5 +82,38 @@ impl Tree {
             reads,
         )?;
         place_rest(land, disk, book, now, level, self.next(), rest, reads)
+    }
+    // Edits the leaf that a way has come to. The answer is what stands in its place.
+    fn edit_there<P: TreePart, D: Disk, L: Ledger, B: Book<D, L>>(
+        &self,
+        alloc: Global,
+        land: &mut Ground,
+        disk: &mut D,
+        book: &mut B,
+        way: &Way,
+        edit: Edit,
+        reads: &mut Steps<L>,
+    ) -> Result<Instead, BlockFault>
+        requires editable { IsEditable land.old (D.history disk.old) (D.size disk.old) self.now.next }
+        requires stands { B.stands book.old land.old disk.old }
+        requires makes { CanMake P.tree self.now }
+        requires slots { 2 ≤ free_slots land.old.space }
+        requires levelled { way.now.expected.level ≡ Some 0 }
+        requires short { IsShort edit.change }
+        ensures stood { IfOk result (λ instead. StandsInstead land.new 0 instead) }
+        ensures moves { OnOk result (Moves 2 0 land.old land.new) }
+        ensures edited { (items : List ItemValue) → IsPartFit P.tree self.now land.old (D.history disk.old) 0 way.now.expected way.now.address edit items
+            → IfOk result (λ instead. IsPartEdited P.tree self.now land.old land.new (D.history disk.old) 0 way.now.address edit items instead) }
+        ensures sound { (events : List Event) → D.history disk.old ≡ Some events → (items : List ItemValue)
+            → IsPartFit P.tree self.now land.old (D.history disk.old) 0 way.now.expected way.now.address edit items → BreaksNone result }
+        ensures rests { Rests land.old land.new (D.history disk.new) self.now.next }
+        ensures stands { OnOk result (B.stands book.new land.new disk.new) }
+        ensures disk { (D.history disk.new ≡ D.history disk.old) × (D.size disk.new ≡ D.size disk.old) }
+        ensures cause { HasCause BlockFault.Disk (D.faults disk.old) (D.faults disk.new) result }
+        ensures reads { (most : ℕ) → ((book : B) (q : ℕ) → B.to_read book q ≤ most) → reads.new ≤ reads.old + (5 + 4 * most) }
+    {
+        let now = self.own::<P, D, L, B>(alloc, land, disk, book, way, reads)?;
+        let rest = rewrite_leaf(land, now, edit)?;
+        place_rest(land, disk, book, now, 0, self.next(), rest, reads)
     }
 }
