@@ -38,3 +38,5 @@ pub mod RejoinedHolds
 pub mod RejoinedSettled
 pub mod InFront
 pub mod Around
+pub mod PlacedBehind
+pub mod LeafEdited

@@ -51,9 +51,9 @@ module _ (tree : Tree) (root : Root) (land new : Ground) (history : Option (List
   pub mine-told : told new.blocks.draft history now ≡ Some owned.mine
   mine-told = told-fresh_at new.blocks.draft history now owned.mine owned.here
 
-  mine_leaf : (header : Header) (items : List Item) → told land.blocks.draft history at ≡ Some (Leaf header items) → header.level ≡ 0
+  pub mine-leaf : (header : Header) (items : List Item) → told land.blocks.draft history at ≡ Some (Leaf header items) → header.level ≡ 0
       → (mine : Header) × (owned.mine ≡ Leaf mine items) × (IsMember tree (super_of root land.blocks.draft) 0 header → IsMember tree (super_of root land.blocks.draft) 0 mine)
-  mine_leaf header items there low =
+  mine-leaf header items there low =
       let one : owned.node ≡ Leaf header items = sym (owned.alone (Leaf header items) there) in
       elim owned.same [
         | inl kept ↦ (header, kept.0 ∙ one, λ member. member)
@@ -62,9 +62,9 @@ module _ (tree : Tree) (root : Root) (land new : Ground) (history : Option (List
             (made, copy_leaf header items owned.node owned.mine now root.owner root.next one copied.0, λ member. member_made tree root land 0 made makes low refl refl)
       ]
 
-  mine_inner : (level : ℕ) (header : Header) (pointers : List Pointer) → told land.blocks.draft history at ≡ Some (Inner header pointers) → header.level ≡ level
+  pub mine-inner : (level : ℕ) (header : Header) (pointers : List Pointer) → told land.blocks.draft history at ≡ Some (Inner header pointers) → header.level ≡ level
       → (mine : Header) × (owned.mine ≡ Inner mine pointers) × (IsMember tree (super_of root land.blocks.draft) level header → IsMember tree (super_of root land.blocks.draft) level mine)
-  mine_inner level header pointers there high =
+  mine-inner level header pointers there high =
       let one : owned.node ≡ Inner header pointers = sym (owned.alone (Inner header pointers) there) in
       elim owned.same [
         | inl kept ↦ (header, kept.0 ∙ one, λ member. member)
@@ -104,10 +104,10 @@ module _ (tree : Tree) (root : Root) (land new : Ground) (history : Option (List
       → IsBranch tree (super_of root land.blocks.draft) (told new.blocks.draft history) level now items
   unfolding IsBranch
   owned-branch zero items branch free =
-      let leaf = mine_leaf branch.0 items branch.1 branch.2.levelled in
+      let leaf = mine-leaf branch.0 items branch.1 branch.2.levelled in
       (leaf.0, mine-told ∙ ap Some leaf.1, leaf.2 branch.2)
   owned-branch (suc level) items branch free =
-      let inner = mine_inner (suc level) branch.0 branch.1 branch.2 branch.3.levelled in (
+      let inner = mine-inner (suc level) branch.0 branch.1 branch.2 branch.3.levelled in (
         inner.0,
         branch.1,
         mine-told ∙ ap Some inner.1,
@@ -124,7 +124,7 @@ module _ (tree : Tree) (root : Root) (land new : Ground) (history : Option (List
   owned-reach zero items branch free q reaches = inl reaches
   owned-reach (suc level) items branch free q (inl here) = inl here
   owned-reach (suc level) items branch free q (inr (node, is, place, pointer, there, reaches)) =
-      let inner = mine_inner (suc level) branch.0 branch.1 branch.2 branch.3.levelled in
+      let inner = mine-inner (suc level) branch.0 branch.1 branch.2 branch.3.levelled in
       let one : Some node ≡ Some (Inner inner.0 branch.1) = sym is ∙ mine-told ∙ ap Some inner.1 in
       let same : node ≡ Inner inner.0 branch.1 = cc in
       let at_place : slice_get branch.1 place ≡ Some pointer = subst (λ (n : Node). slice_get (own_pointers n) place ≡ Some pointer) same there in
