@@ -40,3 +40,4 @@ pub mod InFront
 pub mod Around
 pub mod PlacedBehind
 pub mod LeafEdited
+pub mod AroundEdited
