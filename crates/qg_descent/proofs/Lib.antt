@@ -41,3 +41,4 @@ pub mod Around
 pub mod PlacedBehind
 pub mod LeafEdited
 pub mod AroundEdited
+pub mod Inner

@@ -38,11 +38,11 @@ impl Tree {
         requires editable { IsEditable land.old (D.history disk.old) (D.size disk.old) self.now.next }
         requires stands { B.stands book.old land.old disk.old }
         requires makes { CanMake P.tree self.now }
-        requires slots { 2 * (level + 1) ≤ free_slots land.old.space }
+        requires slots { 3 * (level + 1) ≤ free_slots land.old.space }
         requires levelled { way.expected.level ≡ Some level }
         requires short { IsShort edit.change }
         ensures stood { IfOk result (λ instead. StandsInstead land.new level instead) }
-        ensures moves { OnOk result (Moves (2 * (level + 1)) level land.old land.new) }
+        ensures moves { OnOk result (Moves (3 * (level + 1)) level land.old land.new) }
         ensures edited { (items : List ItemValue) → IsPartFit P.tree self.now land.old (D.history disk.old) level way.expected way.address edit items
             → IfOk result (λ instead. IsPartEdited P.tree self.now land.old land.new (D.history disk.old) level way.address edit items instead) }
         ensures sound { (events : List Event) → D.history disk.old ≡ Some events → (items : List ItemValue)

@@ -1,0 +1,126 @@
+use Rattle.std.proofs.Common.{◌≡◌, ℕ, suc, ◌+◌, ◌-◌, ◌*◌, ◌≤◌, ◌<◌, arith, refl, sym, ap, subst, ◌∙◌}
+use Rattle.std.specs.Prelude.{IfOk, IsTrue, List, None, Option, Some, length, map}
+use Rattle.std.proofs.Math.Nat.{mul-suc}
+use Rattle.std.proofs.lemmas.Result.{IfOk-weaker, err_from_is_err_and, on_ok_weaker}
+use Rattle.qg_node.specs.declared.node.Node.{Node}
+use Rattle.qg_node.specs.declared.pointer.Pointer.{Pointer}
+use Rattle.qg_node.specs.Nodes.{header_of, is_ascending, own_pointers}
+use Rattle.qg_shape.specs.Parts.{IsInner}
+use Rattle.qg_space.specs.Holding.{free_slots}
+use Rattle.qg_blocks.proofs.Telling.{fresh-held}
+use Rattle.qg_blocks.specs.Told.{told}
+use Rattle.qg_descent.specs.declared.instead.Instead.{Instead}
+use Rattle.qg_descent.specs.Tree.{super_of}
+use Rattle.qg_descent.proofs.Inner.{inner-ascending, inner-here, inner-some, place-inside}
+use Rattle.qg_descent.proofs.Paired.{owned-levelled}
+use Rattle.qg_descent.proofs.Rejoined.{unbroken-other}
+use Rattle.qg_descent.proofs.Served.{node-drafted}
+use Rattle.qg_descent.proofs.tree.Tree.+edit_under.Goals as goal
+
+pub returns-in_err-now-clause-sound : goal.returns-in_err-now-clause-sound
+returns-in_err-now-clause-sound g t c = ?
+
+pub place_for-place-requires-clause-inner : goal.place_for-place-requires-clause-inner
+place_for-place-requires-clause-inner g t c =
+    let owned = c.in_ok-now.ensures.owned in
+    let levelled = owned-levelled g.P.TreePart.tree c.args.self.now c.args.land.now c.own.new.land (g.D.Disk.history c.args.disk.now) c.args.way.expected c.args.way.address c.in_ok-now.now owned c.args.level c.requires.levelled in
+    let same : c.peek.result.now ≡ owned.mine = fresh-held c.own.new.land.blocks c.in_ok-now.now owned.mine c.peek.result.now owned.here c.peek.ensures in
+    let sound = node-drafted c.own.new.land c.args.self.now.next c.in_ok-now.now owned.mine c.own.ensures.rests.drafted owned.here in
+    subst (λ (n : Node). IsInner n) (sym same) (inner-here owned.mine sound.levelled (omega (arith, levelled)))
+
+pub place_for-place-requires-clause-some : goal.place_for-place-requires-clause-some
+place_for-place-requires-clause-some g t c =
+    let owned = c.in_ok-now.ensures.owned in
+    let levelled = owned-levelled g.P.TreePart.tree c.args.self.now c.args.land.now c.own.new.land (g.D.Disk.history c.args.disk.now) c.args.way.expected c.args.way.address c.in_ok-now.now owned c.args.level c.requires.levelled in
+    let same : c.peek.result.now ≡ owned.mine = fresh-held c.own.new.land.blocks c.in_ok-now.now owned.mine c.peek.result.now owned.here c.peek.ensures in
+    let sound = node-drafted c.own.new.land c.args.self.now.next c.in_ok-now.now owned.mine c.own.ensures.rests.drafted owned.here in
+    subst (λ (n : Node). 0 < length (own_pointers n)) (sym same) (inner-some owned.mine sound.levelled (omega (arith, levelled)))
+
+pub place_for-place-requires-clause-ascending : goal.place_for-place-requires-clause-ascending
+place_for-place-requires-clause-ascending g t c =
+    let owned = c.in_ok-now.ensures.owned in
+    let levelled = owned-levelled g.P.TreePart.tree c.args.self.now c.args.land.now c.own.new.land (g.D.Disk.history c.args.disk.now) c.args.way.expected c.args.way.address c.in_ok-now.now owned c.args.level c.requires.levelled in
+    let same : c.peek.result.now ≡ owned.mine = fresh-held c.own.new.land.blocks c.in_ok-now.now owned.mine c.peek.result.now owned.here c.peek.ensures in
+    let sound = node-drafted c.own.new.land c.args.self.now.next c.in_ok-now.now owned.mine c.own.ensures.rests.drafted owned.here in
+    subst (λ (n : Node). IsTrue (is_ascending (map (λ (p : Pointer). p.key) (own_pointers n)))) (sym same)
+    (inner-ascending owned.mine sound.levelled (omega (arith, levelled)) sound.ascending)
+
+pub returns-in_err-child-clause-sound : goal.returns-in_err-child-clause-sound
+returns-in_err-child-clause-sound g t c = ?
+
+pub returns-in_err-child-clause-reads : goal.returns-in_err-child-clause-reads
+returns-in_err-child-clause-reads g t c most all =
+    let up : c.args.level ≡ suc (c.args.level - 1) = omega arith in
+    let own = c.own.ensures.reads most all in
+    let below = c.edit_under.ensures.reads most all in
+    let one : (5 + 4 * most) * suc (c.args.level - 1 + 1) ≡ (5 + 4 * most) * (c.args.level - 1 + 1) + (5 + 4 * most) = mul-suc (5 + 4 * most) (c.args.level - 1 + 1) in
+    let whole : (5 + 4 * most) * (c.args.level + 1) ≡ (5 + 4 * most) * suc (c.args.level - 1 + 1) = ap (λ (n : ℕ). (5 + 4 * most) * n) (let e : c.args.level + 1 ≡ suc (c.args.level - 1 + 1) = omega (arith, up) in e) in
+    omega (arith, own, below, one, whole)
+
+pub settle-requires-clause-parent : goal.settle-requires-clause-parent
+settle-requires-clause-parent g t c =
+    let owned = c.in_ok-now.ensures.owned in
+    let levelled = owned-levelled g.P.TreePart.tree c.args.self.now c.args.land.now c.own.new.land (g.D.Disk.history c.args.disk.now) c.args.way.expected c.args.way.address c.in_ok-now.now owned c.args.level c.requires.levelled in
+    let above = c.in_ok-child.ensures.moves.above c.in_ok-now.now owned.mine owned.here (omega (arith, levelled)) in
+    record { node = owned.mine; here = above; levelled = omega (arith, levelled) }
+
+pub settle-requires-clause-inside : goal.settle-requires-clause-inside
+settle-requires-clause-inside g t c node there =
+    let owned = c.in_ok-now.ensures.owned in
+    let levelled = owned-levelled g.P.TreePart.tree c.args.self.now c.args.land.now c.own.new.land (g.D.Disk.history c.args.disk.now) c.args.way.expected c.args.way.address c.in_ok-now.now owned c.args.level c.requires.levelled in
+    let same : c.peek.result.now ≡ owned.mine = fresh-held c.own.new.land.blocks c.in_ok-now.now owned.mine c.peek.result.now owned.here c.peek.ensures in
+    let above = c.in_ok-child.ensures.moves.above c.in_ok-now.now owned.mine owned.here (omega (arith, levelled)) in
+    let that : Some owned.mine ≡ Some node = sym above ∙ there in
+    let one : owned.mine ≡ node = cc in
+    subst (λ (n : Node). c.place_for-place.result < length (own_pointers n)) (same ∙ one) (place-inside (own_pointers c.peek.result.now) c.args.edit.key c.place_for-place.result c.place_for-place.ensures)
+
+pub returns-in_err-rest-clause-sound : goal.returns-in_err-rest-clause-sound
+returns-in_err-rest-clause-sound g t c = ?
+
+pub returns-in_err-rest-clause-reads : goal.returns-in_err-rest-clause-reads
+returns-in_err-rest-clause-reads g t c most all =
+    let up : c.args.level ≡ suc (c.args.level - 1) = omega arith in
+    let own = c.own.ensures.reads most all in
+    let below = c.edit_under.ensures.reads most all in
+    let settled = c.settle.ensures.reads most all in
+    let one : (5 + 4 * most) * suc (c.args.level - 1 + 1) ≡ (5 + 4 * most) * (c.args.level - 1 + 1) + (5 + 4 * most) = mul-suc (5 + 4 * most) (c.args.level - 1 + 1) in
+    let whole : (5 + 4 * most) * (c.args.level + 1) ≡ (5 + 4 * most) * suc (c.args.level - 1 + 1) = ap (λ (n : ℕ). (5 + 4 * most) * n) (let e : c.args.level + 1 ≡ suc (c.args.level - 1 + 1) = omega (arith, up) in e) in
+    omega (arith, own, below, settled, one, whole)
+
+pub place_rest-requires-clause-slots : goal.place_rest-requires-clause-slots
+place_rest-requires-clause-slots g t c =
+    let slots = c.requires.slots in
+    let first = c.in_ok-now.ensures.count in
+    let second = c.in_ok-child.ensures.moves.count in
+    let third = c.in_ok-rest.ensures.moves.count in
+    omega (arith, slots, first, second, third)
+
+pub returns-clause-moves : goal.returns-clause-moves
+returns-clause-moves g t c =
+    let owned = c.in_ok-now.ensures.owned in
+    let levelled = owned-levelled g.P.TreePart.tree c.args.self.now c.args.land.now c.own.new.land (g.D.Disk.history c.args.disk.now) c.args.way.expected c.args.way.address c.in_ok-now.now owned c.args.level c.requires.levelled in
+    let slots = c.requires.slots in
+    let first = c.in_ok-now.ensures.count in
+    let second = c.in_ok-child.ensures.moves.count in
+    let third = c.in_ok-rest.ensures.moves.count in
+    on_ok_weaker c.place_rest.result
+    (λ last. let fourth = last.count in record {
+      count = omega (arith, first, second, third, fourth);
+      above = λ q node here high. last.above q node
+          (c.in_ok-rest.ensures.moves.above q node (c.in_ok-child.ensures.moves.above q node (owned.keeps q node here) (omega (arith, high))) (omega (arith, high))) high;
+    })
+    c.place_rest.ensures.moves
+
+pub returns-clause-edited : goal.returns-clause-edited
+returns-clause-edited g t c = ?
+
+pub returns-clause-reads : goal.returns-clause-reads
+returns-clause-reads g t c most all =
+    let up : c.args.level ≡ suc (c.args.level - 1) = omega arith in
+    let own = c.own.ensures.reads most all in
+    let below = c.edit_under.ensures.reads most all in
+    let settled = c.settle.ensures.reads most all in
+    let placed = c.place_rest.ensures.reads most all in
+    let one : (5 + 4 * most) * suc (c.args.level - 1 + 1) ≡ (5 + 4 * most) * (c.args.level - 1 + 1) + (5 + 4 * most) = mul-suc (5 + 4 * most) (c.args.level - 1 + 1) in
+    let whole : (5 + 4 * most) * (c.args.level + 1) ≡ (5 + 4 * most) * suc (c.args.level - 1 + 1) = ap (λ (n : ℕ). (5 + 4 * most) * n) (let e : c.args.level + 1 ≡ suc (c.args.level - 1 + 1) = omega (arith, up) in e) in
+    omega (arith, own, below, settled, placed, one, whole)
