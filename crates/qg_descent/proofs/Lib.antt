@@ -42,3 +42,4 @@ pub mod PlacedBehind
 pub mod LeafEdited
 pub mod AroundEdited
 pub mod Inner
+pub mod PartEdited
