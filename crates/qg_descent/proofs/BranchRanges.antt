@@ -56,7 +56,7 @@ begin_holds p key [] begins all = absurd begins
 begin_holds p key (item ∷ items) begins all = sym (ap p begins) ∙ (and_parts (p item.key) (list_all (λ (item : Item). p item.key) items) all).0
 
 -- of items that ascend none is less than the first
-begins_from : (key : Key) (items : List Item) → BeginAt key items → is_ascending (keys_of items) ≡ true → all_from (Some key) items ≡ true
+pub begins_from : (key : Key) (items : List Item) → BeginAt key items → is_ascending (keys_of items) ≡ true → all_from (Some key) items ≡ true
 unfolding is_ascending
 begins_from key [] begins ascending = absurd begins
 begins_from key (item ∷ items) begins ascending =
@@ -67,7 +67,7 @@ begins_from key (item ∷ items) begins ascending =
     (all_behind item.key (keys_of items) ascending)))
 
 -- those in front of where others begin are less
-less_before : (key : Key) (first others items : List Item) → items ≡ first ++ others → is_ascending (keys_of items) ≡ true → BeginAt key others → all_to (Some key) first ≡ true
+pub less_before : (key : Key) (first others items : List Item) → items ≡ first ++ others → is_ascending (keys_of items) ≡ true → BeginAt key others → all_to (Some key) first ≡ true
 less_before key first [] items whole ascending begins = absurd begins
 less_before key first (item ∷ others) items whole ascending begins =
     subst (λ (k : Key). all_to (Some k) first ≡ true) begins

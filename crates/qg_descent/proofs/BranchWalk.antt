@@ -17,7 +17,7 @@ use Rattle.qg_descent.proofs.BranchForms.{form-expected, generation-parts, shape
 
 module _ (tree : Tree) (super : Super) (nodes : ℕ → Option Node) where
   -- the node of a level that the walk came to
-  top_under : (level : ℕ) (expected : Expected) (address : ℕ) (items : List Item) → IsUnder tree super nodes level expected address items
+  pub top_under : (level : ℕ) (expected : Expected) (address : ℕ) (items : List Item) → IsUnder tree super nodes level expected address items
       → (node : Node) × (nodes address ≡ Some node) × (form_failure tree super expected address node ≡ None)
   top_under zero expected address items under =
       let leaf = under-leaf tree super nodes expected address items under in (Leaf leaf.header items, leaf.here, leaf.formed)

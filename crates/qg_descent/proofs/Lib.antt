@@ -38,3 +38,4 @@ pub mod RejoinedHolds
 pub mod RejoinedSettled
 pub mod InFront
 pub mod Around
+pub mod PartBelow

@@ -62,7 +62,7 @@ module _ (tree : Tree) (root : Root) (land new : Ground) (history : Option (List
             (made, copy_leaf header items owned.node owned.mine now root.owner root.next one copied.0, λ member. member_made tree root land 0 made makes low refl refl)
       ]
 
-  mine_inner : (level : ℕ) (header : Header) (pointers : List Pointer) → told land.blocks.draft history at ≡ Some (Inner header pointers) → header.level ≡ level
+  pub mine_inner : (level : ℕ) (header : Header) (pointers : List Pointer) → told land.blocks.draft history at ≡ Some (Inner header pointers) → header.level ≡ level
       → (mine : Header) × (owned.mine ≡ Inner mine pointers) × (IsMember tree (super_of root land.blocks.draft) level header → IsMember tree (super_of root land.blocks.draft) level mine)
   mine_inner level header pointers there high =
       let one : owned.node ≡ Inner header pointers = sym (owned.alone (Inner header pointers) there) in
@@ -74,7 +74,7 @@ module _ (tree : Tree) (root : Root) (land new : Ground) (history : Option (List
       ]
 
   -- a node is not reached below itself
-  below_top : (super : Super) (level : ℕ) (header : Header) (pointers : List Pointer) (items : List Item) → told land.blocks.draft history at ≡ Some (Inner header pointers) → header.level ≡ suc level
+  pub below_top : (super : Super) (level : ℕ) (header : Header) (pointers : List Pointer) (items : List Item) → told land.blocks.draft history at ≡ Some (Inner header pointers) → header.level ≡ suc level
       → AreBranches tree super (told land.blocks.draft history) level pointers items
       → (place : ℕ) (pointer : Pointer) → slice_get pointers place ≡ Some pointer → (q : ℕ) → Reaches (told land.blocks.draft history) level pointer.child q → q ≢ at
   below_top super level header pointers items here high each place pointer there q reaches same =
@@ -88,7 +88,7 @@ module _ (tree : Tree) (root : Root) (land new : Ground) (history : Option (List
       omega (arith, level_is, upto)
 
   -- nothing that is reached below the node is the one that is owned
-  below_apart : (level : ℕ) (header : Header) (pointers : List Pointer) (items : List Item) → told land.blocks.draft history at ≡ Some (Inner header pointers) → header.level ≡ suc level
+  pub below_apart : (level : ℕ) (header : Header) (pointers : List Pointer) (items : List Item) → told land.blocks.draft history at ≡ Some (Inner header pointers) → header.level ≡ suc level
       → AreBranches tree (super_of root land.blocks.draft) (told land.blocks.draft history) level pointers items
       → ((q : ℕ) → IsTrue (is_free_slot land.space q) → Reaches (told land.blocks.draft history) (suc level) at q → ⊥)
       → (place : ℕ) (pointer : Pointer) → slice_get pointers place ≡ Some pointer → (q : ℕ) → Reaches (told land.blocks.draft history) level pointer.child q → q ≢ now
