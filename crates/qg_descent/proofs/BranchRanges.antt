@@ -56,10 +56,10 @@ begin_holds p key [] begins all = absurd begins
 begin_holds p key (item ∷ items) begins all = sym (ap p begins) ∙ (and_parts (p item.key) (list_all (λ (item : Item). p item.key) items) all).0
 
 -- of items that ascend none is less than the first
-begins_from : (key : Key) (items : List Item) → BeginAt key items → is_ascending (keys_of items) ≡ true → all_from (Some key) items ≡ true
+pub begins-from : (key : Key) (items : List Item) → BeginAt key items → is_ascending (keys_of items) ≡ true → all_from (Some key) items ≡ true
 unfolding is_ascending
-begins_from key [] begins ascending = absurd begins
-begins_from key (item ∷ items) begins ascending =
+begins-from key [] begins ascending = absurd begins
+begins-from key (item ∷ items) begins ascending =
     subst (λ (k : Key). all_from (Some k) (item ∷ items) ≡ true) begins
     (and_from (is_from (Some item.key) item.key) (all_from (Some item.key) items) (not_less_itself item.key)
     (sym (list_all-map (is_from (Some item.key)) (λ (other : Item). other.key) items)
@@ -67,9 +67,9 @@ begins_from key (item ∷ items) begins ascending =
     (all_behind item.key (keys_of items) ascending)))
 
 -- those in front of where others begin are less
-less_before : (key : Key) (first others items : List Item) → items ≡ first ++ others → is_ascending (keys_of items) ≡ true → BeginAt key others → all_to (Some key) first ≡ true
-less_before key first [] items whole ascending begins = absurd begins
-less_before key first (item ∷ others) items whole ascending begins =
+pub less-before : (key : Key) (first others items : List Item) → items ≡ first ++ others → is_ascending (keys_of items) ≡ true → BeginAt key others → all_to (Some key) first ≡ true
+less-before key first [] items whole ascending begins = absurd begins
+less-before key first (item ∷ others) items whole ascending begins =
     subst (λ (k : Key). all_to (Some k) first ≡ true) begins
     (sym (list_all-map (is_to (Some item.key)) (λ (other : Item). other.key) first)
     ∙ all_before (keys_of first) item.key (keys_of others) (parts_of first (item ∷ others) items whole ascending))
@@ -110,7 +110,7 @@ module _ (tree : Tree) (super : Super) (nodes : ℕ → Option Node) where
       → items ≡ first ++ others → is_ascending (keys_of items) ≡ true → all_to to items ≡ true → all_to (next_key to pointers) first ≡ true
   next_to level to first others items [] each whole ascending all = (all-parts (λ (item : Item). is_to to item.key) first others items whole all).0
   next_to level to first others items (next ∷ pointers) each whole ascending all =
-      less_before next.key first others items whole ascending (branches-first tree super nodes level next pointers others each)
+      less-before next.key first others items whole ascending (branches-first tree super nodes level next pointers others each)
 
   -- ---- a node is as the walk expects it
 
@@ -125,7 +125,7 @@ module _ (tree : Tree) (super : Super) (nodes : ℕ → Option Node) where
   begins_told (Some key) level address items branch ascending node is shaped =
       let first = (shape-parts super.nodesize key node shaped).1 in
       let begins = branch-begins tree super nodes level address items branch key node is first in
-      begins_whole key (own_keys node) first (own_all (is_from (Some key)) level address items branch node is (begins_from key items begins ascending))
+      begins_whole key (own_keys node) first (own_all (is_from (Some key)) level address items branch node is (begins-from key items begins ascending))
 
   as_expected : (level : ℕ) (expected : Expected) (address : ℕ) (items : List Item) → IsBranch tree super nodes level address items → is_ascending (keys_of items) ≡ true
       → all_to expected.to items ≡ true → expected.level ≡ Some level → (node : Node) → nodes address ≡ Some node → IsMember tree super level (header_of node)

@@ -17,11 +17,11 @@ use Rattle.qg_descent.proofs.BranchForms.{form-expected, generation-parts, shape
 
 module _ (tree : Tree) (super : Super) (nodes : ℕ → Option Node) where
   -- the node of a level that the walk came to
-  top_under : (level : ℕ) (expected : Expected) (address : ℕ) (items : List Item) → IsUnder tree super nodes level expected address items
+  pub top-under : (level : ℕ) (expected : Expected) (address : ℕ) (items : List Item) → IsUnder tree super nodes level expected address items
       → (node : Node) × (nodes address ≡ Some node) × (form_failure tree super expected address node ≡ None)
-  top_under zero expected address items under =
+  top-under zero expected address items under =
       let leaf = under-leaf tree super nodes expected address items under in (Leaf leaf.header items, leaf.here, leaf.formed)
-  top_under (suc level) expected address items under =
+  top-under (suc level) expected address items under =
       let inner = under-inner tree super nodes level expected address items under in (Inner inner.header inner.pointers, inner.here, inner.formed)
 
   member_of : (level : ℕ) (expected : Expected) (address : ℕ) (node : Node) → expected.level ≡ Some level → form_failure tree super expected address node ≡ None
@@ -38,7 +38,7 @@ module _ (tree : Tree) (super : Super) (nodes : ℕ → Option Node) where
       → IsUnder tree super nodes level (expected_below level to pointer pointers) pointer.child items → IsPointed super nodes pointer
   pointed-under level to pointer pointers items under =
       let expected = expected_below level to pointer pointers in
-      let top = top_under level expected pointer.child items under in
+      let top = top-under level expected pointer.child items under in
       let is = form-expected tree super expected pointer.child top.0 top.2 in
       let shape = shape-parts super.nodesize pointer.key top.0 is.shaped in
       let told = (generation-parts super.generation (Some pointer.generation) (header_of top.0).generation is.generation).0 in

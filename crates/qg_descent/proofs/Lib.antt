@@ -43,3 +43,4 @@ pub mod LeafEdited
 pub mod AroundEdited
 pub mod Inner
 pub mod PartEdited
+pub mod PartBelow

@@ -74,10 +74,10 @@ module _ (tree : Tree) (root : Root) (land new : Ground) (history : Option (List
       ]
 
   -- a node is not reached below itself
-  below_top : (super : Super) (level : ℕ) (header : Header) (pointers : List Pointer) (items : List Item) → told land.blocks.draft history at ≡ Some (Inner header pointers) → header.level ≡ suc level
+  pub below-top : (super : Super) (level : ℕ) (header : Header) (pointers : List Pointer) (items : List Item) → told land.blocks.draft history at ≡ Some (Inner header pointers) → header.level ≡ suc level
       → AreBranches tree super (told land.blocks.draft history) level pointers items
       → (place : ℕ) (pointer : Pointer) → slice_get pointers place ≡ Some pointer → (q : ℕ) → Reaches (told land.blocks.draft history) level pointer.child q → q ≢ at
-  below_top super level header pointers items here high each place pointer there q reaches same =
+  below-top super level header pointers items here high each place pointer there q reaches same =
       let under = each-get (λ (p : Pointer) (xs : List Item). IsPointed super (told land.blocks.draft history) p × IsBranch tree super (told land.blocks.draft history) level p.child xs)
       pointers items each place pointer there in
       let low = branch-level tree super (told land.blocks.draft history) level pointer.child under.0 under.2.1 q reaches in
@@ -88,13 +88,13 @@ module _ (tree : Tree) (root : Root) (land new : Ground) (history : Option (List
       omega (arith, level_is, upto)
 
   -- nothing that is reached below the node is the one that is owned
-  below_apart : (level : ℕ) (header : Header) (pointers : List Pointer) (items : List Item) → told land.blocks.draft history at ≡ Some (Inner header pointers) → header.level ≡ suc level
+  pub below-apart : (level : ℕ) (header : Header) (pointers : List Pointer) (items : List Item) → told land.blocks.draft history at ≡ Some (Inner header pointers) → header.level ≡ suc level
       → AreBranches tree (super_of root land.blocks.draft) (told land.blocks.draft history) level pointers items
       → ((q : ℕ) → IsTrue (is_free_slot land.space q) → Reaches (told land.blocks.draft history) (suc level) at q → ⊥)
       → (place : ℕ) (pointer : Pointer) → slice_get pointers place ≡ Some pointer → (q : ℕ) → Reaches (told land.blocks.draft history) level pointer.child q → q ≢ now
   unfolding Reaches
-  below_apart level header pointers items here high each free place pointer there q reaches same = elim owned.same [
-    | inl kept ↦ below_top (super_of root land.blocks.draft) level header pointers items here high each place pointer there q reaches (same ∙ kept.1)
+  below-apart level header pointers items here high each free place pointer there q reaches same = elim owned.same [
+    | inl kept ↦ below-top (super_of root land.blocks.draft) level header pointers items here high each place pointer there q reaches (same ∙ kept.1)
     | inr copied ↦ free q (subst (λ (a : ℕ). IsTrue (is_free_slot land.space a)) (sym same) copied.1) (inr (Inner header pointers, here, place, pointer, there, reaches))
   ]
 
@@ -113,7 +113,7 @@ module _ (tree : Tree) (root : Root) (land new : Ground) (history : Option (List
         mine-told ∙ ap Some inner.1,
         inner.2 branch.3,
         branches-same tree (super_of root land.blocks.draft) (told land.blocks.draft history) (told new.blocks.draft history) level branch.1 items branch.4
-            (λ place pointer there q reaches. owned.others history q (below_apart level branch.0 branch.1 items branch.2 branch.3.levelled branch.4 free place pointer there q reaches)),
+            (λ place pointer there q reaches. owned.others history q (below-apart level branch.0 branch.1 items branch.2 branch.3.levelled branch.4 free place pointer there q reaches)),
       )
 
   -- and the same is reached from it, but for itself
@@ -129,8 +129,8 @@ module _ (tree : Tree) (root : Root) (land new : Ground) (history : Option (List
       let same : node ≡ Inner inner.0 branch.1 = cc in
       let at_place : slice_get branch.1 place ≡ Some pointer = subst (λ (n : Node). slice_get (own_pointers n) place ≡ Some pointer) same there in
       let was = reach-same (told land.blocks.draft history) (told new.blocks.draft history) level pointer.child
-      (λ r below. owned.others history r (below_apart level branch.0 branch.1 items branch.2 branch.3.levelled branch.4 free place pointer at_place r below)) q reaches in
+      (λ r below. owned.others history r (below-apart level branch.0 branch.1 items branch.2 branch.3.levelled branch.4 free place pointer at_place r below)) q reaches in
       inr (
         inr (Inner branch.0 branch.1, branch.2, place, pointer, at_place, was),
-        below_top (super_of root land.blocks.draft) level branch.0 branch.1 items branch.2 branch.3.levelled branch.4 place pointer at_place q was,
+        below-top (super_of root land.blocks.draft) level branch.0 branch.1 items branch.2 branch.3.levelled branch.4 place pointer at_place q was,
       )
