@@ -44,3 +44,5 @@ pub mod AroundEdited
 pub mod Inner
 pub mod PartEdited
 pub mod PartBelow
+pub mod Descended
+pub mod Handed

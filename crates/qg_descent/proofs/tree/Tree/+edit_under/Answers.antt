@@ -1,5 +1,5 @@
-use Rattle.std.proofs.Common.{◌≡◌, ℕ, suc, ◌+◌, ◌-◌, ◌*◌, ◌≤◌, ◌<◌, arith, refl, sym, ap, subst, ◌∙◌}
-use Rattle.std.specs.Prelude.{IfOk, IsTrue, List, None, Option, Some, length, map}
+use Rattle.std.proofs.Common.{◌≡◌, ℕ, suc, ◌+◌, ◌-◌, ◌*◌, ◌≤◌, ◌<◌, ◌++◌, arith, refl, sym, ap, subst, ◌∙◌}
+use Rattle.std.specs.Prelude.{Err, IfOk, IsTrue, List, None, Option, Some, length, map}
 use Rattle.std.proofs.Math.Nat.{mul-suc}
 use Rattle.std.proofs.lemmas.Result.{IfOk-weaker, err_from_is_err_and, on_ok_weaker}
 use Rattle.qg_node.specs.declared.node.Node.{Node}
@@ -11,6 +11,13 @@ use Rattle.qg_blocks.proofs.Telling.{fresh-held}
 use Rattle.qg_blocks.specs.Told.{told}
 use Rattle.qg_descent.specs.declared.instead.Instead.{Instead}
 use Rattle.qg_descent.specs.Tree.{super_of}
+use Rattle.qg_device.specs.History.{Event}
+use Rattle.qg_node.specs.declared.node.Node.TheVariants.{Inner}
+use Rattle.qg_shape.specs.Places.{LeadsTo}
+use Rattle.qg_descent.specs.Editing.{IsPartEdited, IsPartFit, IsSettled, IsUnsettled, IsWayAt}
+use Rattle.qg_descent.proofs.Descended.{descended-edited, descended-fit, descended-items, descended-mine, descended-unsettled}
+use Rattle.qg_descent.proofs.Handed.{child-edited, settle-settled, settle-sound}
+use Rattle.qg_descent.proofs.PartBelow.{fit-inner, fit-there}
 use Rattle.qg_descent.proofs.Inner.{inner-ascending, inner-here, inner-some, place-inside}
 use Rattle.qg_descent.proofs.Paired.{owned-levelled}
 use Rattle.qg_descent.proofs.Rejoined.{unbroken-other}
@@ -18,7 +25,14 @@ use Rattle.qg_descent.proofs.Served.{node-drafted}
 use Rattle.qg_descent.proofs.tree.Tree.+edit_under.Goals as goal
 
 pub returns-in_err-now-clause-sound : goal.returns-in_err-now-clause-sound
-returns-in_err-now-clause-sound g t c = ?
+returns-in_err-now-clause-sound g t c events told_is items fit =
+    let p = err_from_is_err_and c.from_residual.result c.from_residual.ensures.1 in
+    let up : c.args.level ≡ suc (c.args.level - 1) = omega arith in
+    let fit_up : IsPartFit g.P.TreePart.tree c.args.self.now c.args.land.now (g.D.Disk.history c.args.disk.now) (suc (c.args.level - 1)) c.args.way.expected c.args.way.address c.args.edit items =
+    subst (λ (n : ℕ). IsPartFit g.P.TreePart.tree c.args.self.now c.args.land.now (g.D.Disk.history c.args.disk.now) n c.args.way.expected c.args.way.address c.args.edit items) up fit in
+    let inner = fit-inner g.P.TreePart.tree c.args.self.now c.args.land.now (g.D.Disk.history c.args.disk.now) (c.args.level - 1) c.args.way.expected c.args.way.address c.args.edit items fit_up in
+    let there = fit-there g.P.TreePart.tree c.args.self.now c.args.land.now (g.D.Disk.history c.args.disk.now) (c.args.level - 1) c.args.way.expected c.args.way.address c.args.edit items fit_up inner.0 inner.1 inner.2 in
+    rw (p.1, p.2) (unbroken-other ℕ Instead c.in_err-now.field-0.0 (c.in_err-now.ensures.sound (Inner inner.0 inner.1) inner.2 there.0))
 
 pub place_for-place-requires-clause-inner : goal.place_for-place-requires-clause-inner
 place_for-place-requires-clause-inner g t c =
@@ -46,7 +60,21 @@ place_for-place-requires-clause-ascending g t c =
     (inner-ascending owned.mine sound.levelled (omega (arith, levelled)) sound.ascending)
 
 pub returns-in_err-child-clause-sound : goal.returns-in_err-child-clause-sound
-returns-in_err-child-clause-sound g t c = ?
+returns-in_err-child-clause-sound g t c events told_is items fit =
+    let p = err_from_is_err_and c.from_residual-in_err-child.result c.from_residual-in_err-child.ensures.1 in
+    let up : c.args.level ≡ suc (c.args.level - 1) = omega arith in
+    let fit_up : IsPartFit g.P.TreePart.tree c.args.self.now c.args.land.now (g.D.Disk.history c.args.disk.now) (suc (c.args.level - 1)) c.args.way.expected c.args.way.address c.args.edit items =
+    subst (λ (n : ℕ). IsPartFit g.P.TreePart.tree c.args.self.now c.args.land.now (g.D.Disk.history c.args.disk.now) n c.args.way.expected c.args.way.address c.args.edit items) up fit in
+    rw (p.1, p.2) (unbroken-other Instead Instead c.in_err-child.field-0.0
+    (c.in_err-child.ensures.sound events (c.own.ensures.disk.0 ∙ told_is) (descended-mine g.P.TreePart.tree c.args.self.now c.args.land.now c.own.new.land (g.D.Disk.history c.args.disk.now) (c.args.level - 1) c.args.way.expected c.args.way.address c.in_ok-now.now c.args.edit items
+    fit_up c.in_ok-now.ensures.owned c.requires.makes c.requires.editable.drafted c.own.ensures.rests.node_sizes c.peek.result.now c.peek-2.result.now c.peek.ensures c.peek-2.ensures c.place_for-place.result
+    c.place_for-place.ensures c.way_at-below.result c.way_at-below.ensures)
+    (subst (λ (h : Option (List Event)). IsPartFit g.P.TreePart.tree c.args.self.now c.own.new.land h (c.args.level - 1) c.way_at-below.result.expected c.way_at-below.result.address c.args.edit (descended-mine g.P.TreePart.tree c.args.self.now c.args.land.now c.own.new.land (g.D.Disk.history c.args.disk.now) (c.args.level - 1) c.args.way.expected c.args.way.address c.in_ok-now.now c.args.edit items
+    fit_up c.in_ok-now.ensures.owned c.requires.makes c.requires.editable.drafted c.own.ensures.rests.node_sizes c.peek.result.now c.peek-2.result.now c.peek.ensures c.peek-2.ensures c.place_for-place.result
+    c.place_for-place.ensures c.way_at-below.result c.way_at-below.ensures))
+    (sym c.own.ensures.disk.0) (descended-fit g.P.TreePart.tree c.args.self.now c.args.land.now c.own.new.land (g.D.Disk.history c.args.disk.now) (c.args.level - 1) c.args.way.expected c.args.way.address c.in_ok-now.now c.args.edit items
+    fit_up c.in_ok-now.ensures.owned c.requires.makes c.requires.editable.drafted c.own.ensures.rests.node_sizes c.peek.result.now c.peek-2.result.now c.peek.ensures c.peek-2.ensures c.place_for-place.result
+    c.place_for-place.ensures c.way_at-below.result c.way_at-below.ensures))))
 
 pub returns-in_err-child-clause-reads : goal.returns-in_err-child-clause-reads
 returns-in_err-child-clause-reads g t c most all =
@@ -75,7 +103,28 @@ settle-requires-clause-inside g t c node there =
     subst (λ (n : Node). c.place_for-place.result < length (own_pointers n)) (same ∙ one) (place-inside (own_pointers c.peek.result.now) c.args.edit.key c.place_for-place.result c.place_for-place.ensures)
 
 pub returns-in_err-rest-clause-sound : goal.returns-in_err-rest-clause-sound
-returns-in_err-rest-clause-sound g t c = ?
+returns-in_err-rest-clause-sound g t c events told_is items fit =
+    let p = err_from_is_err_and c.from_residual-in_err-rest.result c.from_residual-in_err-rest.ensures.1 in
+    let up : c.args.level ≡ suc (c.args.level - 1) = omega arith in
+    let fit_up : IsPartFit g.P.TreePart.tree c.args.self.now c.args.land.now (g.D.Disk.history c.args.disk.now) (suc (c.args.level - 1)) c.args.way.expected c.args.way.address c.args.edit items =
+    subst (λ (n : ℕ). IsPartFit g.P.TreePart.tree c.args.self.now c.args.land.now (g.D.Disk.history c.args.disk.now) n c.args.way.expected c.args.way.address c.args.edit items) up fit in
+    let edited_child = child-edited g.P.TreePart.tree c.args.self.now c.own.new.land c.edit_under.new.land (c.args.level - 1) c.way_at-below.result c.args.edit (descended-mine g.P.TreePart.tree c.args.self.now c.args.land.now c.own.new.land (g.D.Disk.history c.args.disk.now) (c.args.level - 1) c.args.way.expected c.args.way.address c.in_ok-now.now c.args.edit items
+    fit_up c.in_ok-now.ensures.owned c.requires.makes c.requires.editable.drafted c.own.ensures.rests.node_sizes c.peek.result.now c.peek-2.result.now c.peek.ensures c.peek-2.ensures c.place_for-place.result
+    c.place_for-place.ensures c.way_at-below.result c.way_at-below.ensures)
+    (g.D.Disk.history c.args.disk.now) (g.D.Disk.history c.own.new.disk) c.own.ensures.disk.0 c.in_ok-child.child (descended-fit g.P.TreePart.tree c.args.self.now c.args.land.now c.own.new.land (g.D.Disk.history c.args.disk.now) (c.args.level - 1) c.args.way.expected c.args.way.address c.in_ok-now.now c.args.edit items
+    fit_up c.in_ok-now.ensures.owned c.requires.makes c.requires.editable.drafted c.own.ensures.rests.node_sizes c.peek.result.now c.peek-2.result.now c.peek.ensures c.peek-2.ensures c.place_for-place.result
+    c.place_for-place.ensures c.way_at-below.result c.way_at-below.ensures)
+    c.in_ok-child.ensures.edited in
+    rw (p.1, p.2) (unbroken-other (Option Node) Instead c.in_err-rest.field-0.0
+    (settle-sound g.P.TreePart.tree c.args.self.now c.edit_under.new.land (c.args.level - 1) c.in_ok-now.now c.args.way.expected.to c.place_for-place.result c.in_ok-child.child (g.D.Disk.history c.args.disk.now) (g.D.Disk.history c.edit_under.new.disk) (c.edit_under.ensures.disk.0 ∙ c.own.ensures.disk.0)
+    (Err c.in_err-rest.field-0.0) events told_is c.in_err-rest.ensures.sound (descended-items g.P.TreePart.tree c.args.self.now c.args.land.now c.own.new.land (g.D.Disk.history c.args.disk.now) (c.args.level - 1) c.args.way.expected c.args.way.address c.in_ok-now.now c.args.edit items
+    fit_up c.in_ok-now.ensures.owned c.requires.makes c.requires.editable.drafted c.own.ensures.rests.node_sizes c.peek.result.now c.peek-2.result.now c.peek.ensures c.peek-2.ensures c.place_for-place.result
+    c.place_for-place.ensures c.way_at-below.result c.way_at-below.ensures
+    c.edit_under.new.land c.in_ok-child.child edited_child c.in_ok-child.ensures.moves.above c.edit_under.ensures.rests.node_sizes c.requires.short)
+    (descended-unsettled g.P.TreePart.tree c.args.self.now c.args.land.now c.own.new.land (g.D.Disk.history c.args.disk.now) (c.args.level - 1) c.args.way.expected c.args.way.address c.in_ok-now.now c.args.edit items
+    fit_up c.in_ok-now.ensures.owned c.requires.makes c.requires.editable.drafted c.own.ensures.rests.node_sizes c.peek.result.now c.peek-2.result.now c.peek.ensures c.peek-2.ensures c.place_for-place.result
+    c.place_for-place.ensures c.way_at-below.result c.way_at-below.ensures
+    c.edit_under.new.land c.in_ok-child.child edited_child c.in_ok-child.ensures.moves.above c.edit_under.ensures.rests.node_sizes c.requires.short)))
 
 pub returns-in_err-rest-clause-reads : goal.returns-in_err-rest-clause-reads
 returns-in_err-rest-clause-reads g t c most all =
@@ -112,7 +161,36 @@ returns-clause-moves g t c =
     c.place_rest.ensures.moves
 
 pub returns-clause-edited : goal.returns-clause-edited
-returns-clause-edited g t c = ?
+returns-clause-edited g t c items fit =
+    let up : c.args.level ≡ suc (c.args.level - 1) = omega arith in
+    let fit_up : IsPartFit g.P.TreePart.tree c.args.self.now c.args.land.now (g.D.Disk.history c.args.disk.now) (suc (c.args.level - 1)) c.args.way.expected c.args.way.address c.args.edit items =
+    subst (λ (n : ℕ). IsPartFit g.P.TreePart.tree c.args.self.now c.args.land.now (g.D.Disk.history c.args.disk.now) n c.args.way.expected c.args.way.address c.args.edit items) up fit in
+    let edited_child = child-edited g.P.TreePart.tree c.args.self.now c.own.new.land c.edit_under.new.land (c.args.level - 1) c.way_at-below.result c.args.edit (descended-mine g.P.TreePart.tree c.args.self.now c.args.land.now c.own.new.land (g.D.Disk.history c.args.disk.now) (c.args.level - 1) c.args.way.expected c.args.way.address c.in_ok-now.now c.args.edit items
+    fit_up c.in_ok-now.ensures.owned c.requires.makes c.requires.editable.drafted c.own.ensures.rests.node_sizes c.peek.result.now c.peek-2.result.now c.peek.ensures c.peek-2.ensures c.place_for-place.result
+    c.place_for-place.ensures c.way_at-below.result c.way_at-below.ensures)
+    (g.D.Disk.history c.args.disk.now) (g.D.Disk.history c.own.new.disk) c.own.ensures.disk.0 c.in_ok-child.child (descended-fit g.P.TreePart.tree c.args.self.now c.args.land.now c.own.new.land (g.D.Disk.history c.args.disk.now) (c.args.level - 1) c.args.way.expected c.args.way.address c.in_ok-now.now c.args.edit items
+    fit_up c.in_ok-now.ensures.owned c.requires.makes c.requires.editable.drafted c.own.ensures.rests.node_sizes c.peek.result.now c.peek-2.result.now c.peek.ensures c.peek-2.ensures c.place_for-place.result
+    c.place_for-place.ensures c.way_at-below.result c.way_at-below.ensures)
+    c.in_ok-child.ensures.edited in
+    let un = descended-unsettled g.P.TreePart.tree c.args.self.now c.args.land.now c.own.new.land (g.D.Disk.history c.args.disk.now) (c.args.level - 1) c.args.way.expected c.args.way.address c.in_ok-now.now c.args.edit items
+    fit_up c.in_ok-now.ensures.owned c.requires.makes c.requires.editable.drafted c.own.ensures.rests.node_sizes c.peek.result.now c.peek-2.result.now c.peek.ensures c.peek-2.ensures c.place_for-place.result
+    c.place_for-place.ensures c.way_at-below.result c.way_at-below.ensures
+    c.edit_under.new.land c.in_ok-child.child edited_child c.in_ok-child.ensures.moves.above c.edit_under.ensures.rests.node_sizes c.requires.short in
+    let settled = settle-settled g.P.TreePart.tree c.args.self.now c.edit_under.new.land c.settle.new.land (c.args.level - 1) c.in_ok-now.now c.args.way.expected.to c.place_for-place.result c.in_ok-child.child (g.D.Disk.history c.args.disk.now) (g.D.Disk.history c.edit_under.new.disk) (c.edit_under.ensures.disk.0 ∙ c.own.ensures.disk.0)
+    c.in_ok-rest.rest c.in_ok-rest.ensures.settled (descended-items g.P.TreePart.tree c.args.self.now c.args.land.now c.own.new.land (g.D.Disk.history c.args.disk.now) (c.args.level - 1) c.args.way.expected c.args.way.address c.in_ok-now.now c.args.edit items
+    fit_up c.in_ok-now.ensures.owned c.requires.makes c.requires.editable.drafted c.own.ensures.rests.node_sizes c.peek.result.now c.peek-2.result.now c.peek.ensures c.peek-2.ensures c.place_for-place.result
+    c.place_for-place.ensures c.way_at-below.result c.way_at-below.ensures
+    c.edit_under.new.land c.in_ok-child.child edited_child c.in_ok-child.ensures.moves.above c.edit_under.ensures.rests.node_sizes c.requires.short) un in
+    let last = rw c.next.ensures at c.place_rest.ensures.rests in
+    IfOk-weaker c.place_rest.result _ _
+    (λ instead placed. subst (λ (n : ℕ). IsPartEdited g.P.TreePart.tree c.args.self.now c.args.land.now c.place_rest.new.land (g.D.Disk.history c.args.disk.now) n c.args.way.address c.args.edit items instead) (sym up)
+    (descended-edited g.P.TreePart.tree c.args.self.now c.args.land.now c.own.new.land (g.D.Disk.history c.args.disk.now) (c.args.level - 1) c.args.way.expected c.args.way.address c.in_ok-now.now c.args.edit items
+    fit_up c.in_ok-now.ensures.owned c.requires.makes c.requires.editable.drafted c.own.ensures.rests.node_sizes c.peek.result.now c.peek-2.result.now c.peek.ensures c.peek-2.ensures c.place_for-place.result
+    c.place_for-place.ensures c.way_at-below.result c.way_at-below.ensures
+    c.edit_under.new.land c.in_ok-child.child edited_child c.in_ok-child.ensures.moves.above c.edit_under.ensures.rests.node_sizes c.requires.short
+    c.settle.new.land c.place_rest.new.land (g.D.Disk.history c.own.new.disk) (g.D.Disk.history c.edit_under.new.disk) (g.D.Disk.history c.settle.new.disk) (g.D.Disk.history c.place_rest.new.disk) c.in_ok-rest.rest instead settled placed
+    c.own.ensures.rests c.edit_under.ensures.rests c.settle.ensures.rests last))
+    c.place_rest.ensures.placed
 
 pub returns-clause-reads : goal.returns-clause-reads
 returns-clause-reads g t c most all =
