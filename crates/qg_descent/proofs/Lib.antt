@@ -46,3 +46,4 @@ pub mod PartEdited
 pub mod PartBelow
 pub mod Descended
 pub mod Handed
+pub mod Fitting

@@ -15,7 +15,7 @@ use Rattle.qg_blocks.specs.Told.{fresh_at}
 use Rattle.qg_ground.specs.declared.ground.Ground.{Ground}
 use Rattle.qg_ground.specs.Land.{IsDrafted}
 use Rattle.qg_descent.specs.declared.instead.Instead.{Instead}
-use Rattle.qg_descent.specs.Editing.{IsFreshOn, IsNamed, OfEach, StandsInstead}
+use Rattle.qg_descent.specs.Editing.{IsFreshOn, IsNamed, OfEach, StandsInstead, slots_for}
 
 size_served : (sizes : Sizes) → is_served sizes ≡ true → IsNodeSize sizes.nodesize
 unfolding is_served
@@ -75,3 +75,14 @@ pub places-few : (size : ℕ) (node : Node) → IsNodeSize size → IsNode size 
 places-few size (Leaf header items) sized sound = omega arith
 places-few size (Inner header pointers) (inl small) sound = let fits = sound.fits in omega (arith, small, fits)
 places-few size (Inner header pointers) (inr large) sound = let fits = sound.fits in omega (arith, large, fits)
+
+-- ---- the rest of a node takes one slot at most
+
+pub slots-most : (rest : Option Node) → slots_for rest ≤ 1
+slots-most None = omega arith
+slots-most (Some node) = omega arith
+
+-- and where there is none, it takes none
+pub slots-none : (rest : Option Node) → rest ≡ None → slots_for rest ≡ 0
+slots-none None none = λ i. 0
+slots-none (Some node) none = absurd cc

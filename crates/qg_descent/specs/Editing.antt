@@ -246,6 +246,11 @@ pub record Moves (most level : ℕ) (old new : Ground) : Type 0 where
   pub count : free_slots old.space ≤ most + free_slots new.space
   pub above : KeepsAbove level old new
 
+-- the slots that the rest of a node needs
+abbrev pub slots_for : Option Node → ℕ
+slots_for None = 0
+slots_for (Some rest) = 1
+
 -- ---- a child was edited, and its node is not yet
 
 -- an address is reached from what stands in a child's place, or from another child

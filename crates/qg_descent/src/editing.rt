@@ -42,7 +42,7 @@ impl Tree {
         requires levelled { way.expected.level ≡ Some level }
         requires short { IsShort edit.change }
         ensures stood { IfOk result (λ instead. StandsInstead land.new level instead) }
-        ensures moves { OnOk result (Moves (3 * (level + 1)) level land.old land.new) }
+        ensures moves { OnOk result (Moves (2 * (level + 1)) level land.old land.new) }
         ensures edited { (items : List ItemValue) → IsPartFit P.tree self.now land.old (D.history disk.old) level way.expected way.address edit items
             → IfOk result (λ instead. IsPartEdited P.tree self.now land.old land.new (D.history disk.old) level way.address edit items instead) }
         ensures sound { (events : List Event) → D.history disk.old ≡ Some events → (items : List ItemValue)

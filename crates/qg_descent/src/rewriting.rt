@@ -1,5 +1,5 @@
 // Fresh nodes edited where they lie.
-ghost use Rattle.std.specs.Prelude.{◌≡◌, ◌+◌, ◌-◌, ◌≤◌, ◌≢◌, ℕ, Some, IfOk, IsErrOf, IsSome, IsTrue, length, map};
+ghost use Rattle.std.specs.Prelude.{◌≡◌, ◌+◌, ◌-◌, ◌≤◌, ◌≢◌, ℕ, None, Some, IfOk, IsErrOf, IsSome, IsTrue, length, map};
 ghost use Rattle.qg_node.specs.declared.node.Node.{Node as NodeValue};
 ghost use Rattle.qg_node.specs.Nodes.{header_of, is_ascending, own_items, own_pointers};
 ghost use Rattle.qg_node.specs.NodeText.{IsNode, IsNodeSize};
@@ -57,6 +57,7 @@ pub(crate) fn rewrite_pointers(
         → IfOk result (λ rest. IsCutThere land.old.space.sizes.nodesize land.new at node (with_pointers node (spliced from to new.now (own_pointers node))) rest) }
     ensures sound { (node : NodeValue) → fresh_at land.old.blocks.draft at ≡ Some node
         → IsTrue (is_ascending (map (λ pointer. pointer.key) (spliced from to new.now (own_pointers node)))) → BreaksNone result }
+    ensures fits { length new.now ≤ to - from → IfOk result (λ rest. rest ≡ None) }
     ensures no_disk { IsErrOf result BlockFault.Disk → ⊥ }
 {
     let nodesize = land.blocks.nodesize();

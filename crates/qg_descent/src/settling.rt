@@ -1,5 +1,5 @@
 // A child was edited: the pointers of its node are set, and a child that is not a quarter full is joined with its neighbour.
-ghost use Rattle.std.specs.Prelude.{◌≡◌, ◌≢◌, ◌+◌, ◌*◌, ◌<◌, ◌≤◌, suc, ℕ, List, Option, None, Some, OnOk, IfOk, IsErrOf, IsSome, IsTrue, false, length};
+ghost use Rattle.std.specs.Prelude.{◌≡◌, ◌≢◌, ◌+◌, ◌-◌, ◌*◌, ◌<◌, ◌≤◌, suc, ℕ, List, Option, None, Some, OnOk, IfOk, IsErrOf, IsSome, IsTrue, false, length};
 ghost use Rattle.qg_device.specs.Cause.{HasCause};
 ghost use Rattle.qg_device.specs.History.{Event};
 ghost use Rattle.qg_node.specs.declared.item.Item.{Item as ItemValue};
@@ -15,7 +15,7 @@ ghost use Rattle.qg_shape.specs.Parts.{IsInner};
 ghost use Rattle.qg_blocks.specs.Told.{BreaksNone, fresh_at};
 ghost use Rattle.qg_space.specs.Holding.{free_slots};
 ghost use Rattle.qg_ground.specs.Land.{Rests};
-ghost use Rattle.qg_descent.specs.Editing.{CanLead, CanMake, HasLed, IsEditable, IsFreshOn, IsNamed, IsRewritten, IsSettled, IsUnsettled, Moves, OfEach, RestIsReady, StandsInstead, StaysCut, alone};
+ghost use Rattle.qg_descent.specs.Editing.{CanLead, CanMake, HasLed, IsEditable, IsFreshOn, IsNamed, IsRewritten, IsSettled, IsUnsettled, Moves, OfEach, RestIsReady, StandsInstead, StaysCut, alone, slots_for};
 
 use crate::Tree;
 use crate::instead::Instead;
@@ -55,7 +55,7 @@ impl Tree {
         requires child { StandsInstead land.old level child }
         ensures parent { OnOk result (IsFreshOn land.new (level + 1) at) }
         ensures ready { IfOk result (λ rest. RestIsReady land.old.space.sizes.nodesize (level + 1) self.now.next rest) }
-        ensures moves { OnOk result (Moves 1 (level + 1) land.old land.new) }
+        ensures moves { IfOk result (λ rest. Moves (1 - slots_for rest) (level + 1) land.old land.new) }
         ensures settled { (items : List ItemValue) → (un : IsUnsettled P.tree self.now land.old (D.history disk.old) level at to place child items)
             → IfOk result (λ rest. IsSettled P.tree self.now land.old land.new (D.history disk.old) level at place child un.pointers un.header items rest) }
         ensures sound { (events : List Event) → D.history disk.old ≡ Some events → (items : List ItemValue)
@@ -98,7 +98,7 @@ impl Tree {
         requires thin { (node : NodeValue) → fresh_at land.old.blocks.draft child ≡ Some node → IsThin land.old.space.sizes.nodesize node }
         ensures parent { OnOk result (IsFreshOn land.new (level + 1) at) }
         ensures ready { IfOk result (λ rest. RestIsReady land.old.space.sizes.nodesize (level + 1) self.now.next rest) }
-        ensures moves { OnOk result (Moves 1 (level + 1) land.old land.new) }
+        ensures moves { IfOk result (λ rest. Moves (1 - slots_for rest) (level + 1) land.old land.new) }
         ensures settled { (items : List ItemValue) → (un : IsUnsettled P.tree self.now land.old (D.history disk.old) level at to place (alone child) items)
             → IfOk result (λ rest. IsSettled P.tree self.now land.old land.new (D.history disk.old) level at place (alone child) un.pointers un.header items rest) }
         ensures sound { (events : List Event) → D.history disk.old ≡ Some events → (items : List ItemValue)
@@ -153,6 +153,7 @@ fn lead_to(
         → IfOk result (λ rest. HasLed tree super land.old land.new history level at from to instead pointers header items rest) }
     ensures sound { (tree : TreeValue) (super : SuperValue) (history : Option (List Event)) (level : ℕ) (pointers : List PointerValue) (header : HeaderValue) (items : List ItemValue)
         → CanLead tree super land.old history level at from to instead pointers header items → BreaksNone result }
+    ensures fits { to ≡ from + 2 → IfOk result (λ rest. rest ≡ None) }
     ensures no_disk { IsErrOf result BlockFault.Disk → ⊥ }
 {
     let now = pointer_to(land.blocks.peek(instead.now));

@@ -8,7 +8,7 @@ ghost use Rattle.qg_node.specs.NodeText.{IsNode};
 ghost use Rattle.qg_blocks.specs.Told.{BreaksNone, fresh_at};
 ghost use Rattle.qg_space.specs.Holding.{free_slots};
 ghost use Rattle.qg_ground.specs.Land.{Rests};
-ghost use Rattle.qg_descent.specs.Editing.{IsEditable, IsFreshOn, IsPlacedBehind, Moves, RestIsReady, StandsInstead};
+ghost use Rattle.qg_descent.specs.Editing.{IsEditable, IsFreshOn, IsPlacedBehind, Moves, RestIsReady, StandsInstead, slots_for};
 
 use crate::instead::Instead;
 use qg_disk::Disk;
@@ -35,7 +35,7 @@ pub(crate) fn place_rest<D: Disk, L: Ledger, B: Book<D, L>>(
     requires ready { RestIsReady land.old.space.sizes.nodesize level next rest }
     ensures stood { IfOk result (λ instead. StandsInstead land.new level instead) }
     ensures placed { IfOk result (λ instead. IsPlacedBehind land.old land.new now rest instead) }
-    ensures moves { OnOk result (Moves 1 level land.old land.new) }
+    ensures moves { OnOk result (Moves (slots_for rest) level land.old land.new) }
     ensures rests { Rests land.old land.new (D.history disk.new) next }
     ensures stands { OnOk result (B.stands book.new land.new disk.new) }
     ensures sound { (events : List Event) → D.history disk.old ≡ Some events → BreaksNone result }

@@ -21,7 +21,7 @@ use Rattle.qg_descent.proofs.PartBelow.{fit-inner, fit-there}
 use Rattle.qg_descent.proofs.Inner.{inner-ascending, inner-here, inner-some, place-inside}
 use Rattle.qg_descent.proofs.Paired.{owned-levelled}
 use Rattle.qg_descent.proofs.Rejoined.{unbroken-other}
-use Rattle.qg_descent.proofs.Served.{node-drafted}
+use Rattle.qg_descent.proofs.Served.{node-drafted, slots-most}
 use Rattle.qg_descent.proofs.tree.Tree.+edit_under.Goals as goal
 
 pub returns-in_err-now-clause-sound : goal.returns-in_err-now-clause-sound
@@ -152,9 +152,10 @@ returns-clause-moves g t c =
     let first = c.in_ok-now.ensures.count in
     let second = c.in_ok-child.ensures.moves.count in
     let third = c.in_ok-rest.ensures.moves.count in
+    let most = slots-most c.in_ok-rest.rest in
     on_ok_weaker c.place_rest.result
     (λ last. let fourth = last.count in record {
-      count = omega (arith, first, second, third, fourth);
+      count = omega (arith, first, second, third, fourth, most);
       above = λ q node here high. last.above q node
           (c.in_ok-rest.ensures.moves.above q node (c.in_ok-child.ensures.moves.above q node (owned.keeps q node here) (omega (arith, high))) (omega (arith, high))) high;
     })

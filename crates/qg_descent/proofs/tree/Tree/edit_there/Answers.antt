@@ -18,7 +18,7 @@ use Rattle.qg_descent.proofs.Cutting.{ready-same, rewritten-moves, rewritten-res
 use Rattle.qg_descent.proofs.LeafEdited.{header-with_items, leaf-edited, mine-leaf_is}
 use Rattle.qg_descent.proofs.Paired.{owned-levelled}
 use Rattle.qg_descent.proofs.Rejoined.{unbroken-other}
-use Rattle.qg_descent.proofs.Served.{fresh-leaf, size-drafted}
+use Rattle.qg_descent.proofs.Served.{fresh-leaf, size-drafted, slots-most}
 use Rattle.qg_descent.proofs.Under.{under-leaf}
 use Rattle.qg_descent.proofs.tree.Tree.edit_there.Goals as goal
 
@@ -116,8 +116,9 @@ returns-clause-moves g c =
     let moved = rewritten-moves c.own.new.land c.rewrite_leaf.new.land c.in_ok-now.now c.args.self.now.next owned.mine owned.here rewritten 0 (omega (arith, levelled)) in
     let count = moved.count in
     let taken = c.in_ok-now.ensures.count in
+    let most = slots-most c.in_ok-rest.rest in
     on_ok_weaker c.place_rest.result
-    (λ last. let third = last.count in record { count = omega (arith, count, taken, third); above = λ q node here high. last.above q node (moved.above q node (owned.keeps q node here) high) high })
+    (λ last. let third = last.count in record { count = omega (arith, count, taken, third, most); above = λ q node here high. last.above q node (moved.above q node (owned.keeps q node here) high) high })
     c.place_rest.ensures.moves
 
 pub returns-clause-edited : goal.returns-clause-edited

@@ -16,7 +16,7 @@ use Rattle.qg_descent.proofs.PairedHolds.{pair-front}
 use Rattle.qg_descent.proofs.Rejoined.{rejoined-above, rejoined-count, rejoined-stands, unbroken-other}
 use Rattle.qg_descent.proofs.RejoinedHolds.{rejoined-can}
 use Rattle.qg_descent.proofs.RejoinedSettled.{rejoined-settled}
-use Rattle.qg_descent.proofs.Served.{fresh-inner, instead-named, node-drafted, places-few, size-drafted}
+use Rattle.qg_descent.proofs.Served.{fresh-inner, instead-named, node-drafted, places-few, size-drafted, slots-none}
 use Rattle.qg_descent.proofs.tree.Tree.join_child.Goals as goal
 
 pub returns-in_err-pair-clause-sound : goal.returns-in_err-pair-clause-sound
@@ -136,13 +136,14 @@ returns-clause-moves g c =
     c.own_neighbour.ensures.rests c.requires.child c.requires.thin c.in_ok-instead.ensures.united after in
     let owned = c.in_ok-pair.ensures.count in
     let count = moved.count in
-    ok-known _ c.lead_to.result (record {
-      count = omega (arith, owned, joined, count);
+    IfOk-weaker c.lead_to.result _ _ (λ rest none. let zero_slots = slots-none rest none in record {
+      count = omega (arith, owned, joined, count, zero_slots);
       above = λ q other here high. moved.above q other
           (rejoined-above g.P.TreePart.tree c.args.self.now c.args.land.now c.own_neighbour.new.land c.unite.new.land (g.D.Disk.history c.args.disk.now) (g.D.Disk.history c.own_neighbour.new.disk)
           (g.D.Disk.history c.unite.new.disk) (own_pointers node) c.args.to c.args.level c.args.place c.args.child c.in_ok-pair.pair c.in_ok-instead.instead (c.in_ok-pair.ensures.paired node c.requires.parent.here)
           c.own_neighbour.ensures.rests c.requires.child c.requires.thin c.in_ok-instead.ensures.united after q other here (omega (arith, high))) high;
     })
+    (c.lead_to.ensures.fits refl)
 
 pub returns-clause-settled : goal.returns-clause-settled
 returns-clause-settled g c items un =

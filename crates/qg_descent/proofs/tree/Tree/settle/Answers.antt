@@ -72,7 +72,7 @@ returns-clause-moves g c =
     let moved = rewritten-moves c.args.land.now c.lead_to.new.land c.args.at c.args.self.now.next c.requires.parent.node c.requires.parent.here
     (c.lead_to.ensures.rewritten c.requires.parent.node c.requires.parent.here) (c.args.level + 1) (omega (arith, low)) in
     let count = moved.count in
-    ok-known _ c.lead_to.result (record { count = omega (arith, count); above = moved.above })
+    IfOk-weaker c.lead_to.result _ _ (λ rest cut. record { count = omega (arith, count); above = moved.above }) (c.lead_to.ensures.rest c.requires.parent.node c.requires.parent.here)
 
 pub returns-clause-settled : goal.returns-clause-settled
 returns-clause-settled g c = λ items un.
