@@ -212,88 +212,88 @@ module _ (edit : Edit) (old new : List Item) (is : IsLeafEdited edit old new) wh
 
 module _ (tree : Tree) (root : Root) (mid new : Ground) (history : Option (List Event)) (level at : ℕ) (to : Option Key) (place : ℕ) (edit : Edit) (pointers : List Pointer) (front mine back items : List Item)
     (around : IsAround tree root mid history level at to place edit.key pointers front mine back items) (child_at : ℕ) (child : Instead) (part : IsPartEdited tree root mid new history level child_at edit mine child)
-    where
-  pub edited-whole : IsLeafEdited edit items (front ++ (part.items_new ++ back))
-  edited-whole = leaf-around edit front mine part.items_new back items part.edits around.items_are around.less around.greater
+  where
+    pub edited-whole : IsLeafEdited edit items (front ++ (part.items_new ++ back))
+    edited-whole = leaf-around edit front mine part.items_new back items part.edits around.items_are around.less around.greater
 
-  module _ (leads : Pointer) (there : slice_get pointers place ≡ Some leads) (leads_to : leads.child ≡ child_at) where
-    -- no other child reaches what the child did
-    not_child : (i : ℕ) (pointer : Pointer) → i ≢ place → slice_get pointers i ≡ Some pointer → (q : ℕ) → Reaches (told mid.blocks.draft history) level pointer.child q
-        → Reaches (told mid.blocks.draft history) level child_at q → ⊥
-    not_child i pointer differ at_i q reaches below =
-        around.apart i place pointer leads differ at_i there q reaches (subst (λ (a : ℕ). Reaches (told mid.blocks.draft history) level a q) (sym leads_to) below)
+    module _ (leads : Pointer) (there : slice_get pointers place ≡ Some leads) (leads_to : leads.child ≡ child_at) where
+      -- no other child reaches what the child did
+      not_child : (i : ℕ) (pointer : Pointer) → i ≢ place → slice_get pointers i ≡ Some pointer → (q : ℕ) → Reaches (told mid.blocks.draft history) level pointer.child q
+          → Reaches (told mid.blocks.draft history) level child_at q → ⊥
+      not_child i pointer differ at_i q reaches below =
+          around.apart i place pointer leads differ at_i there q reaches (subst (λ (a : ℕ). Reaches (told mid.blocks.draft history) level a q) (sym leads_to) below)
 
-    -- what it reaches is told as before
-    stays : (i : ℕ) (pointer : Pointer) → i ≢ place → slice_get pointers i ≡ Some pointer → (q : ℕ) → Reaches (told mid.blocks.draft history) level pointer.child q
-        → told new.blocks.draft history q ≡ told mid.blocks.draft history q
-    stays i pointer differ at_i q reaches = part.others q (λ free. around.free q free i pointer at_i reaches) (not_child i pointer differ at_i q reaches)
+      -- what it reaches is told as before
+      stays : (i : ℕ) (pointer : Pointer) → i ≢ place → slice_get pointers i ≡ Some pointer → (q : ℕ) → Reaches (told mid.blocks.draft history) level pointer.child q
+          → told new.blocks.draft history q ≡ told mid.blocks.draft history q
+      stays i pointer differ at_i q reaches = part.others q (λ free. around.free q free i pointer at_i reaches) (not_child i pointer differ at_i q reaches)
 
-    was : (i : ℕ) (pointer : Pointer) → i ≢ place → slice_get pointers i ≡ Some pointer → (q : ℕ) → Reaches (told new.blocks.draft history) level pointer.child q
-        → Reaches (told mid.blocks.draft history) level pointer.child q
-    was i pointer differ at_i = reach-same (told mid.blocks.draft history) (told new.blocks.draft history) level pointer.child (stays i pointer differ at_i)
+      was : (i : ℕ) (pointer : Pointer) → i ≢ place → slice_get pointers i ≡ Some pointer → (q : ℕ) → Reaches (told new.blocks.draft history) level pointer.child q
+          → Reaches (told mid.blocks.draft history) level pointer.child q
+      was i pointer differ at_i = reach-same (told mid.blocks.draft history) (told new.blocks.draft history) level pointer.child (stays i pointer differ at_i)
 
-    before : AreBranches tree (super_of root mid.blocks.draft) (told new.blocks.draft history) level (take place pointers) front
-    before =
-        branches-same tree (super_of root mid.blocks.draft) (told mid.blocks.draft history) (told new.blocks.draft history) level (take place pointers) front around.before
-        (λ i pointer at_i.
-        let found = take-get place pointers i pointer at_i in
-        let low = found.0 in
-        stays i pointer (λ same. omega (arith, same, low)) found.1)
+      before : AreBranches tree (super_of root mid.blocks.draft) (told new.blocks.draft history) level (take place pointers) front
+      before =
+          branches-same tree (super_of root mid.blocks.draft) (told mid.blocks.draft history) (told new.blocks.draft history) level (take place pointers) front around.before
+          (λ i pointer at_i.
+          let found = take-get place pointers i pointer at_i in
+          let low = found.0 in
+          stays i pointer (λ same. omega (arith, same, low)) found.1)
 
-    after : AreBranches tree (super_of root mid.blocks.draft) (told new.blocks.draft history) level (drop (place + 1) pointers) back
-    after =
-        branches-same tree (super_of root mid.blocks.draft) (told mid.blocks.draft history) (told new.blocks.draft history) level (drop (place + 1) pointers) back around.after
-        (λ i pointer at_i.
-        let found = drop-get (place + 1) pointers i pointer at_i in
-        let high = found.1 in
-        stays found.0 pointer (λ same. omega (arith, same, high)) found.2)
+      after : AreBranches tree (super_of root mid.blocks.draft) (told new.blocks.draft history) level (drop (place + 1) pointers) back
+      after =
+          branches-same tree (super_of root mid.blocks.draft) (told mid.blocks.draft history) (told new.blocks.draft history) level (drop (place + 1) pointers) back around.after
+          (λ i pointer at_i.
+          let found = drop-get (place + 1) pointers i pointer at_i in
+          let high = found.1 in
+          stays found.0 pointer (λ same. omega (arith, same, high)) found.2)
 
-    alone : (i : ℕ) (pointer : Pointer) → i ≢ place → slice_get pointers i ≡ Some pointer → (q : ℕ) → Reaches (told new.blocks.draft history) level pointer.child q
-        → ReachesInstead (told new.blocks.draft history) level child q → ⊥
-    alone i pointer differ at_i q reaches of_child = elim (part.reach q of_child) [
-      | inl below ↦ not_child i pointer differ at_i q (was i pointer differ at_i q reaches) below
-      | inr free ↦ around.free q free i pointer at_i (was i pointer differ at_i q reaches)
-    ]
+      alone : (i : ℕ) (pointer : Pointer) → i ≢ place → slice_get pointers i ≡ Some pointer → (q : ℕ) → Reaches (told new.blocks.draft history) level pointer.child q
+          → ReachesInstead (told new.blocks.draft history) level child q → ⊥
+      alone i pointer differ at_i q reaches of_child = elim (part.reach q of_child) [
+        | inl below ↦ not_child i pointer differ at_i q (was i pointer differ at_i q reaches) below
+        | inr free ↦ around.free q free i pointer at_i (was i pointer differ at_i q reaches)
+      ]
 
-    other_free : (i : ℕ) (pointer : Pointer) → i ≢ place → slice_get pointers i ≡ Some pointer → (q : ℕ) → IsTrue (is_free_slot new.space q)
-        → Reaches (told new.blocks.draft history) level pointer.child q → ⊥
-    other_free i pointer differ at_i q free reaches = elim (part.freed q free) [
-      | inl was_free ↦ around.free q was_free i pointer at_i (was i pointer differ at_i q reaches)
-      | inr below ↦ not_child i pointer differ at_i q (was i pointer differ at_i q reaches) below
-    ]
+      other_free : (i : ℕ) (pointer : Pointer) → i ≢ place → slice_get pointers i ≡ Some pointer → (q : ℕ) → IsTrue (is_free_slot new.space q)
+          → Reaches (told new.blocks.draft history) level pointer.child q → ⊥
+      other_free i pointer differ at_i q free reaches = elim (part.freed q free) [
+        | inl was_free ↦ around.free q was_free i pointer at_i (was i pointer differ at_i q reaches)
+        | inr below ↦ not_child i pointer differ at_i q (was i pointer differ at_i q reaches) below
+      ]
 
-    free_parts : (q : ℕ) → IsTrue (is_free_slot new.space q) → ReachesParts (told new.blocks.draft history) level pointers place child q → ⊥
-    free_parts q free (inl of_child) = part.free q free of_child
-    free_parts q free (inr (i, pointer, differ, at_i, reaches)) = other_free i pointer differ at_i q free reaches
+      free_parts : (q : ℕ) → IsTrue (is_free_slot new.space q) → ReachesParts (told new.blocks.draft history) level pointers place child q → ⊥
+      free_parts q free (inl of_child) = part.free q free of_child
+      free_parts q free (inr (i, pointer, differ, at_i, reaches)) = other_free i pointer differ at_i q free reaches
 
-    module _ (above : KeepsAbove level mid new) (sizes : new.blocks.draft.sizes ≡ mid.blocks.draft.sizes) (short : IsShort edit.change) where
-      same_super : super_of root mid.blocks.draft ≡ super_of root new.blocks.draft
-      same_super = ap (λ (n : ℕ). super_for root.next n) (ap (λ (s : _). s.nodesize) (sym sizes))
+      module _ (above : KeepsAbove level mid new) (sizes : new.blocks.draft.sizes ≡ mid.blocks.draft.sizes) (short : IsShort edit.change) where
+        same_super : super_of root mid.blocks.draft ≡ super_of root new.blocks.draft
+        same_super = ap (λ (n : ℕ). super_for root.next n) (ap (λ (s : _). s.nodesize) (sym sizes))
 
-      pub unsettled : IsUnsettled tree root new history level at to place child (front ++ (part.items_new ++ back))
-      unsettled = record {
-        header = around.header;
-        pointers = pointers;
-        here = above at (Inner around.header pointers) around.here (let levelled = around.member.levelled in omega (arith, levelled));
-        member = subst (λ (s : Super). IsMember tree s (suc level) around.header) same_super around.member;
-        inside = around.inside;
-        front = front;
-        mine = part.items_new;
-        back = back;
-        items_are = refl;
-        before = subst (λ (s : Super). AreBranches tree s (told new.blocks.draft history) level (take place pointers) front) same_super before;
-        holds = subst (λ (s : Super). HoldInstead tree s (told new.blocks.draft history) level child part.items_new) same_super part.holds;
-        after = subst (λ (s : Super). AreBranches tree s (told new.blocks.draft history) level (drop (place + 1) pointers) back) same_super after;
-        judged = λ i pointer differ at_i.
-            let judged = around.judged i pointer differ at_i in (
-              judged.0,
-              stays i pointer differ at_i pointer.child (reach-top (told mid.blocks.draft history) level pointer.child) ∙ judged.1,
-              subst (λ (s : Super). form_failure tree s (expected_below level to pointer (drop (i + 1) pointers)) pointer.child judged.0 ≡ None) same_super judged.2,
-            );
-        several = around.several;
-        ascending = leaf-ascends edit items (front ++ (part.items_new ++ back)) edited-whole around.ascending;
-        short = leaf-short edit items (front ++ (part.items_new ++ back)) edited-whole short around.short;
-        apart = λ i j p r not_i not_j differ at_i at_j q reaches reaches'. around.apart i j p r differ at_i at_j q (was i p not_i at_i q reaches) (was j r not_j at_j q reaches');
-        alone = alone;
-        free = free_parts;
-      }
+        pub unsettled : IsUnsettled tree root new history level at to place child (front ++ (part.items_new ++ back))
+        unsettled = record {
+          header = around.header;
+          pointers = pointers;
+          here = above at (Inner around.header pointers) around.here (let levelled = around.member.levelled in omega (arith, levelled));
+          member = subst (λ (s : Super). IsMember tree s (suc level) around.header) same_super around.member;
+          inside = around.inside;
+          front = front;
+          mine = part.items_new;
+          back = back;
+          items_are = refl;
+          before = subst (λ (s : Super). AreBranches tree s (told new.blocks.draft history) level (take place pointers) front) same_super before;
+          holds = subst (λ (s : Super). HoldInstead tree s (told new.blocks.draft history) level child part.items_new) same_super part.holds;
+          after = subst (λ (s : Super). AreBranches tree s (told new.blocks.draft history) level (drop (place + 1) pointers) back) same_super after;
+          judged = λ i pointer differ at_i.
+              let judged = around.judged i pointer differ at_i in (
+                judged.0,
+                stays i pointer differ at_i pointer.child (reach-top (told mid.blocks.draft history) level pointer.child) ∙ judged.1,
+                subst (λ (s : Super). form_failure tree s (expected_below level to pointer (drop (i + 1) pointers)) pointer.child judged.0 ≡ None) same_super judged.2,
+              );
+          several = around.several;
+          ascending = leaf-ascends edit items (front ++ (part.items_new ++ back)) edited-whole around.ascending;
+          short = leaf-short edit items (front ++ (part.items_new ++ back)) edited-whole short around.short;
+          apart = λ i j p r not_i not_j differ at_i at_j q reaches reaches'. around.apart i j p r differ at_i at_j q (was i p not_i at_i q reaches) (was j r not_j at_j q reaches');
+          alone = alone;
+          free = free_parts;
+        }

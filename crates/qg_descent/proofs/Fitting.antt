@@ -1,5 +1,5 @@
 -- Pointers that do not grow in number fit.
-use Rattle.std.proofs.Common.{◌≡◌, ℕ, ◌+◌, ◌-◌, ◌*◌, ◌≤◌, ◌<◌, List, ◌++◌, take, drop, length, arith, refl, sym, ap, subst, ◌∙◌, Option, Some, None}
+use Rattle.std.proofs.Common.{◌≡◌, ℕ, ◌+◌, ◌-◌, ◌≤◌, List, ◌++◌, take, drop, length, arith, refl, Option, Some, None}
 use Rattle.std.specs.Prelude.{◌↔◌, IfOk, IsSome, Result, Ok, Err}
 use Rattle.std.proofs.lemmas.List.{length-append, length-drop, length-take-le}
 use Rattle.qg_num.specs.declared.fault.BlockFault.{BlockFault}

@@ -1,5 +1,5 @@
 -- What is told of a disk before a call holds behind it, where its history is the same.
-use Rattle.std.proofs.Common.{◌≡◌, ℕ, List, sym, subst, ◌∙◌, Option, Some, None}
+use Rattle.std.proofs.Common.{◌≡◌, ℕ, List, sym, subst, ◌∙◌, Option, Some}
 use Rattle.std.specs.Prelude.{Result}
 use Rattle.qg_device.specs.History.{Event}
 use Rattle.qg_num.specs.declared.key.Key.{Key}
@@ -36,4 +36,4 @@ module _ (tree : Tree) (root : Root) (low : Ground) where
       → (items : List Item) (un : IsUnsettled tree root low history level now to place child items) → IsSettled tree root low set history level now place child un.pointers un.header items rest
   settle-settled set level now to place child history later same rest settled =
       subst (λ (h : Option (List Event)). (items : List Item) (un : IsUnsettled tree root low h level now to place child items)
-          → IsSettled tree root low set h level now place child un.pointers un.header items rest) same settled
+      → IsSettled tree root low set h level now place child un.pointers un.header items rest) same settled

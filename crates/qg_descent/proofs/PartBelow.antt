@@ -292,8 +292,7 @@ module _ (tree : Tree) (root : Root) (land : Ground) (history : Option (List Eve
       let that : Some (Inner inner.header inner.pointers) ≡ Some (Inner header pointers) = sym inner.here ∙ here in
       let one : Inner inner.header inner.pointers ≡ Inner header pointers = cc in
       let header_is : inner.header ≡ header = cc in
-      let pointers_are : inner.pointers ≡ pointers = cc in
-      (
+      let pointers_are : inner.pointers ≡ pointers = cc in (
         subst (λ (n : Node). form_failure tree super expected at n ≡ None) one inner.formed,
         ap (λ (h : Header). h.level) (sym header_is) ∙ inner.level_is,
         subst (λ (ps : List Pointer). AreUnder tree super nodes level expected.to ps items) pointers_are inner.below,
@@ -375,8 +374,7 @@ module _ (tree : Tree) (root : Root) (land mid : Ground) (history : Option (List
       let nodes = told land.blocks.draft history in
       let below = expected_below level expected.to pointer (drop (i + 1) pointers) in
       let part = parted-at tree super nodes level expected.to pointers items i pointer there below_all in
-      let top = top-under tree super nodes level below pointer.child part.mine part.under in
-      (
+      let top = top-under tree super nodes level below pointer.child part.mine part.under in (
         top.0,
         below_stays i pointer there pointer.child (reach-top nodes level pointer.child) ∙ top.1,
         subst (λ (s : Super). form_failure tree s below pointer.child top.0 ≡ None) (sym super_same) top.2,

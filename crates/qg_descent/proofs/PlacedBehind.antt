@@ -2,19 +2,17 @@
 use Rattle.std.proofs.Common.{◌≡◌, ◌≢◌, ◌⊎◌, ℕ, ◌+◌, ◌-◌, ◌*◌, ◌≤◌, List, refl, sym, ap, subst, ◌∙◌, inl, inr, Option, Some, None}
 use Rattle.std.specs.Prelude.{IsTrue}
 use Rattle.qg_device.specs.History.{Event}
-use Rattle.qg_node.specs.declared.node.Header.{Header}
 use Rattle.qg_node.specs.declared.node.Node.{Node}
 use Rattle.qg_node.specs.declared.node.Node.TheVariants.{Leaf, Inner}
 use Rattle.qg_node.specs.Nodes.{header_of, used_bytes}
 use Rattle.qg_shape.specs.Filled.{IsFilled}
 use Rattle.qg_shape.specs.Outcomes.{IsSplit}
-use Rattle.qg_blocks.specs.Told.{fresh_at, told}
+use Rattle.qg_blocks.specs.Told.{told}
 use Rattle.qg_space.specs.Holding.{is_free_slot}
 use Rattle.qg_ground.specs.declared.ground.Ground.{Ground}
 use Rattle.qg_ground.specs.Changes.{Makes, node_at}
 use Rattle.qg_ground.specs.Land.{IsDrafted, Rests}
 use Rattle.qg_ground.proofs.Lands.{Takes-made, told-fresh_at}
-use Rattle.qg_edit.specs.Outcome.{IsCutOf}
 use Rattle.qg_descent.specs.declared.instead.Instead.{Instead}
 use Rattle.qg_descent.specs.Editing.{IsCutThere, IsPlacedBehind, alone}
 use Rattle.qg_descent.proofs.Placed.{fresh-taken}

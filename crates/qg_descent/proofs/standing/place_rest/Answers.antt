@@ -1,4 +1,4 @@
-use Rattle.std.proofs.Common.{◌≡◌, sym, subst}
+use Rattle.std.proofs.Common.{sym, subst}
 use Rattle.std.specs.Prelude.{Option}
 use Rattle.qg_node.specs.declared.node.Node.{Node}
 use Rattle.qg_descent.specs.Editing.{Moves, slots_for}

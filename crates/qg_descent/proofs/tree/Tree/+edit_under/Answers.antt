@@ -1,20 +1,16 @@
-use Rattle.std.proofs.Common.{◌≡◌, ℕ, suc, ◌+◌, ◌-◌, ◌*◌, ◌≤◌, ◌<◌, ◌++◌, arith, refl, sym, ap, subst, ◌∙◌}
-use Rattle.std.specs.Prelude.{Err, IfOk, IsTrue, List, None, Option, Some, length, map}
+use Rattle.std.proofs.Common.{◌≡◌, ℕ, suc, ◌+◌, ◌-◌, ◌*◌, ◌<◌, arith, sym, ap, subst, ◌∙◌}
+use Rattle.std.specs.Prelude.{Err, IsTrue, List, Option, Some, length, map}
 use Rattle.std.proofs.Math.Nat.{mul-suc}
 use Rattle.std.proofs.lemmas.Result.{IfOk-weaker, err_from_is_err_and, on_ok_weaker}
 use Rattle.qg_node.specs.declared.node.Node.{Node}
 use Rattle.qg_node.specs.declared.pointer.Pointer.{Pointer}
-use Rattle.qg_node.specs.Nodes.{header_of, is_ascending, own_pointers}
+use Rattle.qg_node.specs.Nodes.{is_ascending, own_pointers}
 use Rattle.qg_shape.specs.Parts.{IsInner}
-use Rattle.qg_space.specs.Holding.{free_slots}
 use Rattle.qg_blocks.proofs.Telling.{fresh-held}
-use Rattle.qg_blocks.specs.Told.{told}
 use Rattle.qg_descent.specs.declared.instead.Instead.{Instead}
-use Rattle.qg_descent.specs.Tree.{super_of}
 use Rattle.qg_device.specs.History.{Event}
 use Rattle.qg_node.specs.declared.node.Node.TheVariants.{Inner}
-use Rattle.qg_shape.specs.Places.{LeadsTo}
-use Rattle.qg_descent.specs.Editing.{IsPartEdited, IsPartFit, IsSettled, IsUnsettled, IsWayAt}
+use Rattle.qg_descent.specs.Editing.{IsPartEdited, IsPartFit}
 use Rattle.qg_descent.proofs.Descended.{descended-edited, descended-fit, descended-items, descended-mine, descended-unsettled}
 use Rattle.qg_descent.proofs.Handed.{child-edited, settle-settled, settle-sound}
 use Rattle.qg_descent.proofs.PartBelow.{fit-inner, fit-there}

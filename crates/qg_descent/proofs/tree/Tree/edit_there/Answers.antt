@@ -1,11 +1,10 @@
-use Rattle.std.proofs.Common.{◌≡◌, ℕ, ◌+◌, ◌≤◌, arith, refl, sym, ap, subst, ◌∙◌}
-use Rattle.std.specs.Prelude.{IfOk, List, None, Option, Some}
+use Rattle.std.proofs.Common.{ℕ, arith, refl, sym, ap, subst, ◌∙◌}
+use Rattle.std.specs.Prelude.{Option}
 use Rattle.std.proofs.lemmas.Result.{IfOk-weaker, err_from_is_err_and, on_ok_weaker}
 use Rattle.qg_node.specs.declared.node.Node.{Node}
 use Rattle.qg_node.specs.declared.node.Node.TheVariants.{Leaf}
 use Rattle.qg_node.specs.Nodes.{header_of, own_items}
 use Rattle.qg_shape.specs.Filled.{HasShortBodies}
-use Rattle.qg_space.specs.Holding.{Holding, free_slots}
 use Rattle.qg_blocks.specs.Told.{told}
 use Rattle.qg_ground.specs.declared.ground.Ground.{Ground}
 use Rattle.qg_ground.proofs.Lands.{Rests-after}
@@ -13,7 +12,6 @@ use Rattle.qg_edit.specs.Edits.{CanEdit}
 use Rattle.qg_descent.specs.declared.instead.Instead.{Instead}
 use Rattle.qg_descent.specs.Tree.{super_of}
 use Rattle.qg_descent.specs.Editing.{RestIsReady}
-use Rattle.qg_descent.proofs.BranchWalk.{branch-under}
 use Rattle.qg_descent.proofs.Cutting.{ready-same, rewritten-moves, rewritten-rests, rewritten-spares, stays-cut}
 use Rattle.qg_descent.proofs.LeafEdited.{header-with_items, leaf-edited, mine-leaf_is}
 use Rattle.qg_descent.proofs.Paired.{owned-levelled}
