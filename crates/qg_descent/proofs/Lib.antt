@@ -47,3 +47,4 @@ pub mod PartBelow
 pub mod Descended
 pub mod Handed
 pub mod Fitting
+pub mod ListEdited
