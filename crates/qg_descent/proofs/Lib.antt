@@ -48,3 +48,4 @@ pub mod Descended
 pub mod Handed
 pub mod Fitting
 pub mod ListEdited
+pub mod RootEdited
