@@ -8,8 +8,10 @@ use Rattle.qg_node.specs.declared.pointer.Pointer.{Pointer}
 use Rattle.qg_node.specs.declared.node.Header.{Header}
 use Rattle.qg_node.specs.declared.node.Node.{Node}
 use Rattle.qg_node.specs.declared.node.Node.TheVariants.{Leaf, Inner}
-use Rattle.qg_node.specs.Nodes.{header_of, is_ascending, own_pointers, used_bytes}
-use Rattle.qg_node.specs.NodeText.{IsNodeSize}
+use Rattle.qg_node.specs.Nodes.{ascends_from, header_of, is_ascending, own_pointers, used_bytes}
+use Rattle.std.specs.Ordering.{is_lt}
+use Rattle.qg_num.specs.Key.{key_cmp}
+use Rattle.qg_node.specs.NodeText.{IsNode, IsNodeSize}
 use Rattle.qg_super.specs.declared.superblock.Super.{Super}
 use Rattle.qg_super.specs.Places.{capacity}
 use Rattle.qg_image.specs.IsShaped.{is_shaped}
@@ -66,3 +68,13 @@ module _ (tree : Tree) (super : Super) (nodes : ℕ → Option Node) (size : IsN
       let each = two-lead tree super nodes height now more a b holds.mine holds.rest items first named second named' size holds.behind.1 holds.behind.2 holds.items_are holds.here holds.behind.0 in
       tree-branch tree super nodes (suc height) top items (header, pointer_to a ∷ pointer_to b ∷ [], here, member, each) ascending
       (λ node there. subst (λ (n : Node). is_shaped super.nodesize None n ≡ true) (sym (same_there top (Inner header (pointer_to a ∷ pointer_to b ∷ [])) node here there)) refl)
+
+-- a node above two, whose keys ascend, has a text
+pub above-sound : (size : ℕ) (header : Header) (first second : Pointer) → IsNodeSize size → 1 ≤ header.level → header.level ≤ 7 → is_lt (key_cmp first.key second.key) ≡ true
+    → IsNode size (Inner header (first ∷ second ∷ []))
+unfolding is_ascending ascends_from
+above-sound size header first second sized low high less = record {
+  levelled = (low, high, omega arith);
+  ascending = rw less refl;
+  fits = elim sized [ inl small ↦ omega (arith, small) | inr large ↦ omega (arith, large) ];
+}

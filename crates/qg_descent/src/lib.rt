@@ -10,6 +10,7 @@ mod pairing;
 mod reach;
 mod reading;
 mod rewriting;
+mod rooting;
 mod settling;
 mod standing;
 mod tree;
