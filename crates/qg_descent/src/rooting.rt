@@ -28,7 +28,7 @@ pub(crate) fn node_above(
 {
     let first = pointer_to(left);
     let second = pointer_to(right);
-    if first.key < second.key {
+    if first.key.is_before(second.key) {
         let mut pointers = Pointers::new(alloc);
         pointers.push(first)?;
         pointers.push(second)?;
