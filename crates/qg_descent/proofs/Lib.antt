@@ -49,3 +49,5 @@ pub mod Handed
 pub mod Fitting
 pub mod ListEdited
 pub mod RootEdited
+pub mod Grown
+pub mod Shrunk

@@ -26,10 +26,10 @@ use Rattle.qg_descent.proofs.BranchFrames.{branches-same, reach-same}
 
 -- ---- a node of the generation to come
 
-generation_next : (next : ℕ) → 0 < next → is_generation next None next ≡ true
+pub generation_next : (next : ℕ) → 0 < next → is_generation next None next ≡ true
 generation_next next some = and_from (nat_lt 0 next) (nat_le next next) (le-leb 1 next (omega (arith, some))) (le-leb next next (omega arith))
 
-member_made : (tree : Tree) (root : Root) (land : Ground) (level : ℕ) (header : Header) → CanMake tree root → header.level ≡ level → header.owner ≡ root.owner → header.generation ≡ root.next
+pub member_made : (tree : Tree) (root : Root) (land : Ground) (level : ℕ) (header : Header) → CanMake tree root → header.level ≡ level → header.owner ≡ root.owner → header.generation ≡ root.next
     → IsMember tree (super_of root land.blocks.draft) level header
 member_made tree root land level header makes levelled owner generation = record {
   levelled = levelled;

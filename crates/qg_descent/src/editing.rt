@@ -6,7 +6,7 @@ ghost use Rattle.qg_node.specs.declared.item.Item.{Item as ItemValue};
 ghost use Rattle.qg_blocks.specs.Told.{BreaksNone};
 ghost use Rattle.qg_space.specs.Holding.{free_slots};
 ghost use Rattle.qg_ground.specs.Land.{Rests};
-ghost use Rattle.qg_edit.specs.Edits.{IsShort};
+ghost use Rattle.qg_edit.specs.Edits.{IsShort, growth_of};
 ghost use Rattle.qg_descent.specs.Editing.{CanMake, IsEditable, IsPartEdited, IsPartFit, Moves, StandsInstead};
 
 use crate::Tree;
@@ -42,6 +42,7 @@ impl Tree {
         requires levelled { way.expected.level ≡ Some level }
         requires short { IsShort edit.change }
         ensures stood { IfOk result (λ instead. StandsInstead land.new level instead) }
+        ensures whole { growth_of edit.change ≡ 0 → IfOk result (λ instead. instead.more ≡ None) }
         ensures moves { OnOk result (Moves (2 * (level + 1)) level land.old land.new) }
         ensures edited { (items : List ItemValue) → IsPartFit P.tree self.now land.old (D.history disk.old) level way.expected way.address edit items
             → IfOk result (λ instead. IsPartEdited P.tree self.now land.old land.new (D.history disk.old) level way.address edit items instead) }
@@ -101,6 +102,7 @@ impl Tree {
         requires levelled { way.now.expected.level ≡ Some 0 }
         requires short { IsShort edit.change }
         ensures stood { IfOk result (λ instead. StandsInstead land.new 0 instead) }
+        ensures whole { growth_of edit.change ≡ 0 → IfOk result (λ instead. instead.more ≡ None) }
         ensures moves { OnOk result (Moves 2 0 land.old land.new) }
         ensures edited { (items : List ItemValue) → IsPartFit P.tree self.now land.old (D.history disk.old) 0 way.now.expected way.now.address edit items
             → IfOk result (λ instead. IsPartEdited P.tree self.now land.old land.new (D.history disk.old) 0 way.now.address edit items instead) }

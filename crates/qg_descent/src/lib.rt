@@ -1,6 +1,7 @@
 //! Trees over nodes by address: what stands under a key, at or below one, or from one to another.
 #![tactic(auto)]
 
+mod changing;
 mod editing;
 mod instead;
 mod joining;

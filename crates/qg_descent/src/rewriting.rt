@@ -6,7 +6,7 @@ ghost use Rattle.qg_node.specs.NodeText.{IsNode, IsNodeSize};
 ghost use Rattle.qg_shape.specs.Filled.{HasShortBodies, IsThin};
 ghost use Rattle.qg_shape.specs.Parts.{IsInner, IsLeaf, with_items, with_pointers};
 ghost use Rattle.qg_blocks.specs.Told.{BreaksNone, fresh_at};
-ghost use Rattle.qg_edit.specs.Edits.{CanEdit, IsShort, edited};
+ghost use Rattle.qg_edit.specs.Edits.{CanEdit, IsShort, edited, growth_of};
 ghost use Rattle.qg_edit.specs.Outcome.{spliced};
 ghost use Rattle.qg_descent.specs.Editing.{IsCutThere, IsRewritten};
 
@@ -30,6 +30,7 @@ pub(crate) fn rewrite_leaf(
     ensures rewritten { (node : NodeValue) → fresh_at land.old.blocks.draft at ≡ Some node → IsRewritten land.old land.new at node }
     ensures cut { (node : NodeValue) → fresh_at land.old.blocks.draft at ≡ Some node
         → IfOk result (λ rest. IsCutThere land.old.space.sizes.nodesize land.new at node (with_items node (edited edit (own_items node))) rest) }
+    ensures whole { growth_of edit.change ≡ 0 → IfOk result (λ rest. rest ≡ None) }
     ensures sound { (node : NodeValue) → fresh_at land.old.blocks.draft at ≡ Some node → CanEdit edit (own_items node) → HasShortBodies node → BreaksNone result }
     ensures no_disk { IsErrOf result BlockFault.Disk → ⊥ }
 {

@@ -1,17 +1,191 @@
-// A root above two nodes.
-ghost use Rattle.std.specs.Prelude.{◌≡◌, ◌≤◌, ◌∷◌, [], ℕ, IfOk, IsErrOf, IsTrue};
+// The root of a tree that was edited.
+ghost use Rattle.std.specs.Prelude.{◌≡◌, ◌+◌, ◌<◌, ◌≤◌, ◌∷◌, [], ℕ, List, IfOk, OnErr, OnOk, Some, IsErrOf, IsSome, IsTrue};
 ghost use Rattle.std.specs.Ordering.{is_lt};
+ghost use Rattle.qg_device.specs.Cause.{HasCause};
+ghost use Rattle.qg_device.specs.History.{Event};
 ghost use Rattle.qg_num.specs.Key.{key_cmp};
 ghost use Rattle.qg_num.specs.declared.fault.BlockFault.TheVariants as block;
+ghost use Rattle.qg_node.specs.declared.item.Item.{Item as ItemValue};
+ghost use Rattle.qg_node.specs.declared.node.Node.{Node as NodeValue};
 ghost use Rattle.qg_node.specs.declared.node.Node.TheVariants as node;
 ghost use Rattle.qg_node.specs.NodeText.{IsNode, IsNodeSize};
 ghost use Rattle.qg_shape.specs.Pointing.{pointer_to};
-ghost use Rattle.qg_blocks.specs.Told.{BreaksNone};
+ghost use Rattle.qg_blocks.specs.Told.{BreaksNone, fresh_at};
+ghost use Rattle.qg_space.specs.Holding.{free_slots};
+ghost use Rattle.qg_ground.specs.Land.{Rests};
+ghost use Rattle.qg_edit.specs.Outcome.{cleared};
+ghost use Rattle.qg_descent.specs.Editing.{CanMake, IsEditable, IsFreshOn, IsRewritten, StandsInstead, alone};
+ghost use Rattle.qg_descent.specs.Rooting.{HasRoot, StandsForRoot, StaysTree, levels_for, lone_child};
 
+use crate::Tree;
+use crate::instead::Instead;
+use qg_disk::Disk;
+use qg_edit::clear;
+use qg_ground::{Book, Ground, leave_node, make_node};
 use qg_node::{Header, Node, Pointers};
-use qg_num::{BlockFault, Rule};
+use qg_num::{Address, BlockFault, Rule, Steps};
+use qg_parts::TreePart;
 use qg_shape::pointer_to;
 use std::alloc::Global;
+use std::sync::ledger::Ledger;
+
+// The highest level of a node.
+const HIGHEST: u8 = 7;
+
+impl Tree {
+    // Gives the tree its root, once what stands in the place of the old one is known: a node above two, the child of a node with one
+    // pointer, or the node itself.
+    pub(crate) fn set_root<P: TreePart, D: Disk, L: Ledger, B: Book<D, L>>(
+        &mut self,
+        alloc: Global,
+        land: &mut Ground,
+        disk: &mut D,
+        book: &mut B,
+        instead: Instead,
+        reads: &mut Steps<L>,
+    ) -> Result<(), BlockFault>
+        requires editable { IsEditable land.old (D.history disk.old) (D.size disk.old) self.old.next }
+        requires stands { B.stands book.old land.old disk.old }
+        requires makes { CanMake P.tree self.old }
+        requires slots { 0 < free_slots land.old.space }
+        requires stood { StandsInstead land.old self.old.height instead }
+        ensures rooted { (items : List ItemValue) → StandsForRoot P.tree self.old land.old (D.history disk.old) instead items
+            → OnOk result (HasRoot P.tree self.old self.new land.old land.new (D.history disk.old) instead items) }
+        ensures stays { StaysTree (levels_for instead.more) self.old self.new }
+        ensures count { OnOk result (free_slots land.old.space ≤ 1 + free_slots land.new.space) }
+        ensures sound { (events : List Event) → D.history disk.old ≡ Some events → (items : List ItemValue)
+            → StandsForRoot P.tree self.old land.old (D.history disk.old) instead items → self.old.height < 7 → BreaksNone result }
+        ensures rests { Rests land.old land.new (D.history disk.new) self.old.next }
+        ensures stands { OnOk result (B.stands book.new land.new disk.new) }
+        ensures disk { (D.history disk.new ≡ D.history disk.old) × (D.size disk.new ≡ D.size disk.old) }
+        ensures cause { HasCause BlockFault.Disk (D.faults disk.old) (D.faults disk.new) result }
+        ensures reads { (most : ℕ) → ((book : B) (q : ℕ) → B.to_read book q ≤ most) → reads.new ≤ reads.old + (1 + most) }
+        ensures err { OnErr result (self.new ≡ self.old) }
+    {
+        match instead.more {
+            Some(more) => {
+                self.grow::<P, D, L, B>(alloc, land, disk, book, instead.now, more, reads)
+            }
+            None => self.shrink::<P, D, L, B>(land, disk, book, instead.now, reads),
+        }
+    }
+
+    // A new root stands above the fresh nodes at two addresses.
+    fn grow<P: TreePart, D: Disk, L: Ledger, B: Book<D, L>>(
+        &mut self,
+        alloc: Global,
+        land: &mut Ground,
+        disk: &mut D,
+        book: &mut B,
+        now: Address,
+        more: Address,
+        reads: &mut Steps<L>,
+    ) -> Result<(), BlockFault>
+        requires editable { IsEditable land.old (D.history disk.old) (D.size disk.old) self.old.next }
+        requires stands { B.stands book.old land.old disk.old }
+        requires makes { CanMake P.tree self.old }
+        requires slots { 0 < free_slots land.old.space }
+        requires first { IsFreshOn land.old self.old.height now }
+        requires second { IsFreshOn land.old self.old.height more }
+        ensures rooted { (items : List ItemValue)
+            → StandsForRoot P.tree self.old land.old (D.history disk.old) (record { now = now; more = Some more }) items
+            → OnOk result (HasRoot P.tree self.old self.new land.old land.new (D.history disk.old) (record { now = now; more = Some more }) items) }
+        ensures stays { StaysTree 1 self.old self.new }
+        ensures count { OnOk result (free_slots land.old.space ≤ 1 + free_slots land.new.space) }
+        ensures sound { (events : List Event) → D.history disk.old ≡ Some events → (items : List ItemValue)
+            → StandsForRoot P.tree self.old land.old (D.history disk.old) (record { now = now; more = Some more }) items
+            → self.old.height < 7 → BreaksNone result }
+        ensures rests { Rests land.old land.new (D.history disk.new) self.old.next }
+        ensures stands { OnOk result (B.stands book.new land.new disk.new) }
+        ensures disk { (D.history disk.new ≡ D.history disk.old) × (D.size disk.new ≡ D.size disk.old) }
+        ensures cause { HasCause BlockFault.Disk (D.faults disk.old) (D.faults disk.new) result }
+        ensures reads { (most : ℕ) → ((book : B) (q : ℕ) → B.to_read book q ≤ most) → reads.new ≤ reads.old + most }
+        ensures err { OnErr result (self.new ≡ self.old) }
+    {
+        if self.height() >= HIGHEST {
+            return Err(BlockFault::Image {
+                rule: Rule::Refs,
+                address: now,
+            });
+        }
+        let header = Header {
+            address: now,
+            generation: self.next(),
+            owner: self.owner(),
+            level: self.height() + 1,
+        };
+        let node = node_above(
+            alloc,
+            header,
+            land.blocks.peek(now),
+            land.blocks.peek(more),
+        )?;
+        let root = make_node(land, disk, book, node, reads)?;
+        self.rise_to(root);
+        Ok(())
+    }
+
+    // The fresh node at an address is the root, or where it has one pointer, the child is, and the node is left.
+    fn shrink<P: TreePart, D: Disk, L: Ledger, B: Book<D, L>>(
+        &mut self,
+        land: &mut Ground,
+        disk: &mut D,
+        book: &mut B,
+        now: Address,
+        reads: &mut Steps<L>,
+    ) -> Result<(), BlockFault>
+        requires editable { IsEditable land.old (D.history disk.old) (D.size disk.old) self.old.next }
+        requires stands { B.stands book.old land.old disk.old }
+        requires fresh { IsFreshOn land.old self.old.height now }
+        ensures rooted { (items : List ItemValue) → StandsForRoot P.tree self.old land.old (D.history disk.old) (alone now) items
+            → OnOk result (HasRoot P.tree self.old self.new land.old land.new (D.history disk.old) (alone now) items) }
+        ensures stays { StaysTree 0 self.old self.new }
+        ensures count { OnOk result (free_slots land.old.space ≤ free_slots land.new.space) }
+        ensures sound { (events : List Event) → D.history disk.old ≡ Some events → BreaksNone result }
+        ensures rests { Rests land.old land.new (D.history disk.new) self.old.next }
+        ensures stands { OnOk result (B.stands book.new land.new disk.new) }
+        ensures disk { (D.history disk.new ≡ D.history disk.old) × (D.size disk.new ≡ D.size disk.old) }
+        ensures cause { HasCause BlockFault.Disk (D.faults disk.old) (D.faults disk.new) result }
+        ensures reads { (most : ℕ) → ((book : B) (q : ℕ) → B.to_read book q ≤ most) → reads.new ≤ reads.old + (1 + most) }
+        ensures err { OnErr result (self.new ≡ self.old) }
+    {
+        match lone_child(land.blocks.peek(now)) {
+            None => {
+                self.stand_at(now);
+                Ok(())
+            }
+            Some(child) => {
+                clear_at(land, now);
+                leave_node(land, disk, book, now, reads)?;
+                self.sink_to(child);
+                Ok(())
+            }
+        }
+    }
+}
+
+// Puts an empty leaf in the place of the fresh node at an address, so that it leads to nothing.
+fn clear_at(land: &mut Ground, at: Address)
+    requires size { IsNodeSize land.old.space.sizes.nodesize }
+    requires fresh { IsSome (fresh_at land.old.blocks.draft at) }
+    ensures cleared { (node : NodeValue) → fresh_at land.old.blocks.draft at ≡ Some node → IsRewritten land.old land.new at node }
+    ensures here { (node : NodeValue) → fresh_at land.old.blocks.draft at ≡ Some node → fresh_at land.new.blocks.draft at ≡ Some (cleared node) }
+{
+    clear(land.blocks.get_mut(at));
+}
+
+// The child of a node with one pointer.
+fn lone_child(node: &Node) -> Option<Address>
+    ensures { result ≡ lone_child node.now }
+{
+    match node {
+        Node::Leaf { .. } => None,
+        Node::Inner { pointers, .. } => match pointers.as_slice() {
+            [pointer] => Some(pointer.child),
+            _ => None,
+        },
+    }
+}
 
 // The node of a header above two others, of which the first has the lesser keys.
 pub(crate) fn node_above(

@@ -55,6 +55,7 @@ impl Tree {
         requires child { StandsInstead land.old level child }
         ensures parent { OnOk result (IsFreshOn land.new (level + 1) at) }
         ensures ready { IfOk result (λ rest. RestIsReady land.old.space.sizes.nodesize (level + 1) self.now.next rest) }
+        ensures whole { child.more ≡ None → IfOk result (λ rest. rest ≡ None) }
         ensures moves { IfOk result (λ rest. Moves (1 - slots_for rest) (level + 1) land.old land.new) }
         ensures settled { (items : List ItemValue) → (un : IsUnsettled P.tree self.now land.old (D.history disk.old) level at to place child items)
             → IfOk result (λ rest. IsSettled P.tree self.now land.old land.new (D.history disk.old) level at place child un.pointers un.header items rest) }
@@ -98,6 +99,7 @@ impl Tree {
         requires thin { (node : NodeValue) → fresh_at land.old.blocks.draft child ≡ Some node → IsThin land.old.space.sizes.nodesize node }
         ensures parent { OnOk result (IsFreshOn land.new (level + 1) at) }
         ensures ready { IfOk result (λ rest. RestIsReady land.old.space.sizes.nodesize (level + 1) self.now.next rest) }
+        ensures whole { IfOk result (λ rest. rest ≡ None) }
         ensures moves { IfOk result (λ rest. Moves (1 - slots_for rest) (level + 1) land.old land.new) }
         ensures settled { (items : List ItemValue) → (un : IsUnsettled P.tree self.now land.old (D.history disk.old) level at to place (alone child) items)
             → IfOk result (λ rest. IsSettled P.tree self.now land.old land.new (D.history disk.old) level at place (alone child) un.pointers un.header items rest) }
@@ -154,6 +156,7 @@ fn lead_to(
     ensures sound { (tree : TreeValue) (super : SuperValue) (history : Option (List Event)) (level : ℕ) (pointers : List PointerValue) (header : HeaderValue) (items : List ItemValue)
         → CanLead tree super land.old history level at from to instead pointers header items → BreaksNone result }
     ensures fits { to ≡ from + 2 → IfOk result (λ rest. rest ≡ None) }
+    ensures whole { instead.more ≡ None → IfOk result (λ rest. rest ≡ None) }
     ensures no_disk { IsErrOf result BlockFault.Disk → ⊥ }
 {
     let now = pointer_to(land.blocks.peek(instead.now));

@@ -35,6 +35,7 @@ pub(crate) fn place_rest<D: Disk, L: Ledger, B: Book<D, L>>(
     requires ready { RestIsReady land.old.space.sizes.nodesize level next rest }
     ensures stood { IfOk result (λ instead. StandsInstead land.new level instead) }
     ensures placed { IfOk result (λ instead. IsPlacedBehind land.old land.new now rest instead) }
+    ensures whole { rest ≡ None → IfOk result (λ instead. instead.more ≡ None) }
     ensures moves { OnOk result (Moves (slots_for rest) level land.old land.new) }
     ensures rests { Rests land.old land.new (D.history disk.new) next }
     ensures stands { OnOk result (B.stands book.new land.new disk.new) }

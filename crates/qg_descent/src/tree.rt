@@ -1,5 +1,5 @@
 // A tree.
-ghost use Rattle.std.specs.Prelude.{◌≡◌, ◌<◌, ◌^◌, None, Some};
+ghost use Rattle.std.specs.Prelude.{◌≡◌, ◌+◌, ◌-◌, ◌<◌, ◌^◌, None, Some};
 ghost use Rattle.qg_verdict.specs.Walk.{root_expected};
 ghost use Rattle.qg_descent.specs.Tree.{super_of};
 
@@ -67,6 +67,31 @@ impl Tree {
         ensures { result ≡ self.now.next }
     {
         self.next
+    }
+
+    // The root lies at another address.
+    pub(crate) fn stand_at(&mut self, root: Address)
+        ensures { self.new ≡ record self.old { address = root } }
+    {
+        self.root = root;
+    }
+
+    // The root lies at another address, a level higher.
+    pub(crate) fn rise_to(&mut self, root: Address)
+        requires { self.old.height < 255 }
+        ensures { self.new ≡ record self.old { address = root; height = self.old.height + 1 } }
+    {
+        self.root = root;
+        self.height += 1;
+    }
+
+    // The root lies at another address, a level lower.
+    pub(crate) fn sink_to(&mut self, root: Address)
+        requires { 0 < self.old.height }
+        ensures { self.new ≡ record self.old { address = root; height = self.old.height - 1 } }
+    {
+        self.root = root;
+        self.height -= 1;
     }
 
     // What is expected of the root.
