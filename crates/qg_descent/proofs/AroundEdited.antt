@@ -216,6 +216,11 @@ module _ (tree : Tree) (root : Root) (mid new : Ground) (history : Option (List 
     pub edited-whole : IsLeafEdited edit items (front ++ (part.items_new ++ back))
     edited-whole = leaf-around edit front mine part.items_new back items part.edits around.items_are around.less around.greater
 
+    -- it is the same leaf
+    pub edited-leaf : edited-whole.leaf ≡ part.edits.leaf
+    unfolding edited-whole leaf-around
+    edited-leaf = refl
+
     module _ (leads : Pointer) (there : slice_get pointers place ≡ Some leads) (leads_to : leads.child ≡ child_at) where
       -- no other child reaches what the child did
       not_child : (i : ℕ) (pointer : Pointer) → i ≢ place → slice_get pointers i ≡ Some pointer → (q : ℕ) → Reaches (told mid.blocks.draft history) level pointer.child q

@@ -1,5 +1,5 @@
 -- A node that an edit goes on from to one of its children.
-use Rattle.std.proofs.Common.{◌≡◌, ℕ, suc, ◌+◌, List, ◌++◌, map, take, drop, sym, subst, Option, Some}
+use Rattle.std.proofs.Common.{◌≡◌, ℕ, suc, ◌+◌, List, ◌++◌, map, take, drop, sym, subst, ◌∙◌, Option, Some}
 use Rattle.qg_device.specs.History.{Event}
 use Rattle.qg_node.specs.declared.item.Item.{Item}
 use Rattle.qg_node.specs.declared.pointer.Pointer.{Pointer}
@@ -19,11 +19,12 @@ use Rattle.qg_edit.specs.Edits.{IsShort}
 use Rattle.qg_descent.specs.declared.instead.Instead.{Instead}
 use Rattle.qg_descent.specs.declared.way.Way.{Way}
 use Rattle.qg_descent.specs.Tree.{Root, super_of}
+use Rattle.qg_descent.specs.First.{first_leaf, least}
 use Rattle.qg_descent.specs.Branch.{IsMember}
 use Rattle.qg_descent.specs.Editing.{CanMake, IsLeafEdited, IsOwned, IsPartEdited, IsPartFit, IsPlacedBehind, IsSettled, IsUnsettled, IsWayAt, KeepsAbove}
 use Rattle.qg_descent.proofs.Around.{IsAround}
-use Rattle.qg_descent.proofs.AroundEdited.{edited-whole, unsettled}
-use Rattle.qg_descent.proofs.PartBelow.{IsParted, around, fit-inner, owned-here, part, part-below}
+use Rattle.qg_descent.proofs.AroundEdited.{edited-leaf, edited-whole, unsettled}
+use Rattle.qg_descent.proofs.PartBelow.{IsParted, around, first-below, fit-inner, owned-here, part, part-below}
 use Rattle.qg_descent.proofs.PartEdited.{fit-branch, part-edited-unsettled}
 
 module _ (tree : Tree) (root : Root) (land mid : Ground) (history : Option (List Event)) (level : ℕ) (expected : Expected) (at now : ℕ) (edit : Edit) (items : List Item)
@@ -64,6 +65,9 @@ module _ (tree : Tree) (root : Root) (land mid : Ground) (history : Option (List
   unfolding descended-mine whole
   descended-fit = part-below tree root land mid history level expected at now edit items fit owned makes drafted sizes header descended-pointers here place below leads descended-way
 
+  below_first : edit.key ≡ least → first_leaf (told mid.blocks.draft history) level below.address ≡ first_leaf (told land.blocks.draft history) (suc level) at
+  below_first = first-below tree root land mid history level expected at now edit items fit owned makes drafted sizes header descended-pointers here place below leads descended-way
+
   about : IsAround tree root mid history level now expected.to place edit.key descended-pointers whole.front descended-mine whole.back items
   unfolding descended-mine whole
   about = around tree root land mid history level expected at now edit items fit owned makes drafted sizes header descended-pointers here place below leads descended-way
@@ -77,6 +81,14 @@ module _ (tree : Tree) (root : Root) (land mid : Ground) (history : Option (List
     unfolding descended-items
     edits =
         edited-whole tree root mid low history level now expected.to place edit descended-pointers whole.front descended-mine whole.back items about below.address child edited_child
+
+    leaf_is : edits.leaf ≡ edited_child.edits.leaf
+    unfolding edits descended-items
+    leaf_is =
+        edited-leaf tree root mid low history level now expected.to place edit descended-pointers whole.front descended-mine whole.back items about below.address child edited_child
+
+    first : edit.key ≡ least → edits.leaf ≡ first_leaf (told land.blocks.draft history) (suc level) at
+    first is = leaf_is ∙ edited_child.first is ∙ below_first is
 
     -- it was edited, and its node is not yet
     pub descended-unsettled : IsUnsettled tree root low history level now expected.to place child descended-items
@@ -93,4 +105,4 @@ module _ (tree : Tree) (root : Root) (land mid : Ground) (history : Option (List
       descended-edited =
           part-edited-unsettled tree root land mid low set end history own_later child_later set_later end_later level expected at now edit place descended-pointers whole.front descended-mine whole.back items
           descended-items descended-way.pointer below.address child rest instead (fit-branch tree root land history (suc level) expected at edit items fit) fit.apart makes owned about descended-way.there
-          descended-way.child edited_child above edits descended-unsettled settled placed own_rests child_rests set_rests end_rests
+          descended-way.child edited_child above edits first descended-unsettled settled placed own_rests child_rests set_rests end_rests

@@ -34,7 +34,7 @@ use Rattle.qg_descent.proofs.Served.{size-blocks}
 use Rattle.qg_descent.proofs.Split.{keys_to}
 
 -- two nodes stand in the place of a root
-abbrev two : ℕ → ℕ → Instead
+abbrev pub two : ℕ → ℕ → Instead
 two now more = record { now = now; more = Some more }
 
 module _ (tree : Tree) (root : Root) (land : Ground) (history : Option (List Event)) (now more : ℕ) (items : List Item) (a b : Node)
@@ -166,3 +166,13 @@ module _ (tree : Tree) (root : Root) (land : Ground) (history : Option (List Eve
     -- the tree stands, a level higher
     pub grown : HasRoot tree root (record root { address = top; height = root.height + 1 }) land new history (two now more) items
     grown = subst (λ (h : ℕ). HasRoot tree root (record root { address = top; height = h }) land new history (two now more) items) (sym (add-one root.height)) grown_up
+
+pub grown-above : (tree : Tree) (root : Root) (land : Ground) (history : Option (List Event)) (now more : ℕ) (items : List Item) (a b : Node) → StandsForRoot tree root land history (two now more) items
+    → IsDrafted land root.next → fresh_at land.blocks.draft now ≡ Some a → fresh_at land.blocks.draft more ≡ Some b
+    → (new : Ground) (later : Option (List Event)) (top : ℕ) (header : Header) (node p q : Node) → node ≡ Inner header (pointer_to p ∷ pointer_to q ∷ []) → p ≡ a → q ≡ b → Makes land new top node → CanMake tree root
+    → header.level ≡ suc root.height → header.owner ≡ root.owner → header.generation ≡ root.next → Rests land new later root.next
+    → HasRoot tree root (record root { address = top; height = root.height + 1 }) land new history (two now more) items
+grown-above tree root land history now more items a b stands drafted first second new later top header node p q is p_is q_is made makes level owner dated rests =
+    grown tree root land history now more items a b stands drafted first second new later top header
+    (subst (λ (n : Node). Makes land new top n) (is ∙ ap (λ (n : Node). Inner header (pointer_to n ∷ pointer_to q ∷ [])) p_is ∙ ap (λ (n : Node). Inner header (pointer_to a ∷ pointer_to n ∷ [])) q_is) made)
+    makes level owner dated rests

@@ -27,6 +27,7 @@ use Rattle.qg_descent.specs.Branch.{IsBranch, IsMember}
 use Rattle.qg_descent.specs.Editing.{CanMake, FillsThere, HoldInstead, IsCutThere, IsOwned, IsPartEdited, IsPartFit, IsPlacedBehind, IsRewritten, ReachesInstead}
 use Rattle.qg_descent.proofs.BranchFrames.{reach-top}
 use Rattle.qg_descent.proofs.BranchWalk.{branch-under}
+use Rattle.qg_descent.proofs.FirstLeaf.{first-alone}
 use Rattle.qg_descent.proofs.OwnedBranch.{mine-leaf}
 use Rattle.qg_descent.proofs.Placed.{fresh-taken}
 use Rattle.qg_descent.proofs.PlacedBehind.{AreTwoThere, IsOneThere, filled-at, parts-there, placed-free, placed-told}
@@ -125,6 +126,12 @@ module _ (tree : Tree) (root : Root) (land mid set end : Ground) (history later 
   mine : (header : Header) × (owned.mine ≡ Leaf header items) × IsMember tree (super_of root land.blocks.draft) 0 header
   mine = mine-leaf_is tree root land mid history expected at now edit items owned makes fit
 
+  top_is : (header : Header) × (told land.blocks.draft history at ≡ Some (Leaf header items))
+  unfolding IsBranch
+  top_is =
+      let top = branch-under tree (super_of root land.blocks.draft) (told land.blocks.draft history) 0 expected at items (record { levelled = fit.levelled; walked = fit.walked; items_are = fit.items_are }) in
+      (top.0, top.1)
+
   whole_is : with_items owned.mine (edited edit (own_items owned.mine)) ≡ Leaf mine.0 (edited edit items)
   whole_is = ap (λ (n : Node). with_items n (edited edit (own_items n))) mine.1
 
@@ -205,6 +212,7 @@ module _ (tree : Tree) (root : Root) (land mid set end : Ground) (history later 
       less = refl;
       greater = refl;
     };
+    first = λ least. sym (first-alone (told land.blocks.draft history) at top_is.0 items top_is.1);
     holds = leaf-holds tree (super_of root land.blocks.draft) set end history mid.space.sizes.nodesize now mine.0 (edited edit items) instead mine.2
         (drafted.sizes.nodesize ∙ sym (ap (λ (s : _). s.nodesize) rests.sizes)) parts;
     reach = reach;

@@ -39,6 +39,7 @@ pub mod RejoinedSettled
 pub mod InFront
 pub mod Around
 pub mod PlacedBehind
+pub mod FirstLeaf
 pub mod LeafEdited
 pub mod AroundEdited
 pub mod Inner

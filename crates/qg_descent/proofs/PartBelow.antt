@@ -49,6 +49,7 @@ use Rattle.qg_descent.specs.Reading.{is_upto}
 use Rattle.qg_descent.specs.Tree.{Reaches, Root, super_for, super_of}
 use Rattle.qg_descent.specs.Way.{LeadsFor}
 use Rattle.qg_descent.specs.Branch.{AreBranches, IsMember}
+use Rattle.qg_descent.specs.First.{first_leaf, least}
 use Rattle.qg_descent.specs.Editing.{CanMake, IsOwned, IsPartFit, IsWayAt}
 use Rattle.qg_descent.proofs.Around.{IsAround}
 use Rattle.qg_descent.proofs.Branches.{begin-front, branches-first}
@@ -59,6 +60,8 @@ use Rattle.qg_descent.proofs.BranchOrder.{ascends-under, keys_of}
 use Rattle.qg_descent.proofs.BranchRanges.{ascending-others, begins-from, less-before}
 use Rattle.qg_descent.proofs.BranchWalk.{branch-under, branches-under, pointed-under, top-under}
 use Rattle.qg_descent.proofs.Leads.{cut_at, followed_upto}
+use Rattle.qg_descent.proofs.FirstLeaf.{first-inner, first-same, leads-first}
+use Rattle.qg_descent.proofs.Leading.{branches-keys}
 use Rattle.qg_descent.proofs.OwnedBranch.{below-apart, below-top, mine-inner}
 use Rattle.qg_descent.proofs.Served.{size-blocks}
 use Rattle.qg_descent.proofs.Split.{keys_to}
@@ -457,3 +460,12 @@ module _ (tree : Tree) (root : Root) (land mid : Ground) (history : Option (List
       short = mine_short;
       can = can-between edit items part.front part.mine part.back part.items_are front_less back_greater fit.can;
     }
+
+    -- the first leaf is the child's first one, where the least key leads there
+    pub first-below : edit.key ≡ least → first_leaf (told mid.blocks.draft history) level below.address ≡ first_leaf (told land.blocks.draft history) (suc level) at
+    first-below is =
+        let keys = branches-keys tree (super_of root land.blocks.draft) (told land.blocks.draft history) level pointers items each ascending in
+        let first : place ≡ 0 = leads-first (keys_to pointers) place (subst (λ (k : Key). LeadsTo (keys_to pointers) k place) is leads) keys in
+        ap (λ (a : ℕ). first_leaf (told mid.blocks.draft history) level a) way.child
+        ∙ first-same (told land.blocks.draft history) (told mid.blocks.draft history) level way.pointer.child (below_stays place way.pointer way.there)
+        ∙ sym (first-inner (told land.blocks.draft history) level at header pointers way.pointer here (subst (λ (n : ℕ). slice_get pointers n ≡ Some way.pointer) first way.there))

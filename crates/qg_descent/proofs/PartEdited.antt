@@ -25,6 +25,7 @@ use Rattle.qg_edit.specs.declared.edit.Edit.{Edit}
 use Rattle.qg_descent.specs.declared.instead.Instead.{Instead}
 use Rattle.qg_descent.specs.Tree.{Reaches, Root, super_for, super_of}
 use Rattle.qg_descent.specs.Branch.{AreBranches, IsBranch, IsMember, IsPointed}
+use Rattle.qg_descent.specs.First.{first_leaf, least}
 use Rattle.qg_descent.specs.Editing.{CanMake, FillsThere, HoldInstead, IsCutThere, IsLeafEdited, IsOwned, IsPartEdited, IsPartFit, IsPlacedBehind, IsSettled, IsUnsettled, KeepsAbove, ReachesEach, ReachesInstead, ReachesParts}
 use Rattle.qg_descent.proofs.Around.{IsAround}
 use Rattle.qg_descent.proofs.Branches.{each-append}
@@ -137,6 +138,7 @@ module _ (tree : Tree) (root : Root) (land mid low set end : Ground) (history ow
     (around : IsAround tree root mid history level now expected.to place edit.key pointers front mine back items)
     (there : slice_get pointers place ≡ Some pointer) (leads : child_at ≡ pointer.child)
     (child_edited : IsPartEdited tree root mid low history level child_at edit mine child) (edits : IsLeafEdited edit items items_new)
+    (first : edit.key ≡ least → edits.leaf ≡ first_leaf (told land.blocks.draft history) (suc level) at)
     (member : IsMember tree (super_of root low.blocks.draft) (suc level) header)
     (settled : IsSettled tree root low set history level now place child pointers header items_new rest) (placed : IsPlacedBehind set end now rest instead)
     (own_rests : Rests land mid own_later root.next) (child_rests : Rests mid low child_later root.next) (set_rests : Rests low set set_later root.next) (end_rests : Rests set end end_later root.next) where
@@ -409,6 +411,7 @@ module _ (tree : Tree) (root : Root) (land mid low set end : Ground) (history ow
   part-edited = record {
     items_new = items_new;
     edits = edits;
+    first = first;
     holds = hold;
     reach = reach;
     others = λ q not_free not_reached. others q (λ old. elim old [ inl reached ↦ not_reached reached | inr free ↦ not_free free ]);
@@ -426,6 +429,7 @@ module _ (tree : Tree) (root : Root) (land mid low set end : Ground) (history ow
     (around : IsAround tree root mid history level now expected.to place edit.key pointers front mine back items)
     (there : slice_get pointers place ≡ Some pointer) (leads : child_at ≡ pointer.child)
     (child_edited : IsPartEdited tree root mid low history level child_at edit mine child) (above : KeepsAbove level mid low) (edits : IsLeafEdited edit items items_new)
+    (first : edit.key ≡ least → edits.leaf ≡ first_leaf (told land.blocks.draft history) (suc level) at)
     (un : IsUnsettled tree root low history level now expected.to place child items_new)
     (settled : IsSettled tree root low set history level now place child un.pointers un.header items_new rest) (placed : IsPlacedBehind set end now rest instead)
     (own_rests : Rests land mid own_later root.next) (child_rests : Rests mid low child_later root.next) (set_rests : Rests low set set_later root.next) (end_rests : Rests set end end_later root.next) where
@@ -439,5 +443,5 @@ module _ (tree : Tree) (root : Root) (land mid low set end : Ground) (history ow
   pub part-edited-unsettled : IsPartEdited tree root land end history (suc level) at edit items instead
   part-edited-unsettled =
       part-edited tree root land mid low set end history own_later child_later set_later end_later level expected at now edit place pointers front mine back items items_new pointer child_at child un.header rest
-      instead branch unreached makes owned around there leads child_edited edits un.member
+      instead branch unreached makes owned around there leads child_edited edits first un.member
       (subst (λ (ps : List Pointer). IsSettled tree root low set history level now place child ps un.header items_new rest) same_pointers settled) placed own_rests child_rests set_rests end_rests

@@ -9,7 +9,7 @@ use Rattle.qg_node.specs.declared.node.Header.{Header}
 use Rattle.qg_node.specs.declared.node.Node.{Node}
 use Rattle.qg_node.specs.declared.node.Node.TheVariants.{Leaf, Inner}
 use Rattle.qg_node.specs.Nodes.{header_of}
-use Rattle.qg_node.specs.NodeText.{IsNode}
+use Rattle.qg_node.specs.NodeText.{IsNode, IsNodeSize}
 use Rattle.qg_super.specs.declared.sizes.Sizes.{Sizes}
 use Rattle.qg_image.specs.IsShaped.{is_shaped}
 use Rattle.qg_blocks.specs.Told.{fresh_at, told}
@@ -18,8 +18,10 @@ use Rattle.qg_verdict.specs.declared.tree.Tree.{Tree}
 use Rattle.qg_ground.specs.declared.ground.Ground.{Ground}
 use Rattle.qg_ground.specs.Land.{IsDrafted, Rests}
 use Rattle.qg_ground.specs.Tellings.{LetsGo}
+use Rattle.qg_ground.proofs.Editing.{edited}
 use Rattle.qg_ground.proofs.Lands.{Takes-left, told-fresh_at}
 use Rattle.qg_edit.specs.Outcome.{cleared}
+use Rattle.qg_edit.proofs.Leaves.{IsNodeFor-cleared}
 use Rattle.qg_descent.specs.Tree.{IsTree, Reaches, Root, super_of}
 use Rattle.qg_descent.specs.Branch.{AreBranches, IsBranch}
 use Rattle.qg_descent.specs.Editing.{HoldInstead, IsRewritten, ReachesInstead, alone}
@@ -49,6 +51,11 @@ lone-is (Leaf header items) child is = absurd cc
 lone-is (Inner header []) child is = absurd cc
 lone-is (Inner header (pointer ∷ [])) child is = (header, pointer, refl, cc)
 lone-is (Inner header (pointer ∷ other ∷ pointers)) child is = absurd cc
+
+-- such a node lies above a leaf
+pub lone-high : (size : ℕ) (node : Node) (child : ℕ) → IsNode size node → lone_child node ≡ Some child → 1 ≤ (header_of node).level
+lone-high size (Leaf header items) child sound is = absurd cc
+lone-high size (Inner header pointers) child sound is = sound.levelled.0
 
 module _ (tree : Tree) (root : Root) (land : Ground) (history : Option (List Event)) (now : ℕ) (items : List Item) (node : Node)
     (stands : StandsForRoot tree root land history (alone now) items) (drafted : IsDrafted land root.next) (here : fresh_at land.blocks.draft now ≡ Some node)
@@ -145,3 +152,7 @@ module _ (tree : Tree) (root : Root) (land : Ground) (history : Option (List Eve
         let low_is : low ≡ root.height - 1 = omega (arith, height) in
         subst (λ (c : ℕ). HasRoot tree root (record root { address = c; height = root.height - 1 }) land new history (alone now) items) is_child
         (subst (λ (h : ℕ). HasRoot tree root (record root { address = pointer.child; height = h }) land new history (alone now) items) low_is sunk_low)
+
+-- an empty leaf in the place of a fresh node
+pub cleared-rewritten : (land : Ground) (at : ℕ) (node : Node) → IsNodeSize land.space.sizes.nodesize → IsRewritten land (edited land at (cleared node)) at node
+cleared-rewritten land at node size = record { node = cleared node; is = refl; named = IsNodeFor-cleared land.space.sizes.nodesize node size }

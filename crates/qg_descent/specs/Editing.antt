@@ -39,6 +39,7 @@ use Rattle.qg_descent.specs.Tree.{Reaches, Root, found_in, super_of}
 use Rattle.qg_descent.specs.declared.way.Way.{Way}
 use Rattle.qg_descent.specs.declared.way.Neighbour.{Neighbour}
 use Rattle.qg_descent.specs.Branch.{AreBranches, IsBranch, IsMember}
+use Rattle.qg_descent.specs.First.{first_leaf, least}
 
 -- ---- what an edit asks, over any disk
 
@@ -158,11 +159,13 @@ pub record IsLeafEdited (edit : Edit) (old new : List Item) : Type 0 where
   pub less : IsTrue (list_all (λ item. is_lt (key_cmp item.key edit.key)) front)
   pub greater : IsTrue (list_all (λ item. is_lt (key_cmp edit.key item.key)) back)
 
--- what an edit leaves of a part of a tree: what stands in its place holds the items once those of one leaf are edited; it reaches what was
--- reached before, and slots that were free; only these are told otherwise, only these get free, and no free slot is reached
+-- what an edit leaves of a part of a tree: what stands in its place holds the items once those of one leaf are edited, the first one where
+-- the key is the least; it reaches what was reached before, and slots that were free; only these are told otherwise, only these get free,
+-- and no free slot is reached
 pub record IsPartEdited (tree : Tree) (root : Root) (old new : Ground) (history : Option (List Event)) (level at : ℕ) (edit : Edit) (items : List Item) (instead : Instead) : Type 0 where
   pub items_new : List Item
   pub edits : IsLeafEdited edit items items_new
+  pub first : edit.key ≡ least → edits.leaf ≡ first_leaf (told old.blocks.draft history) level at
   pub holds : HoldInstead tree (super_of root old.blocks.draft) (told new.blocks.draft history) level instead items_new
   pub reach : (q : ℕ) → ReachesInstead (told new.blocks.draft history) level instead q → Reaches (told old.blocks.draft history) level at q ⊎ IsTrue (is_free_slot old.space q)
   pub others : (q : ℕ) → (IsTrue (is_free_slot old.space q) → ⊥) → (Reaches (told old.blocks.draft history) level at q → ⊥) → told new.blocks.draft history q ≡ told old.blocks.draft history q

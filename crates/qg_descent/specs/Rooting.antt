@@ -1,12 +1,12 @@
 -- An edit of a whole tree (this project's own). Addresses are in bytes.
-use Rattle.std.specs.Prelude.{◌≡◌, ⊤, ⊥, ◌⊎◌, ℕ, zero, suc, ◌+◌, ◌≤◌, List, [], ◌∷◌, length, map, Option, Some, None, IsTrue}
+use Rattle.std.specs.Prelude.{◌≡◌, ⊤, ◌⊎◌, ℕ, ◌+◌, ◌≤◌, List, [], ◌∷◌, length, map, Option, Some, None, IsTrue}
 use Rattle.std.specs.List.{All}
 use Rattle.qg_device.specs.History.{Event}
 use Rattle.qg_node.specs.declared.item.Item.{Item}
 use Rattle.qg_node.specs.declared.pointer.Pointer.{Pointer}
 use Rattle.qg_node.specs.declared.node.Node.{Node}
 use Rattle.qg_node.specs.declared.node.Node.TheVariants.{Leaf, Inner}
-use Rattle.qg_node.specs.Nodes.{is_ascending, own_items, own_pointers}
+use Rattle.qg_node.specs.Nodes.{is_ascending}
 use Rattle.qg_blocks.specs.Told.{told}
 use Rattle.qg_space.specs.Holding.{is_free_slot}
 use Rattle.qg_verdict.specs.declared.tree.Tree.{Tree}
@@ -14,6 +14,7 @@ use Rattle.qg_ground.specs.declared.ground.Ground.{Ground}
 use Rattle.qg_edit.specs.declared.edit.Edit.{Edit}
 use Rattle.qg_descent.specs.declared.instead.Instead.{Instead}
 use Rattle.qg_descent.specs.Tree.{Reaches, Root, TellsTree, super_of}
+use Rattle.qg_descent.specs.First.{first_leaf, least}
 use Rattle.qg_descent.specs.Editing.{HoldInstead, IsLeafEdited, ReachesInstead}
 
 -- the child of a node with one pointer
@@ -25,25 +26,6 @@ lone_of (pointer ∷ other ∷ pointers) = None
 abbrev pub lone_child : Node → Option ℕ
 lone_child (Leaf header items) = None
 lone_child (Inner header pointers) = lone_of pointers
-
--- the items, and the pointers, of a node that may be told
-abbrev pub items_of : Option Node → List Item
-items_of None = []
-items_of (Some node) = own_items node
-
-abbrev pub pointers_of : Option Node → List Pointer
-pointers_of None = []
-pointers_of (Some node) = own_pointers node
-
--- the child of a node's first pointer; itself where it has none
-abbrev pub first_or : ℕ → List Pointer → ℕ
-first_or address [] = address
-first_or address (pointer ∷ pointers) = pointer.child
-
--- the items of the first leaf under the node of a level at an address; none where no node is told
-unfoldable pub first_leaf : (ℕ → Option Node) → ℕ → ℕ → List Item
-first_leaf nodes zero at = items_of (nodes at)
-first_leaf nodes (suc level) at = first_leaf nodes level (first_or at (pointers_of (nodes at)))
 
 -- ---- a tree as it stands between two calls
 
@@ -67,10 +49,11 @@ pub record IsReplaced (tree : Tree) (before after : Root) (old new : Ground) (hi
   pub freed : (q : ℕ) → IsTrue (is_free_slot new.space q)
       → IsTrue (is_free_slot old.space q) ⊎ Reaches (told old.blocks.draft history) before.height before.address q
 
--- it is one with the items once those of one leaf are edited
+-- it is one with the items once those of one leaf are edited, the first one where the key is the least
 pub record IsEdited (tree : Tree) (before after : Root) (old new : Ground) (history : Option (List Event)) (edit : Edit) (items : List Item) : Type 0 where
   pub items_new : List Item
   pub edits : IsLeafEdited edit items items_new
+  pub first : edit.key ≡ least → edits.leaf ≡ first_leaf (told old.blocks.draft history) before.height before.address
   pub replaced : IsReplaced tree before after old new history items_new
 
 -- over any disk a tree stays that of its number and generation, and gets at most so many levels higher

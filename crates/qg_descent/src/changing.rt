@@ -7,8 +7,9 @@ ghost use Rattle.qg_blocks.specs.Told.{BreaksNone, told};
 ghost use Rattle.qg_space.specs.Holding.{free_slots};
 ghost use Rattle.qg_ground.specs.Land.{Rests};
 ghost use Rattle.qg_edit.specs.Edits.{CanEdit, IsShort, growth_of, has_key, with_item, without_key};
+ghost use Rattle.qg_descent.specs.First.{first_leaf};
 ghost use Rattle.qg_descent.specs.Editing.{CanMake, IsEditable};
-ghost use Rattle.qg_descent.specs.Rooting.{IsEdited, IsReplaced, IsRooted, StaysTree, first_leaf};
+ghost use Rattle.qg_descent.specs.Rooting.{IsEdited, IsReplaced, IsRooted, StaysTree};
 
 use crate::Tree;
 use qg_disk::Disk;
