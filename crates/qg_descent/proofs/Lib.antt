@@ -52,3 +52,4 @@ pub mod ListEdited
 pub mod RootEdited
 pub mod Grown
 pub mod Shrunk
+pub mod Replaced

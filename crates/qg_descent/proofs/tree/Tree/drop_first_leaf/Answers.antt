@@ -1,0 +1,10 @@
+use Rattle.std.proofs.Common.{refl}
+use Rattle.std.proofs.lemmas.Result.{on_ok_weaker}
+use Rattle.qg_descent.proofs.Replaced.{replaced-first}
+use Rattle.qg_descent.proofs.tree.Tree.drop_first_leaf.Goals as goal
+
+pub returns-clause-dropped : goal.returns-clause-dropped
+returns-clause-dropped g c items rooted =
+    on_ok_weaker c.edit.result
+    (λ is. replaced-first g.P.TreePart.tree c.args.self.now c.edit.new.self c.args.land.now c.edit.new.land (g.D.Disk.history c.args.disk.now) _ items refl refl is)
+    (c.edit.ensures.edited items rooted tt)

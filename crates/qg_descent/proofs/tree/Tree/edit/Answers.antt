@@ -1,0 +1,54 @@
+use Rattle.std.proofs.Common.{◌≡◌, ◌+◌, ◌*◌, ℕ, suc, arith, refl, sym, ap, subst, ◌∙◌}
+use Rattle.std.proofs.Math.Nat.{mul-suc}
+use Rattle.std.proofs.lemmas.Result.{err_from_is_err_and, on_ok_weaker}
+use Rattle.std.specs.Prelude.{List, Option}
+use Rattle.qg_device.specs.History.{Event}
+use Rattle.qg_descent.specs.Editing.{IsPartEdited, IsPartFit}
+use Rattle.qg_descent.specs.Rooting.{HasRoot, StandsForRoot}
+use Rattle.qg_descent.proofs.Replaced.{edited-root, fit-root, low-root, stands-root}
+use Rattle.qg_descent.proofs.tree.Tree.edit.Goals as goal
+
+pub returns-in_err-instead-clause-reads : goal.returns-in_err-instead-clause-reads
+returns-in_err-instead-clause-reads g c most all =
+    let low = c.edit_under.ensures.reads most all in
+    let level = c.height-level.ensures in
+    let one : (5 + 4 * most) * suc (c.height-level.result + 1) ≡ (5 + 4 * most) * (c.height-level.result + 1) + (5 + 4 * most) = mul-suc (5 + 4 * most) (c.height-level.result + 1) in
+    let whole : (5 + 4 * most) * (c.args.self.now.height + 2) ≡ (5 + 4 * most) * suc (c.height-level.result + 1) = ap (λ (n : ℕ). (5 + 4 * most) * n) (let e : c.args.self.now.height + 2 ≡ suc (c.height-level.result + 1) = omega (arith, level) in e) in
+    omega (arith, low, one, whole)
+
+pub returns-clause-edited : goal.returns-clause-edited
+returns-clause-edited g c items rooted can =
+    let history = g.D.Disk.history c.args.disk.now in
+    let fit = fit-root g.P.TreePart.tree c.args.self.now c.args.land.now history c.args.edit items rooted can c.way-way.result.expected c.way-way.result.address c.way-way.ensures.expected c.way-way.ensures.address in
+    let fit_there = subst (λ (n : ℕ). IsPartFit g.P.TreePart.tree c.args.self.now c.args.land.now history n c.way-way.result.expected c.way-way.result.address c.args.edit items) (sym c.height-level.ensures) fit in
+    let part = subst (λ (n : ℕ). IsPartEdited g.P.TreePart.tree c.args.self.now c.args.land.now c.edit_under.new.land history n c.way-way.result.address c.args.edit items c.in_ok-instead.instead) c.height-level.ensures
+    (c.in_ok-instead.ensures.edited items fit_there) in
+    let stands = stands-root g.P.TreePart.tree c.args.self.now c.args.land.now history c.args.edit items rooted can c.way-way.result.expected c.way-way.result.address c.way-way.ensures.expected c.way-way.ensures.address
+    c.edit_under.new.land c.in_ok-instead.instead part c.requires.editable.drafted c.edit_under.ensures.rests.node_sizes c.requires.short in
+    let stands_then = subst (λ (h : Option (List Event)). StandsForRoot g.P.TreePart.tree c.args.self.now c.edit_under.new.land h c.in_ok-instead.instead part.items_new) (sym c.edit_under.ensures.disk.0) stands in
+    on_ok_weaker c.set_root.result
+    (λ has. edited-root g.P.TreePart.tree c.args.self.now c.args.land.now history c.args.edit items rooted can c.way-way.result.expected c.way-way.result.address c.way-way.ensures.expected c.way-way.ensures.address
+    c.edit_under.new.land c.in_ok-instead.instead part c.requires.editable.drafted c.edit_under.ensures.rests.node_sizes c.requires.short c.set_root.new.land c.set_root.new.self
+    (subst (λ (h : Option (List Event)). HasRoot g.P.TreePart.tree c.args.self.now c.set_root.new.self c.edit_under.new.land c.set_root.new.land h c.in_ok-instead.instead part.items_new) c.edit_under.ensures.disk.0 has))
+    (c.set_root.ensures.rooted part.items_new stands_then)
+
+pub returns-clause-sound : goal.returns-clause-sound
+returns-clause-sound g c events told_is items rooted can =
+    let history = g.D.Disk.history c.args.disk.now in
+    let fit = fit-root g.P.TreePart.tree c.args.self.now c.args.land.now history c.args.edit items rooted can c.way-way.result.expected c.way-way.result.address c.way-way.ensures.expected c.way-way.ensures.address in
+    let fit_there = subst (λ (n : ℕ). IsPartFit g.P.TreePart.tree c.args.self.now c.args.land.now history n c.way-way.result.expected c.way-way.result.address c.args.edit items) (sym c.height-level.ensures) fit in
+    let part = subst (λ (n : ℕ). IsPartEdited g.P.TreePart.tree c.args.self.now c.args.land.now c.edit_under.new.land history n c.way-way.result.address c.args.edit items c.in_ok-instead.instead) c.height-level.ensures
+    (c.in_ok-instead.ensures.edited items fit_there) in
+    let stands = stands-root g.P.TreePart.tree c.args.self.now c.args.land.now history c.args.edit items rooted can c.way-way.result.expected c.way-way.result.address c.way-way.ensures.expected c.way-way.ensures.address
+    c.edit_under.new.land c.in_ok-instead.instead part c.requires.editable.drafted c.edit_under.ensures.rests.node_sizes c.requires.short in
+    let stands_then = subst (λ (h : Option (List Event)). StandsForRoot g.P.TreePart.tree c.args.self.now c.edit_under.new.land h c.in_ok-instead.instead part.items_new) (sym c.edit_under.ensures.disk.0) stands in
+    c.set_root.ensures.sound events (c.edit_under.ensures.disk.0 ∙ told_is) part.items_new stands_then (low-root g.P.TreePart.tree c.args.self.now c.args.land.now history items c.requires.editable.drafted rooted)
+
+pub returns-clause-reads : goal.returns-clause-reads
+returns-clause-reads g c most all =
+    let low = c.edit_under.ensures.reads most all in
+    let last = c.set_root.ensures.reads most all in
+    let level = c.height-level.ensures in
+    let one : (5 + 4 * most) * suc (c.height-level.result + 1) ≡ (5 + 4 * most) * (c.height-level.result + 1) + (5 + 4 * most) = mul-suc (5 + 4 * most) (c.height-level.result + 1) in
+    let whole : (5 + 4 * most) * (c.args.self.now.height + 2) ≡ (5 + 4 * most) * suc (c.height-level.result + 1) = ap (λ (n : ℕ). (5 + 4 * most) * n) (let e : c.args.self.now.height + 2 ≡ suc (c.height-level.result + 1) = omega (arith, level) in e) in
+    omega (arith, low, last, one, whole)
