@@ -50,6 +50,7 @@ pub mod Handed
 pub mod Fitting
 pub mod ListEdited
 pub mod RootEdited
+pub mod Heights
 pub mod Grown
 pub mod Shrunk
 pub mod Replaced

@@ -1,5 +1,5 @@
 -- A tree whose leaf was edited, and whose root was set.
-use Rattle.std.proofs.Common.{◌≡◌, ◌⊎◌, ℕ, ◌+◌, ◌≤◌, ◌<◌, true, List, [], ◌∷◌, ◌++◌, drop, length, append-nil, refl, sym, ap, subst, ◌∙◌, inl, inr, Option, Some, None}
+use Rattle.std.proofs.Common.{◌≡◌, ◌⊎◌, ℕ, ◌+◌, ◌≤◌, ◌<◌, true, List, [], ◌∷◌, ◌++◌, drop, length, append-nil, arith, refl, sym, ap, subst, ◌∙◌, inl, inr, Option, Some, None}
 use Rattle.std.specs.Prelude.{IsTrue, OnOk, Result, Ok, Err}
 use Rattle.std.specs.List.{list_all}
 use Rattle.std.specs.Ordering.{is_lt}
@@ -31,6 +31,7 @@ use Rattle.qg_descent.specs.Rooting.{HasRoot, IsEdited, IsReplaced, IsRooted, St
 use Rattle.qg_descent.proofs.AroundEdited.{leaf-ascends, leaf-short}
 use Rattle.qg_descent.proofs.BranchOrder.{ascends-under, keys_of}
 use Rattle.qg_descent.proofs.FirstLeaf.{none-less}
+use Rattle.qg_descent.proofs.Heights.{height-low}
 use Rattle.qg_descent.proofs.ListEdited.{ClearsNone, leaf-whole}
 use Rattle.qg_descent.proofs.PartBelow.{told-ascends}
 
@@ -103,7 +104,9 @@ module _ (tree : Tree) (root : Root) (land : Ground) (history : Option (List Eve
 
 -- a root may get a node above it
 pub low-root : (tree : Tree) (root : Root) (land : Ground) (history : Option (List Event)) (items : List Item) → IsDrafted land root.next → IsRooted tree root land history items → root.height < 7
-low-root tree root land history items drafted rooted = ?
+low-root tree root land history items drafted rooted =
+    let low = height-low tree root land history items drafted rooted.tells in
+    omega (arith, low)
 
 -- ---- what that makes of all items
 
