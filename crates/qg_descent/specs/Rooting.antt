@@ -1,5 +1,5 @@
 -- An edit of a whole tree (this project's own). Addresses are in bytes.
-use Rattle.std.specs.Prelude.{◌≡◌, ⊤, ◌⊎◌, ℕ, ◌+◌, ◌≤◌, List, [], ◌∷◌, length, map, Option, Some, None, IsTrue}
+use Rattle.std.specs.Prelude.{◌≡◌, ⊤, ◌⊎◌, ℕ, ◌+◌, ◌*◌, ◌≤◌, List, [], ◌∷◌, length, map, Option, Some, None, IsTrue}
 use Rattle.std.specs.List.{All}
 use Rattle.qg_device.specs.History.{Event}
 use Rattle.qg_node.specs.declared.item.Item.{Item}
@@ -8,14 +8,15 @@ use Rattle.qg_node.specs.declared.node.Node.{Node}
 use Rattle.qg_node.specs.declared.node.Node.TheVariants.{Leaf, Inner}
 use Rattle.qg_node.specs.Nodes.{is_ascending}
 use Rattle.qg_blocks.specs.Told.{told}
-use Rattle.qg_space.specs.Holding.{is_free_slot}
+use Rattle.qg_space.specs.Holding.{free_slots, is_free_slot}
 use Rattle.qg_verdict.specs.declared.tree.Tree.{Tree}
 use Rattle.qg_ground.specs.declared.ground.Ground.{Ground}
+use Rattle.qg_ground.specs.Land.{Rests}
 use Rattle.qg_edit.specs.declared.edit.Edit.{Edit}
 use Rattle.qg_descent.specs.declared.instead.Instead.{Instead}
 use Rattle.qg_descent.specs.Tree.{Reaches, Root, TellsTree, super_of}
 use Rattle.qg_descent.specs.First.{first_leaf, least}
-use Rattle.qg_descent.specs.Editing.{HoldInstead, IsLeafEdited, ReachesInstead}
+use Rattle.qg_descent.specs.Editing.{CanMake, HoldInstead, IsEditable, IsLeafEdited, ReachesInstead}
 
 -- the child of a node with one pointer
 abbrev pub lone_of : List Pointer → Option ℕ
@@ -56,11 +57,32 @@ pub record IsEdited (tree : Tree) (before after : Root) (old new : Ground) (hist
   pub first : edit.key ≡ least → edits.leaf ≡ first_leaf (told old.blocks.draft history) before.height before.address
   pub replaced : IsReplaced tree before after old new history items_new
 
--- over any disk a tree stays that of its number and generation, and gets at most so many levels higher
+-- ---- over any disk
+
+-- what an edit asks: nodes and space in which a tree is edited by the generation to come, a number and a generation that nodes may have
+-- which are made for it, and free slots
+pub record IsReady (tree : Tree) (root : Root) (land : Ground) (history : Option (List Event)) (bytes : ℕ) : Type 0 where
+  pub editable : IsEditable land history bytes root.next
+  pub makes : CanMake tree root
+  pub slots : 3 * (root.height + 2) ≤ free_slots land.space
+
+-- what it leaves so, whatever it answers: fresh nodes are such as a commit may write, what the last commit holds is as it was, and the disk
+-- is not written
+pub record LeavesBe (old new : Ground) (before after : Option (List Event)) (bytes left generation : ℕ) : Type 0 where
+  pub rests : Rests old new after generation
+  pub history : after ≡ before
+  pub size : left ≡ bytes
+
+-- a tree stays that of its number and generation, and gets at most so many levels higher
 pub record StaysTree (most : ℕ) (before after : Root) : Type 0 where
   pub owner : after.owner ≡ before.owner
   pub next : after.next ≡ before.next
   pub height : after.height ≤ before.height + most
+
+-- and so it does where at most 2·height + 3 slots were taken
+pub record Grows (most : ℕ) (before after : Root) (old new : Ground) : Type 0 where
+  pub stays : StaysTree most before after
+  pub count : free_slots old.space ≤ 2 * before.height + 3 + free_slots new.space
 
 -- ---- what stands in the place of a root
 

@@ -1,15 +1,12 @@
 // A tree is edited.
-ghost use Rattle.std.specs.Prelude.{◌≡◌, ◌+◌, ◌*◌, ◌≤◌, ℕ, List, Some, OnErr, OnOk, IsTrue, drop, length, not};
+ghost use Rattle.std.specs.Prelude.{◌≡◌, ◌+◌, ◌*◌, ◌≤◌, ℕ, List, Some, MatchResult, OnOk, IsTrue, drop, length, not};
 ghost use Rattle.qg_device.specs.Cause.{HasCause};
 ghost use Rattle.qg_device.specs.History.{Event};
 ghost use Rattle.qg_node.specs.declared.item.Item.{Item as ItemValue};
 ghost use Rattle.qg_blocks.specs.Told.{BreaksNone, told};
-ghost use Rattle.qg_space.specs.Holding.{free_slots};
-ghost use Rattle.qg_ground.specs.Land.{Rests};
 ghost use Rattle.qg_edit.specs.Edits.{CanEdit, IsShort, growth_of, has_key, with_item, without_key};
 ghost use Rattle.qg_descent.specs.First.{first_leaf};
-ghost use Rattle.qg_descent.specs.Editing.{CanMake, IsEditable};
-ghost use Rattle.qg_descent.specs.Rooting.{IsEdited, IsReplaced, IsRooted, StaysTree};
+ghost use Rattle.qg_descent.specs.Rooting.{Grows, IsEdited, IsReady, IsReplaced, IsRooted, LeavesBe};
 
 use crate::Tree;
 use qg_disk::Disk;
@@ -44,24 +41,18 @@ impl Tree {
         body: Body,
         reads: &mut Steps<L>,
     ) -> Result<(), BlockFault>
-        requires editable { IsEditable land.old (D.history disk.old) (D.size disk.old) self.old.next }
+        requires ready { IsReady P.tree self.old land.old (D.history disk.old) (D.size disk.old) × (length body ≤ 1024) }
         requires stands { B.stands book.old land.old disk.old }
-        requires makes { CanMake P.tree self.old }
-        requires slots { 3 * (self.old.height + 2) ≤ free_slots land.old.space }
-        requires short { length body ≤ 1024 }
         ensures inserted { (items : List ItemValue) → IsRooted P.tree self.old land.old (D.history disk.old) items → IsTrue (not (has_key key items))
             → OnOk result (IsReplaced P.tree self.old self.new land.old land.new (D.history disk.old) (with_item (record { key = key; body = body }) items)) }
         ensures sound { (events : List Event) → D.history disk.old ≡ Some events → (items : List ItemValue)
             → IsRooted P.tree self.old land.old (D.history disk.old) items → IsTrue (not (has_key key items)) → BreaksNone result }
-        ensures stays { StaysTree 1 self.old self.new }
-        ensures count { OnOk result (free_slots land.old.space ≤ 2 * self.old.height + 3 + free_slots land.new.space) }
-        ensures rests { Rests land.old land.new (D.history disk.new) self.old.next }
+        ensures tree { MatchResult result (λ done. Grows 1 self.old self.new land.old land.new) (λ fault. self.new ≡ self.old) }
+        ensures rests { LeavesBe land.old land.new (D.history disk.old) (D.history disk.new) (D.size disk.old) (D.size disk.new) self.old.next }
         ensures stands { OnOk result (B.stands book.new land.new disk.new) }
-        ensures disk { (D.history disk.new ≡ D.history disk.old) × (D.size disk.new ≡ D.size disk.old) }
         ensures cause { HasCause BlockFault.Disk (D.faults disk.old) (D.faults disk.new) result }
         ensures reads { (most : ℕ) → ((book : B) (q : ℕ) → B.to_read book q ≤ most)
             → reads.new ≤ reads.old + (5 + 4 * most) * (self.old.height + 2) }
-        ensures err { OnErr result (self.new ≡ self.old) }
     {
         let edit = Edit {
             key,
@@ -81,24 +72,18 @@ impl Tree {
         body: Body,
         reads: &mut Steps<L>,
     ) -> Result<(), BlockFault>
-        requires editable { IsEditable land.old (D.history disk.old) (D.size disk.old) self.old.next }
+        requires ready { IsReady P.tree self.old land.old (D.history disk.old) (D.size disk.old) × (length body ≤ 1024) }
         requires stands { B.stands book.old land.old disk.old }
-        requires makes { CanMake P.tree self.old }
-        requires slots { 3 * (self.old.height + 2) ≤ free_slots land.old.space }
-        requires short { length body ≤ 1024 }
         ensures replaced { (items : List ItemValue) → IsRooted P.tree self.old land.old (D.history disk.old) items → IsTrue (has_key key items)
             → OnOk result (IsReplaced P.tree self.old self.new land.old land.new (D.history disk.old) (with_item (record { key = key; body = body }) items)) }
         ensures sound { (events : List Event) → D.history disk.old ≡ Some events → (items : List ItemValue)
             → IsRooted P.tree self.old land.old (D.history disk.old) items → IsTrue (has_key key items) → BreaksNone result }
-        ensures stays { StaysTree 1 self.old self.new }
-        ensures count { OnOk result (free_slots land.old.space ≤ 2 * self.old.height + 3 + free_slots land.new.space) }
-        ensures rests { Rests land.old land.new (D.history disk.new) self.old.next }
+        ensures tree { MatchResult result (λ done. Grows 1 self.old self.new land.old land.new) (λ fault. self.new ≡ self.old) }
+        ensures rests { LeavesBe land.old land.new (D.history disk.old) (D.history disk.new) (D.size disk.old) (D.size disk.new) self.old.next }
         ensures stands { OnOk result (B.stands book.new land.new disk.new) }
-        ensures disk { (D.history disk.new ≡ D.history disk.old) × (D.size disk.new ≡ D.size disk.old) }
         ensures cause { HasCause BlockFault.Disk (D.faults disk.old) (D.faults disk.new) result }
         ensures reads { (most : ℕ) → ((book : B) (q : ℕ) → B.to_read book q ≤ most)
             → reads.new ≤ reads.old + (5 + 4 * most) * (self.old.height + 2) }
-        ensures err { OnErr result (self.new ≡ self.old) }
     {
         let edit = Edit {
             key,
@@ -117,23 +102,18 @@ impl Tree {
         key: Key,
         reads: &mut Steps<L>,
     ) -> Result<(), BlockFault>
-        requires editable { IsEditable land.old (D.history disk.old) (D.size disk.old) self.old.next }
+        requires ready { IsReady P.tree self.old land.old (D.history disk.old) (D.size disk.old) }
         requires stands { B.stands book.old land.old disk.old }
-        requires makes { CanMake P.tree self.old }
-        requires slots { 3 * (self.old.height + 2) ≤ free_slots land.old.space }
         ensures removed { (items : List ItemValue) → IsRooted P.tree self.old land.old (D.history disk.old) items → IsTrue (has_key key items)
             → OnOk result (IsReplaced P.tree self.old self.new land.old land.new (D.history disk.old) (without_key key items)) }
         ensures sound { (events : List Event) → D.history disk.old ≡ Some events → (items : List ItemValue)
             → IsRooted P.tree self.old land.old (D.history disk.old) items → IsTrue (has_key key items) → BreaksNone result }
-        ensures stays { StaysTree 0 self.old self.new }
-        ensures count { OnOk result (free_slots land.old.space ≤ 2 * self.old.height + 3 + free_slots land.new.space) }
-        ensures rests { Rests land.old land.new (D.history disk.new) self.old.next }
+        ensures tree { MatchResult result (λ done. Grows 0 self.old self.new land.old land.new) (λ fault. self.new ≡ self.old) }
+        ensures rests { LeavesBe land.old land.new (D.history disk.old) (D.history disk.new) (D.size disk.old) (D.size disk.new) self.old.next }
         ensures stands { OnOk result (B.stands book.new land.new disk.new) }
-        ensures disk { (D.history disk.new ≡ D.history disk.old) × (D.size disk.new ≡ D.size disk.old) }
         ensures cause { HasCause BlockFault.Disk (D.faults disk.old) (D.faults disk.new) result }
         ensures reads { (most : ℕ) → ((book : B) (q : ℕ) → B.to_read book q ≤ most)
             → reads.new ≤ reads.old + (5 + 4 * most) * (self.old.height + 2) }
-        ensures err { OnErr result (self.new ≡ self.old) }
     {
         let edit = Edit {
             key,
@@ -151,24 +131,19 @@ impl Tree {
         book: &mut B,
         reads: &mut Steps<L>,
     ) -> Result<(), BlockFault>
-        requires editable { IsEditable land.old (D.history disk.old) (D.size disk.old) self.old.next }
+        requires ready { IsReady P.tree self.old land.old (D.history disk.old) (D.size disk.old) }
         requires stands { B.stands book.old land.old disk.old }
-        requires makes { CanMake P.tree self.old }
-        requires slots { 3 * (self.old.height + 2) ≤ free_slots land.old.space }
         ensures dropped { (items : List ItemValue) → IsRooted P.tree self.old land.old (D.history disk.old) items
             → OnOk result (IsReplaced P.tree self.old self.new land.old land.new (D.history disk.old)
             (drop (length (first_leaf (told land.old.blocks.draft (D.history disk.old)) self.old.height self.old.address)) items)) }
         ensures sound { (events : List Event) → D.history disk.old ≡ Some events → (items : List ItemValue)
             → IsRooted P.tree self.old land.old (D.history disk.old) items → BreaksNone result }
-        ensures stays { StaysTree 0 self.old self.new }
-        ensures count { OnOk result (free_slots land.old.space ≤ 2 * self.old.height + 3 + free_slots land.new.space) }
-        ensures rests { Rests land.old land.new (D.history disk.new) self.old.next }
+        ensures tree { MatchResult result (λ done. Grows 0 self.old self.new land.old land.new) (λ fault. self.new ≡ self.old) }
+        ensures rests { LeavesBe land.old land.new (D.history disk.old) (D.history disk.new) (D.size disk.old) (D.size disk.new) self.old.next }
         ensures stands { OnOk result (B.stands book.new land.new disk.new) }
-        ensures disk { (D.history disk.new ≡ D.history disk.old) × (D.size disk.new ≡ D.size disk.old) }
         ensures cause { HasCause BlockFault.Disk (D.faults disk.old) (D.faults disk.new) result }
         ensures reads { (most : ℕ) → ((book : B) (q : ℕ) → B.to_read book q ≤ most)
             → reads.new ≤ reads.old + (5 + 4 * most) * (self.old.height + 2) }
-        ensures err { OnErr result (self.new ≡ self.old) }
     {
         let edit = Edit {
             key: LEAST,
@@ -187,24 +162,18 @@ impl Tree {
         edit: Edit,
         reads: &mut Steps<L>,
     ) -> Result<(), BlockFault>
-        requires editable { IsEditable land.old (D.history disk.old) (D.size disk.old) self.old.next }
+        requires ready { IsReady P.tree self.old land.old (D.history disk.old) (D.size disk.old) × IsShort edit.change }
         requires stands { B.stands book.old land.old disk.old }
-        requires makes { CanMake P.tree self.old }
-        requires slots { 3 * (self.old.height + 2) ≤ free_slots land.old.space }
-        requires short { IsShort edit.change }
         ensures edited { (items : List ItemValue) → IsRooted P.tree self.old land.old (D.history disk.old) items → CanEdit edit items
             → OnOk result (IsEdited P.tree self.old self.new land.old land.new (D.history disk.old) edit items) }
         ensures sound { (events : List Event) → D.history disk.old ≡ Some events → (items : List ItemValue)
             → IsRooted P.tree self.old land.old (D.history disk.old) items → CanEdit edit items → BreaksNone result }
-        ensures stays { StaysTree (growth_of edit.change) self.old self.new }
-        ensures count { OnOk result (free_slots land.old.space ≤ 2 * self.old.height + 3 + free_slots land.new.space) }
-        ensures rests { Rests land.old land.new (D.history disk.new) self.old.next }
+        ensures tree { MatchResult result (λ done. Grows (growth_of edit.change) self.old self.new land.old land.new) (λ fault. self.new ≡ self.old) }
+        ensures rests { LeavesBe land.old land.new (D.history disk.old) (D.history disk.new) (D.size disk.old) (D.size disk.new) self.old.next }
         ensures stands { OnOk result (B.stands book.new land.new disk.new) }
-        ensures disk { (D.history disk.new ≡ D.history disk.old) × (D.size disk.new ≡ D.size disk.old) }
         ensures cause { HasCause BlockFault.Disk (D.faults disk.old) (D.faults disk.new) result }
         ensures reads { (most : ℕ) → ((book : B) (q : ℕ) → B.to_read book q ≤ most)
             → reads.new ≤ reads.old + (5 + 4 * most) * (self.old.height + 2) }
-        ensures err { OnErr result (self.new ≡ self.old) }
     {
         let way = self.way();
         let level = self.height();

@@ -24,11 +24,11 @@ returns-clause-edited g c items rooted can =
     let part = subst (λ (n : ℕ). IsPartEdited g.P.TreePart.tree c.args.self.now c.args.land.now c.edit_under.new.land history n c.way-way.result.address c.args.edit items c.in_ok-instead.instead) c.height-level.ensures
     (c.in_ok-instead.ensures.edited items fit_there) in
     let stands = stands-root g.P.TreePart.tree c.args.self.now c.args.land.now history c.args.edit items rooted can c.way-way.result.expected c.way-way.result.address c.way-way.ensures.expected c.way-way.ensures.address
-    c.edit_under.new.land c.in_ok-instead.instead part c.requires.editable.drafted c.edit_under.ensures.rests.node_sizes c.requires.short in
+    c.edit_under.new.land c.in_ok-instead.instead part c.requires.ready.0.editable.drafted c.edit_under.ensures.rests.node_sizes c.requires.ready.1 in
     let stands_then = subst (λ (h : Option (List Event)). StandsForRoot g.P.TreePart.tree c.args.self.now c.edit_under.new.land h c.in_ok-instead.instead part.items_new) (sym c.edit_under.ensures.disk.0) stands in
     on_ok_weaker c.set_root.result
     (λ has. edited-root g.P.TreePart.tree c.args.self.now c.args.land.now history c.args.edit items rooted can c.way-way.result.expected c.way-way.result.address c.way-way.ensures.expected c.way-way.ensures.address
-    c.edit_under.new.land c.in_ok-instead.instead part c.requires.editable.drafted c.edit_under.ensures.rests.node_sizes c.requires.short c.set_root.new.land c.set_root.new.self
+    c.edit_under.new.land c.in_ok-instead.instead part c.requires.ready.0.editable.drafted c.edit_under.ensures.rests.node_sizes c.requires.ready.1 c.set_root.new.land c.set_root.new.self
     (subst (λ (h : Option (List Event)). HasRoot g.P.TreePart.tree c.args.self.now c.set_root.new.self c.edit_under.new.land c.set_root.new.land h c.in_ok-instead.instead part.items_new) c.edit_under.ensures.disk.0 has))
     (c.set_root.ensures.rooted part.items_new stands_then)
 
@@ -40,9 +40,9 @@ returns-clause-sound g c events told_is items rooted can =
     let part = subst (λ (n : ℕ). IsPartEdited g.P.TreePart.tree c.args.self.now c.args.land.now c.edit_under.new.land history n c.way-way.result.address c.args.edit items c.in_ok-instead.instead) c.height-level.ensures
     (c.in_ok-instead.ensures.edited items fit_there) in
     let stands = stands-root g.P.TreePart.tree c.args.self.now c.args.land.now history c.args.edit items rooted can c.way-way.result.expected c.way-way.result.address c.way-way.ensures.expected c.way-way.ensures.address
-    c.edit_under.new.land c.in_ok-instead.instead part c.requires.editable.drafted c.edit_under.ensures.rests.node_sizes c.requires.short in
+    c.edit_under.new.land c.in_ok-instead.instead part c.requires.ready.0.editable.drafted c.edit_under.ensures.rests.node_sizes c.requires.ready.1 in
     let stands_then = subst (λ (h : Option (List Event)). StandsForRoot g.P.TreePart.tree c.args.self.now c.edit_under.new.land h c.in_ok-instead.instead part.items_new) (sym c.edit_under.ensures.disk.0) stands in
-    c.set_root.ensures.sound events (c.edit_under.ensures.disk.0 ∙ told_is) part.items_new stands_then (low-root g.P.TreePart.tree c.args.self.now c.args.land.now history items c.requires.editable.drafted rooted)
+    c.set_root.ensures.sound events (c.edit_under.ensures.disk.0 ∙ told_is) part.items_new stands_then (low-root g.P.TreePart.tree c.args.self.now c.args.land.now history items c.requires.ready.0.editable.drafted rooted)
 
 pub returns-clause-reads : goal.returns-clause-reads
 returns-clause-reads g c most all =
