@@ -49,3 +49,6 @@ pub mod Handed
 pub mod Fitting
 pub mod ListEdited
 pub mod RootEdited
+pub mod Ways
+pub mod Turning
+pub mod ToldOwned

@@ -4,3 +4,4 @@ pub mod Way
 pub mod Branch
 pub mod Editing
 pub mod Uniting
+pub mod Counting
