@@ -52,3 +52,4 @@ pub mod RootEdited
 pub mod Ways
 pub mod Turning
 pub mod ToldOwned
+pub mod ToldUnited
