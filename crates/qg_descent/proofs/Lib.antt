@@ -53,3 +53,4 @@ pub mod Ways
 pub mod Turning
 pub mod ToldOwned
 pub mod ToldUnited
+pub mod ToldBeside

@@ -1,14 +1,21 @@
 -- What an edit of a tree tells the book of references, by how many ways lead to each address (this project's own). Addresses are in bytes.
-use Rattle.std.specs.Prelude.{◌≡◌, ⊤, ◌⊎◌, ◌==◌, if◌then◌else◌, ℕ, zero, suc, ◌+◌, ◌-◌, ◌<◌, ◌≤◌, List, [], ◌∷◌, take, drop, Option, Some, None, IsTrue}
+use Rattle.std.specs.Prelude.{◌≡◌, ⊤, ◌⊎◌, ◌==◌, if◌then◌else◌, ℕ, zero, suc, ◌+◌, ◌-◌, ◌*◌, ◌<◌, ◌≤◌, List, [], ◌∷◌, take, drop, Option, Some, None, IsTrue}
 use Rattle.std.specs.List.{All, sum_by}
+use Rattle.qg_device.specs.History.{Event}
+use Rattle.qg_node.specs.declared.item.Item.{Item}
 use Rattle.qg_node.specs.declared.pointer.Pointer.{Pointer}
+use Rattle.qg_node.specs.declared.node.Header.{Header}
 use Rattle.qg_node.specs.declared.node.Node.{Node}
 use Rattle.qg_node.specs.Nodes.{header_of, own_items, own_pointers}
+use Rattle.qg_verdict.specs.declared.tree.Tree.{Tree}
+use Rattle.qg_blocks.specs.Told.{told}
 use Rattle.qg_space.specs.Holding.{is_free_slot}
 use Rattle.qg_ground.specs.declared.ground.Ground.{Ground}
 use Rattle.qg_ground.specs.Tellings.{Telling}
 use Rattle.qg_ground.specs.Tellings.Telling.{Copied, Made, Left}
 use Rattle.qg_descent.specs.declared.instead.Instead.{Instead}
+use Rattle.qg_descent.specs.Tree.{Reaches, Root}
+use Rattle.qg_descent.specs.Editing.{IsSettled, ReachesParts}
 
 -- ---- ways
 
@@ -120,3 +127,18 @@ tellings_made (Some more) = Made more ∷ []
 abbrev pub TellsUnited : ℕ → Instead → List Telling → Type 0
 TellsUnited right instead tellings = (instead.more ≡ Some right) × (tellings ≡ [])
     ⊎ (instead.more ≡ None) × ((node : Node) × (tellings ≡ Left node ∷ []) × ((header_of node).address ≡ right) × IsBare (Left node))
+
+-- ---- what a book is told in the course of an edit
+
+-- the pointers of a node were set to what stands in the place of the child at an index, and this was told meanwhile: a neighbour may have
+-- been copied, and left
+pub record IsSettledTold (tree : Tree) (root : Root) (old new : Ground) (history : Option (List Event)) (level at place : ℕ) (child : Instead) (pointers : List Pointer) (header : Header) (items : List Item) (rest : Option Node) (tellings : List Telling) : Type 0 where
+  pub settled : IsSettled tree root old new history level at place child pointers header items rest
+  pub told : IsTold old (ReachesParts (told old.blocks.draft history) level pointers place child) (ways_parts (told old.blocks.draft history) level pointers place child)
+      (ways_each (told new.blocks.draft history) level settled.pointers_new) 1 1 0 tellings
+
+-- the part of a tree that the node of a level at an address is the top of was edited, and this was told meanwhile
+abbrev pub IsPartTold : Ground → Ground → Option (List Event) → ℕ → ℕ → Instead → List Telling → Type 0
+IsPartTold old new history level at instead =
+    IsTold old (Reaches (told old.blocks.draft history) level at) (ways (told old.blocks.draft history) level at) (ways_instead (told new.blocks.draft history) level instead)
+    (2 * (level + 1)) (level + 1) (level + 1)
