@@ -54,3 +54,4 @@ pub mod Turning
 pub mod ToldOwned
 pub mod ToldUnited
 pub mod ToldBeside
+pub mod OwnedTold

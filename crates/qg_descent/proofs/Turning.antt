@@ -122,17 +122,22 @@ module _ (old : Ground) (Reached : ℕ → Type 0) where
     few_made = let few = told.few_made in omega (arith, few, c);
   }
 
-  -- the same with more counted, where none of it is at a slot that was free or at an address that was reached
-  pub told-framed : (before after more : ℕ → ℕ) (copied left made : ℕ) (tellings : List Telling) → ((q : ℕ) → IsTrue (is_free_slot old.space q) ⊎ Reached q → more q ≡ 0)
+  -- the same with more counted, where none of it is at an address where a node comes
+  pub told-framed : (before after more : ℕ → ℕ) (copied left made : ℕ) (tellings : List Telling) → ((q : ℕ) → 0 < sum_by (λ telling. gains telling q) tellings → more q ≡ 0)
       → IsTold old Reached before after copied left made tellings → IsTold old Reached (λ q. before q + more q) (λ q. after q + more q) copied left made tellings
   told-framed before after more copied left made tellings apart told = record {
-    turns = turns-framed tellings before after more (λ q some. apart q (told.new q some)) told.turns;
+    turns = turns-framed tellings before after more apart told.turns;
     new = told.new;
     bare = told.bare;
     few_copied = told.few_copied;
     few_left = told.few_left;
     few_made = told.few_made;
   }
+
+  -- so where none of it is at a slot that was free or at an address that was reached
+  pub told-apart : (before after more : ℕ → ℕ) (copied left made : ℕ) (tellings : List Telling) → ((q : ℕ) → IsTrue (is_free_slot old.space q) ⊎ Reached q → more q ≡ 0)
+      → IsTold old Reached before after copied left made tellings → IsTold old Reached (λ q. before q + more q) (λ q. after q + more q) copied left made tellings
+  told-apart before after more copied left made tellings apart told = told-framed before after more copied left made tellings (λ q some. apart q (told.new q some)) told
 
   -- told of a part of it, or later
   pub told-within : (part : Ground) (Part : ℕ → Type 0) (before after : ℕ → ℕ) (copied left made : ℕ) (tellings : List Telling)
