@@ -55,3 +55,5 @@ pub mod ToldOwned
 pub mod ToldUnited
 pub mod ToldBeside
 pub mod OwnedTold
+pub mod PlacedTold
+pub mod FitTold
