@@ -26,7 +26,7 @@ use Rattle.qg_descent.proofs.BranchFrames.{reach-top}
 use Rattle.qg_descent.proofs.OwnedBranch.{below-apart, mine-inner, mine-told}
 use Rattle.qg_descent.proofs.ToldOwned.{tellings-copied, tellings-kept}
 use Rattle.qg_descent.proofs.Turning.{told-more, told-none}
-use Rattle.qg_descent.proofs.Ways.{each-same, one-here, one-other, ways-inner, ways-leaf, ways-none, ways-same, ways-top}
+use Rattle.qg_descent.proofs.Ways.{ways_each-same, one-here, one-other, ways-inner, ways-leaf, ways-none, ways-same, ways-top}
 
 -- a node is copied
 module _ (old : Ground) (Reached : ℕ → Type 0) (before after : ℕ → ℕ) (node : Node) (at now : ℕ) where
@@ -61,7 +61,7 @@ module _ (tree : Tree) (root : Root) (land new : Ground) (history : Option (List
   below_ways (suc level) items branch free q =
       let mine = mine-inner tree root land new history expected at now owned makes (suc level) branch.0 branch.1 branch.2 branch.3.levelled in
       let there = mine-told tree root land new history expected at now owned makes ∙ ap Some mine.1 in
-      let same = each-same (told land.blocks.draft history) (told new.blocks.draft history) level branch.1
+      let same = ways_each-same (told land.blocks.draft history) (told new.blocks.draft history) level branch.1
       (λ place pointer is r reaches. owned.others history r
       (below-apart tree root land new history expected at now owned makes level branch.0 branch.1 items branch.2 branch.3.levelled branch.4 free place pointer is r reaches)) q in (
         ways_each (told land.blocks.draft history) level branch.1 q,

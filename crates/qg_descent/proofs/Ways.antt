@@ -113,33 +113,33 @@ ways-some nodes (suc level) at q (inr (node, is, place, pointer, there, reaches)
 
 -- ---- ways from the nodes that pointers lead to
 
-pub each-same : (nodes nodes' : ℕ → Option Node) (level : ℕ) (pointers : List Pointer)
+pub ways_each-same : (nodes nodes' : ℕ → Option Node) (level : ℕ) (pointers : List Pointer)
     → ((place : ℕ) (pointer : Pointer) → slice_get pointers place ≡ Some pointer → (r : ℕ) → Reaches nodes level pointer.child r → nodes' r ≡ nodes r)
     → (q : ℕ) → ways_each nodes' level pointers q ≡ ways_each nodes level pointers q
-each-same nodes nodes' level pointers same q =
+ways_each-same nodes nodes' level pointers same q =
     sum-same (λ (p : Pointer). ways nodes level p.child q) (λ (p : Pointer). ways nodes' level p.child q) pointers
     (λ place pointer there. ways-same nodes nodes' level pointer.child (same place pointer there) q)
 
-pub each-none : (nodes : ℕ → Option Node) (level : ℕ) (pointers : List Pointer) (q : ℕ)
+pub ways_each-none : (nodes : ℕ → Option Node) (level : ℕ) (pointers : List Pointer) (q : ℕ)
     → ((place : ℕ) (pointer : Pointer) → slice_get pointers place ≡ Some pointer → Reaches nodes level pointer.child q → ⊥) → ways_each nodes level pointers q ≡ 0
-each-none nodes level pointers q apart =
+ways_each-none nodes level pointers q apart =
     sum-none (λ (p : Pointer). ways nodes level p.child q) pointers (λ place pointer there. ways-none nodes level pointer.child q (apart place pointer there))
 
-pub each-append : (nodes : ℕ → Option Node) (level : ℕ) (front back : List Pointer) (q : ℕ)
+pub ways_each-append : (nodes : ℕ → Option Node) (level : ℕ) (front back : List Pointer) (q : ℕ)
     → ways_each nodes level (front ++ back) q ≡ ways_each nodes level front q + ways_each nodes level back q
-each-append nodes level front back q = sum_by-append (λ (p : Pointer). ways nodes level p.child q) front back
+ways_each-append nodes level front back q = sum_by-append (λ (p : Pointer). ways nodes level p.child q) front back
 
-pub each-cons : (nodes : ℕ → Option Node) (level : ℕ) (pointer : Pointer) (pointers : List Pointer) (q : ℕ)
+pub ways_each-cons : (nodes : ℕ → Option Node) (level : ℕ) (pointer : Pointer) (pointers : List Pointer) (q : ℕ)
     → ways_each nodes level (pointer ∷ pointers) q ≡ ways nodes level pointer.child q + ways_each nodes level pointers q
-each-cons nodes level pointer pointers q = sum_by-cons (λ (p : Pointer). ways nodes level p.child q) pointer pointers
+ways_each-cons nodes level pointer pointers q = sum_by-cons (λ (p : Pointer). ways nodes level p.child q) pointer pointers
 
 -- those from one index on, and those in front
-pub each-at : (nodes : ℕ → Option Node) (level : ℕ) (pointers : List Pointer) (place : ℕ) (pointer : Pointer) (q : ℕ) → slice_get pointers place ≡ Some pointer
+pub ways_each-at : (nodes : ℕ → Option Node) (level : ℕ) (pointers : List Pointer) (place : ℕ) (pointer : Pointer) (q : ℕ) → slice_get pointers place ≡ Some pointer
     → ways_each nodes level pointers q ≡ ways nodes level pointer.child q + (ways_each nodes level (take place pointers) q + ways_each nodes level (drop (place + 1) pointers) q)
-each-at nodes level pointers place pointer q there =
+ways_each-at nodes level pointers place pointer q there =
     let both = sum_by-take-drop (λ (p : Pointer). ways nodes level p.child q) pointers place in
     let behind = ap (λ (ps : List Pointer). ways_each nodes level ps q) (drop-there pointers place pointer there) in
-    let first = each-cons nodes level pointer (drop (suc place) pointers) q in
+    let first = ways_each-cons nodes level pointer (drop (suc place) pointers) q in
     let next = ap (λ (n : ℕ). ways_each nodes level (drop n pointers) q) (let e : place + 1 ≡ suc place = omega arith in e) in
     omega (arith, both, behind, first, next)
 
