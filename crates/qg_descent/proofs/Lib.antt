@@ -57,3 +57,4 @@ pub mod ToldBeside
 pub mod OwnedTold
 pub mod PlacedTold
 pub mod FitTold
+pub mod LedTold
