@@ -58,3 +58,4 @@ pub mod OwnedTold
 pub mod PlacedTold
 pub mod FitTold
 pub mod LedTold
+pub mod RejoinedTold

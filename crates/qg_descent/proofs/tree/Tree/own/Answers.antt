@@ -6,7 +6,6 @@ use Rattle.qg_blocks.specs.Told.{fresh_at, told}
 use Rattle.qg_ground.specs.declared.ground.Ground.{Ground}
 use Rattle.qg_ground.proofs.Editing.{ArePlaced-drafted}
 use Rattle.qg_ground.proofs.Lands.{Rests-draft}
-use Rattle.qg_descent.proofs.Settled.{settled-told}
 use Rattle.qg_descent.proofs.Owned.{IsOwned-visited, owned-unbroken}
 use Rattle.qg_descent.proofs.ToldOwned.{tells-owned}
 use Rattle.qg_descent.proofs.tree.Tree.own.Goals as goal
