@@ -1,5 +1,5 @@
 -- Tellings that turn one count of ways into another.
-use Rattle.std.proofs.Common.{◌≡◌, ℕ, zero, suc, ◌+◌, ◌-◌, ◌<◌, ◌≤◌, List, [], ◌∷◌, ◌++◌, arith, refl, sym, ap, subst, ◌∙◌, inl, inr}
+use Rattle.std.proofs.Common.{◌≡◌, ℕ, zero, suc, ◌+◌, ◌-◌, ◌<◌, ◌≤◌, List, [], ◌∷◌, ◌++◌, append_assoc, arith, refl, sym, ap, subst, ◌∙◌, inl, inr}
 use Rattle.std.specs.Prelude.{◌⊎◌, IsTrue}
 use Rattle.std.specs.List.{All, sum_by}
 use Rattle.std.proofs.lemmas.Bool.Decides.{eqb_tells}
@@ -56,6 +56,13 @@ timely_few (Made address) count q timely = omega arith
 timely_few (Left node) count q timely = one_few count (header_of node).address q timely
 
 -- ---- tellings
+
+-- four in a row
+pub four-in-row : (log first second third fourth : List Telling) → (((log ++ first) ++ second) ++ third) ++ fourth ≡ log ++ (first ++ (second ++ (third ++ fourth)))
+four-in-row log first second third fourth =
+    append_assoc ((log ++ first) ++ second) third fourth
+    ∙ append_assoc (log ++ first) second (third ++ fourth)
+    ∙ append_assoc log first (second ++ (third ++ fourth))
 
 pub turns-same : (tellings : List Telling) (before other after : ℕ → ℕ) → ((q : ℕ) → other q ≡ before q) → Turns before tellings after → Turns other tellings after
 turns-same [] before other after same turns = λ q. turns q ∙ sym (same q)
