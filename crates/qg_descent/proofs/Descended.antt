@@ -14,6 +14,7 @@ use Rattle.qg_blocks.specs.Told.{fresh_at, held_at, told}
 use Rattle.qg_blocks.proofs.Telling.{fresh-held}
 use Rattle.qg_ground.specs.declared.ground.Ground.{Ground}
 use Rattle.qg_ground.specs.Land.{IsDrafted, Rests}
+use Rattle.qg_ground.specs.Tellings.{Telling}
 use Rattle.qg_edit.specs.declared.edit.Edit.{Edit}
 use Rattle.qg_edit.specs.Edits.{IsShort}
 use Rattle.qg_descent.specs.declared.instead.Instead.{Instead}
@@ -21,11 +22,12 @@ use Rattle.qg_descent.specs.declared.way.Way.{Way}
 use Rattle.qg_descent.specs.Tree.{Root, super_of}
 use Rattle.qg_descent.specs.First.{first_leaf, least}
 use Rattle.qg_descent.specs.Branch.{IsMember}
-use Rattle.qg_descent.specs.Editing.{CanMake, IsLeafEdited, IsOwned, IsPartEdited, IsPartFit, IsPlacedBehind, IsSettled, IsUnsettled, IsWayAt, KeepsAbove}
+use Rattle.qg_descent.specs.Editing.{CanMake, IsLeafEdited, IsOwned, IsPartEdited, IsPartFit, IsPlacedBehind, IsSettled, IsUnsettled, IsWayAt, KeepsAbove, ReachesParts}
+use Rattle.qg_descent.specs.Counting.{IsPartTold, IsTold, tellings_made, tellings_owned, ways_each, ways_parts}
 use Rattle.qg_descent.proofs.Around.{IsAround}
 use Rattle.qg_descent.proofs.AroundEdited.{edited-leaf, edited-whole, unsettled}
 use Rattle.qg_descent.proofs.PartBelow.{IsParted, around, first-below, fit-inner, owned-here, part, part-below}
-use Rattle.qg_descent.proofs.PartEdited.{fit-branch, part-edited-unsettled}
+use Rattle.qg_descent.proofs.PartEdited.{fit-branch, part-edited-unsettled, part-told-unsettled}
 
 module _ (tree : Tree) (root : Root) (land mid : Ground) (history : Option (List Event)) (level : ℕ) (expected : Expected) (at now : ℕ) (edit : Edit) (items : List Item)
     (fit : IsPartFit tree root land history (suc level) expected at edit items) (owned : IsOwned tree root land mid history expected at now) (makes : CanMake tree root) (drafted : IsDrafted land root.next)
@@ -104,5 +106,15 @@ module _ (tree : Tree) (root : Root) (land mid : Ground) (history : Option (List
       pub descended-edited : IsPartEdited tree root land end history (suc level) at edit items instead
       descended-edited =
           part-edited-unsettled tree root land mid low set end history own_later child_later set_later end_later level expected at now edit place descended-pointers whole.front descended-mine whole.back items
+          descended-items descended-way.pointer below.address child rest instead (fit-branch tree root land history (suc level) expected at edit items fit) fit.apart makes owned about descended-way.there
+          descended-way.child edited_child above edits first descended-unsettled settled placed own_rests child_rests set_rests end_rests
+
+      -- and this was told
+      pub descended-told : (low_log set_log : List Telling) → IsPartTold mid low history level below.address child low_log
+          → IsTold low (ReachesParts (told low.blocks.draft history) level descended-unsettled.pointers place child)
+          (ways_parts (told low.blocks.draft history) level descended-unsettled.pointers place child) (ways_each (told set.blocks.draft history) level settled.pointers_new) 1 1 0 set_log
+          → IsPartTold land end history (suc level) at instead (tellings_owned owned.node at now ++ (low_log ++ (set_log ++ tellings_made instead.more)))
+      descended-told =
+          part-told-unsettled tree root land mid low set end history own_later child_later set_later end_later level expected at now edit place descended-pointers whole.front descended-mine whole.back items
           descended-items descended-way.pointer below.address child rest instead (fit-branch tree root land history (suc level) expected at edit items fit) fit.apart makes owned about descended-way.there
           descended-way.child edited_child above edits first descended-unsettled settled placed own_rests child_rests set_rests end_rests

@@ -9,11 +9,13 @@ use Rattle.qg_node.specs.declared.node.Node.{Node}
 use Rattle.qg_verdict.specs.declared.tree.Tree.{Tree}
 use Rattle.qg_blocks.specs.Told.{BreaksNone}
 use Rattle.qg_ground.specs.declared.ground.Ground.{Ground}
+use Rattle.qg_ground.specs.Tellings.{Telling}
 use Rattle.qg_edit.specs.declared.edit.Edit.{Edit}
 use Rattle.qg_descent.specs.declared.instead.Instead.{Instead}
 use Rattle.qg_descent.specs.declared.way.Way.{Way}
 use Rattle.qg_descent.specs.Tree.{Root}
 use Rattle.qg_descent.specs.Editing.{IsPartEdited, IsPartFit, IsSettled, IsUnsettled}
+use Rattle.qg_descent.specs.Counting.{IsPartTold, IsSettledTold}
 
 pub child-edited : (tree : Tree) (root : Root) (mid low : Ground) (level : ℕ) (below : Way) (edit : Edit) (mine : List Item) (history later : Option (List Event)) → later ≡ history → (child : Instead)
     → IsPartFit tree root mid history level below.expected below.address edit mine
@@ -22,6 +24,15 @@ pub child-edited : (tree : Tree) (root : Root) (mid low : Ground) (level : ℕ) 
 child-edited tree root mid low level below edit mine history later same child fit edited =
     subst (λ (h : Option (List Event)). IsPartEdited tree root mid low h level below.address edit mine child) same
     (edited mine (subst (λ (h : Option (List Event)). IsPartFit tree root mid h level below.expected below.address edit mine) (sym same) fit))
+
+pub child-told : (tree : Tree) (root : Root) (mid low : Ground) (level : ℕ) (below : Way) (edit : Edit) (mine : List Item) (history later : Option (List Event)) → later ≡ history → (child : Instead)
+    (Follows : List Telling → Type 0) → IsPartFit tree root mid history level below.expected below.address edit mine
+    → ((items : List Item) → IsPartFit tree root mid later level below.expected below.address edit items
+    → (tellings : List Telling) × Follows tellings × IsPartTold mid low later level below.address child tellings)
+    → (tellings : List Telling) × Follows tellings × IsPartTold mid low history level below.address child tellings
+child-told tree root mid low level below edit mine history later same child Follows fit told =
+    subst (λ (h : Option (List Event)). (tellings : List Telling) × Follows tellings × IsPartTold mid low h level below.address child tellings) same
+    (told mine (subst (λ (h : Option (List Event)). IsPartFit tree root mid h level below.expected below.address edit mine) (sym same) fit))
 
 module _ (tree : Tree) (root : Root) (low : Ground) where
   pub settle-sound : (level now : ℕ) (to : Option Key) (place : ℕ) (child : Instead) (history later : Option (List Event)) → later ≡ history → (result : Result (Option Node) BlockFault) (events : List Event)
@@ -37,3 +48,13 @@ module _ (tree : Tree) (root : Root) (low : Ground) where
   settle-settled set level now to place child history later same rest settled =
       subst (λ (h : Option (List Event)). (items : List Item) (un : IsUnsettled tree root low h level now to place child items)
       → IsSettled tree root low set h level now place child un.pointers un.header items rest) same settled
+
+  pub settle-told : (set : Ground) (level now : ℕ) (to : Option Key) (place : ℕ) (child : Instead) (history later : Option (List Event)) → later ≡ history → (rest : Option Node)
+      (Follows : List Telling → Type 0)
+      → ((items : List Item) (un : IsUnsettled tree root low later level now to place child items)
+      → (tellings : List Telling) × Follows tellings × IsSettledTold tree root low set later level now place child un.pointers un.header items rest tellings)
+      → (items : List Item) (un : IsUnsettled tree root low history level now to place child items)
+      → (tellings : List Telling) × Follows tellings × IsSettledTold tree root low set history level now place child un.pointers un.header items rest tellings
+  settle-told set level now to place child history later same rest Follows told =
+      subst (λ (h : Option (List Event)). (items : List Item) (un : IsUnsettled tree root low h level now to place child items)
+      → (tellings : List Telling) × Follows tellings × IsSettledTold tree root low set h level now place child un.pointers un.header items rest tellings) same told

@@ -1,5 +1,5 @@
 -- A leaf of a tree that was owned and edited.
-use Rattle.std.proofs.Common.{◌≡◌, ◌≢◌, ◌⊎◌, ℕ, List, [], ◌++◌, append-nil, refl, sym, ap, subst, ◌∙◌, inl, inr, Option, Some, None}
+use Rattle.std.proofs.Common.{◌≡◌, ◌≢◌, ◌⊎◌, ℕ, ◌+◌, List, [], ◌++◌, append-nil, arith, refl, sym, ap, subst, ◌∙◌, inl, inr, Option, Some, None}
 use Rattle.std.specs.Prelude.{IsTrue}
 use Rattle.qg_device.specs.History.{Event}
 use Rattle.qg_node.specs.declared.item.Item.{Item}
@@ -24,14 +24,19 @@ use Rattle.qg_edit.specs.Edits.{edited}
 use Rattle.qg_descent.specs.declared.instead.Instead.{Instead}
 use Rattle.qg_descent.specs.Tree.{Reaches, Root, super_of}
 use Rattle.qg_descent.specs.Branch.{IsBranch, IsMember}
-use Rattle.qg_descent.specs.Editing.{CanMake, FillsThere, HoldInstead, IsCutThere, IsOwned, IsPartEdited, IsPartFit, IsPlacedBehind, IsRewritten, ReachesInstead}
+use Rattle.qg_descent.specs.Editing.{CanMake, FillsThere, HoldInstead, IsCutThere, IsOwned, IsPartEdited, IsPartFit, IsPlacedBehind, IsRewritten, ReachesInstead, alone}
+use Rattle.qg_descent.specs.Counting.{IsPartTold, IsTold, one, tellings_made, tellings_owned, ways, ways_instead}
 use Rattle.qg_descent.proofs.BranchFrames.{reach-top}
 use Rattle.qg_descent.proofs.BranchWalk.{branch-under}
 use Rattle.qg_descent.proofs.FirstLeaf.{first-alone}
 use Rattle.qg_descent.proofs.OwnedBranch.{mine-leaf}
+use Rattle.qg_descent.proofs.OwnedTold.{owned-told}
 use Rattle.qg_descent.proofs.Placed.{fresh-taken}
 use Rattle.qg_descent.proofs.PlacedBehind.{AreTwoThere, IsOneThere, filled-at, parts-there, placed-free, placed-told}
+use Rattle.qg_descent.proofs.PlacedTold.{told-made}
+use Rattle.qg_descent.proofs.Turning.{told-append, told-more, told-none, told-same, told-within}
 use Rattle.qg_descent.proofs.United.{rewritten-told}
+use Rattle.qg_descent.proofs.Ways.{one-other, ways-leaf}
 
 -- ---- both parts of a leaf that was cut
 
@@ -220,6 +225,49 @@ module _ (tree : Tree) (root : Root) (land mid set end : Ground) (history later 
     freed = λ q free. elim (free_set q (free_end q free)) [ inl was ↦ inl was | inr same ↦ inr (subst (λ (a : ℕ). Reaches (told land.blocks.draft history) 0 at a) (sym same) (reach-top (told land.blocks.draft history) 0 at)) ];
     free = taken;
   }
+
+  -- ---- what a book is told
+
+  Old : ℕ → Type 0
+  Old q = Reaches (told land.blocks.draft history) 0 at q
+
+  -- the rest was made behind the leaf
+  rest_told : IsTold set (λ q. ⊥) (λ q. one now q) (ways_instead (told end.blocks.draft history) 0 instead) 0 0 1 (tellings_made instead.more)
+  rest_told = elim parts [
+    | inl one_leaf ↦
+        subst (λ (i : Instead). IsTold set (λ q. ⊥) (λ q. one now q) (ways_instead (told end.blocks.draft history) 0 i) 0 0 1 (tellings_made i.more)) (sym one_leaf.instead_is)
+        (told-more set (λ q. ⊥) (λ q. one now q) (ways_instead (told end.blocks.draft history) 0 (alone now)) 0 0 0 0 0 1 [] (omega arith) (omega arith) (omega arith)
+        (told-none set (λ q. ⊥) (λ q. one now q) (ways_instead (told end.blocks.draft history) 0 (alone now)) (λ q. let a = ways-leaf (told end.blocks.draft history) now q in omega (arith, a))))
+    | inr two ↦
+        subst (λ (i : Instead). IsTold set (λ q. ⊥) (λ q. one now q) (ways_instead (told end.blocks.draft history) 0 i) 0 0 1 (tellings_made i.more)) (sym two.instead_is)
+        (told-made set (λ q. ⊥) (λ q. one now q) (ways_instead (told end.blocks.draft history) 0 (record { now = now; more = Some two.more })) two.more two.makes.puts.free
+        (one-other now two.more two.differ) (λ q.
+        let a = ways-leaf (told end.blocks.draft history) now q in
+        let b = ways-leaf (told end.blocks.draft history) two.more q in
+        omega (arith, a, b)))
+  ]
+
+  -- the leaf was owned
+  own_told : IsTold land Old (ways (told land.blocks.draft history) 0 at) (λ q. one now q) 1 0 0 (tellings_owned owned.node at now)
+  unfolding Old
+  own_told =
+      told-same land Old (ways (told land.blocks.draft history) 0 at) (ways (told land.blocks.draft history) 0 at) (ways (told mid.blocks.draft history) 0 now) (λ q. one now q) 1 0 0
+      (tellings_owned owned.node at now) (λ q. refl) (λ q. sym (ways-leaf (told mid.blocks.draft history) now q))
+      (owned-told tree root land mid history expected at now owned makes 0 items (top tree root land mid history expected at now edit items owned makes fit) fit.apart)
+
+  set_within : (q : ℕ) → IsTrue (is_free_slot set.space q) ⊎ ⊥ → IsTrue (is_free_slot land.space q) ⊎ Old q
+  unfolding Old Reaches
+  set_within q (inl free) = free_set q free
+  set_within q (inr none) = absurd none
+
+  pub leaf-told : IsPartTold land end history 0 at instead (tellings_owned owned.node at now ++ tellings_made instead.more)
+  unfolding Old
+  leaf-told =
+      let before = ways (told land.blocks.draft history) 0 at in
+      let after = ways_instead (told end.blocks.draft history) 0 instead in
+      let made = told-within land Old set (λ q. ⊥) (λ q. one now q) after 0 0 1 (tellings_made instead.more) set_within rest_told in
+      told-more land Old before after 1 0 1 2 1 1 (tellings_owned owned.node at now ++ tellings_made instead.more) (omega arith) (omega arith) (omega arith)
+      (told-append land Old before (λ q. one now q) after 1 0 0 0 0 1 (tellings_owned owned.node at now) (tellings_made instead.more) own_told made)
 
 pub header-with_items : (node : Node) (items : List Item) → header_of (with_items node items) ≡ header_of node
 header-with_items (Leaf header old) items = refl

@@ -54,3 +54,13 @@ pub mod Heights
 pub mod Grown
 pub mod Shrunk
 pub mod Replaced
+pub mod Ways
+pub mod Turning
+pub mod ToldOwned
+pub mod ToldUnited
+pub mod ToldBeside
+pub mod OwnedTold
+pub mod PlacedTold
+pub mod FitTold
+pub mod LedTold
+pub mod RejoinedTold

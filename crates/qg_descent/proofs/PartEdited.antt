@@ -1,5 +1,5 @@
 -- A child was edited, the pointers of its node were set, and what was cut off got a place of its own: what stands in the place of the node.
-use Rattle.std.proofs.Common.{◌≡◌, ◌≢◌, ◌⊎◌, ℕ, zero, suc, List, [], ◌∷◌, ◌++◌, arith, refl, sym, ap, subst, ◌∙◌, append-nil, inl, inr, Option, Some, None}
+use Rattle.std.proofs.Common.{◌≡◌, ◌≢◌, ◌⊎◌, ℕ, zero, suc, ◌+◌, ◌*◌, List, [], ◌∷◌, ◌++◌, take, drop, arith, refl, sym, ap, subst, ◌∙◌, append-nil, inl, inr, Option, Some, None}
 use Rattle.std.specs.Prelude.{IsTrue, Contains, slice_get}
 use Rattle.qg_device.specs.History.{Event}
 use Rattle.qg_node.specs.declared.item.Item.{Item}
@@ -19,6 +19,7 @@ use Rattle.qg_shape.specs.Parts.{AreAlike, whole_of}
 use Rattle.qg_ground.specs.declared.ground.Ground.{Ground}
 use Rattle.qg_ground.specs.Changes.{Makes, node_at}
 use Rattle.qg_ground.specs.Land.{Rests}
+use Rattle.qg_ground.specs.Tellings.{Telling}
 use Rattle.qg_ground.proofs.Lands.{told-fresh_at}
 use Rattle.qg_ground.proofs.Slots.{free-less, taken-more}
 use Rattle.qg_edit.specs.declared.edit.Edit.{Edit}
@@ -27,12 +28,19 @@ use Rattle.qg_descent.specs.Tree.{Reaches, Root, super_for, super_of}
 use Rattle.qg_descent.specs.Branch.{AreBranches, IsBranch, IsMember, IsPointed}
 use Rattle.qg_descent.specs.First.{first_leaf, least}
 use Rattle.qg_descent.specs.Editing.{CanMake, FillsThere, HoldInstead, IsCutThere, IsLeafEdited, IsOwned, IsPartEdited, IsPartFit, IsPlacedBehind, IsSettled, IsUnsettled, KeepsAbove, ReachesEach, ReachesInstead, ReachesParts}
+use Rattle.qg_descent.specs.Counting.{IsPartTold, IsSettledTold, IsTold, one, tellings_made, tellings_owned, ways, ways_each, ways_instead, ways_parts}
 use Rattle.qg_descent.proofs.Around.{IsAround}
-use Rattle.qg_descent.proofs.Branches.{each-append}
+use Rattle.qg_descent.proofs.Branches.{each-append, each-get}
 use Rattle.qg_descent.proofs.BranchFrames.{branches-same, reach-same, reach-top}
 use Rattle.qg_descent.proofs.BranchWalk.{branch-under}
-use Rattle.qg_descent.proofs.OwnedBranch.{owned-reach}
+use Rattle.qg_descent.proofs.Leading.{not-above}
+use Rattle.qg_descent.proofs.OwnedBranch.{owned-branch, owned-reach}
+use Rattle.qg_descent.proofs.OwnedTold.{owned-told}
 use Rattle.qg_descent.proofs.Placed.{KeepsFresh-put, fresh-taken}
+use Rattle.qg_descent.proofs.PlacedTold.{told-made}
+use Rattle.qg_descent.proofs.Spliced.{drop-get, take-get}
+use Rattle.qg_descent.proofs.Turning.{told-apart, told-append, told-more, told-none, told-same, told-within}
+use Rattle.qg_descent.proofs.Ways.{one-other, ways-inner, ways_each-append, ways_each-at, ways_each-none, ways_each-same}
 
 -- ---- a part that is fit for an edit
 
@@ -419,6 +427,207 @@ module _ (tree : Tree) (root : Root) (land mid low set end : Ground) (history ow
     free = none_free;
   }
 
+  -- ---- what a book is told
+
+  -- nothing below is the node
+  below_apart : (i : ℕ) (p : Pointer) → slice_get pointers i ≡ Some p → (q : ℕ) → Reaches (told mid.blocks.draft history) level p.child q → q ≢ now
+  unfolding IsBranch
+  below_apart i p is =
+      let whole = owned-branch tree root land mid history expected at now owned makes (suc level) items branch unreached in
+      let there : Some (Inner whole.0 whole.1) ≡ Some (Inner around.header pointers) = sym whole.2 ∙ told-fresh_at mid.blocks.draft history now (Inner around.header pointers) around.here in
+      let same : whole.1 ≡ pointers = cc in
+      let each = subst (λ (ps : List Pointer). AreBranches tree (super_of root land.blocks.draft) (told mid.blocks.draft history) level ps items) same whole.4 in
+      let under = each-get (λ (r : Pointer) (xs : List Item). IsPointed (super_of root land.blocks.draft) (told mid.blocks.draft history) r
+      × IsBranch tree (super_of root land.blocks.draft) (told mid.blocks.draft history) level r.child xs) pointers items each i p is in
+      not-above tree (super_of root land.blocks.draft) mid history level now around.header pointers around.here around.member.levelled p.child under.0 under.2.1
+
+  mid_taken : IsTrue (is_free_slot mid.space now) → ⊥
+  mid_taken = fresh-taken mid root.next now (Inner around.header pointers) own_rests.drafted around.here
+
+  child_apart : (q : ℕ) → Reaches (told mid.blocks.draft history) level child_at q → q ≢ now
+  child_apart q reaches = below_apart place pointer there q (subst (λ (a : ℕ). Reaches (told mid.blocks.draft history) level a q) leads reaches)
+
+  FromChild : ℕ → Type 0
+  FromChild q = Reaches (told mid.blocks.draft history) level child_at q
+
+  FromParts : ℕ → Type 0
+  FromParts q = ReachesParts (told low.blocks.draft history) level pointers place child q
+
+  FromTop : ℕ → Type 0
+  FromTop q = Reaches (told land.blocks.draft history) (suc level) at q
+
+  mid_now : (q : ℕ) → IsTrue (is_free_slot mid.space q) ⊎ FromChild q → q ≢ now
+  unfolding FromChild
+  mid_now q (inl free) same = mid_taken (ap (is_free_slot mid.space) (sym same) ∙ free)
+  mid_now q (inr reaches) same = child_apart q reaches same
+
+  low_now : (q : ℕ) → IsTrue (is_free_slot low.space q) ⊎ FromParts q → q ≢ now
+  unfolding FromParts FromChild
+  low_now q (inl free) = elim (child_edited.freed q free) [ inl was ↦ mid_now q (inl was) | inr reaches ↦ mid_now q (inr reaches) ]
+  low_now q (inr (inl of_child)) = elim (child_edited.reach q of_child) [ inl was ↦ mid_now q (inr was) | inr free ↦ mid_now q (inl free) ]
+  low_now q (inr (inr (i, p, other, is, reaches))) = below_apart i p is q (other_was i p other is q reaches)
+
+  -- from the other children as many ways lead on as before
+  other_stays : (i : ℕ) (p : Pointer) → i ≢ place → slice_get pointers i ≡ Some p → (r : ℕ) → Reaches (told mid.blocks.draft history) level p.child r
+      → told low.blocks.draft history r ≡ told mid.blocks.draft history r
+  other_stays i p other is r reaches =
+      child_edited.others r (λ free. around.free r free i p is reaches)
+      (λ also. around.apart i place p pointer other is there r reaches (subst (λ (a : ℕ). Reaches (told mid.blocks.draft history) level a r) leads also))
+
+  beside : ℕ → ℕ
+  beside q = ways_each (told mid.blocks.draft history) level (take place pointers) q + ways_each (told mid.blocks.draft history) level (drop (place + 1) pointers) q
+
+  beside_low : (q : ℕ) → ways_each (told low.blocks.draft history) level (take place pointers) q + ways_each (told low.blocks.draft history) level (drop (place + 1) pointers) q ≡ beside q
+  unfolding beside
+  beside_low q =
+      let front = ways_each-same (told mid.blocks.draft history) (told low.blocks.draft history) level (take place pointers)
+      (λ i p is. let found = take-get place pointers i p is in let low_index = found.0 in other_stays i p (λ same. omega (arith, low_index, same)) found.1) q in
+      let back = ways_each-same (told mid.blocks.draft history) (told low.blocks.draft history) level (drop (place + 1) pointers)
+      (λ i p is. let found = drop-get (place + 1) pointers i p is in let high = found.1 in other_stays found.0 p (λ same. omega (arith, high, same)) found.2) q in
+      omega (arith, front, back)
+
+  beside_none : (q : ℕ) → ((i : ℕ) (p : Pointer) → i ≢ place → slice_get pointers i ≡ Some p → Reaches (told mid.blocks.draft history) level p.child q → ⊥) → beside q ≡ 0
+  unfolding beside
+  beside_none q apart =
+      let front = ways_each-none (told mid.blocks.draft history) level (take place pointers) q
+      (λ i p is. let found = take-get place pointers i p is in let low_index = found.0 in apart i p (λ same. omega (arith, low_index, same)) found.1) in
+      let back = ways_each-none (told mid.blocks.draft history) level (drop (place + 1) pointers) q
+      (λ i p is. let found = drop-get (place + 1) pointers i p is in let high = found.1 in apart found.0 p (λ same. omega (arith, high, same)) found.2) in
+      omega (arith, front, back)
+
+  else_none : (q : ℕ) → IsTrue (is_free_slot mid.space q) ⊎ FromChild q → one now q + beside q ≡ 0
+  unfolding FromChild
+  else_none q from =
+      let top = one-other now q (mid_now q from) in
+      let rest_none = beside_none q (λ i p other is reaches. elim from [
+        | inl free ↦ around.free q free i p is reaches
+        | inr also ↦ around.apart i place p pointer other is there q reaches (subst (λ (a : ℕ). Reaches (told mid.blocks.draft history) level a q) leads also)
+      ]) in
+      omega (arith, top, rest_none)
+
+  -- the node was owned
+  first_ways : ℕ → ℕ
+  first_ways q = ways (told mid.blocks.draft history) level child_at q + (one now q + beside q)
+
+  first_are : (q : ℕ) → first_ways q ≡ ways (told mid.blocks.draft history) (suc level) now q
+  unfolding first_ways beside
+  first_are q =
+      let top = ways-inner (told mid.blocks.draft history) level now around.header pointers (told-fresh_at mid.blocks.draft history now (Inner around.header pointers) around.here) q in
+      let parts = ways_each-at (told mid.blocks.draft history) level pointers place pointer q there in
+      let same = ap (λ (a : ℕ). ways (told mid.blocks.draft history) level a q) leads in
+      omega (arith, top, parts, same)
+
+  own_told : IsTold land FromTop (ways (told land.blocks.draft history) (suc level) at) first_ways 1 0 0 (tellings_owned owned.node at now)
+  unfolding FromTop
+  own_told =
+      let before = ways (told land.blocks.draft history) (suc level) at in
+      told-same land FromTop before before (ways (told mid.blocks.draft history) (suc level) now) first_ways 1 0 0 (tellings_owned owned.node at now) (λ q. refl) first_are
+      (owned-told tree root land mid history expected at now owned makes (suc level) items branch unreached)
+
+  from_old : (q : ℕ) → Old q → IsTrue (is_free_slot land.space q) ⊎ FromTop q
+  unfolding Old FromTop
+  from_old q (inl reached) = inr reached
+  from_old q (inr free) = inl free
+
+  -- its child was edited
+  child_within : (q : ℕ) → IsTrue (is_free_slot mid.space q) ⊎ FromChild q → IsTrue (is_free_slot land.space q) ⊎ FromTop q
+  unfolding FromChild
+  child_within q (inl free) = from_old q (mid_old q free)
+  child_within q (inr reaches) = from_old q (child_old q reaches)
+
+  parts_ways : ℕ → ℕ
+  parts_ways q = ways_parts (told low.blocks.draft history) level pointers place child q + one now q
+
+  parts_are : (q : ℕ) → parts_ways q ≡ ways_instead (told low.blocks.draft history) level child q + (one now q + beside q)
+  unfolding parts_ways
+  parts_are q = let same = beside_low q in omega (arith, same)
+
+  child_told : (tellings : List Telling) → IsPartTold mid low history level child_at child tellings
+      → IsTold land FromTop first_ways parts_ways (2 * (level + 1)) (level + 1) (level + 1) tellings
+  unfolding first_ways FromChild
+  child_told tellings is =
+      let before = ways (told mid.blocks.draft history) level child_at in
+      let after = ways_instead (told low.blocks.draft history) level child in
+      let more = λ (q : ℕ). one now q + beside q in
+      let framed = told-apart mid FromChild before after more (2 * (level + 1)) (level + 1) (level + 1) tellings else_none is in
+      told-same land FromTop first_ways first_ways (λ q. after q + more q) parts_ways (2 * (level + 1)) (level + 1) (level + 1) tellings (λ q. refl) parts_are
+      (told-within land FromTop mid FromChild first_ways (λ q. after q + more q) (2 * (level + 1)) (level + 1) (level + 1) tellings child_within framed)
+
+  -- its pointers were set
+  parts_within : (q : ℕ) → IsTrue (is_free_slot low.space q) ⊎ FromParts q → IsTrue (is_free_slot land.space q) ⊎ FromTop q
+  unfolding FromParts
+  parts_within q (inl free) = from_old q (low_old q free)
+  parts_within q (inr parts) = from_old q (parts_old q parts)
+
+  new_ways : ℕ → ℕ
+  new_ways q = ways_each (told set.blocks.draft history) level settled.pointers_new q + one now q
+
+  set_told : (tellings : List Telling) → IsTold low (ReachesParts (told low.blocks.draft history) level pointers place child) (ways_parts (told low.blocks.draft history) level pointers place child)
+      (ways_each (told set.blocks.draft history) level settled.pointers_new) 1 1 0 tellings → IsTold land FromTop parts_ways new_ways 1 1 0 tellings
+  unfolding parts_ways new_ways FromParts
+  set_told tellings is =
+      let before = ways_parts (told low.blocks.draft history) level pointers place child in
+      let after = ways_each (told set.blocks.draft history) level settled.pointers_new in
+      let framed = told-apart low FromParts before after (one now) 1 1 0 tellings (λ q from. one-other now q (low_now q from)) is in
+      told-within land FromTop low FromParts (λ q. before q + one now q) (λ q. after q + one now q) 1 1 0 tellings parts_within framed
+
+  -- what was cut off was made a node behind it
+  set_within : (q : ℕ) → IsTrue (is_free_slot set.space q) ⊎ ⊥ → IsTrue (is_free_slot land.space q) ⊎ FromTop q
+  set_within q (inl free) = from_old q (set_old q free)
+  set_within q (inr none) = absurd none
+
+  Ends : Instead → Type 0
+  Ends i = IsTold set (λ q. ⊥) new_ways (ways_instead (told end.blocks.draft history) (suc level) i) 0 0 1 (tellings_made i.more)
+
+  one_ends : IsInOne set end now instead header settled.pointers_new → Ends (record { now = now; more = None })
+  unfolding Ends new_ways
+  one_ends one_node =
+      let after = ways_instead (told end.blocks.draft history) (suc level) (record { now = now; more = None }) in
+      told-more set (λ q. ⊥) new_ways after 0 0 0 0 0 1 [] (omega arith) (omega arith) (omega arith)
+      (told-none set (λ q. ⊥) new_ways after (λ q.
+      let top = ways-inner (told end.blocks.draft history) level now header settled.pointers_new (one_told one_node) q in
+      let same = ap (λ (g : Ground). ways_each (told g.blocks.draft history) level settled.pointers_new q) one_node.same in
+      omega (arith, top, same)))
+
+  two_end : (two : AreInTwo low.space.sizes.nodesize set end now instead header settled.pointers_new) → Ends (record { now = now; more = Some two.more })
+  unfolding Ends new_ways
+  two_end two =
+      let differ : two.more ≢ now = λ same. fresh-taken set root.next now (Inner header two.first) set_rests.drafted two.here (ap (is_free_slot set.space) (sym same) ∙ two.made.puts.free) in
+      let top = one-other now two.more differ in
+      let below = ways_each-none (told set.blocks.draft history) level settled.pointers_new two.more (λ i p is reaches. settled.free two.more two.made.puts.free (i, p, is, reaches)) in
+      told-made set (λ q. ⊥) new_ways (ways_instead (told end.blocks.draft history) (suc level) (record { now = now; more = Some two.more })) two.more two.made.puts.free (omega (arith, top, below)) (λ q.
+      let a = ways-inner (told end.blocks.draft history) level now header two.first (first_told two) q in
+      let b = ways-inner (told end.blocks.draft history) level two.more (record two.other { address = two.more }) two.second (second_told two) q in
+      let sum = ways_each-append (told end.blocks.draft history) level two.first two.second q in
+      let whole = ap (λ (ps : List Pointer). ways_each (told end.blocks.draft history) level ps q) two.pointers_are in
+      let stays = ways_each-same (told set.blocks.draft history) (told end.blocks.draft history) level settled.pointers_new (new_stays two) q in
+      omega (arith, a, b, sum, whole, stays))
+
+  end_told : IsTold land FromTop new_ways (ways_instead (told end.blocks.draft history) (suc level) instead) 0 0 1 (tellings_made instead.more)
+  unfolding Ends
+  end_told =
+      told-within land FromTop set (λ q. ⊥) new_ways (ways_instead (told end.blocks.draft history) (suc level) instead) 0 0 1 (tellings_made instead.more) set_within
+      (elim ends [
+        | inl one_node ↦ subst (λ (i : Instead). Ends i) (sym one_node.instead_is) (one_ends one_node)
+        | inr two ↦ subst (λ (i : Instead). Ends i) (sym two.instead_is) (two_end two)
+      ])
+
+  pub part-told : (below above : List Telling) → IsPartTold mid low history level child_at child below
+      → IsTold low (ReachesParts (told low.blocks.draft history) level pointers place child) (ways_parts (told low.blocks.draft history) level pointers place child)
+      (ways_each (told set.blocks.draft history) level settled.pointers_new) 1 1 0 above
+      → IsPartTold land end history (suc level) at instead (tellings_owned owned.node at now ++ (below ++ (above ++ tellings_made instead.more)))
+  unfolding FromTop
+  part-told below above of_child of_set =
+      let log = tellings_owned owned.node at now in
+      let made = tellings_made instead.more in
+      let start = ways (told land.blocks.draft history) (suc level) at in
+      let last = ways_instead (told end.blocks.draft history) (suc level) instead in
+      let third = told-append land FromTop parts_ways new_ways last 1 1 0 0 0 1 above made (set_told above of_set) end_told in
+      let second = told-append land FromTop first_ways parts_ways last (2 * (level + 1)) (level + 1) (level + 1) (1 + 0) (1 + 0) (0 + 1) below (above ++ made) (child_told below of_child) third in
+      let all = told-append land FromTop start first_ways last 1 0 0 (2 * (level + 1) + (1 + 0)) (level + 1 + (1 + 0)) (level + 1 + (0 + 1)) log (below ++ (above ++ made)) own_told second in
+      told-more land FromTop start last (1 + (2 * (level + 1) + (1 + 0))) (0 + (level + 1 + (1 + 0))) (0 + (level + 1 + (0 + 1))) (2 * (suc level + 1)) (suc level + 1) (suc level + 1)
+      (log ++ (below ++ (above ++ made))) (omega arith) (omega arith) (omega arith) all
+
 -- ---- the same by what is known of the node once its child was edited
 
 module _ (tree : Tree) (root : Root) (land mid low set end : Ground) (history own_later child_later set_later end_later : Option (List Event)) (level : ℕ) (expected : Expected) (at now : ℕ) (edit : Edit)
@@ -445,3 +654,13 @@ module _ (tree : Tree) (root : Root) (land mid low set end : Ground) (history ow
       part-edited tree root land mid low set end history own_later child_later set_later end_later level expected at now edit place pointers front mine back items items_new pointer child_at child un.header rest
       instead branch unreached makes owned around there leads child_edited edits first un.member
       (subst (λ (ps : List Pointer). IsSettled tree root low set history level now place child ps un.header items_new rest) same_pointers settled) placed own_rests child_rests set_rests end_rests
+
+  pub part-told-unsettled : (below above : List Telling) → IsPartTold mid low history level child_at child below
+      → IsTold low (ReachesParts (told low.blocks.draft history) level un.pointers place child) (ways_parts (told low.blocks.draft history) level un.pointers place child)
+      (ways_each (told set.blocks.draft history) level settled.pointers_new) 1 1 0 above
+      → IsPartTold land end history (suc level) at instead (tellings_owned owned.node at now ++ (below ++ (above ++ tellings_made instead.more)))
+  part-told-unsettled below above of_child of_set =
+      let whole : IsSettledTold tree root low set history level now place child un.pointers un.header items_new rest above = record { settled = settled; told = of_set } in
+      let same = subst (λ (ps : List Pointer). IsSettledTold tree root low set history level now place child ps un.header items_new rest above) same_pointers whole in
+      part-told tree root land mid low set end history own_later child_later set_later end_later level expected at now edit place pointers front mine back items items_new pointer child_at child un.header rest
+      instead branch unreached makes owned around there leads child_edited edits first un.member same.settled placed own_rests child_rests set_rests end_rests below above of_child same.told

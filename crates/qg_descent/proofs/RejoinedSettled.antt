@@ -1,5 +1,5 @@
 -- A child was joined with its neighbour, and the pointers of their node are set.
-use Rattle.std.proofs.Common.{◌≡◌, ◌≢◌, ◌⊎◌, ℕ, ◌+◌, ◌≤◌, ◌<◌, List, ◌∷◌, ◌++◌, take, drop, ap, subst, ◌∙◌, inl, inr, Option, Some}
+use Rattle.std.proofs.Common.{◌≡◌, ◌≢◌, ◌⊎◌, ℕ, ◌+◌, ◌≤◌, ◌<◌, List, ◌∷◌, ◌++◌, take, drop, refl, ap, subst, ◌∙◌, inl, inr, Option, Some}
 use Rattle.std.specs.Prelude.{IsTrue, slice_get}
 use Rattle.qg_device.specs.History.{Event}
 use Rattle.qg_num.specs.declared.key.Key.{Key}
@@ -148,3 +148,7 @@ module _ (tree : Tree) (root : Root) (land mid new end : Ground) (history later 
     freed = λ q free. freed q (was_free q free);
     free = λ q free reaches. none_free q reaches.1 (found reaches.0 reaches.1 reaches.2) (was_free q free) reaches.3;
   }
+
+  pub rejoined-pointers : rejoined-settled.pointers_new ≡ take pair.front un.pointers ++ (led.now ∷ led.more) ++ drop (pair.front + 2) un.pointers
+  unfolding rejoined-settled
+  rejoined-pointers = refl

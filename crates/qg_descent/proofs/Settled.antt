@@ -1,5 +1,5 @@
 -- A child was edited, and the pointers of its node are set.
-use Rattle.std.proofs.Common.{◌≡◌, ◌⊎◌, ℕ, ◌+◌, ◌≤◌, ◌<◌, List, ◌∷◌, ◌++◌, take, drop, arith, subst, inl, inr, Option, Some}
+use Rattle.std.proofs.Common.{◌≡◌, ◌⊎◌, ℕ, ◌+◌, ◌≤◌, ◌<◌, List, [], ◌∷◌, ◌++◌, take, drop, arith, subst, inl, inr, Option, Some}
 use Rattle.std.specs.Prelude.{IsTrue, slice_get}
 use Rattle.qg_device.specs.History.{Event}
 use Rattle.qg_num.specs.declared.key.Key.{Key}
@@ -13,9 +13,12 @@ use Rattle.qg_ground.specs.declared.ground.Ground.{Ground}
 use Rattle.qg_descent.specs.declared.instead.Instead.{Instead}
 use Rattle.qg_descent.specs.Tree.{Reaches, Root, super_of}
 use Rattle.qg_descent.specs.Editing.{CanLead, HasLed, IsSettled, IsUnsettled, ReachesEach, ReachesParts}
+use Rattle.qg_descent.specs.Counting.{IsSettledTold, ways_each, ways_parts}
 use Rattle.qg_descent.proofs.Beside.{other-branch}
 use Rattle.qg_descent.proofs.Led.{led-back, led-comes}
+use Rattle.qg_descent.proofs.LedTold.{led-ways}
 use Rattle.qg_descent.proofs.Spliced.{spliced-get}
+use Rattle.qg_descent.proofs.Turning.{told-more, told-none}
 
 module _ (tree : Tree) (root : Root) (land new : Ground) (history : Option (List Event)) (level at : ℕ) (to : Option Key) (place : ℕ) (child : Instead) (items : List Item) (rest : Option Node)
     (un : IsUnsettled tree root land history level at to place child items)
@@ -51,4 +54,18 @@ module _ (tree : Tree) (root : Root) (land new : Ground) (history : Option (List
     others = λ q differ free parts. led.others q differ;
     freed = λ q free. inl (subst (λ (h : Holding). IsTrue (is_free_slot h q)) led.space free);
     free = λ q free reaches. un.free q (subst (λ (h : Holding). IsTrue (is_free_slot h q)) led.space free) (reached q reaches);
+  }
+
+  -- nothing is told
+  pub settled-told : IsSettledTold tree root land new history level at place child un.pointers un.header items rest []
+  unfolding settled
+  settled-told = record {
+    settled = settled;
+    told =
+        let Parts = ReachesParts (told land.blocks.draft history) level un.pointers place child in
+        let before = ways_parts (told land.blocks.draft history) level un.pointers place child in
+        let after = ways_each (told new.blocks.draft history) level (take place un.pointers ++ (led.now ∷ led.more) ++ drop (place + 1) un.pointers) in
+        told-more land Parts before after 0 0 0 1 1 0 [] (omega arith) (omega arith) (omega arith)
+        (told-none land Parts before after
+        (led-ways tree (super_of root land.blocks.draft) land new history level at place (place + 1) child un.pointers un.header items rest can led));
   }

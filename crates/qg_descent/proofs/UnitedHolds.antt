@@ -1,5 +1,5 @@
 -- What stands of a part of a tree after two fresh neighbours in it were joined.
-use Rattle.std.proofs.Common.{◌≡◌, ◌≢◌, ◌⊎◌, ℕ, zero, suc, ◌+◌, ◌*◌, ◌≤◌, true, List, [], ◌∷◌, ◌++◌, arith, refl, sym, ap, subst, ◌∙◌, inl, inr, Option, Some, None}
+use Rattle.std.proofs.Common.{◌≡◌, ◌≢◌, ◌⊎◌, ℕ, zero, suc, ◌+◌, ◌*◌, ◌<◌, ◌≤◌, true, List, [], ◌∷◌, ◌++◌, arith, refl, sym, ap, subst, ◌∙◌, inl, inr, Option, Some, None}
 use Rattle.std.specs.Prelude.{IsTrue, slice_get}
 use Rattle.std.proofs.lemmas.List.{append-nil}
 use Rattle.qg_device.specs.History.{Event}
@@ -22,7 +22,8 @@ use Rattle.qg_shape.specs.Parts.{AreAlike, whole_of}
 use Rattle.qg_shape.proofs.Sides.{IsFilled-whole_of, header_of-parted}
 use Rattle.qg_shape.proofs.Together.{header_of-whole_of}
 use Rattle.qg_ground.specs.declared.ground.Ground.{Ground}
-use Rattle.qg_ground.specs.Tellings.{LetsGo}
+use Rattle.qg_ground.specs.Tellings.{LetsGo, Telling}
+use Rattle.qg_ground.specs.Tellings.Telling.{Left}
 use Rattle.qg_ground.proofs.Lands.{Takes-left, fresh_at-told, told-fresh_at}
 use Rattle.qg_edit.proofs.Cuts.{alike-levels}
 use Rattle.qg_descent.specs.declared.instead.Instead.{Instead}
@@ -30,11 +31,15 @@ use Rattle.qg_descent.specs.Tree.{Reaches}
 use Rattle.qg_descent.specs.Branch.{AreBranches, IsBranch, IsMember, IsPointed}
 use Rattle.qg_descent.specs.Editing.{ArePair, FillsThere, HoldInstead, IsFreshOn, IsJoinedThere, ReachesInstead, StandsInstead, alone}
 use Rattle.qg_descent.specs.Uniting.{AreUnited, EndsAs}
+use Rattle.qg_descent.specs.Counting.{IsTold, TellsUnited, one, ways, ways_each, ways_instead}
 use Rattle.qg_descent.proofs.Branches.{each-append, each-get, each-join}
 use Rattle.qg_descent.proofs.BranchFrames.{branches-same, reach-same, reach-top}
 use Rattle.qg_descent.proofs.Leading.{not-above}
 use Rattle.qg_descent.proofs.Spliced.{append-get}
+use Rattle.qg_descent.proofs.ToldUnited.{told-left}
+use Rattle.qg_descent.proofs.Turning.{told-more, told-none}
 use Rattle.qg_descent.proofs.United.{both-told}
+use Rattle.qg_descent.proofs.Ways.{ways_each-append, ways_each-same, ways-inner, ways-leaf, ways-top}
 
 -- ---- what became of both
 
@@ -326,6 +331,42 @@ module _ (old new : Ground) (left right : ℕ) (instead : Instead) (differ : lef
             (are.other, parts.1, told-fresh_at new.blocks.draft history right (Inner are.other parts.1) (two.there ∙ ap (λ (n : Node). Some n) parts.3), are.member_other, split.4),
           )
 
+      -- as many ways lead on
+      below_ways : (pointers : List Pointer) → ((place : ℕ) (pointer : Pointer) → slice_get pointers place ≡ Some pointer → (k : ℕ) × (slice_get (are.first ++ are.second) k ≡ Some pointer))
+          → (q : ℕ) → ways_each (told new.blocks.draft history) level pointers q ≡ ways_each (told old.blocks.draft history) level pointers q
+      below_ways pointers among =
+          ways_each-same (told old.blocks.draft history) (told new.blocks.draft history) level pointers (λ place pointer there. let kept = among place pointer there in below_same kept.0 pointer kept.1)
+
+      inner_ways : (q : ℕ) → ways (told old.blocks.draft history) (suc level) left q + ways (told old.blocks.draft history) (suc level) right q
+          ≡ one left q + (one right q + ways_each (told new.blocks.draft history) level (are.first ++ are.second) q)
+      inner_ways q =
+          let a = ways-inner (told old.blocks.draft history) level left are.header are.first (told-fresh_at old.blocks.draft history left (Inner are.header are.first) left_fresh) q in
+          let b = ways-inner (told old.blocks.draft history) level right are.other are.second (told-fresh_at old.blocks.draft history right (Inner are.other are.second) right_fresh) q in
+          let sum = ways_each-append (told old.blocks.draft history) level are.first are.second q in
+          let same = below_ways (are.first ++ are.second) (λ place pointer there. (place, there)) q in
+          omega (arith, a, b, sum, same)
+
+      inner_one_ways : IsInOne old is.mid new left right instead pair.a pair.b → (q : ℕ) → ways (told new.blocks.draft history) (suc level) left q + one right q
+          ≡ ways (told old.blocks.draft history) (suc level) left q + ways (told old.blocks.draft history) (suc level) right q
+      inner_one_ways one_node q =
+          let all = inner_ways q in
+          let here = told-fresh_at new.blocks.draft history left (Inner are.header (are.first ++ are.second)) (inner_fresh one_node) in
+          let a = ways-inner (told new.blocks.draft history) level left are.header (are.first ++ are.second) here q in
+          omega (arith, all, a)
+
+      inner_two_ways : AreInTwo old is.mid new left right instead pair.a pair.b → (q : ℕ) → ways (told new.blocks.draft history) (suc level) left q + ways (told new.blocks.draft history) (suc level) right q
+          ≡ ways (told old.blocks.draft history) (suc level) left q + ways (told old.blocks.draft history) (suc level) right q
+      inner_two_ways two q =
+          let parts = inner_parts two in
+          let all = inner_ways q in
+          let here = told-fresh_at new.blocks.draft history left (Inner are.header parts.0) (two.here ∙ ap (λ (n : Node). Some n) parts.2) in
+          let there = told-fresh_at new.blocks.draft history right (Inner are.other parts.1) (two.there ∙ ap (λ (n : Node). Some n) parts.3) in
+          let a = ways-inner (told new.blocks.draft history) level left are.header parts.0 here q in
+          let b = ways-inner (told new.blocks.draft history) level right are.other parts.1 there q in
+          let sum = ways_each-append (told new.blocks.draft history) level parts.0 parts.1 q in
+          let same = ap (λ (ps : List Pointer). ways_each (told new.blocks.draft history) level ps q) parts.4 in
+          omega (arith, all, a, b, sum, same)
+
     -- ---- both are leaves
 
     module _ (lefts rights : List Item) (are : AreLeaves tree super pair.a pair.b lefts rights) where
@@ -376,6 +417,27 @@ module _ (old new : Ground) (left right : ℕ) (instead : Instead) (differ : lef
         × IsBranch tree super (told new.blocks.draft history) level left mine × IsBranch tree super (told new.blocks.draft history) level right rest
     two_hold zero lefts rights holds holds_other two = leaf_two_hold lefts rights (leaves_of lefts rights holds holds_other) two
     two_hold (suc level) lefts rights holds holds_other two = inner_two_hold level lefts rights (inners_of level lefts rights holds holds_other) two
+
+    one_ways : (level : ℕ) (lefts rights : List Item) → IsBranch tree super (told old.blocks.draft history) level left lefts → IsBranch tree super (told old.blocks.draft history) level right rights
+        → IsInOne old is.mid new left right instead pair.a pair.b → (q : ℕ) → ways (told new.blocks.draft history) level left q + one right q
+        ≡ ways (told old.blocks.draft history) level left q + ways (told old.blocks.draft history) level right q
+    one_ways zero lefts rights holds holds_other one_node q =
+        let a = ways-leaf (told new.blocks.draft history) left q in
+        let b = ways-leaf (told old.blocks.draft history) left q in
+        let c = ways-leaf (told old.blocks.draft history) right q in
+        omega (arith, a, b, c)
+    one_ways (suc level) lefts rights holds holds_other one_node q = inner_one_ways level lefts rights (inners_of level lefts rights holds holds_other) one_node q
+
+    two_ways : (level : ℕ) (lefts rights : List Item) → IsBranch tree super (told old.blocks.draft history) level left lefts → IsBranch tree super (told old.blocks.draft history) level right rights
+        → AreInTwo old is.mid new left right instead pair.a pair.b → (q : ℕ) → ways (told new.blocks.draft history) level left q + ways (told new.blocks.draft history) level right q
+        ≡ ways (told old.blocks.draft history) level left q + ways (told old.blocks.draft history) level right q
+    two_ways zero lefts rights holds holds_other two q =
+        let a = ways-leaf (told new.blocks.draft history) left q in
+        let b = ways-leaf (told new.blocks.draft history) right q in
+        let c = ways-leaf (told old.blocks.draft history) left q in
+        let d = ways-leaf (told old.blocks.draft history) right q in
+        omega (arith, a, b, c, d)
+    two_ways (suc level) lefts rights holds holds_other two q = inner_two_ways level lefts rights (inners_of level lefts rights holds holds_other) two q
 
     module _ (level : ℕ) (lefts rights : List Item) (left_holds : IsBranch tree super (told old.blocks.draft history) level left lefts)
         (right_holds : IsBranch tree super (told old.blocks.draft history) level right rights) (size : super.nodesize ≡ old.space.sizes.nodesize) where
@@ -467,4 +529,44 @@ module _ (old new : Ground) (left right : ℕ) (instead : Instead) (differ : lef
             let filled = IsFilled-whole_of old.space.sizes.nodesize pair.a pair.b alike (both_full fills) one.fits in
             subst (λ (i : Instead). FillsThere super.nodesize (told new.blocks.draft history) i.now) (sym one.instead_is) (filled_new left (whole_of pair.a pair.b) one.here filled)
         | inr two ↦ subst (λ (i : Instead). FillsThere super.nodesize (told new.blocks.draft history) i.now) (sym two.instead_is) (filled_new left two.c two.here two.parted.left_filled)
+      ]
+
+      -- ---- what a book is told
+
+      Tells : Instead → List Telling → Type 0
+      Tells i tellings = IsTold old (λ q. ⊥) (λ q. ways (told old.blocks.draft history) level left q + ways (told old.blocks.draft history) level right q)
+          (ways_instead (told new.blocks.draft history) level i) 0 1 0 tellings
+
+      -- the right one is left
+      one_tells : IsInOne old is.mid new left right instead pair.a pair.b → (tellings : List Telling) → TellsUnited right instead tellings → Tells (alone left) tellings
+      unfolding Tells
+      one_tells one_node tellings (inl parted) = absurd (let e = one_node.instead_is in let some = parted.0 in let none : instead.more ≡ None = ap (λ (i : Instead). i.more) e in cc)
+      one_tells one_node tellings (inr (none, (node, tellings_are, named, bare))) = subst (λ (ts : List Telling). Tells (alone left) ts) (sym tellings_are) left_told where
+        left_told : Tells (alone left) (Left node ∷ [])
+        left_told =
+            told-left old (λ q. ⊥) (λ q. ways (told old.blocks.draft history) level left q + ways (told old.blocks.draft history) level right q)
+            (ways_instead (told new.blocks.draft history) level (alone left)) node right named bare
+            (let top = ways-top (told old.blocks.draft history) level right in omega (arith, top))
+            (λ q. let e = one_ways level lefts rights left_holds right_holds one_node q in omega (arith, e))
+
+      -- or both stay
+      two_tell : AreInTwo old is.mid new left right instead pair.a pair.b → (tellings : List Telling) → TellsUnited right instead tellings → Tells (record { now = left; more = Some right }) tellings
+      unfolding Tells
+      two_tell two tellings (inr whole) =
+          absurd (let none = whole.0 in let some : instead.more ≡ Some right = ap (λ (i : Instead). i.more) two.instead_is in let both : Some right ≡ None = sym some ∙ none in cc)
+      two_tell two tellings (inl parted) = subst (λ (ts : List Telling). Tells (record { now = left; more = Some right }) ts) (sym parted.1) none_told where
+        none_told : Tells (record { now = left; more = Some right }) []
+        none_told =
+            let before = λ (q : ℕ). ways (told old.blocks.draft history) level left q + ways (told old.blocks.draft history) level right q in
+            let after = ways_instead (told new.blocks.draft history) level (record { now = left; more = Some right }) in
+            told-more old (λ q. ⊥) before after 0 0 0 0 1 0 [] (omega arith) (omega arith) (omega arith)
+            (told-none old (λ q. ⊥) before after (λ q. two_ways level lefts rights left_holds right_holds two q))
+
+      pub united-tells : (tellings : List Telling) → TellsUnited right instead tellings
+          → IsTold old (λ q. ⊥) (λ q. ways (told old.blocks.draft history) level left q + ways (told old.blocks.draft history) level right q)
+          (ways_instead (told new.blocks.draft history) level instead) 0 1 0 tellings
+      unfolding Tells
+      united-tells tellings tells = elim united_ends [
+        | inl one_node ↦ subst (λ (i : Instead). Tells i tellings) (sym one_node.instead_is) (one_tells one_node tellings tells)
+        | inr two ↦ subst (λ (i : Instead). Tells i tellings) (sym two.instead_is) (two_tell two tellings tells)
       ]

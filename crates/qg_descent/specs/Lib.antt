@@ -6,3 +6,4 @@ pub mod First
 pub mod Editing
 pub mod Uniting
 pub mod Rooting
+pub mod Counting

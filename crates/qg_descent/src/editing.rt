@@ -1,13 +1,15 @@
 // An edit of what stands under a node.
-ghost use Rattle.std.specs.Prelude.{◌≡◌, ◌≢◌, ◌+◌, ◌*◌, ◌<◌, ◌≤◌, suc, ℕ, List, None, Some, OnOk, IfOk, length};
+ghost use Rattle.std.specs.Prelude.{◌≡◌, ◌≢◌, ◌+◌, ◌*◌, ◌<◌, ◌≤◌, suc, ℕ, List, ◌++◌, None, Some, OnOk, IfOk, length};
 ghost use Rattle.qg_device.specs.Cause.{HasCause};
 ghost use Rattle.qg_device.specs.History.{Event};
 ghost use Rattle.qg_node.specs.declared.item.Item.{Item as ItemValue};
 ghost use Rattle.qg_blocks.specs.Told.{BreaksNone};
 ghost use Rattle.qg_space.specs.Holding.{free_slots};
 ghost use Rattle.qg_ground.specs.Land.{Rests};
+ghost use Rattle.qg_ground.specs.Tellings.{Telling};
 ghost use Rattle.qg_edit.specs.Edits.{IsShort, growth_of};
 ghost use Rattle.qg_descent.specs.Editing.{CanMake, IsEditable, IsPartEdited, IsPartFit, Moves, StandsInstead};
+ghost use Rattle.qg_descent.specs.Counting.{IsPartTold};
 
 use crate::Tree;
 use crate::instead::Instead;
@@ -49,6 +51,10 @@ impl Tree {
         ensures sound { (events : List Event) → D.history disk.old ≡ Some events → (items : List ItemValue)
             → IsPartFit P.tree self.now land.old (D.history disk.old) level way.expected way.address edit items → BreaksNone result }
         ensures rests { Rests land.old land.new (D.history disk.new) self.now.next }
+        ensures told { (items : List ItemValue) → IsPartFit P.tree self.now land.old (D.history disk.old) level way.expected way.address edit items
+            → (before : B) (log : List Telling) → B.follows before log book.old
+            → IfOk result (λ instead. (tellings : List Telling) × B.follows before (log ++ tellings) book.new
+            × IsPartTold land.old land.new (D.history disk.old) level way.address instead tellings) }
         ensures stands { OnOk result (B.stands book.new land.new disk.new) }
         ensures disk { (D.history disk.new ≡ D.history disk.old) × (D.size disk.new ≡ D.size disk.old) }
         ensures cause { HasCause BlockFault.Disk (D.faults disk.old) (D.faults disk.new) result }
@@ -109,6 +115,10 @@ impl Tree {
         ensures sound { (events : List Event) → D.history disk.old ≡ Some events → (items : List ItemValue)
             → IsPartFit P.tree self.now land.old (D.history disk.old) 0 way.now.expected way.now.address edit items → BreaksNone result }
         ensures rests { Rests land.old land.new (D.history disk.new) self.now.next }
+        ensures told { (items : List ItemValue) → IsPartFit P.tree self.now land.old (D.history disk.old) 0 way.now.expected way.now.address edit items
+            → (before : B) (log : List Telling) → B.follows before log book.old
+            → IfOk result (λ instead. (tellings : List Telling) × B.follows before (log ++ tellings) book.new
+            × IsPartTold land.old land.new (D.history disk.old) 0 way.now.address instead tellings) }
         ensures stands { OnOk result (B.stands book.new land.new disk.new) }
         ensures disk { (D.history disk.new ≡ D.history disk.old) × (D.size disk.new ≡ D.size disk.old) }
         ensures cause { HasCause BlockFault.Disk (D.faults disk.old) (D.faults disk.new) result }

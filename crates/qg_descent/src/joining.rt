@@ -1,5 +1,5 @@
 // Two fresh neighbours.
-ghost use Rattle.std.specs.Prelude.{◌≡◌, ◌≢◌, ◌⊎◌, ◌+◌, ◌≤◌, ℕ, List, Some, OnOk, IfOk, IsErrOf, IsSome};
+ghost use Rattle.std.specs.Prelude.{◌≡◌, ◌≢◌, ◌⊎◌, ◌+◌, ◌≤◌, ℕ, List, ◌++◌, Some, OnOk, IfOk, IsErrOf, IsSome};
 ghost use Rattle.qg_device.specs.Cause.{HasCause};
 ghost use Rattle.qg_device.specs.History.{Event};
 ghost use Rattle.qg_node.specs.declared.node.Node.{Node as NodeValue};
@@ -9,9 +9,11 @@ ghost use Rattle.qg_shape.specs.Filled.{HasShortBodies, IsThin};
 ghost use Rattle.qg_blocks.specs.Lending.{with_fresh};
 ghost use Rattle.qg_blocks.specs.Told.{BreaksNone, IsBacked, fresh_at};
 ghost use Rattle.qg_ground.specs.Land.{IsDrafted, Rests};
+ghost use Rattle.qg_ground.specs.Tellings.{Telling};
 ghost use Rattle.qg_edit.specs.Outcome.{IsInFront, cleared};
 ghost use Rattle.qg_descent.specs.Editing.{ArePair, AreRewritten, IsJoinedThere};
 ghost use Rattle.qg_descent.specs.Uniting.{AreUnited};
+ghost use Rattle.qg_descent.specs.Counting.{TellsUnited};
 
 use crate::instead::Instead;
 use qg_disk::Disk;
@@ -85,6 +87,8 @@ pub(crate) fn unite<D: Disk, L: Ledger, B: Book<D, L>>(
     ensures sound { (events : List Event) → D.history disk.old ≡ Some events → (a b : NodeValue) → fresh_at land.old.blocks.draft left ≡ Some a
         → fresh_at land.old.blocks.draft right ≡ Some b → IsInFront a b → HasShortBodies a → HasShortBodies b → BreaksNone result }
     ensures rests { (generation : ℕ) → IsDrafted land.old generation → Rests land.old land.new (D.history disk.new) generation }
+    ensures told { (generation : ℕ) → IsDrafted land.old generation → (before : B) (log : List Telling) → B.follows before log book.old
+        → IfOk result (λ instead. (tellings : List Telling) × B.follows before (log ++ tellings) book.new × TellsUnited right instead tellings) }
     ensures stands { OnOk result (B.stands book.new land.new disk.new) }
     ensures disk { (D.history disk.new ≡ D.history disk.old) × (D.size disk.new ≡ D.size disk.old) }
     ensures cause { HasCause BlockFault.Disk (D.faults disk.old) (D.faults disk.new) result }

@@ -1,14 +1,16 @@
 // A node of a tree that is owned before it is edited.
-ghost use Rattle.std.specs.Prelude.{◌≡◌, ◌+◌, ◌<◌, ◌≤◌, ℕ, List, None, Some, OnOk, IfOk};
+ghost use Rattle.std.specs.Prelude.{◌≡◌, ◌+◌, ◌<◌, ◌≤◌, false, ℕ, List, ◌++◌, None, Some, OnOk, IfOk};
 ghost use Rattle.qg_device.specs.Cause.{HasCause};
 ghost use Rattle.qg_device.specs.History.{Event};
 ghost use Rattle.qg_node.specs.declared.node.Node.{Node as NodeValue};
 ghost use Rattle.qg_walk.specs.Standing.{form_failure};
 ghost use Rattle.qg_blocks.specs.Told.{BreaksNone, told};
-ghost use Rattle.qg_space.specs.Holding.{free_slots};
+ghost use Rattle.qg_space.specs.Holding.{free_slots, is_free_slot};
 ghost use Rattle.qg_ground.specs.Land.{Rests};
+ghost use Rattle.qg_ground.specs.Tellings.{Telling};
 ghost use Rattle.qg_descent.specs.Tree.{super_of};
 ghost use Rattle.qg_descent.specs.Editing.{IsEditable, IsOwned};
+ghost use Rattle.qg_descent.specs.Counting.{tellings_owned};
 
 use crate::Tree;
 use crate::way::Way;
@@ -36,6 +38,9 @@ impl Tree {
         ensures owned { IfOk result (λ now. IsOwned P.tree self.now land.old land.new (D.history disk.old) way.now.expected way.now.address now) }
         ensures count { OnOk result (free_slots land.old.space ≤ 1 + free_slots land.new.space) }
         ensures rests { Rests land.old land.new (D.history disk.new) self.now.next }
+        ensures told { (node : NodeValue) → told land.old.blocks.draft (D.history disk.old) way.now.address ≡ Some node
+            → is_free_slot land.old.space way.now.address ≡ false → (before : B) (log : List Telling) → B.follows before log book.old
+            → IfOk result (λ now. B.follows before (log ++ tellings_owned node way.now.address now) book.new) }
         ensures stands { OnOk result (B.stands book.new land.new disk.new) }
         ensures sound { (node : NodeValue) → told land.old.blocks.draft (D.history disk.old) way.now.address ≡ Some node
             → form_failure P.tree (super_of self.now land.old.blocks.draft) way.now.expected way.now.address node ≡ None → BreaksNone result }

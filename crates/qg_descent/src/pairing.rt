@@ -1,5 +1,5 @@
 // The neighbour that a child which is not a quarter full is joined with.
-ghost use Rattle.std.specs.Prelude.{◌≡◌, ◌+◌, ◌*◌, ◌<◌, ◌≤◌, ℕ, List, None, Some, OnOk, IfOk, length};
+ghost use Rattle.std.specs.Prelude.{◌≡◌, ◌+◌, ◌*◌, ◌<◌, ◌≤◌, ℕ, List, ◌++◌, None, Some, OnOk, IfOk, length};
 ghost use Rattle.qg_device.specs.Cause.{HasCause};
 ghost use Rattle.qg_device.specs.History.{Event};
 ghost use Rattle.qg_node.specs.declared.item.Item.{Item as ItemValue};
@@ -9,8 +9,10 @@ ghost use Rattle.qg_num.specs.declared.fault.BlockFault.TheVariants as block;
 ghost use Rattle.qg_blocks.specs.Told.{BreaksNone, fresh_at};
 ghost use Rattle.qg_space.specs.Holding.{free_slots};
 ghost use Rattle.qg_ground.specs.Land.{Rests};
+ghost use Rattle.qg_ground.specs.Tellings.{Telling};
 ghost use Rattle.qg_descent.specs.Editing.{IsEditable, IsFreshOn, IsUnsettled, alone};
 ghost use Rattle.qg_descent.specs.Uniting.{IsPaired};
+ghost use Rattle.qg_descent.specs.Counting.{tellings_owned};
 
 use crate::Tree;
 use crate::way::neighbour_of;
@@ -55,6 +57,10 @@ impl Tree {
         ensures count { OnOk result (free_slots land.old.space ≤ 1 + free_slots land.new.space) }
         ensures sound { (items : List ItemValue) → IsUnsettled P.tree self.now land.old (D.history disk.old) level at to place (alone child) items → BreaksNone result }
         ensures rests { Rests land.old land.new (D.history disk.new) self.now.next }
+        ensures told { (items : List ItemValue) → (un : IsUnsettled P.tree self.now land.old (D.history disk.old) level at to place (alone child) items)
+            → (before : B) (log : List Telling) → B.follows before log book.old
+            → IfOk result (λ pair. (is : IsPaired P.tree self.now land.old land.new (D.history disk.old) un.pointers to level place child pair)
+            × B.follows before (log ++ tellings_owned is.owned.node is.beside.way.address is.now) book.new) }
         ensures stands { OnOk result (B.stands book.new land.new disk.new) }
         ensures disk { (D.history disk.new ≡ D.history disk.old) × (D.size disk.new ≡ D.size disk.old) }
         ensures cause { HasCause BlockFault.Disk (D.faults disk.old) (D.faults disk.new) result }

@@ -1,5 +1,5 @@
 // A child was edited: the pointers of its node are set, and a child that is not a quarter full is joined with its neighbour.
-ghost use Rattle.std.specs.Prelude.{◌≡◌, ◌≢◌, ◌+◌, ◌-◌, ◌*◌, ◌<◌, ◌≤◌, suc, ℕ, List, Option, None, Some, OnOk, IfOk, IsErrOf, IsSome, IsTrue, false, length};
+ghost use Rattle.std.specs.Prelude.{◌≡◌, ◌≢◌, ◌+◌, ◌-◌, ◌*◌, ◌<◌, ◌≤◌, suc, ℕ, List, ◌++◌, Option, None, Some, OnOk, IfOk, IsErrOf, IsSome, IsTrue, false, length};
 ghost use Rattle.qg_device.specs.Cause.{HasCause};
 ghost use Rattle.qg_device.specs.History.{Event};
 ghost use Rattle.qg_node.specs.declared.item.Item.{Item as ItemValue};
@@ -15,7 +15,9 @@ ghost use Rattle.qg_shape.specs.Parts.{IsInner};
 ghost use Rattle.qg_blocks.specs.Told.{BreaksNone, fresh_at};
 ghost use Rattle.qg_space.specs.Holding.{free_slots};
 ghost use Rattle.qg_ground.specs.Land.{Rests};
+ghost use Rattle.qg_ground.specs.Tellings.{Telling};
 ghost use Rattle.qg_descent.specs.Editing.{CanLead, CanMake, HasLed, IsEditable, IsFreshOn, IsNamed, IsRewritten, IsSettled, IsUnsettled, Moves, OfEach, RestIsReady, StandsInstead, StaysCut, alone, slots_for};
+ghost use Rattle.qg_descent.specs.Counting.{IsSettledTold};
 
 use crate::Tree;
 use crate::instead::Instead;
@@ -62,6 +64,10 @@ impl Tree {
         ensures sound { (events : List Event) → D.history disk.old ≡ Some events → (items : List ItemValue)
             → IsUnsettled P.tree self.now land.old (D.history disk.old) level at to place child items → BreaksNone result }
         ensures rests { Rests land.old land.new (D.history disk.new) self.now.next }
+        ensures told { (items : List ItemValue) → (un : IsUnsettled P.tree self.now land.old (D.history disk.old) level at to place child items)
+            → (before : B) (log : List Telling) → B.follows before log book.old
+            → IfOk result (λ rest. (tellings : List Telling) × B.follows before (log ++ tellings) book.new
+            × IsSettledTold P.tree self.now land.old land.new (D.history disk.old) level at place child un.pointers un.header items rest tellings) }
         ensures stands { OnOk result (B.stands book.new land.new disk.new) }
         ensures disk { (D.history disk.new ≡ D.history disk.old) × (D.size disk.new ≡ D.size disk.old) }
         ensures cause { HasCause BlockFault.Disk (D.faults disk.old) (D.faults disk.new) result }
@@ -106,6 +112,10 @@ impl Tree {
         ensures sound { (events : List Event) → D.history disk.old ≡ Some events → (items : List ItemValue)
             → IsUnsettled P.tree self.now land.old (D.history disk.old) level at to place (alone child) items → BreaksNone result }
         ensures rests { Rests land.old land.new (D.history disk.new) self.now.next }
+        ensures told { (items : List ItemValue) → (un : IsUnsettled P.tree self.now land.old (D.history disk.old) level at to place (alone child) items)
+            → (before : B) (log : List Telling) → B.follows before log book.old
+            → IfOk result (λ rest. (tellings : List Telling) × B.follows before (log ++ tellings) book.new
+            × IsSettledTold P.tree self.now land.old land.new (D.history disk.old) level at place (alone child) un.pointers un.header items rest tellings) }
         ensures stands { OnOk result (B.stands book.new land.new disk.new) }
         ensures disk { (D.history disk.new ≡ D.history disk.old) × (D.size disk.new ≡ D.size disk.old) }
         ensures cause { HasCause BlockFault.Disk (D.faults disk.old) (D.faults disk.new) result }

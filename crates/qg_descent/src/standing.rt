@@ -1,5 +1,5 @@
 // The rest of a node that was cut gets a place of its own.
-ghost use Rattle.std.specs.Prelude.{◌≡◌, ◌+◌, ◌<◌, ◌≤◌, ◌≢◌, ℕ, List, Option, None, Some, OnOk, IfOk, MatchOption, IsSome, IsTrue};
+ghost use Rattle.std.specs.Prelude.{◌≡◌, ◌+◌, ◌<◌, ◌≤◌, ◌≢◌, ℕ, List, ◌++◌, Option, None, Some, OnOk, IfOk, MatchOption, IsSome, IsTrue};
 ghost use Rattle.qg_device.specs.Cause.{HasCause};
 ghost use Rattle.qg_device.specs.History.{Event};
 ghost use Rattle.qg_node.specs.declared.node.Node.{Node as NodeValue};
@@ -8,7 +8,9 @@ ghost use Rattle.qg_node.specs.NodeText.{IsNode};
 ghost use Rattle.qg_blocks.specs.Told.{BreaksNone, fresh_at};
 ghost use Rattle.qg_space.specs.Holding.{free_slots};
 ghost use Rattle.qg_ground.specs.Land.{Rests};
+ghost use Rattle.qg_ground.specs.Tellings.{Telling};
 ghost use Rattle.qg_descent.specs.Editing.{IsEditable, IsFreshOn, IsPlacedBehind, Moves, RestIsReady, StandsInstead, slots_for};
+ghost use Rattle.qg_descent.specs.Counting.{tellings_made};
 
 use crate::instead::Instead;
 use qg_disk::Disk;
@@ -38,6 +40,8 @@ pub(crate) fn place_rest<D: Disk, L: Ledger, B: Book<D, L>>(
     ensures whole { rest ≡ None → IfOk result (λ instead. instead.more ≡ None) }
     ensures moves { OnOk result (Moves (slots_for rest) level land.old land.new) }
     ensures rests { Rests land.old land.new (D.history disk.new) next }
+    ensures told { (before : B) (log : List Telling) → B.follows before log book.old
+        → IfOk result (λ instead. B.follows before (log ++ tellings_made instead.more) book.new) }
     ensures stands { OnOk result (B.stands book.new land.new disk.new) }
     ensures sound { (events : List Event) → D.history disk.old ≡ Some events → BreaksNone result }
     ensures disk { (D.history disk.new ≡ D.history disk.old) × (D.size disk.new ≡ D.size disk.old) }

@@ -1,8 +1,10 @@
-use Rattle.std.proofs.Common.{refl}
+use Rattle.std.proofs.Common.{[], ◌∷◌, inr, refl}
 use Rattle.std.proofs.lemmas.Result.{err_from_is_err_and}
 use Rattle.qg_device.specs.History.{content}
-use Rattle.qg_ground.proofs.Lands.{Rests-after}
+use Rattle.qg_ground.specs.Tellings.Telling.{Left}
+use Rattle.qg_ground.proofs.Lands.{Rests-after, told-fresh_at}
 use Rattle.qg_descent.specs.declared.instead.Instead.{Instead}
+use Rattle.qg_descent.proofs.ToldUnited.{left-cleared}
 use Rattle.qg_descent.proofs.United.{between-backed, both-backed, both-rests, first-spares, fresh-unbroken, later-spares}
 use Rattle.qg_descent.proofs.joining.unite.Goals as goal
 
@@ -61,3 +63,10 @@ returns-in_ok-leave_node-in-Whole-clause-rests g c generation drafted =
     let one = both-rests c.args.land.now c.join_nodes.new.land c.args.left c.args.right c.requires.apart c.requires.pair c.join_nodes.ensures.rewritten (g.D.Disk.history c.args.disk.now) generation
     c.requires.backed drafted in
     Rests-after c.args.land.now c.join_nodes.new.land c.leave_node.new.land (g.D.Disk.history c.args.disk.now) (g.D.Disk.history c.leave_node.new.disk) generation one (c.leave_node.ensures.rests generation one.drafted)
+
+pub returns-in_ok-leave_node-in-Whole-clause-told : goal.returns-in_ok-leave_node-in-Whole-clause-told
+returns-in_ok-leave_node-in-Whole-clause-told g c generation drafted before log follows =
+    let joined = c.in_ok-join_nodes.ensures.joined in
+    let cleared = left-cleared c.args.land.now c.join_nodes.new.land c.args.left c.args.right generation c.in_ok-join_nodes.field-0 c.in-Whole.is drafted c.requires.pair joined in
+    let there = told-fresh_at c.join_nodes.new.land.blocks.draft (g.D.Disk.history c.args.disk.now) c.args.right joined.b joined.right_there in
+    (Left joined.b ∷ [], c.in_ok-leave_node-in-Whole.ensures.told joined.b there before log follows, inr (refl, (joined.b, refl, cleared.0, cleared.1)))

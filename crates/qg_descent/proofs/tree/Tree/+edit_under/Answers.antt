@@ -1,23 +1,29 @@
-use Rattle.std.proofs.Common.{◌≡◌, ℕ, suc, ◌+◌, ◌-◌, ◌*◌, ◌<◌, arith, sym, ap, subst, ◌∙◌}
-use Rattle.std.specs.Prelude.{Err, IsTrue, List, Option, Some, length, map}
+use Rattle.std.proofs.Common.{◌≡◌, ℕ, suc, ◌+◌, ◌-◌, ◌*◌, ◌<◌, ◌++◌, arith, sym, ap, subst, ◌∙◌}
+use Rattle.std.specs.Prelude.{Err, IfOk, IsTrue, List, Option, Some, length, map}
 use Rattle.std.proofs.Math.Nat.{mul-suc}
 use Rattle.std.proofs.lemmas.Result.{IfOk-weaker, err_from_is_err_and, on_ok_weaker}
+use Rattle.qg_node.specs.declared.item.Item.{Item}
 use Rattle.qg_node.specs.declared.node.Node.{Node}
 use Rattle.qg_node.specs.declared.pointer.Pointer.{Pointer}
 use Rattle.qg_node.specs.Nodes.{is_ascending, own_pointers}
 use Rattle.qg_shape.specs.Parts.{IsInner}
+use Rattle.qg_ground.specs.Tellings.{Telling}
 use Rattle.qg_blocks.proofs.Telling.{fresh-held}
 use Rattle.qg_descent.specs.declared.instead.Instead.{Instead}
 use Rattle.qg_device.specs.History.{Event}
 use Rattle.qg_node.specs.declared.node.Node.TheVariants.{Inner}
 use Rattle.qg_descent.specs.Editing.{IsPartEdited, IsPartFit}
-use Rattle.qg_descent.proofs.Descended.{descended-edited, descended-fit, descended-items, descended-mine, descended-unsettled}
-use Rattle.qg_descent.proofs.Handed.{child-edited, settle-settled, settle-sound}
+use Rattle.qg_descent.specs.Counting.{IsPartTold, tellings_made, tellings_owned}
+use Rattle.qg_descent.proofs.Descended.{descended-edited, descended-fit, descended-items, descended-mine, descended-told, descended-unsettled}
+use Rattle.qg_descent.proofs.FitTold.{fit-told}
+use Rattle.qg_descent.proofs.Handed.{child-edited, child-told, settle-settled, settle-sound, settle-told}
 use Rattle.qg_descent.proofs.PartBelow.{fit-inner, fit-there}
 use Rattle.qg_descent.proofs.Inner.{inner-ascending, inner-here, inner-some, place-inside}
 use Rattle.qg_descent.proofs.Paired.{owned-levelled}
+use Rattle.qg_descent.proofs.PlacedTold.{ok-both}
 use Rattle.qg_descent.proofs.Rejoined.{unbroken-other}
 use Rattle.qg_descent.proofs.Served.{node-drafted, slots-most}
+use Rattle.qg_descent.proofs.Turning.{four-in-row}
 use Rattle.qg_descent.proofs.tree.Tree.+edit_under.Goals as goal
 
 pub returns-in_err-now-clause-sound : goal.returns-in_err-now-clause-sound
@@ -189,6 +195,56 @@ returns-clause-edited g t c items fit =
     c.own.ensures.rests c.edit_under.ensures.rests c.settle.ensures.rests last))
     c.place_rest.ensures.placed
 
+pub returns-clause-told : goal.returns-clause-told
+returns-clause-told g t c items fit before log follows =
+    let up : c.args.level ≡ suc (c.args.level - 1) = omega arith in
+    let fit_up : IsPartFit g.P.TreePart.tree c.args.self.now c.args.land.now (g.D.Disk.history c.args.disk.now) (suc (c.args.level - 1)) c.args.way.expected c.args.way.address c.args.edit items =
+    subst (λ (n : ℕ). IsPartFit g.P.TreePart.tree c.args.self.now c.args.land.now (g.D.Disk.history c.args.disk.now) n c.args.way.expected c.args.way.address c.args.edit items) up fit in
+    let edited_child = child-edited g.P.TreePart.tree c.args.self.now c.own.new.land c.edit_under.new.land (c.args.level - 1) c.way_at-below.result c.args.edit (descended-mine g.P.TreePart.tree c.args.self.now c.args.land.now c.own.new.land (g.D.Disk.history c.args.disk.now) (c.args.level - 1) c.args.way.expected c.args.way.address c.in_ok-now.now c.args.edit items
+    fit_up c.in_ok-now.ensures.owned c.requires.makes c.requires.editable.drafted c.own.ensures.rests.node_sizes c.peek.result.now c.peek-2.result.now c.peek.ensures c.peek-2.ensures c.place_for-place.result
+    c.place_for-place.ensures c.way_at-below.result c.way_at-below.ensures)
+    (g.D.Disk.history c.args.disk.now) (g.D.Disk.history c.own.new.disk) c.own.ensures.disk.0 c.in_ok-child.child (descended-fit g.P.TreePart.tree c.args.self.now c.args.land.now c.own.new.land (g.D.Disk.history c.args.disk.now) (c.args.level - 1) c.args.way.expected c.args.way.address c.in_ok-now.now c.args.edit items
+    fit_up c.in_ok-now.ensures.owned c.requires.makes c.requires.editable.drafted c.own.ensures.rests.node_sizes c.peek.result.now c.peek-2.result.now c.peek.ensures c.peek-2.ensures c.place_for-place.result
+    c.place_for-place.ensures c.way_at-below.result c.way_at-below.ensures)
+    c.in_ok-child.ensures.edited in
+    let un = descended-unsettled g.P.TreePart.tree c.args.self.now c.args.land.now c.own.new.land (g.D.Disk.history c.args.disk.now) (c.args.level - 1) c.args.way.expected c.args.way.address c.in_ok-now.now c.args.edit items
+    fit_up c.in_ok-now.ensures.owned c.requires.makes c.requires.editable.drafted c.own.ensures.rests.node_sizes c.peek.result.now c.peek-2.result.now c.peek.ensures c.peek-2.ensures c.place_for-place.result
+    c.place_for-place.ensures c.way_at-below.result c.way_at-below.ensures
+    c.edit_under.new.land c.in_ok-child.child edited_child c.in_ok-child.ensures.moves.above c.edit_under.ensures.rests.node_sizes c.requires.short in
+    let own_log = tellings_owned c.in_ok-now.ensures.owned.node c.args.way.address c.in_ok-now.now in
+    let top = fit-told g.P.TreePart.tree c.args.self.now c.args.land.now c.own.new.land (g.D.Disk.history c.args.disk.now) c.args.level c.args.way.expected c.args.way.address c.in_ok-now.now c.args.edit items fit
+    c.in_ok-now.ensures.owned in
+    let first = c.in_ok-now.ensures.told c.in_ok-now.ensures.owned.node top.0 top.1 before log follows in
+    let second = child-told g.P.TreePart.tree c.args.self.now c.own.new.land c.edit_under.new.land (c.args.level - 1) c.way_at-below.result c.args.edit (descended-mine g.P.TreePart.tree c.args.self.now c.args.land.now c.own.new.land (g.D.Disk.history c.args.disk.now) (c.args.level - 1) c.args.way.expected c.args.way.address c.in_ok-now.now c.args.edit items
+    fit_up c.in_ok-now.ensures.owned c.requires.makes c.requires.editable.drafted c.own.ensures.rests.node_sizes c.peek.result.now c.peek-2.result.now c.peek.ensures c.peek-2.ensures c.place_for-place.result
+    c.place_for-place.ensures c.way_at-below.result c.way_at-below.ensures)
+    (g.D.Disk.history c.args.disk.now) (g.D.Disk.history c.own.new.disk) c.own.ensures.disk.0 c.in_ok-child.child (λ tellings. g.B.Book.follows before ((log ++ own_log) ++ tellings) c.edit_under.new.book)
+    (descended-fit g.P.TreePart.tree c.args.self.now c.args.land.now c.own.new.land (g.D.Disk.history c.args.disk.now) (c.args.level - 1) c.args.way.expected c.args.way.address c.in_ok-now.now c.args.edit items
+    fit_up c.in_ok-now.ensures.owned c.requires.makes c.requires.editable.drafted c.own.ensures.rests.node_sizes c.peek.result.now c.peek-2.result.now c.peek.ensures c.peek-2.ensures c.place_for-place.result
+    c.place_for-place.ensures c.way_at-below.result c.way_at-below.ensures) (λ under under_fit. c.in_ok-child.ensures.told under under_fit before (log ++ own_log) first) in
+    let third = settle-told g.P.TreePart.tree c.args.self.now c.edit_under.new.land c.settle.new.land (c.args.level - 1) c.in_ok-now.now c.args.way.expected.to c.place_for-place.result c.in_ok-child.child (g.D.Disk.history c.args.disk.now) (g.D.Disk.history c.edit_under.new.disk) (c.edit_under.ensures.disk.0 ∙ c.own.ensures.disk.0)
+    c.in_ok-rest.rest (λ tellings. g.B.Book.follows before (((log ++ own_log) ++ second.0) ++ tellings) c.settle.new.book)
+    (λ whole whole_un. c.in_ok-rest.ensures.told whole whole_un before ((log ++ own_log) ++ second.0) second.1) (descended-items g.P.TreePart.tree c.args.self.now c.args.land.now c.own.new.land (g.D.Disk.history c.args.disk.now) (c.args.level - 1) c.args.way.expected c.args.way.address c.in_ok-now.now c.args.edit items
+    fit_up c.in_ok-now.ensures.owned c.requires.makes c.requires.editable.drafted c.own.ensures.rests.node_sizes c.peek.result.now c.peek-2.result.now c.peek.ensures c.peek-2.ensures c.place_for-place.result
+    c.place_for-place.ensures c.way_at-below.result c.way_at-below.ensures
+    c.edit_under.new.land c.in_ok-child.child edited_child c.in_ok-child.ensures.moves.above c.edit_under.ensures.rests.node_sizes c.requires.short) un in
+    let last = rw c.next.ensures at c.place_rest.ensures.rests in
+    ok-both c.place_rest.result _ _ _
+    (λ instead placed told_rest. (
+      own_log ++ (second.0 ++ (third.0 ++ tellings_made instead.more)),
+      subst (λ (ts : List Telling). g.B.Book.follows before ts c.place_rest.new.book) (four-in-row log own_log second.0 third.0 (tellings_made instead.more)) told_rest,
+      subst (λ (n : ℕ). IsPartTold c.args.land.now c.place_rest.new.land (g.D.Disk.history c.args.disk.now) n c.args.way.address instead
+          (own_log ++ (second.0 ++ (third.0 ++ tellings_made instead.more)))) (sym up)
+          (descended-told g.P.TreePart.tree c.args.self.now c.args.land.now c.own.new.land (g.D.Disk.history c.args.disk.now) (c.args.level - 1) c.args.way.expected c.args.way.address c.in_ok-now.now c.args.edit items
+    fit_up c.in_ok-now.ensures.owned c.requires.makes c.requires.editable.drafted c.own.ensures.rests.node_sizes c.peek.result.now c.peek-2.result.now c.peek.ensures c.peek-2.ensures c.place_for-place.result
+    c.place_for-place.ensures c.way_at-below.result c.way_at-below.ensures
+          c.edit_under.new.land c.in_ok-child.child edited_child c.in_ok-child.ensures.moves.above c.edit_under.ensures.rests.node_sizes c.requires.short
+          c.settle.new.land c.place_rest.new.land (g.D.Disk.history c.own.new.disk) (g.D.Disk.history c.edit_under.new.disk) (g.D.Disk.history c.settle.new.disk) (g.D.Disk.history c.place_rest.new.disk)
+          c.in_ok-rest.rest instead third.2.settled placed c.own.ensures.rests c.edit_under.ensures.rests c.settle.ensures.rests last second.0 third.0 second.2 third.2.told),
+    ))
+    c.place_rest.ensures.placed
+    (c.place_rest.ensures.told before (((log ++ own_log) ++ second.0) ++ third.0) third.1)
+
 pub returns-clause-reads : goal.returns-clause-reads
 returns-clause-reads g t c most all =
     let up : c.args.level ≡ suc (c.args.level - 1) = omega arith in
@@ -199,3 +255,17 @@ returns-clause-reads g t c most all =
     let one : (5 + 4 * most) * suc (c.args.level - 1 + 1) ≡ (5 + 4 * most) * (c.args.level - 1 + 1) + (5 + 4 * most) = mul-suc (5 + 4 * most) (c.args.level - 1 + 1) in
     let whole : (5 + 4 * most) * (c.args.level + 1) ≡ (5 + 4 * most) * suc (c.args.level - 1 + 1) = ap (λ (n : ℕ). (5 + 4 * most) * n) (let e : c.args.level + 1 ≡ suc (c.args.level - 1 + 1) = omega (arith, up) in e) in
     omega (arith, own, below, settled, placed, one, whole)
+
+pub returns-then-level-eq0-clause-told : goal.returns-then-level-eq0-clause-told
+returns-then-level-eq0-clause-told g t c =
+    let low : 0 ≡ c.args.level = sym c.if-level-eq0.true in
+    subst (λ (n : ℕ). (items : List Item) → IsPartFit g.P.TreePart.tree c.args.self.now c.args.land.now (g.D.Disk.history c.args.disk.now) n c.args.way.expected c.args.way.address c.args.edit items
+    → (before : _) (log : List Telling) → g.B.Book.follows before log c.args.book.now
+    → IfOk c.edit_there.result (λ instead. (tellings : List Telling) × g.B.Book.follows before (log ++ tellings) c.edit_there.new.book
+    × IsPartTold c.args.land.now c.edit_there.new.land (g.D.Disk.history c.args.disk.now) n c.args.way.address instead tellings)) low c.edit_there.ensures.told
+
+pub returns-then-level-eq0-clause-reads : goal.returns-then-level-eq0-clause-reads
+returns-then-level-eq0-clause-reads g t c most all =
+    let reads = c.edit_there.ensures.reads most all in
+    let once : (5 + 4 * most) * (c.args.level + 1) ≡ (5 + 4 * most) * 1 = ap (λ (n : ℕ). (5 + 4 * most) * (n + 1)) c.if-level-eq0.true in
+    omega (arith, reads, once)

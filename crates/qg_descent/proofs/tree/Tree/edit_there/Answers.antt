@@ -1,4 +1,4 @@
-use Rattle.std.proofs.Common.{ℕ, arith, refl, sym, ap, subst, ◌∙◌}
+use Rattle.std.proofs.Common.{ℕ, List, ◌++◌, append_assoc, arith, refl, sym, ap, subst, ◌∙◌}
 use Rattle.std.specs.Prelude.{Option}
 use Rattle.std.proofs.lemmas.Result.{IfOk-weaker, err_from_is_err_and, on_ok_weaker}
 use Rattle.qg_node.specs.declared.node.Node.{Node}
@@ -7,13 +7,17 @@ use Rattle.qg_node.specs.Nodes.{header_of, own_items}
 use Rattle.qg_shape.specs.Filled.{HasShortBodies}
 use Rattle.qg_blocks.specs.Told.{told}
 use Rattle.qg_ground.specs.declared.ground.Ground.{Ground}
+use Rattle.qg_ground.specs.Tellings.{Telling}
 use Rattle.qg_ground.proofs.Lands.{Rests-after}
 use Rattle.qg_edit.specs.Edits.{CanEdit}
 use Rattle.qg_descent.specs.declared.instead.Instead.{Instead}
 use Rattle.qg_descent.specs.Tree.{super_of}
 use Rattle.qg_descent.specs.Editing.{RestIsReady}
+use Rattle.qg_descent.specs.Counting.{tellings_made, tellings_owned}
+use Rattle.qg_descent.proofs.FitTold.{fit-told}
+use Rattle.qg_descent.proofs.PlacedTold.{ok-both}
 use Rattle.qg_descent.proofs.Cutting.{ready-same, rewritten-moves, rewritten-rests, rewritten-spares, stays-cut}
-use Rattle.qg_descent.proofs.LeafEdited.{header-with_items, leaf-edited, mine-leaf_is}
+use Rattle.qg_descent.proofs.LeafEdited.{header-with_items, leaf-edited, leaf-told, mine-leaf_is}
 use Rattle.qg_descent.proofs.Paired.{owned-levelled}
 use Rattle.qg_descent.proofs.Rejoined.{unbroken-other}
 use Rattle.qg_descent.proofs.Served.{fresh-leaf, size-drafted, slots-most}
@@ -140,3 +144,23 @@ returns-clause-rests g c =
     let second = rewritten-rests c.own.new.land c.rewrite_leaf.new.land c.in_ok-now.now c.args.self.now.next owned.mine owned.here rewritten (g.D.Disk.history c.own.new.disk) first.backed first.drafted in
     let third = rw c.next.ensures at c.place_rest.ensures.rests in
     Rests-after c.args.land.now c.rewrite_leaf.new.land c.place_rest.new.land (g.D.Disk.history c.own.new.disk) (g.D.Disk.history c.place_rest.new.disk) c.args.self.now.next (Rests-after c.args.land.now c.own.new.land c.rewrite_leaf.new.land (g.D.Disk.history c.own.new.disk) (g.D.Disk.history c.own.new.disk) c.args.self.now.next first second) third
+
+pub returns-clause-told : goal.returns-clause-told
+returns-clause-told g c items fit before log follows =
+    let owned = c.in_ok-now.ensures.owned in
+    let first = c.own.ensures.rests in
+    let rewritten = c.rewrite_leaf.ensures.rewritten owned.mine owned.here in
+    let second = rewritten-rests c.own.new.land c.rewrite_leaf.new.land c.in_ok-now.now c.args.self.now.next owned.mine owned.here rewritten (g.D.Disk.history c.own.new.disk) first.backed first.drafted in
+    let third = rw c.next.ensures at c.place_rest.ensures.rests in
+    let there = fit-told g.P.TreePart.tree c.args.self.now c.args.land.now c.own.new.land (g.D.Disk.history c.args.disk.now) 0 c.args.way.now.expected c.args.way.now.address c.in_ok-now.now c.args.edit items fit owned in
+    let log_own = c.in_ok-now.ensures.told owned.node there.0 there.1 before log follows in
+    ok-both c.place_rest.result _ _ _
+    (λ instead placed told_rest. (
+      tellings_owned owned.node c.args.way.now.address c.in_ok-now.now ++ tellings_made instead.more,
+      subst (λ (ts : List Telling). g.B.Book.follows before ts c.place_rest.new.book) (append_assoc log (tellings_owned owned.node c.args.way.now.address c.in_ok-now.now) (tellings_made instead.more)) told_rest,
+      leaf-told g.P.TreePart.tree c.args.self.now c.args.land.now c.own.new.land c.rewrite_leaf.new.land c.place_rest.new.land (g.D.Disk.history c.args.disk.now) (g.D.Disk.history c.own.new.disk)
+          (g.D.Disk.history c.place_rest.new.disk) c.args.way.now.expected c.args.way.now.address c.in_ok-now.now c.args.edit items c.in_ok-rest.rest instead owned c.requires.makes fit
+          c.requires.editable.drafted first rewritten second.drafted third (c.in_ok-rest.ensures.cut owned.mine owned.here) placed,
+    ))
+    c.place_rest.ensures.placed
+    (c.place_rest.ensures.told before (log ++ tellings_owned owned.node c.args.way.now.address c.in_ok-now.now) log_own)

@@ -1,14 +1,16 @@
-use Rattle.std.proofs.Common.{ℕ, ◌+◌, arith, refl, ap, subst, ◌∙◌}
+use Rattle.std.proofs.Common.{ℕ, ◌+◌, List, ◌++◌, append_assoc, arith, refl, ap, subst, ◌∙◌}
 use Rattle.std.specs.Prelude.{Option}
 use Rattle.std.proofs.lemmas.Result.{IfOk-weaker, err_from_is_err_and}
 use Rattle.qg_node.specs.declared.node.Node.{Node}
 use Rattle.qg_node.specs.declared.node.Node.TheVariants.{Inner}
 use Rattle.qg_node.specs.Nodes.{own_pointers}
+use Rattle.qg_ground.specs.Tellings.{Telling}
 use Rattle.qg_ground.proofs.Lands.{Rests-after}
 use Rattle.qg_descent.specs.declared.instead.Instead.{Instead}
 use Rattle.qg_descent.specs.declared.pairing.Pair.{Pair}
 use Rattle.qg_descent.specs.Tree.{super_of}
 use Rattle.qg_descent.specs.Editing.{RestIsReady}
+use Rattle.qg_descent.specs.Counting.{tellings_owned}
 use Rattle.qg_edit.proofs.Leaves.{ok-known}
 use Rattle.qg_descent.proofs.Cutting.{ready-same, rewritten-moves, rewritten-rests, rewritten-spares}
 use Rattle.qg_descent.proofs.Paired.{are-pair, pair-differ, pair-inside}
@@ -16,6 +18,7 @@ use Rattle.qg_descent.proofs.PairedHolds.{pair-front}
 use Rattle.qg_descent.proofs.Rejoined.{rejoined-above, rejoined-count, rejoined-stands, unbroken-other}
 use Rattle.qg_descent.proofs.RejoinedHolds.{rejoined-can}
 use Rattle.qg_descent.proofs.RejoinedSettled.{rejoined-settled}
+use Rattle.qg_descent.proofs.RejoinedTold.{rejoined-told}
 use Rattle.qg_descent.proofs.Served.{fresh-inner, instead-named, node-drafted, places-few, size-drafted, slots-none}
 use Rattle.qg_descent.proofs.tree.Tree.join_child.Goals as goal
 
@@ -192,3 +195,23 @@ returns-clause-stands g c =
     ok-known _ c.lead_to.result
     (g.met.B.Book.lasts c.unite.new.book c.unite.new.land c.lead_to.new.land c.unite.new.disk c.unite.new.disk refl refl third.backed
     (rewritten-spares c.unite.new.land c.lead_to.new.land c.args.at c.args.self.now.next node here rewritten) c.in_ok-instead.ensures.stands)
+
+pub returns-clause-told : goal.returns-clause-told
+returns-clause-told g c items un before log follows =
+    let after = c.unite.ensures.rests c.args.self.now.next c.own_neighbour.ensures.rests.drafted in
+    let owned = c.in_ok-pair.ensures.told items un before log follows in
+    let first = tellings_owned owned.0.owned.node owned.0.beside.way.address owned.0.now in
+    let united = c.in_ok-instead.ensures.told c.args.self.now.next c.own_neighbour.ensures.rests.drafted before (log ++ first) owned.1 in
+    let can = rejoined-can g.P.TreePart.tree c.args.self.now c.args.land.now c.own_neighbour.new.land c.unite.new.land (g.D.Disk.history c.args.disk.now) (g.D.Disk.history c.own_neighbour.new.disk)
+    (g.D.Disk.history c.unite.new.disk) c.args.level c.args.at c.args.to c.args.place c.args.child items un c.in_ok-pair.pair c.in_ok-instead.instead owned.0 c.requires.makes c.requires.editable.drafted
+    c.own_neighbour.ensures.rests c.requires.child c.requires.thin c.in_ok-instead.ensures.united after in
+    IfOk-weaker c.lead_to.result _ _
+    (λ rest led. (
+      first ++ united.0,
+      subst (λ (ts : List Telling). g.B.Book.follows before ts c.unite.new.book) (append_assoc log first united.0) united.1,
+      rejoined-told g.P.TreePart.tree c.args.self.now c.args.land.now c.own_neighbour.new.land c.unite.new.land c.lead_to.new.land (g.D.Disk.history c.args.disk.now) (g.D.Disk.history c.own_neighbour.new.disk)
+          (g.D.Disk.history c.unite.new.disk) c.args.level c.args.at c.args.to c.args.place c.args.child items rest
+          un c.in_ok-pair.pair c.in_ok-instead.instead owned.0 c.requires.makes c.requires.editable.drafted
+          c.own_neighbour.ensures.rests c.requires.child c.requires.thin c.in_ok-instead.ensures.united after led united.0 united.2,
+    ))
+    (c.lead_to.ensures.led g.P.TreePart.tree (super_of c.args.self.now c.args.land.now.blocks.draft) (g.D.Disk.history c.args.disk.now) c.args.level un.pointers un.header items can)

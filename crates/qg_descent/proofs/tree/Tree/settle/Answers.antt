@@ -1,16 +1,18 @@
-use Rattle.std.proofs.Common.{◌≡◌, ◌+◌, arith, refl, sym, subst, ◌∙◌}
+use Rattle.std.proofs.Common.{◌≡◌, ◌+◌, [], ◌++◌, append-nil, arith, refl, sym, subst, ◌∙◌}
 use Rattle.std.specs.Prelude.{IfOk, List, Some}
 use Rattle.std.proofs.lemmas.Result.{IfOk-weaker}
 use Rattle.qg_device.specs.History.{Event}
 use Rattle.qg_node.specs.declared.item.Item.{Item}
 use Rattle.qg_blocks.specs.Told.{BreaksNone}
+use Rattle.qg_ground.specs.Tellings.{Telling}
 use Rattle.qg_descent.specs.declared.instead.Instead.{Instead}
 use Rattle.qg_descent.specs.Editing.{IsSettled, IsUnsettled}
+use Rattle.qg_descent.specs.Counting.{IsSettledTold}
 use Rattle.qg_descent.specs.Tree.{super_of}
 use Rattle.qg_edit.proofs.Leaves.{ok-known}
 use Rattle.qg_descent.proofs.Cutting.{ready-same, rewritten-moves, rewritten-rests, rewritten-spares}
 use Rattle.qg_descent.proofs.Served.{fresh-inner, instead-named, node-drafted, places-few, size-blocks, size-drafted}
-use Rattle.qg_descent.proofs.Settled.{settled}
+use Rattle.qg_descent.proofs.Settled.{settled, settled-told}
 use Rattle.qg_descent.proofs.Unjoined.{can-lead}
 use Rattle.qg_descent.proofs.tree.Tree.settle.Goals as goal
 
@@ -105,3 +107,24 @@ returns-clause-stands g c =
 
 pub returns-clause-cause : goal.returns-clause-cause
 returns-clause-cause g c = record { later = omega arith; rose = λ is. absurd (c.lead_to.ensures.no_disk is) }
+
+pub returns-then-is_too_thin-clause-told : goal.returns-then-is_too_thin-clause-told
+returns-then-is_too_thin-clause-told g c =
+    let thin = c.is_too_thin.ensures.thin c.if-is_too_thin.true in
+    subst (λ (child : Instead). (items : List Item) → (un : IsUnsettled g.P.TreePart.tree c.args.self.now c.args.land.now (g.D.Disk.history c.args.disk.now) c.args.level c.args.at c.args.to c.args.place child items)
+    → (before : _) (log : List Telling) → g.B.Book.follows before log c.args.book.now
+    → IfOk c.join_child.result (λ rest. (tellings : List Telling) × g.B.Book.follows before (log ++ tellings) c.join_child.new.book
+    × IsSettledTold g.P.TreePart.tree c.args.self.now c.args.land.now c.join_child.new.land (g.D.Disk.history c.args.disk.now) c.args.level c.args.at c.args.place child un.pointers un.header items rest tellings))
+    (sym thin.0) c.join_child.ensures.told
+
+pub returns-clause-told : goal.returns-clause-told
+returns-clause-told g c items un before log follows =
+    let can = can-lead g.P.TreePart.tree c.args.self.now c.args.land.now (g.D.Disk.history c.args.disk.now) c.args.level c.args.at c.args.self.now.next c.args.to c.args.place c.args.child items
+    c.requires.editable.drafted c.requires.child (c.is_too_thin.ensures.full c.if-is_too_thin.false) un in
+    IfOk-weaker c.lead_to.result _ _
+    (λ rest led. (
+      [],
+      subst (λ (ts : List Telling). g.B.Book.follows before ts c.args.book.now) (sym (append-nil log)) follows,
+      settled-told g.P.TreePart.tree c.args.self.now c.args.land.now c.lead_to.new.land (g.D.Disk.history c.args.disk.now) c.args.level c.args.at c.args.to c.args.place c.args.child items rest un can led,
+    ))
+    (c.lead_to.ensures.led g.P.TreePart.tree (super_of c.args.self.now c.args.land.now.blocks.draft) (g.D.Disk.history c.args.disk.now) c.args.level un.pointers un.header items can)
