@@ -1,5 +1,5 @@
 -- A new root above two nodes.
-use Rattle.std.proofs.Common.{◌≡◌, ◌≢◌, ◌⊎◌, ℕ, zero, suc, ◌+◌, true, List, [], ◌∷◌, add-one, refl, sym, ap, subst, ◌∙◌, inl, inr, Option, Some, None}
+use Rattle.std.proofs.Common.{◌≡◌, ◌≢◌, ◌⊎◌, ℕ, zero, suc, ◌+◌, true, List, [], ◌∷◌, add-one, arith, refl, sym, ap, subst, ◌∙◌, inl, inr, Option, Some, None}
 use Rattle.std.specs.Prelude.{IsTrue, slice_get}
 use Rattle.std.specs.Ordering.{is_lt}
 use Rattle.std.proofs.lemmas.Bool.{and_parts}
@@ -19,16 +19,21 @@ use Rattle.qg_verdict.specs.declared.tree.Tree.{Tree}
 use Rattle.qg_ground.specs.declared.ground.Ground.{Ground}
 use Rattle.qg_ground.specs.Changes.{Makes}
 use Rattle.qg_ground.specs.Land.{IsDrafted, Rests}
+use Rattle.qg_ground.specs.Tellings.Telling.{Made}
 use Rattle.qg_ground.proofs.Lands.{Takes-made, told-fresh_at}
 use Rattle.qg_descent.specs.declared.instead.Instead.{Instead}
 use Rattle.qg_descent.specs.Tree.{IsTree, Reaches, Root, super_of}
 use Rattle.qg_descent.specs.Branch.{AreBranches, IsMember}
 use Rattle.qg_descent.specs.Editing.{CanMake, FillsThere, HoldInstead, ReachesInstead}
+use Rattle.qg_descent.specs.Counting.{IsRootTold, one, ways, ways_instead}
 use Rattle.qg_descent.specs.Rooting.{HasRoot, StandsForRoot}
 use Rattle.qg_descent.proofs.BranchFrames.{branch-same, reach-same, reach-top}
 use Rattle.qg_descent.proofs.Leading.{branches-keys, two-lead}
 use Rattle.qg_descent.proofs.OwnedBranch.{member_made}
 use Rattle.qg_descent.proofs.Placed.{fresh-taken}
+use Rattle.qg_descent.proofs.PlacedTold.{told-made}
+use Rattle.qg_descent.proofs.Turning.{told-more}
+use Rattle.qg_descent.proofs.Ways.{ways-inner, ways-none, ways-same, ways_each-cons}
 use Rattle.qg_descent.proofs.RootEdited.{root-above}
 use Rattle.qg_descent.proofs.Served.{size-blocks}
 use Rattle.qg_descent.proofs.Split.{keys_to}
@@ -146,6 +151,42 @@ module _ (tree : Tree) (root : Root) (land : Ground) (history : Option (List Eve
     top_taken : IsTrue (is_free_slot new.space top) → ⊥
     top_taken free = fresh-taken new root.next top (Inner (record header { address = top }) (pointer_to a ∷ pointer_to b ∷ [])) rests.drafted made.puts.here free
 
+    before_ways : ℕ → ℕ
+    before_ways q = ways_instead (told land.blocks.draft history) root.height (two now more) q
+
+    below_same : (child at : ℕ) → child ≡ at → ((r : ℕ) → Reaches (told land.blocks.draft history) root.height at r → Low r)
+        → (q : ℕ) → ways (told new.blocks.draft history) root.height child q ≡ ways (told land.blocks.draft history) root.height at q
+    below_same child at is lows q =
+        ap (λ (c : ℕ). ways (told new.blocks.draft history) root.height c q) is
+        ∙ ways-same (told land.blocks.draft history) (told new.blocks.draft history) root.height at (λ r reaches. same r (lows r reaches)) q
+
+    after_ways : (q : ℕ) → ways (told new.blocks.draft history) (suc root.height) top q ≡ before_ways q + one top q
+    unfolding before_ways
+    after_ways q =
+        let inner = ways-inner (told new.blocks.draft history) root.height top (record header { address = top }) (pointer_to a ∷ pointer_to b ∷ []) there q in
+        let first_one = ways_each-cons (told new.blocks.draft history) root.height (pointer_to a) (pointer_to b ∷ []) q in
+        let second_one = ways_each-cons (told new.blocks.draft history) root.height (pointer_to b) [] q in
+        let x = below_same (pointer_to a).child now a_named first_low q in
+        let y = below_same (pointer_to b).child more b_named second_low q in
+        omega (arith, inner, first_one, second_one, x, y)
+
+    none_before : before_ways top ≡ 0
+    unfolding before_ways
+    none_before =
+        let x = ways-none (told land.blocks.draft history) root.height now top (λ reaches. not_top top (first_low top reaches) refl) in
+        let y = ways-none (told land.blocks.draft history) root.height more top (λ reaches. not_top top (second_low top reaches) refl) in
+        omega (arith, x, y)
+
+    told_up : IsRootTold root (record root { address = top; height = suc root.height }) land new history (two now more) (Made top ∷ [])
+    unfolding before_ways
+    told_up = told-more land (ReachesInstead (told land.blocks.draft history) root.height (two now more)) before_ways (ways (told new.blocks.draft history) (suc root.height) top) 0 0 1 0 1 1 (Made top ∷ [])
+        (omega arith) (omega arith) (omega arith)
+        (told-made land (ReachesInstead (told land.blocks.draft history) root.height (two now more)) before_ways (ways (told new.blocks.draft history) (suc root.height) top) top made.puts.free none_before after_ways)
+
+    -- and the book is told of the new root
+    pub told-grown : IsRootTold root (record root { address = top; height = root.height + 1 }) land new history (two now more) (Made top ∷ [])
+    told-grown = subst (λ (h : ℕ). IsRootTold root (record root { address = top; height = h }) land new history (two now more) (Made top ∷ [])) (sym (add-one root.height)) told_up
+
     grown_up : HasRoot tree root (record root { address = top; height = suc root.height }) land new history (two now more) items
     unfolding Low
     grown_up = record {
@@ -174,5 +215,15 @@ pub grown-above : (tree : Tree) (root : Root) (land : Ground) (history : Option 
     → HasRoot tree root (record root { address = top; height = root.height + 1 }) land new history (two now more) items
 grown-above tree root land history now more items a b stands drafted first second new later top header node p q is p_is q_is made makes level owner dated rests =
     grown tree root land history now more items a b stands drafted first second new later top header
+    (subst (λ (n : Node). Makes land new top n) (is ∙ ap (λ (n : Node). Inner header (pointer_to n ∷ pointer_to q ∷ [])) p_is ∙ ap (λ (n : Node). Inner header (pointer_to a ∷ pointer_to n ∷ [])) q_is) made)
+    makes level owner dated rests
+
+pub told-above : (tree : Tree) (root : Root) (land : Ground) (history : Option (List Event)) (now more : ℕ) (items : List Item) (a b : Node) → StandsForRoot tree root land history (two now more) items
+    → IsDrafted land root.next → fresh_at land.blocks.draft now ≡ Some a → fresh_at land.blocks.draft more ≡ Some b
+    → (new : Ground) (later : Option (List Event)) (top : ℕ) (header : Header) (node p q : Node) → node ≡ Inner header (pointer_to p ∷ pointer_to q ∷ []) → p ≡ a → q ≡ b → Makes land new top node → CanMake tree root
+    → header.level ≡ suc root.height → header.owner ≡ root.owner → header.generation ≡ root.next → Rests land new later root.next
+    → IsRootTold root (record root { address = top; height = root.height + 1 }) land new history (two now more) (Made top ∷ [])
+told-above tree root land history now more items a b stands drafted first second new later top header node p q is p_is q_is made makes level owner dated rests =
+    told-grown tree root land history now more items a b stands drafted first second new later top header
     (subst (λ (n : Node). Makes land new top n) (is ∙ ap (λ (n : Node). Inner header (pointer_to n ∷ pointer_to q ∷ [])) p_is ∙ ap (λ (n : Node). Inner header (pointer_to a ∷ pointer_to n ∷ [])) q_is) made)
     makes level owner dated rests

@@ -1,5 +1,5 @@
 -- A tree whose leaf was edited, and whose root was set.
-use Rattle.std.proofs.Common.{◌≡◌, ◌⊎◌, ℕ, ◌+◌, ◌≤◌, ◌<◌, true, List, [], ◌∷◌, ◌++◌, drop, length, append-nil, arith, refl, sym, ap, subst, ◌∙◌, inl, inr, Option, Some, None}
+use Rattle.std.proofs.Common.{◌≡◌, ◌⊎◌, ℕ, ◌+◌, ◌*◌, ◌≤◌, ◌<◌, true, List, [], ◌∷◌, ◌++◌, drop, length, append-nil, arith, refl, sym, ap, subst, ◌∙◌, inl, inr, Option, Some, None}
 use Rattle.std.specs.Prelude.{IsTrue, OnOk, Result, Ok, Err}
 use Rattle.std.specs.List.{list_all}
 use Rattle.std.specs.Ordering.{is_lt}
@@ -19,6 +19,7 @@ use Rattle.qg_verdict.specs.Walk.{root_expected, walk_failure}
 use Rattle.qg_walk.specs.Standing.{form_failure}
 use Rattle.qg_ground.specs.declared.ground.Ground.{Ground}
 use Rattle.qg_ground.specs.Land.{IsDrafted, Rests}
+use Rattle.qg_ground.specs.Tellings.{Telling}
 use Rattle.qg_edit.specs.declared.edit.Edit.{Edit}
 use Rattle.qg_edit.specs.declared.edit.Change.{Change}
 use Rattle.qg_edit.specs.declared.edit.Change.TheVariants.{Clear}
@@ -27,6 +28,7 @@ use Rattle.qg_descent.specs.declared.instead.Instead.{Instead}
 use Rattle.qg_descent.specs.Tree.{Reaches, Root, found_in, super_for, super_of}
 use Rattle.qg_descent.specs.First.{first_leaf, least}
 use Rattle.qg_descent.specs.Editing.{HoldInstead, IsPartEdited, IsPartFit, ReachesInstead}
+use Rattle.qg_descent.specs.Counting.{IsPartTold, IsRootTold, IsTold, IsTreeTold, ways, ways_instead}
 use Rattle.qg_descent.specs.Rooting.{HasRoot, IsEdited, IsReplaced, IsRooted, StandsForRoot}
 use Rattle.qg_descent.proofs.AroundEdited.{leaf-ascends, leaf-short}
 use Rattle.qg_descent.proofs.BranchOrder.{ascends-under, keys_of}
@@ -34,6 +36,7 @@ use Rattle.qg_descent.proofs.FirstLeaf.{none-less}
 use Rattle.qg_descent.proofs.Heights.{height-low}
 use Rattle.qg_descent.proofs.ListEdited.{ClearsNone, leaf-whole}
 use Rattle.qg_descent.proofs.PartBelow.{told-ascends}
+use Rattle.qg_descent.proofs.Turning.{told-append, told-more, told-within}
 
 module _ (tree : Tree) (root : Root) (land : Ground) (history : Option (List Event)) (edit : Edit) (items : List Item) (rooted : IsRooted tree root land history items) (can : CanEdit edit items)
     (expected : Expected) (at : ℕ) (expects : expected ≡ root_expected (Some root.height) None) (there : at ≡ root.address) where
@@ -102,6 +105,26 @@ module _ (tree : Tree) (root : Root) (land : Ground) (history : Option (List Eve
         };
       }
 
+      -- and all is told
+      pub told-root : (below above : List Telling) → IsPartTold land mid history root.height at instead below → IsRootTold root after mid new history instead above
+          → IsTreeTold root after land new history (below ++ above)
+      unfolding Old
+      told-root below above of_part of_root =
+          let start = ways (told land.blocks.draft history) root.height root.address in
+          let between = ways_instead (told mid.blocks.draft history) root.height instead in
+          let last = ways (told new.blocks.draft history) after.height after.address in
+          let first =
+          subst (λ (a : ℕ). IsTold land (Reaches (told land.blocks.draft history) root.height a) (ways (told land.blocks.draft history) root.height a) between (2 * (root.height + 1)) (root.height + 1) (root.height + 1) below)
+          there of_part in
+          let then = told-within land Old mid (ReachesInstead (told mid.blocks.draft history) root.height instead) between last 0 1 1 above
+          (λ q either. elim either [
+            | inl free ↦ elim (free_from q free) [ inl old ↦ inr old | inr still ↦ inl still ]
+            | inr low ↦ elim (from q low) [ inl old ↦ inr old | inr still ↦ inl still ]
+          ]) of_root in
+          let all = told-append land Old start between last (2 * (root.height + 1)) (root.height + 1) (root.height + 1) 0 1 1 below above first then in
+          told-more land Old start last (2 * (root.height + 1) + 0) (root.height + 1 + 1) (root.height + 1 + 1) (2 * root.height + 3) (2 * root.height + 3) (2 * root.height + 3) (below ++ above)
+          (omega arith) (omega arith) (omega arith) all
+
 -- a root may get a node above it
 pub low-root : (tree : Tree) (root : Root) (land : Ground) (history : Option (List Event)) (items : List Item) → IsDrafted land root.next → IsRooted tree root land history items → root.height < 7
 low-root tree root land history items drafted rooted =
@@ -138,3 +161,8 @@ replaced-first tree before after old new history edit items key clear is =
     let first : drop (length (first_leaf (told old.blocks.draft history) before.height before.address)) items ≡ is.items_new =
     ap (λ (xs : List Item). drop (length xs) items) (sym (is.first key)) ∙ gone in
     subst (λ (xs : List Item). IsReplaced tree before after old new history xs) (sym first) is.replaced
+
+-- what two clauses say of a call that was done
+pub done-both : (A B : Type 0) (result : Result A B) (P Q R : Type 0) → (P → Q → R) → OnOk result P → OnOk result Q → OnOk result R
+done-both A B (Ok x) P Q R both p q = both p q
+done-both A B (Err fault) P Q R both p q = tt

@@ -2,6 +2,7 @@
 use Rattle.std.proofs.Common.{◌≡◌, ◌≢◌, ◌⊎◌, ℕ, zero, suc, ◌+◌, ◌-◌, ◌*◌, ◌≤◌, ◌<◌, true, List, [], ◌∷◌, length, arith, refl, sym, ap, subst, ◌∙◌, inl, inr, Option, Some, None}
 use Rattle.std.specs.Prelude.{IsTrue, slice_get}
 use Rattle.std.proofs.lemmas.Bool.{le-leb}
+use Rattle.std.proofs.lemmas.List.Elements.{All-from_recursion}
 use Rattle.qg_device.specs.History.{Event}
 use Rattle.qg_node.specs.declared.item.Item.{Item}
 use Rattle.qg_node.specs.declared.pointer.Pointer.{Pointer}
@@ -18,6 +19,7 @@ use Rattle.qg_verdict.specs.declared.tree.Tree.{Tree}
 use Rattle.qg_ground.specs.declared.ground.Ground.{Ground}
 use Rattle.qg_ground.specs.Land.{IsDrafted, Rests}
 use Rattle.qg_ground.specs.Tellings.{LetsGo}
+use Rattle.qg_ground.specs.Tellings.Telling.{Left}
 use Rattle.qg_ground.proofs.Editing.{edited}
 use Rattle.qg_ground.proofs.Lands.{Takes-left, told-fresh_at}
 use Rattle.qg_edit.specs.Outcome.{cleared}
@@ -25,13 +27,16 @@ use Rattle.qg_edit.proofs.Leaves.{IsNodeFor-cleared}
 use Rattle.qg_descent.specs.Tree.{IsTree, Reaches, Root, super_of}
 use Rattle.qg_descent.specs.Branch.{AreBranches, IsBranch}
 use Rattle.qg_descent.specs.Editing.{HoldInstead, IsRewritten, ReachesInstead, alone}
+use Rattle.qg_descent.specs.Counting.{IsBare, IsRootTold, one, ways, ways_instead}
 use Rattle.qg_descent.specs.Rooting.{HasRoot, StandsForRoot, lone_child, lone_of}
 use Rattle.qg_descent.proofs.BranchFrames.{reach-same, reach-top}
 use Rattle.qg_descent.proofs.Frames.{IsTree-same}
 use Rattle.qg_descent.proofs.Leading.{not-above}
 use Rattle.qg_descent.proofs.RootEdited.{root-alone, root-below}
 use Rattle.qg_descent.proofs.Served.{node-drafted, size-blocks}
+use Rattle.qg_descent.proofs.Turning.{told-more, told-none}
 use Rattle.qg_descent.proofs.United.{rewritten-told}
+use Rattle.qg_descent.proofs.Ways.{ways-inner, ways-same, ways-top, ways_each-cons}
 
 -- a node with several pointers has the shape of a root
 several : (nodesize : ℕ) (header : Header) (pointers : List Pointer) → 1 ≤ length pointers → lone_of pointers ≡ None → is_shaped nodesize None (Inner header pointers) ≡ true
@@ -79,6 +84,14 @@ module _ (tree : Tree) (root : Root) (land : Ground) (history : Option (List Eve
     others = λ q taken far. refl;
     freed = λ q free. inl free;
   }
+
+  -- and nothing is told
+  pub told-stood : IsRootTold root (record root { address = now }) land land history (alone now) []
+  told-stood =
+      told-more land (ReachesInstead (told land.blocks.draft history) root.height (alone now)) (ways_instead (told land.blocks.draft history) root.height (alone now)) (ways (told land.blocks.draft history) root.height now)
+      0 0 0 0 1 1 [] (omega arith) (omega arith) (omega arith)
+      (told-none land (ReachesInstead (told land.blocks.draft history) root.height (alone now)) (ways_instead (told land.blocks.draft history) root.height (alone now)) (ways (told land.blocks.draft history) root.height now)
+      (λ q. omega arith))
 
   module _ (mid new : Ground) (later : Option (List Event)) (child low : ℕ) (header : Header) (pointer : Pointer) (lone : node ≡ Inner header (pointer ∷ [])) (is_child : pointer.child ≡ child)
       (height : root.height ≡ suc low) (rewritten : IsRewritten land mid now node) (space : mid.space ≡ land.space) (gone : LetsGo mid new now) (rests : Rests land new later root.next) where
@@ -152,6 +165,39 @@ module _ (tree : Tree) (root : Root) (land : Ground) (history : Option (List Eve
         let low_is : low ≡ root.height - 1 = omega (arith, height) in
         subst (λ (c : ℕ). HasRoot tree root (record root { address = c; height = root.height - 1 }) land new history (alone now) items) is_child
         (subst (λ (h : ℕ). HasRoot tree root (record root { address = pointer.child; height = h }) land new history (alone now) items) low_is sunk_low)
+
+    gone_ways : (q : ℕ) → ways (told land.blocks.draft history) root.height now q ≡ one now q + ways (told new.blocks.draft history) low pointer.child q
+    gone_ways q =
+        let high_up = ap (λ (h : ℕ). ways (told land.blocks.draft history) h now q) height in
+        let inner = ways-inner (told land.blocks.draft history) low now header (pointer ∷ []) lone_there q in
+        let only = ways_each-cons (told land.blocks.draft history) low pointer [] q in
+        let stays = ways-same (told land.blocks.draft history) (told new.blocks.draft history) low pointer.child (λ r reaches. others_told r (far r reaches)) q in
+        omega (arith, high_up, inner, only, stays)
+
+    sunk_count : IsRootTold root (record root { address = pointer.child; height = low }) land new history (alone now) (Left (cleared node) ∷ [])
+    sunk_count =
+        let named : (header_of node).address ≡ now = (drafted.each now node here).kept.placed in
+        let top = ways-top (told land.blocks.draft history) root.height now in
+        let timely : 0 < ways_instead (told land.blocks.draft history) root.height (alone now) (header_of node).address =
+        subst (λ (q : ℕ). 0 < ways_instead (told land.blocks.draft history) root.height (alone now) q) (sym named) (omega (arith, top)) in
+        record {
+          turns = (timely, λ q.
+              let all = gone_ways q in
+              let at = ap (λ (a : ℕ). one a q) named in
+              omega (arith, all, at));
+          new = λ q some. absurd (omega (arith, some));
+          bare = All-from_recursion IsBare (Left (cleared node) ∷ []) ((refl, refl), tt);
+          few_copied = omega arith;
+          few_left = omega arith;
+          few_made = omega arith;
+        }
+
+    -- and the book is told that the node is left
+    pub told-sunk : IsRootTold root (record root { address = child; height = root.height - 1 }) land new history (alone now) (Left (cleared node) ∷ [])
+    told-sunk =
+        let low_is : low ≡ root.height - 1 = omega (arith, height) in
+        subst (λ (c : ℕ). IsRootTold root (record root { address = c; height = root.height - 1 }) land new history (alone now) (Left (cleared node) ∷ [])) is_child
+        (subst (λ (h : ℕ). IsRootTold root (record root { address = pointer.child; height = h }) land new history (alone now) (Left (cleared node) ∷ [])) low_is sunk_count)
 
 -- an empty leaf in the place of a fresh node
 pub cleared-rewritten : (land : Ground) (at : ℕ) (node : Node) → IsNodeSize land.space.sizes.nodesize → IsRewritten land (edited land at (cleared node)) at node

@@ -15,7 +15,7 @@ use Rattle.qg_ground.specs.Tellings.{Telling}
 use Rattle.qg_ground.specs.Tellings.Telling.{Copied, Made, Left}
 use Rattle.qg_descent.specs.declared.instead.Instead.{Instead}
 use Rattle.qg_descent.specs.Tree.{Reaches, Root}
-use Rattle.qg_descent.specs.Editing.{IsSettled, ReachesParts}
+use Rattle.qg_descent.specs.Editing.{IsSettled, ReachesInstead, ReachesParts}
 
 -- ---- ways
 
@@ -142,3 +142,15 @@ abbrev pub IsPartTold : Ground → Ground → Option (List Event) → ℕ → �
 IsPartTold old new history level at instead =
     IsTold old (Reaches (told old.blocks.draft history) level at) (ways (told old.blocks.draft history) level at) (ways_instead (told new.blocks.draft history) level instead)
     (2 * (level + 1)) (level + 1) (level + 1)
+
+-- what stands in the place of a tree's root became the tree, and this was told meanwhile
+abbrev pub IsRootTold : Root → Root → Ground → Ground → Option (List Event) → Instead → List Telling → Type 0
+IsRootTold before after old new history instead tellings =
+    IsTold old (ReachesInstead (told old.blocks.draft history) before.height instead) (ways_instead (told old.blocks.draft history) before.height instead)
+    (ways (told new.blocks.draft history) after.height after.address) 0 1 1 tellings
+
+-- a tree was edited, and this was told meanwhile: at most 2·height + 3 nodes were copied, and as many left and made
+abbrev pub IsTreeTold : Root → Root → Ground → Ground → Option (List Event) → List Telling → Type 0
+IsTreeTold before after old new history tellings =
+    IsTold old (Reaches (told old.blocks.draft history) before.height before.address) (ways (told old.blocks.draft history) before.height before.address)
+    (ways (told new.blocks.draft history) after.height after.address) (2 * before.height + 3) (2 * before.height + 3) (2 * before.height + 3) tellings

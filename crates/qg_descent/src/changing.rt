@@ -1,10 +1,12 @@
 // A tree is edited.
-ghost use Rattle.std.specs.Prelude.{◌≡◌, ◌+◌, ◌*◌, ◌≤◌, ℕ, List, Some, MatchResult, OnOk, IsTrue, drop, length, not};
+ghost use Rattle.std.specs.Prelude.{◌≡◌, ◌++◌, ◌+◌, ◌*◌, ◌≤◌, ℕ, List, Some, MatchResult, OnOk, IsTrue, drop, length, not};
 ghost use Rattle.qg_device.specs.Cause.{HasCause};
 ghost use Rattle.qg_device.specs.History.{Event};
 ghost use Rattle.qg_node.specs.declared.item.Item.{Item as ItemValue};
 ghost use Rattle.qg_blocks.specs.Told.{BreaksNone, told};
+ghost use Rattle.qg_ground.specs.Tellings.{Telling};
 ghost use Rattle.qg_edit.specs.Edits.{CanEdit, IsShort, growth_of, has_key, with_item, without_key};
+ghost use Rattle.qg_descent.specs.Counting.{IsTreeTold};
 ghost use Rattle.qg_descent.specs.First.{first_leaf};
 ghost use Rattle.qg_descent.specs.Rooting.{Grows, IsEdited, IsReady, IsReplaced, IsRooted, LeavesBe};
 
@@ -45,6 +47,10 @@ impl Tree {
         requires stands { B.stands book.old land.old disk.old }
         ensures inserted { (items : List ItemValue) → IsRooted P.tree self.old land.old (D.history disk.old) items → IsTrue (not (has_key key items))
             → OnOk result (IsReplaced P.tree self.old self.new land.old land.new (D.history disk.old) (with_item (record { key = key; body = body }) items)) }
+        ensures told { (items : List ItemValue) → IsRooted P.tree self.old land.old (D.history disk.old) items → IsTrue (not (has_key key items))
+            → (before : B) (log : List Telling) → B.follows before log book.old
+            → OnOk result ((tellings : List Telling) × B.follows before (log ++ tellings) book.new
+            × IsTreeTold self.old self.new land.old land.new (D.history disk.old) tellings) }
         ensures sound { (events : List Event) → D.history disk.old ≡ Some events → (items : List ItemValue)
             → IsRooted P.tree self.old land.old (D.history disk.old) items → IsTrue (not (has_key key items)) → BreaksNone result }
         ensures tree { MatchResult result (λ done. Grows 1 self.old self.new land.old land.new) (λ fault. self.new ≡ self.old) }
@@ -76,6 +82,10 @@ impl Tree {
         requires stands { B.stands book.old land.old disk.old }
         ensures replaced { (items : List ItemValue) → IsRooted P.tree self.old land.old (D.history disk.old) items → IsTrue (has_key key items)
             → OnOk result (IsReplaced P.tree self.old self.new land.old land.new (D.history disk.old) (with_item (record { key = key; body = body }) items)) }
+        ensures told { (items : List ItemValue) → IsRooted P.tree self.old land.old (D.history disk.old) items → IsTrue (has_key key items)
+            → (before : B) (log : List Telling) → B.follows before log book.old
+            → OnOk result ((tellings : List Telling) × B.follows before (log ++ tellings) book.new
+            × IsTreeTold self.old self.new land.old land.new (D.history disk.old) tellings) }
         ensures sound { (events : List Event) → D.history disk.old ≡ Some events → (items : List ItemValue)
             → IsRooted P.tree self.old land.old (D.history disk.old) items → IsTrue (has_key key items) → BreaksNone result }
         ensures tree { MatchResult result (λ done. Grows 1 self.old self.new land.old land.new) (λ fault. self.new ≡ self.old) }
@@ -106,6 +116,10 @@ impl Tree {
         requires stands { B.stands book.old land.old disk.old }
         ensures removed { (items : List ItemValue) → IsRooted P.tree self.old land.old (D.history disk.old) items → IsTrue (has_key key items)
             → OnOk result (IsReplaced P.tree self.old self.new land.old land.new (D.history disk.old) (without_key key items)) }
+        ensures told { (items : List ItemValue) → IsRooted P.tree self.old land.old (D.history disk.old) items → IsTrue (has_key key items)
+            → (before : B) (log : List Telling) → B.follows before log book.old
+            → OnOk result ((tellings : List Telling) × B.follows before (log ++ tellings) book.new
+            × IsTreeTold self.old self.new land.old land.new (D.history disk.old) tellings) }
         ensures sound { (events : List Event) → D.history disk.old ≡ Some events → (items : List ItemValue)
             → IsRooted P.tree self.old land.old (D.history disk.old) items → IsTrue (has_key key items) → BreaksNone result }
         ensures tree { MatchResult result (λ done. Grows 0 self.old self.new land.old land.new) (λ fault. self.new ≡ self.old) }
@@ -136,6 +150,10 @@ impl Tree {
         ensures dropped { (items : List ItemValue) → IsRooted P.tree self.old land.old (D.history disk.old) items
             → OnOk result (IsReplaced P.tree self.old self.new land.old land.new (D.history disk.old)
             (drop (length (first_leaf (told land.old.blocks.draft (D.history disk.old)) self.old.height self.old.address)) items)) }
+        ensures told { (items : List ItemValue) → IsRooted P.tree self.old land.old (D.history disk.old) items
+            → (before : B) (log : List Telling) → B.follows before log book.old
+            → OnOk result ((tellings : List Telling) × B.follows before (log ++ tellings) book.new
+            × IsTreeTold self.old self.new land.old land.new (D.history disk.old) tellings) }
         ensures sound { (events : List Event) → D.history disk.old ≡ Some events → (items : List ItemValue)
             → IsRooted P.tree self.old land.old (D.history disk.old) items → BreaksNone result }
         ensures tree { MatchResult result (λ done. Grows 0 self.old self.new land.old land.new) (λ fault. self.new ≡ self.old) }
@@ -166,6 +184,10 @@ impl Tree {
         requires stands { B.stands book.old land.old disk.old }
         ensures edited { (items : List ItemValue) → IsRooted P.tree self.old land.old (D.history disk.old) items → CanEdit edit items
             → OnOk result (IsEdited P.tree self.old self.new land.old land.new (D.history disk.old) edit items) }
+        ensures told { (items : List ItemValue) → IsRooted P.tree self.old land.old (D.history disk.old) items → CanEdit edit items
+            → (before : B) (log : List Telling) → B.follows before log book.old
+            → OnOk result ((tellings : List Telling) × B.follows before (log ++ tellings) book.new
+            × IsTreeTold self.old self.new land.old land.new (D.history disk.old) tellings) }
         ensures sound { (events : List Event) → D.history disk.old ≡ Some events → (items : List ItemValue)
             → IsRooted P.tree self.old land.old (D.history disk.old) items → CanEdit edit items → BreaksNone result }
         ensures tree { MatchResult result (λ done. Grows (growth_of edit.change) self.old self.new land.old land.new) (λ fault. self.new ≡ self.old) }

@@ -1,5 +1,5 @@
 // The root of a tree that was edited.
-ghost use Rattle.std.specs.Prelude.{◌≡◌, ◌+◌, ◌<◌, ◌≤◌, ◌∷◌, [], ℕ, List, IfOk, OnErr, OnOk, Some, IsErrOf, IsSome, IsTrue};
+ghost use Rattle.std.specs.Prelude.{◌≡◌, ◌++◌, ◌+◌, ◌<◌, ◌≤◌, ◌∷◌, [], ℕ, List, IfOk, OnErr, OnOk, Some, IsErrOf, IsSome, IsTrue};
 ghost use Rattle.std.specs.Ordering.{is_lt};
 ghost use Rattle.qg_device.specs.Cause.{HasCause};
 ghost use Rattle.qg_device.specs.History.{Event};
@@ -13,8 +13,10 @@ ghost use Rattle.qg_shape.specs.Pointing.{pointer_to};
 ghost use Rattle.qg_blocks.specs.Told.{BreaksNone, fresh_at};
 ghost use Rattle.qg_space.specs.Holding.{free_slots};
 ghost use Rattle.qg_ground.specs.Land.{Rests};
+ghost use Rattle.qg_ground.specs.Tellings.{Telling};
 ghost use Rattle.qg_edit.specs.Outcome.{cleared};
 ghost use Rattle.qg_descent.specs.Editing.{CanMake, IsEditable, IsFreshOn, IsRewritten, StandsInstead, alone};
+ghost use Rattle.qg_descent.specs.Counting.{IsRootTold};
 ghost use Rattle.qg_descent.specs.Rooting.{HasRoot, StandsForRoot, StaysTree, levels_for, lone_child};
 
 use crate::Tree;
@@ -51,6 +53,10 @@ impl Tree {
         requires stood { StandsInstead land.old self.old.height instead }
         ensures rooted { (items : List ItemValue) → StandsForRoot P.tree self.old land.old (D.history disk.old) instead items
             → OnOk result (HasRoot P.tree self.old self.new land.old land.new (D.history disk.old) instead items) }
+        ensures told { (items : List ItemValue) → StandsForRoot P.tree self.old land.old (D.history disk.old) instead items
+            → (before : B) (log : List Telling) → B.follows before log book.old
+            → OnOk result ((tellings : List Telling) × B.follows before (log ++ tellings) book.new
+            × IsRootTold self.old self.new land.old land.new (D.history disk.old) instead tellings) }
         ensures stays { StaysTree (levels_for instead.more) self.old self.new }
         ensures count { OnOk result (free_slots land.old.space ≤ 1 + free_slots land.new.space) }
         ensures sound { (events : List Event) → D.history disk.old ≡ Some events → (items : List ItemValue)
@@ -90,6 +96,10 @@ impl Tree {
         ensures rooted { (items : List ItemValue)
             → StandsForRoot P.tree self.old land.old (D.history disk.old) (record { now = now; more = Some more }) items
             → OnOk result (HasRoot P.tree self.old self.new land.old land.new (D.history disk.old) (record { now = now; more = Some more }) items) }
+        ensures told { (items : List ItemValue) → StandsForRoot P.tree self.old land.old (D.history disk.old) (record { now = now; more = Some more }) items
+            → (before : B) (log : List Telling) → B.follows before log book.old
+            → OnOk result ((tellings : List Telling) × B.follows before (log ++ tellings) book.new
+            × IsRootTold self.old self.new land.old land.new (D.history disk.old) (record { now = now; more = Some more }) tellings) }
         ensures stays { StaysTree 1 self.old self.new }
         ensures count { OnOk result (free_slots land.old.space ≤ 1 + free_slots land.new.space) }
         ensures sound { (events : List Event) → D.history disk.old ≡ Some events → (items : List ItemValue)
@@ -139,6 +149,10 @@ impl Tree {
         requires fresh { IsFreshOn land.old self.old.height now }
         ensures rooted { (items : List ItemValue) → StandsForRoot P.tree self.old land.old (D.history disk.old) (alone now) items
             → OnOk result (HasRoot P.tree self.old self.new land.old land.new (D.history disk.old) (alone now) items) }
+        ensures told { (items : List ItemValue) → StandsForRoot P.tree self.old land.old (D.history disk.old) (alone now) items
+            → (before : B) (log : List Telling) → B.follows before log book.old
+            → OnOk result ((tellings : List Telling) × B.follows before (log ++ tellings) book.new
+            × IsRootTold self.old self.new land.old land.new (D.history disk.old) (alone now) tellings) }
         ensures stays { StaysTree 0 self.old self.new }
         ensures count { OnOk result (free_slots land.old.space ≤ free_slots land.new.space) }
         ensures sound { (events : List Event) → D.history disk.old ≡ Some events → BreaksNone result }

@@ -1,11 +1,14 @@
-use Rattle.std.proofs.Common.{◌≡◌, ◌+◌, ◌*◌, ℕ, suc, arith, refl, sym, ap, subst, ◌∙◌}
+use Rattle.std.proofs.Common.{◌≡◌, ◌+◌, ◌*◌, ◌++◌, ℕ, suc, append_assoc, arith, refl, sym, ap, subst, ◌∙◌}
 use Rattle.std.proofs.Math.Nat.{mul-suc}
 use Rattle.std.proofs.lemmas.Result.{err_from_is_err_and, on_ok_weaker}
 use Rattle.std.specs.Prelude.{List, Option}
+use Rattle.qg_num.specs.declared.fault.BlockFault.{BlockFault}
 use Rattle.qg_device.specs.History.{Event}
 use Rattle.qg_descent.specs.Editing.{IsPartEdited, IsPartFit}
+use Rattle.qg_ground.specs.Tellings.{Telling}
+use Rattle.qg_descent.specs.Counting.{IsPartTold, IsRootTold}
 use Rattle.qg_descent.specs.Rooting.{HasRoot, StandsForRoot}
-use Rattle.qg_descent.proofs.Replaced.{edited-root, fit-root, low-root, stands-root}
+use Rattle.qg_descent.proofs.Replaced.{done-both, edited-root, fit-root, low-root, stands-root, told-root}
 use Rattle.qg_descent.proofs.tree.Tree.edit.Goals as goal
 
 pub returns-in_err-instead-clause-reads : goal.returns-in_err-instead-clause-reads
@@ -52,3 +55,27 @@ returns-clause-reads g c most all =
     let one : (5 + 4 * most) * suc (c.height-level.result + 1) ≡ (5 + 4 * most) * (c.height-level.result + 1) + (5 + 4 * most) = mul-suc (5 + 4 * most) (c.height-level.result + 1) in
     let whole : (5 + 4 * most) * (c.args.self.now.height + 2) ≡ (5 + 4 * most) * suc (c.height-level.result + 1) = ap (λ (n : ℕ). (5 + 4 * most) * n) (let e : c.args.self.now.height + 2 ≡ suc (c.height-level.result + 1) = omega (arith, level) in e) in
     omega (arith, low, last, one, whole)
+
+pub returns-clause-told : goal.returns-clause-told
+returns-clause-told g c items rooted can before log follows =
+    let history = g.D.Disk.history c.args.disk.now in
+    let fit = fit-root g.P.TreePart.tree c.args.self.now c.args.land.now history c.args.edit items rooted can c.way-way.result.expected c.way-way.result.address c.way-way.ensures.expected c.way-way.ensures.address in
+    let fit_there = subst (λ (n : ℕ). IsPartFit g.P.TreePart.tree c.args.self.now c.args.land.now history n c.way-way.result.expected c.way-way.result.address c.args.edit items) (sym c.height-level.ensures) fit in
+    let part = subst (λ (n : ℕ). IsPartEdited g.P.TreePart.tree c.args.self.now c.args.land.now c.edit_under.new.land history n c.way-way.result.address c.args.edit items c.in_ok-instead.instead) c.height-level.ensures
+    (c.in_ok-instead.ensures.edited items fit_there) in
+    let stands = stands-root g.P.TreePart.tree c.args.self.now c.args.land.now history c.args.edit items rooted can c.way-way.result.expected c.way-way.result.address c.way-way.ensures.expected c.way-way.ensures.address
+    c.edit_under.new.land c.in_ok-instead.instead part c.requires.ready.0.editable.drafted c.edit_under.ensures.rests.node_sizes c.requires.ready.1 in
+    let stands_then = subst (λ (h : Option (List Event)). StandsForRoot g.P.TreePart.tree c.args.self.now c.edit_under.new.land h c.in_ok-instead.instead part.items_new) (sym c.edit_under.ensures.disk.0) stands in
+    let below = c.in_ok-instead.ensures.told items fit_there before log follows in
+    let part_told = subst (λ (n : ℕ). IsPartTold c.args.land.now c.edit_under.new.land history n c.way-way.result.address c.in_ok-instead.instead below.0) c.height-level.ensures below.2 in
+    done-both (Unit {0}) BlockFault c.set_root.result _ _ _
+    (λ has above. (
+      below.0 ++ above.0,
+      subst (λ (l : List Telling). g.B.Book.follows before l c.set_root.new.book) (append_assoc log below.0 above.0) above.1,
+      told-root g.P.TreePart.tree c.args.self.now c.args.land.now history c.args.edit items rooted can c.way-way.result.expected c.way-way.result.address c.way-way.ensures.expected c.way-way.ensures.address
+          c.edit_under.new.land c.in_ok-instead.instead part c.requires.ready.0.editable.drafted c.edit_under.ensures.rests.node_sizes c.requires.ready.1 c.set_root.new.land c.set_root.new.self
+          (subst (λ (h : Option (List Event)). HasRoot g.P.TreePart.tree c.args.self.now c.set_root.new.self c.edit_under.new.land c.set_root.new.land h c.in_ok-instead.instead part.items_new) c.edit_under.ensures.disk.0 has)
+          below.0 above.0 part_told
+          (subst (λ (h : Option (List Event)). IsRootTold c.args.self.now c.set_root.new.self c.edit_under.new.land c.set_root.new.land h c.in_ok-instead.instead above.0) c.edit_under.ensures.disk.0 above.2),
+    ))
+    (c.set_root.ensures.rooted part.items_new stands_then) (c.set_root.ensures.told part.items_new stands_then before (log ++ below.0) below.1)

@@ -1,4 +1,4 @@
-use Rattle.std.proofs.Common.{◌≡◌, ◌+◌, ℕ, arith, add-one, refl, sym, ap, subst, ◌∙◌}
+use Rattle.std.proofs.Common.{◌≡◌, ◌+◌, ℕ, [], ◌∷◌, arith, add-one, refl, sym, ap, subst, ◌∙◌}
 use Rattle.std.proofs.lemmas.Result.{err_from_is_err_and}
 use Rattle.qg_node.specs.declared.node.Node.{Node}
 use Rattle.qg_node.specs.Nodes.{header_of}
@@ -10,8 +10,9 @@ use Rattle.qg_num.specs.Key.{key_cmp}
 use Rattle.std.specs.Prelude.{true}
 use Rattle.qg_descent.specs.Tree.{Root}
 use Rattle.qg_descent.specs.Rooting.{HasRoot}
-use Rattle.qg_descent.proofs.FirstLeaf.{leads-first}
-use Rattle.qg_descent.proofs.Grown.{above-ascends, grown-above, two}
+use Rattle.qg_ground.specs.Tellings.Telling.{Made}
+use Rattle.qg_descent.specs.Counting.{IsRootTold}
+use Rattle.qg_descent.proofs.Grown.{above-ascends, grown-above, told-above, two}
 use Rattle.qg_descent.proofs.Rejoined.{unbroken-other}
 use Rattle.qg_descent.proofs.Served.{size-drafted}
 use Rattle.qg_descent.proofs.tree.Tree.grow.Goals as goal
@@ -50,3 +51,16 @@ returns-clause-rooted g c items stands =
 
 pub returns-clause-reads : goal.returns-clause-reads
 returns-clause-reads g c most all = c.make_node.ensures.reads most (λ q. all c.args.book.now q)
+
+pub returns-clause-told : goal.returns-clause-told
+returns-clause-told g c items stands before log follows =
+    let first = fresh-held c.args.land.now.blocks c.args.now c.requires.first.node c.peek.result.now c.requires.first.here c.peek.ensures in
+    let second = fresh-held c.args.land.now.blocks c.args.more c.requires.second.node c.peek-2.result.now c.requires.second.here c.peek-2.ensures in (
+      Made c.in_ok-root.root ∷ [],
+      c.in_ok-root.ensures.told before log follows,
+      subst (λ (r : Root). IsRootTold c.args.self.now r c.args.land.now c.make_node.new.land (g.D.Disk.history c.args.disk.now) (two c.args.now c.args.more) (Made c.in_ok-root.root ∷ [])) (sym c.rise_to.ensures)
+          (told-above g.P.TreePart.tree c.args.self.now c.args.land.now (g.D.Disk.history c.args.disk.now) c.args.now c.args.more items c.requires.first.node c.requires.second.node stands
+          c.requires.editable.drafted c.requires.first.here c.requires.second.here c.make_node.new.land (g.D.Disk.history c.make_node.new.disk) c.in_ok-root.root _ c.in_ok-node.node c.peek.result.now c.peek-2.result.now
+          c.in_ok-node.ensures.above first second c.in_ok-root.ensures.made c.requires.makes (ap (λ (n : ℕ). n + 1) c.height-2.ensures ∙ add-one c.args.self.now.height) c.owner.ensures c.next.ensures
+          (subst (λ (n : ℕ). Rests c.args.land.now c.make_node.new.land (g.D.Disk.history c.make_node.new.disk) n) (ap (λ (n : Node). (header_of n).generation) c.in_ok-node.ensures.above ∙ c.next.ensures) c.make_node.ensures.rests)),
+    )

@@ -1,17 +1,19 @@
-use Rattle.std.proofs.Common.{◌≡◌, ℕ, suc, ◌-◌, arith, refl, sym, ap, subst, ◌∙◌}
+use Rattle.std.proofs.Common.{◌≡◌, ℕ, suc, ◌-◌, [], ◌∷◌, arith, refl, sym, ap, subst, ◌∙◌}
 use Rattle.std.specs.Prelude.{Some, None}
 use Rattle.std.proofs.lemmas.Result.{err_from_is_err_and}
 use Rattle.qg_device.specs.History.{content}
 use Rattle.qg_blocks.proofs.Telling.{fresh-held}
 use Rattle.qg_edit.specs.Outcome.{cleared}
 use Rattle.qg_ground.specs.declared.ground.Ground.{Ground}
-use Rattle.qg_ground.proofs.Lands.{Rests-after}
+use Rattle.qg_ground.specs.Tellings.Telling.{Left}
+use Rattle.qg_ground.proofs.Lands.{Rests-after, told-fresh_at}
 use Rattle.qg_descent.specs.Tree.{Root}
 use Rattle.qg_descent.specs.Editing.{alone}
 use Rattle.qg_descent.specs.Rooting.{HasRoot, lone_child}
 use Rattle.qg_descent.proofs.Cutting.{rewritten-moves, rewritten-rests, rewritten-spares}
 use Rattle.qg_descent.proofs.Served.{node-drafted, size-drafted}
-use Rattle.qg_descent.proofs.Shrunk.{lone-high, lone-is, stood, sunk}
+use Rattle.qg_descent.specs.Counting.{IsRootTold}
+use Rattle.qg_descent.proofs.Shrunk.{lone-high, lone-is, stood, sunk, told-sunk}
 use Rattle.qg_descent.proofs.United.{fresh-unbroken}
 use Rattle.qg_descent.proofs.tree.Tree.shrink.Goals as goal
 
@@ -100,3 +102,25 @@ returns-in_ok-leave_node-in-Some-clause-rests g c =
     let first = rewritten-rests c.args.land.now c.clear_at.new.land c.args.now c.args.self.now.next fresh.node fresh.here rewritten (g.D.Disk.history c.args.disk.now) c.requires.editable.backed c.requires.editable.drafted in
     Rests-after c.args.land.now c.clear_at.new.land c.leave_node.new.land (g.D.Disk.history c.args.disk.now) (g.D.Disk.history c.leave_node.new.disk) c.args.self.now.next first
     (c.leave_node.ensures.rests c.args.self.now.next first.drafted)
+
+pub returns-in_ok-leave_node-in-Some-clause-told : goal.returns-in_ok-leave_node-in-Some-clause-told
+returns-in_ok-leave_node-in-Some-clause-told g c items stands before log follows =
+    let fresh = c.requires.fresh in
+    let one = fresh-held c.args.land.now.blocks c.args.now fresh.node c.peek.result.now fresh.here c.peek.ensures in
+    let lone : lone_child fresh.node ≡ Some c.in-Some.child = sym (ap lone_child one) ∙ sym c.lone_child.ensures ∙ c.in-Some.is in
+    let is = lone-is fresh.node c.in-Some.child lone in
+    let high = lone-high c.args.land.now.space.sizes.nodesize fresh.node c.in-Some.child (node-drafted c.args.land.now c.args.self.now.next c.args.now fresh.node c.requires.editable.drafted fresh.here) lone in
+    let level = fresh.levelled in
+    let height : c.args.self.now.height ≡ suc (c.args.self.now.height - 1) = omega (arith, high, level) in
+    let rewritten = c.clear_at.ensures.cleared fresh.node fresh.here in
+    let first = rewritten-rests c.args.land.now c.clear_at.new.land c.args.now c.args.self.now.next fresh.node fresh.here rewritten (g.D.Disk.history c.args.disk.now) c.requires.editable.backed c.requires.editable.drafted in
+    let rests = Rests-after c.args.land.now c.clear_at.new.land c.leave_node.new.land (g.D.Disk.history c.args.disk.now) (g.D.Disk.history c.leave_node.new.disk) c.args.self.now.next first
+    (c.leave_node.ensures.rests c.args.self.now.next first.drafted) in
+    let there = told-fresh_at c.clear_at.new.land.blocks.draft (g.D.Disk.history c.args.disk.now) c.args.now (cleared fresh.node) (c.clear_at.ensures.here fresh.node fresh.here) in (
+      Left (cleared fresh.node) ∷ [],
+      c.in_ok-leave_node-in-Some.ensures.told (cleared fresh.node) there before log follows,
+      subst (λ (r : Root). IsRootTold c.args.self.now r c.args.land.now c.leave_node.new.land (g.D.Disk.history c.args.disk.now) (alone c.args.now) (Left (cleared fresh.node) ∷ [])) (sym c.sink_to.ensures)
+          (told-sunk g.P.TreePart.tree c.args.self.now c.args.land.now (g.D.Disk.history c.args.disk.now) c.args.now items fresh.node stands c.requires.editable.drafted fresh.here fresh.levelled
+          c.clear_at.new.land c.leave_node.new.land (g.D.Disk.history c.leave_node.new.disk) c.in-Some.child (c.args.self.now.height - 1) is.0 is.1 is.2 is.3 height rewritten
+          (ap (λ (l : Ground). l.space) rewritten.is) c.in_ok-leave_node-in-Some.ensures.gone rests),
+    )
