@@ -33,4 +33,8 @@ module _ (nodesize root : ℕ) (slots : List ℕ) (nodes : List Node) (at level 
   flat = one.flat
 
   pub in_first : take 1 slots ≡ at ∷ []
-  in_first = sym (subst (λ (list : List Node). map (λ node. (header_of node).address) list ≡ take (length list) slots) alone built.placed)
+  in_first =
+      let placed =
+      subst (λ (list : List Node). map (λ node. (header_of node).address) list ≡ take (length list) slots) alone
+      built.placed in
+      sym placed

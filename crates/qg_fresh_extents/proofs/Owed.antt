@@ -1,6 +1,6 @@
 -- What the extent tree's items of a fresh image say is what is owed there, and its one node is at home.
-use Rattle.std.proofs.Common.{◌≡◌, ℕ, inl, inr, Bool, true, false, List, [], ◌∷◌, map, refl, sym, ap, subst, ◌∙◌}
-use Rattle.std.specs.Prelude.{◌==◌, not, Option, Some, None}
+use Rattle.std.proofs.Common.{◌≡◌, ℕ, Bool, true, false, List, [], ◌∷◌, refl}
+use Rattle.std.specs.Prelude.{◌==◌, not, None}
 use Rattle.std.specs.List.{filter_map, find, list_any}
 use Rattle.std.proofs.lemmas.Bool.{eq-eqb}
 use Rattle.qg_bytes.specs.Fields.{u64_bytes, u64_at}
@@ -21,12 +21,14 @@ use Rattle.qg_fresh_extents.specs.FreshExtents.{fresh_extent_items}
 
 -- ---- what the items say
 
-pub parts-said : (nodesize root : ℕ) → filter_map extent_part (fresh_extent_items root) ≡ parts_of_book (fresh_table nodesize root)
+pub parts-said : (nodesize root : ℕ)
+    → filter_map extent_part (fresh_extent_items root) ≡ parts_of_book (fresh_table nodesize root)
 unfolding extent_part extent_read extent_text u64_bytes u64_at
 parts-said nodesize root = refl
 
 -- the root isn't full
-pub parts-not_full : (nodesize root : ℕ) → list_any (is_full_record root) (parts_of_book (fresh_table nodesize root)) ≡ false
+pub parts-not_full : (nodesize root : ℕ)
+    → list_any (is_full_record root) (parts_of_book (fresh_table nodesize root)) ≡ false
 parts-not_full nodesize root = rw (eq-eqb root root refl) refl
 
 -- ---- the rules
@@ -42,7 +44,8 @@ agreed layout parts agrees = none_found (agrees_at layout parts) (recorded_addre
 pub fresh-agreed : (sizes : Sizes) (root : ℕ)
     → disagreement (layout_of (fresh_state sizes [] root)) (parts_of_book (fresh_table sizes.nodesize root)) ≡ None
 fresh-agreed sizes root =
-    agreed (layout_of (fresh_state sizes [] root)) (parts_of_book (fresh_table sizes.nodesize root)) (fresh-agrees sizes root [])
+    agreed (layout_of (fresh_state sizes [] root)) (parts_of_book (fresh_table sizes.nodesize root))
+    (fresh-agrees sizes root [])
 
 pub fresh-at_home : (sizes : Sizes) (root : ℕ) → homeless (layout_of (fresh_state sizes [] root)) ≡ None
 unfolding homeless reach reach_of_root pieces_of

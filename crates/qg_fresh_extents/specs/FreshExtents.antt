@@ -8,6 +8,7 @@ use Rattle.qg_items.specs.declared.kind.TheConstants.{METADATA_ITEM, TREE_BLOCK_
 use Rattle.qg_items.specs.declared.tree.TheConstants.{ROOT_TREE, EXTENT_TREE, TOP_LEVEL, QUOTA_TREE}
 use Rattle.qg_items.specs.ItemText.{extent_text}
 use Rattle.qg_super.specs.declared.sizes.Sizes.{Sizes}
+use Rattle.qg_super.specs.declared.superblock.Super.{Super}
 use Rattle.qg_super.specs.Places.{slot_at}
 use Rattle.qg_state.specs.State.{layout_of}
 use Rattle.qg_verdict.specs.declared.tree.Tree.TheVariants.{Extents}
@@ -22,8 +23,8 @@ use Rattle.qg_commit.specs.Fresh.{fresh_root, fresh_super, quota_items, root_ite
 
 -- ---- the tree
 
--- the record of the subvolume's root node at an address: a leaf of generation 1 that isn't full, with one reference; and
--- that reference, which is the subvolume's
+-- the record of the subvolume's root node at an address: a leaf of generation 1 that isn't full, with one reference;
+-- and that reference, which is the subvolume's
 abbrev pub fresh_extent_items : ℕ → List Item
 fresh_extent_items root =
     item_at root METADATA_ITEM 0 (extent_text (record { refs = 1; generation = 1; flags = 2 }))
@@ -49,18 +50,22 @@ recorded_nodes sizes =
     ∷ fresh_leaf QUOTA_TREE (slot_at sizes 3) (quota_items sizes.nodesize)
     ∷ []
 
+-- the superblock that leads to them
+abbrev pub super_made : Sizes → Super
+super_made sizes = fresh_super sizes (slot_at sizes 0)
+
 -- the device calls that make an image of these leaves
 abbrev pub with_recorded_image : Sizes → List Event → List Event
-with_recorded_image sizes events = with_image (fresh_super sizes (slot_at sizes 0)) (recorded_nodes sizes) events
+with_recorded_image sizes events = with_image (super_made sizes) (recorded_nodes sizes) events
 
 -- what such an image holds
 pub record HoldsRecords (sizes : Sizes) (image : List ℕ) : Type 0 where
   -- both superblocks, and the leaves where they lie
-  pub commit : HasCommit (fresh_super sizes (slot_at sizes 0)) (recorded_nodes sizes) image
+  pub commit : HasCommit (super_made sizes) (recorded_nodes sizes) image
   -- the extent tree keeps the rules of the walk and the shape of a tree, and has the items
-  pub tree : IsTreeIn Extents (fresh_super sizes (slot_at sizes 0)) image (root_told (fresh_root (slot_at sizes 1))) (slot_at sizes 1)
+  pub tree : IsTreeIn Extents (super_made sizes) image (root_told (fresh_root (slot_at sizes 1))) (slot_at sizes 1)
       (fresh_extent_items (slot_at sizes 2)) (fresh_extent_leaf (slot_at sizes 1) (slot_at sizes 2) ∷ [])
   -- its one subvolume and the nodes of that are those of an image that is just made
-  pub layout : layout_of (state_in (fresh_super sizes (slot_at sizes 0)) image) ≡ layout_of (fresh_state sizes [] (slot_at sizes 2))
+  pub layout : layout_of (state_in (super_made sizes) image) ≡ layout_of (fresh_state sizes [] (slot_at sizes 2))
   -- the rules `refs` and `home` are kept
-  pub references : references_failure (fresh_super sizes (slot_at sizes 0)) image (layout_of (state_in (fresh_super sizes (slot_at sizes 0)) image)) ≡ None
+  pub references : references_failure (super_made sizes) image (layout_of (state_in (super_made sizes) image)) ≡ None

@@ -8,8 +8,15 @@ ghost use Rattle.qg_super.specs.SuperText.{is_super};
 ghost use Rattle.qg_verdict.specs.declared.tree.Tree.TheVariants.{Extents};
 ghost use Rattle.qg_laid.specs.Trees.{IsTreeOfItems};
 ghost use Rattle.qg_commit.specs.Calls.{IsWritable};
-ghost use Rattle.qg_commit.specs.Fresh.{AreFreshTrees, fresh_slots, fresh_super};
-ghost use Rattle.qg_fresh_extents.specs.FreshExtents.{HoldsRecords, TellsRoot, fresh_extent_leaf, recorded_nodes, with_recorded_image};
+ghost use Rattle.qg_commit.specs.Fresh.{AreFreshTrees, fresh_slots};
+ghost use Rattle.qg_fresh_extents.specs.FreshExtents.{
+  HoldsRecords,
+  TellsRoot,
+  fresh_extent_leaf,
+  recorded_nodes,
+  super_made,
+  with_recorded_image,
+};
 
 use crate::tree::fresh_extent_tree;
 use qg_laid::{Contents, Laid, lay_trees};
@@ -24,7 +31,7 @@ pub fn lay_fresh_records(alloc: Global, sizes: Sizes) -> Result<Laid, NoMemory>
     requires { IsTrue (is_served sizes) }
 
     // What is written: the superblock, and the nodes in the order of a commit's calls, each of which can be written.
-    ensures superblock { IfOk result (λ laid. laid.superblock ≡ fresh_super sizes (slot_at sizes 0)) }
+    ensures superblock { IfOk result (λ laid. laid.superblock ≡ super_made sizes) }
     ensures fits { IfOk result (λ laid. IsTrue (is_super laid.superblock)) }
     ensures nodes { IfOk result (λ laid.
         laid.roots.nodes ++ laid.extents.nodes ++ laid.files.nodes ++ laid.quotas.nodes ≡ recorded_nodes sizes) }
@@ -59,8 +66,8 @@ fn lay_without(alloc: Global, sizes: Sizes) -> Result<Laid, NoMemory>
 // The extent tree, behind the top-level subvolume's.
 fn tree_behind(alloc: Global, sizes: Sizes) -> Result<Built, NoMemory>
     requires { IsTrue (is_served sizes) }
-    ensures tree { IfOk result (λ built.
-        IsTreeOfItems Extents EXTENT_TREE sizes.nodesize 1 (TellsRoot (slot_at sizes 2)) (drop 1 (fresh_slots sizes)) built) }
+    ensures tree { IfOk result (λ built. IsTreeOfItems Extents EXTENT_TREE sizes.nodesize 1
+        (TellsRoot (slot_at sizes 2)) (drop 1 (fresh_slots sizes)) built) }
     ensures leaf { IfOk result (λ built. built.nodes ≡ fresh_extent_leaf (slot_at sizes 1) (slot_at sizes 2) ∷ []) }
     ensures place { IfOk result (λ built. built.root ≡ slot_at sizes 1) }
 {

@@ -1,5 +1,5 @@
-//! The extent tree of an image that is just made, with the record of its one subvolume's root, and the device calls that
-//! make an image of it.
+//! The extent tree of an image that is just made, with the record of its one subvolume's root, and the device calls
+//! that make an image of it.
 #![tactic(auto)]
 
 mod items;

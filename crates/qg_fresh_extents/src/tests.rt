@@ -1,5 +1,5 @@
-// What no clause says: that the calls succeed, and the bytes of the extent tree's leaf, which were worked out by hand, with
-// a checksum from another program.
+// What no clause says: that the calls succeed, and the bytes of the extent tree's leaf, which were worked out by hand,
+// with a checksum from another program.
 use crate::lay_fresh_records;
 use qg_node::write_node;
 use qg_super::Sizes;

@@ -1,12 +1,10 @@
-use Rattle.std.proofs.Common.{List, subst, sym, ◌∙◌}
+use Rattle.std.proofs.Common.{List, subst, sym}
 use Rattle.std.proofs.lemmas.Result.{IfOk-weaker}
-use Rattle.qg_node.specs.declared.node.Node.{Node}
 use Rattle.qg_image.specs.declared.part.ExtentPart.{ExtentPart}
 use Rattle.qg_image.specs.ItemMeaning.{extent_part}
 use Rattle.qg_state.specs.State.{layout_of}
 use Rattle.qg_state.specs.Owed.{Agrees}
 use Rattle.qg_verdict.specs.IsFresh.{fresh_state}
-use Rattle.qg_extents.specs.Written.{parts_of_book}
 use Rattle.qg_check.proofs.Said.{filter_map_said}
 use Rattle.qg_fresh_extents.proofs.items.fresh_extent_items.Goals as goal
 

@@ -1,5 +1,3 @@
-use Rattle.std.proofs.Common.{◌≡◌, List, ◌++◌, ap, sym, subst, ◌∙◌}
-use Rattle.qg_laid.specs.declared.laying.Laid.{Laid}
 use Rattle.qg_commit.proofs.FreshTrees.{superblock_is}
 use Rattle.qg_fresh_extents.proofs.Image.{holds, writable, written}
 use Rattle.qg_fresh_extents.proofs.laid.lay_fresh_records.Goals as goal

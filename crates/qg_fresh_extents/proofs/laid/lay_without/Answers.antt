@@ -1,4 +1,4 @@
-use Rattle.std.proofs.Common.{◌≡◌, ◌+◌, [], arith, refl, lit<}
+use Rattle.std.proofs.Common.{arith, refl, lit<}
 use Rattle.std.proofs.lemmas.List.Elements.{All-nil}
 use Rattle.qg_super.proofs.Served.{SizesFit-is_served}
 use Rattle.qg_verdict.specs.Verdict.{space_failure}
