@@ -130,9 +130,9 @@ fn edit_written<L: Ledger>(rt: &impl Abort, alloc: Global, blank: Blank) -> Resu
     let mut setting = three_levels::<MemDisk, L>(alloc, MemDisk::new(alloc), blank)?;
     let mut plain = even_items(alloc)?;
     assert!(rt; setting.height() == 2 && setting.told() == NODES);
-    assert!(rt; setting.used_slots() == NODES && setting.fresh()? as u64 == NODES);
+    assert!(rt; setting.used_slots() == NODES && setting.fresh()?.len() as u64 == NODES);
     let mut setting = setting.commit()?;
-    assert!(rt; setting.fresh()? == 0);
+    assert!(rt; setting.fresh()?.is_empty());
     look_up_each(rt, &mut setting, &plain)?;
     for (one, told, used) in EDITS {
         let before = setting.told();

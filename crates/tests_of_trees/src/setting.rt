@@ -10,7 +10,7 @@ use qg_disk::Disk;
 use qg_ground::{Ground, SlotBook, make_node};
 use qg_image::FilePart;
 use qg_node::{Body, Header, Item, Items, Node};
-use qg_num::{Address, BlockFault, Generation, Key, NoMemory, RootId, Steps};
+use qg_num::{Address, BlockFault, Generation, Key, NoMemory, RootId, Sequence, Steps};
 use qg_space::Space;
 use qg_super::Sizes;
 use std::alloc::Global;
@@ -171,9 +171,15 @@ impl<D: Disk + Drop, L: Ledger> Setting<D, L> {
         self.book.told()
     }
 
-    /// How many nodes are fresh.
-    pub fn fresh(&self) -> Result<usize, BlockFault> {
-        Ok(self.land.blocks.dirty()?.len())
+    /// Where the fresh nodes lie.
+    pub fn fresh(&self) -> Result<Sequence<Address>, BlockFault> {
+        Ok(self.land.blocks.dirty()?)
+    }
+
+    /// The disk, and the count of steps.
+    pub fn into_parts(self) -> (D, Steps<L>) {
+        let Setting { disk, reads, .. } = self;
+        (disk, reads)
     }
 
     /// `Tree::get`.
