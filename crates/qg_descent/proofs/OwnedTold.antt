@@ -1,14 +1,12 @@
 -- A node that is owned: the ways that lead to its place then lead to its copy's.
-use Rattle.std.proofs.Common.{◌≡◌, ◌≢◌, ◌⊎◌, ℕ, zero, suc, ◌+◌, ◌-◌, ◌<◌, ◌≤◌, true, List, [], ◌∷◌, arith, refl, sym, ap, subst, ◌∙◌, inl, inr, Option, Some}
+use Rattle.std.proofs.Common.{◌≡◌, ◌≢◌, ◌⊎◌, ℕ, zero, suc, ◌+◌, ◌<◌, true, List, [], ◌∷◌, arith, sym, ap, subst, ◌∙◌, inl, inr, Option, Some}
 use Rattle.std.specs.Prelude.{IsTrue}
 use Rattle.std.specs.List.{sum_by}
 use Rattle.std.proofs.lemmas.Bool.Decides.{eqb_tells}
 use Rattle.std.proofs.lemmas.List.Elements.{All-from_recursion}
 use Rattle.qg_device.specs.History.{Event}
 use Rattle.qg_node.specs.declared.item.Item.{Item}
-use Rattle.qg_node.specs.declared.pointer.Pointer.{Pointer}
 use Rattle.qg_node.specs.declared.node.Node.{Node}
-use Rattle.qg_node.specs.declared.node.Node.TheVariants.{Inner}
 use Rattle.qg_node.specs.Nodes.{header_of}
 use Rattle.qg_verdict.specs.declared.expected.Expected.{Expected}
 use Rattle.qg_verdict.specs.declared.tree.Tree.{Tree}
@@ -26,7 +24,7 @@ use Rattle.qg_descent.proofs.BranchFrames.{reach-top}
 use Rattle.qg_descent.proofs.OwnedBranch.{below-apart, mine-inner, mine-told}
 use Rattle.qg_descent.proofs.ToldOwned.{tellings-copied, tellings-kept}
 use Rattle.qg_descent.proofs.Turning.{told-more, told-none}
-use Rattle.qg_descent.proofs.Ways.{ways_each-same, one-here, one-other, ways-inner, ways-leaf, ways-none, ways-same, ways-top}
+use Rattle.qg_descent.proofs.Ways.{ways_each-same, one-other, ways-inner, ways-leaf, ways-none, ways-same, ways-top}
 
 -- a node is copied
 module _ (old : Ground) (Reached : ℕ → Type 0) (before after : ℕ → ℕ) (node : Node) (at now : ℕ) where

@@ -1,5 +1,5 @@
 -- What is told of a node that is made in a slot that was free.
-use Rattle.std.proofs.Common.{◌≡◌, ◌⊎◌, ℕ, ◌+◌, ◌-◌, ◌<◌, ◌≤◌, true, List, [], ◌∷◌, arith, refl, sym, ap, subst, ◌∙◌, inl, inr}
+use Rattle.std.proofs.Common.{◌≡◌, ◌⊎◌, ℕ, ◌+◌, ◌<◌, true, [], ◌∷◌, arith, ap, ◌∙◌, inl, inr}
 use Rattle.std.specs.Prelude.{IsTrue, Result, Ok, Err, IfOk}
 use Rattle.std.specs.List.{sum_by}
 use Rattle.std.proofs.lemmas.Bool.Decides.{eqb_tells}

@@ -1,7 +1,6 @@
 -- A child was joined with its neighbour, and the pointers of their node are set: what a book is told meanwhile.
 use Rattle.std.proofs.Common.{◌≡◌, ◌≢◌, ◌⊎◌, ℕ, suc, ◌+◌, ◌<◌, ◌≤◌, List, [], ◌∷◌, ◌++◌, take, drop, arith, refl, sym, ap, subst, ◌∙◌, inl, inr, Option, Some}
 use Rattle.std.specs.Prelude.{IsTrue, slice_get}
-use Rattle.std.specs.List.{sum_by}
 use Rattle.qg_device.specs.History.{Event}
 use Rattle.qg_num.specs.declared.key.Key.{Key}
 use Rattle.qg_node.specs.declared.item.Item.{Item}
@@ -19,13 +18,13 @@ use Rattle.qg_descent.specs.Tree.{Reaches, Root, super_of}
 use Rattle.qg_descent.specs.Branch.{IsBranch}
 use Rattle.qg_descent.specs.Editing.{CanMake, HasLed, IsFreshOn, IsUnsettled, ReachesParts, alone}
 use Rattle.qg_descent.specs.Uniting.{AreUnited, IsPaired}
-use Rattle.qg_descent.specs.Counting.{IsSettledTold, IsTold, TellsUnited, gains, tellings_owned, ways, ways_each, ways_instead, ways_parts}
+use Rattle.qg_descent.specs.Counting.{IsSettledTold, IsTold, TellsUnited, tellings_owned, ways, ways_each, ways_instead, ways_parts}
 use Rattle.qg_descent.proofs.Beside.{beside-differs, other-branch}
 use Rattle.qg_descent.proofs.LedTold.{led-ways}
 use Rattle.qg_descent.proofs.OwnedTold.{owned-told}
 use Rattle.qg_descent.proofs.Paired.{IsThinAt}
 use Rattle.qg_descent.proofs.PairedFrames.{pair-free_others, pair-freed}
-use Rattle.qg_descent.proofs.PairedHolds.{child-apart, owned-there}
+use Rattle.qg_descent.proofs.PairedHolds.{child-apart}
 use Rattle.qg_descent.proofs.RejoinedHolds.{aside-beside, aside-child, both, differ, hold, new-stays, rejoined-can, size}
 use Rattle.qg_descent.proofs.RejoinedSettled.{rejoined-pointers, rejoined-settled}
 use Rattle.qg_descent.proofs.Spliced.{drop-get, drop-there, take-get, take-there}

@@ -1,17 +1,16 @@
 -- What a book is told where the neighbour of a child is owned.
-use Rattle.std.proofs.Common.{◌≡◌, ◌≢◌, ℕ, ◌+◌, true, false, List, ◌++◌, refl, sym, ap, subst, ◌∙◌, inl, inr, Option, Some}
+use Rattle.std.proofs.Common.{◌≡◌, ◌≢◌, ℕ, false, List, ◌++◌, refl, sym, ap, ◌∙◌, inl, inr, Option, Some}
 use Rattle.std.proofs.lemmas.Bool.{false_from_ne_true}
 use Rattle.qg_device.specs.History.{Event}
 use Rattle.qg_num.specs.declared.key.Key.{Key}
 use Rattle.qg_node.specs.declared.item.Item.{Item}
-use Rattle.qg_node.specs.declared.node.Node.{Node}
 use Rattle.qg_verdict.specs.declared.tree.Tree.{Tree}
 use Rattle.qg_blocks.specs.Told.{told}
 use Rattle.qg_space.specs.Holding.{is_free_slot}
 use Rattle.qg_ground.specs.declared.ground.Ground.{Ground}
 use Rattle.qg_ground.specs.Tellings.{Telling}
 use Rattle.qg_descent.specs.declared.way.Neighbour.{Neighbour}
-use Rattle.qg_descent.specs.Tree.{Reaches, Root}
+use Rattle.qg_descent.specs.Tree.{Root}
 use Rattle.qg_descent.specs.Editing.{IsBeside, IsOwned, IsUnsettled, alone}
 use Rattle.qg_descent.specs.Uniting.{IsPaired}
 use Rattle.qg_descent.specs.Counting.{tellings_owned}

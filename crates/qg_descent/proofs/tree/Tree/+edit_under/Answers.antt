@@ -236,8 +236,8 @@ returns-clause-told g t c items fit before log follows =
       subst (λ (n : ℕ). IsPartTold c.args.land.now c.place_rest.new.land (g.D.Disk.history c.args.disk.now) n c.args.way.address instead
           (own_log ++ (second.0 ++ (third.0 ++ tellings_made instead.more)))) (sym up)
           (descended-told g.P.TreePart.tree c.args.self.now c.args.land.now c.own.new.land (g.D.Disk.history c.args.disk.now) (c.args.level - 1) c.args.way.expected c.args.way.address c.in_ok-now.now c.args.edit items
-    fit_up c.in_ok-now.ensures.owned c.requires.makes c.requires.editable.drafted c.own.ensures.rests.node_sizes c.peek.result.now c.peek-2.result.now c.peek.ensures c.peek-2.ensures c.place_for-place.result
-    c.place_for-place.ensures c.way_at-below.result c.way_at-below.ensures
+          fit_up c.in_ok-now.ensures.owned c.requires.makes c.requires.editable.drafted c.own.ensures.rests.node_sizes c.peek.result.now c.peek-2.result.now c.peek.ensures c.peek-2.ensures c.place_for-place.result
+          c.place_for-place.ensures c.way_at-below.result c.way_at-below.ensures
           c.edit_under.new.land c.in_ok-child.child edited_child c.in_ok-child.ensures.moves.above c.edit_under.ensures.rests.node_sizes c.requires.short
           c.settle.new.land c.place_rest.new.land (g.D.Disk.history c.own.new.disk) (g.D.Disk.history c.edit_under.new.disk) (g.D.Disk.history c.settle.new.disk) (g.D.Disk.history c.place_rest.new.disk)
           c.in_ok-rest.rest instead third.2.settled placed c.own.ensures.rests c.edit_under.ensures.rests c.settle.ensures.rests last second.0 third.0 second.2 third.2.told),
