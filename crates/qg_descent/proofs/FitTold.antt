@@ -16,12 +16,16 @@ use Rattle.qg_descent.proofs.BranchFrames.{reach-top}
 use Rattle.qg_descent.proofs.PartEdited.{fit-branch}
 
 -- the node that is owned is told there, and its slot is taken
-pub fit-told : (tree : Tree) (root : Root) (land mid : Ground) (history : Option (List Event)) (level : ℕ) (expected : Expected) (at now : ℕ) (edit : Edit) (items : List Item)
-    → IsPartFit tree root land history level expected at edit items → (owned : IsOwned tree root land mid history expected at now)
+pub fit-told : (tree : Tree) (root : Root) (land mid : Ground) (history : Option (List Event)) (level : ℕ)
+    (expected : Expected) (at now : ℕ) (edit : Edit) (items : List Item)
+    → IsPartFit tree root land history level expected at edit items
+    → (owned : IsOwned tree root land mid history expected at now)
     → (told land.blocks.draft history at ≡ Some owned.node) × (is_free_slot land.space at ≡ false)
 fit-told tree root land mid history level expected at now edit items fit owned =
     let branch = fit-branch tree root land history level expected at edit items fit in
-    let top = branch-level tree (super_of root land.blocks.draft) (told land.blocks.draft history) level at items branch at (reach-top (told land.blocks.draft history) level at) in (
+    let top = branch-level tree (super_of root land.blocks.draft) (told land.blocks.draft history) level at items branch
+    at (reach-top (told land.blocks.draft history) level at) in (
       top.1 ∙ ap Some (owned.alone top.0 top.1),
-      false_from_ne_true (is_free_slot land.space at) (λ free. fit.apart at free (reach-top (told land.blocks.draft history) level at)),
+      false_from_ne_true (is_free_slot land.space at)
+          (λ free. fit.apart at free (reach-top (told land.blocks.draft history) level at)),
     )

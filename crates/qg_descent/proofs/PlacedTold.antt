@@ -11,18 +11,21 @@ use Rattle.qg_descent.specs.Counting.{IsBare, IsTold, gains, one}
 use Rattle.qg_descent.proofs.Ways.{one-other}
 
 -- what follows from two facts on what is answered, if anything is
-pub ok-both : {X Y : Type 0} (result : Result X Y) (P Q R : X → Type 0) → ((x : X) → P x → Q x → R x) → IfOk result P → IfOk result Q → IfOk result R
+pub ok-both : {X Y : Type 0} (result : Result X Y) (P Q R : X → Type 0) → ((x : X) → P x → Q x → R x) → IfOk result P
+    → IfOk result Q → IfOk result R
 ok-both (Ok x) P Q R both p q = both x p q
 ok-both (Err y) P Q R both p q = tt
 
 module _ (old : Ground) (Reached : ℕ → Type 0) (before after : ℕ → ℕ) (more : ℕ) where
-  new_there : is_free_slot old.space more ≡ true → (q : ℕ) → 0 < sum_by (λ telling. gains telling q) (Made more ∷ []) → IsTrue (is_free_slot old.space q) ⊎ Reached q
+  new_there : is_free_slot old.space more ≡ true → (q : ℕ) → 0 < sum_by (λ telling. gains telling q) (Made more ∷ [])
+      → IsTrue (is_free_slot old.space q) ⊎ Reached q
   new_there free q some = elim (eqb_tells q more) [
     | inl (is, there) ↦ inl (ap (is_free_slot old.space) there ∙ free)
     | inr (is, other) ↦ absurd (let none = one-other more q other in omega (arith, none, some))
   ]
 
-  pub told-made : is_free_slot old.space more ≡ true → before more ≡ 0 → ((q : ℕ) → after q ≡ before q + one more q) → IsTold old Reached before after 0 0 1 (Made more ∷ [])
+  pub told-made : is_free_slot old.space more ≡ true → before more ≡ 0 → ((q : ℕ) → after q ≡ before q + one more q)
+      → IsTold old Reached before after 0 0 1 (Made more ∷ [])
   told-made free none turns = record {
     turns = (none, λ q. let e = turns q in omega (arith, e));
     new = new_there free;

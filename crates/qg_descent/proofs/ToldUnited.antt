@@ -21,15 +21,18 @@ cleared_address : (old node : Node) → node ≡ cleared old → (header_of node
 cleared_address old node is = ap (λ (n : Node). (header_of n).address) is
 
 -- the right one has nothing under it where all is in the left one
-pub left-cleared : (land mid : Ground) (left right generation : ℕ) (joined : Joined) → joined ≡ Whole → IsDrafted land generation → ArePair land left right
+pub left-cleared : (land mid : Ground) (left right generation : ℕ) (joined : Joined) → joined ≡ Whole
+    → IsDrafted land generation → ArePair land left right
     → (there : IsJoinedThere land mid left right joined) → ((header_of there.b).address ≡ right) × IsBare (Left there.b)
 left-cleared land mid left right generation joined is drafted pair there =
-    let same = subst (λ (j : Joined). IsJoinedAs land.space.sizes.nodesize pair.a pair.b there.a there.b j) is (there.is pair.a pair.b pair.left_here pair.right_here) in
+    let same = subst (λ (j : Joined). IsJoinedAs land.space.sizes.nodesize pair.a pair.b there.a there.b j) is
+    (there.is pair.a pair.b pair.left_here pair.right_here) in
     let kept = drafted.each right pair.b pair.right_here in
     (cleared_address pair.b there.b same.1 ∙ kept.kept.placed, cleared_bare pair.b there.b same.1)
 
 -- it is left
-pub told-left : (old : Ground) (Reached : ℕ → Type 0) (before after : ℕ → ℕ) (node : Node) (at : ℕ) → (header_of node).address ≡ at → IsBare (Left node) → 0 < before at
+pub told-left : (old : Ground) (Reached : ℕ → Type 0) (before after : ℕ → ℕ) (node : Node) (at : ℕ)
+    → (header_of node).address ≡ at → IsBare (Left node) → 0 < before at
     → ((q : ℕ) → after q + one at q ≡ before q) → IsTold old Reached before after 0 1 0 (Left node ∷ [])
 told-left old Reached before after node at named bare some turns = record {
   turns = (

@@ -1,4 +1,5 @@
--- What an edit of a tree tells the book of references, by how many ways lead to each address (this project's own). Addresses are in bytes.
+-- What an edit of a tree tells the book of references, by how many ways lead to each address (this project's own).
+-- Addresses are in bytes.
 use Rattle.std.specs.Prelude.{◌≡◌, ⊤, ◌⊎◌, ◌==◌, if◌then◌else◌, ℕ, zero, suc, ◌+◌, ◌-◌, ◌*◌, ◌<◌, ◌≤◌, List, [], ◌∷◌, take, drop, Option, Some, None, IsTrue}
 use Rattle.std.specs.List.{All, sum_by}
 use Rattle.qg_device.specs.History.{Event}
@@ -31,7 +32,8 @@ pointers_there (Some node) = own_pointers node
 -- how many ways lead to an address from the node of a level at another
 unfoldable pub ways : (ℕ → Option Node) → ℕ → ℕ → ℕ → ℕ
 ways nodes zero from q = one from q
-ways nodes (suc level) from q = one from q + sum_by (λ pointer. ways nodes level pointer.child q) (pointers_there (nodes from))
+ways nodes (suc level) from q =
+    one from q + sum_by (λ pointer. ways nodes level pointer.child q) (pointers_there (nodes from))
 
 -- how many lead there from the nodes of a level that pointers lead to
 abbrev pub ways_each : (ℕ → Option Node) → ℕ → List Pointer → ℕ → ℕ
@@ -49,7 +51,8 @@ ways_instead nodes level instead q = ways nodes level instead.now q + ways_more 
 -- how many lead there from what stands in the place of the child at an index, and from the other children
 abbrev pub ways_parts : (ℕ → Option Node) → ℕ → List Pointer → ℕ → Instead → ℕ → ℕ
 ways_parts nodes level pointers place child q =
-    ways_instead nodes level child q + (ways_each nodes level (take place pointers) q + ways_each nodes level (drop (place + 1) pointers) q)
+    ways_instead nodes level child q
+    + (ways_each nodes level (take place pointers) q + ways_each nodes level (drop (place + 1) pointers) q)
 
 -- ---- what a book is told
 
@@ -65,8 +68,8 @@ losses (Copied node copy) q = one (header_of node).address q
 losses (Made address) q = 0
 losses (Left node) q = one (header_of node).address q
 
--- it is told while so many ways lead to each address: what is copied or left is reached then, and a copy or what is made is not reached
--- before
+-- it is told while so many ways lead to each address: what is copied or left is reached then, and a copy or what is
+-- made is not reached before
 abbrev pub IsTimely : Telling → (ℕ → ℕ) → Type 0
 IsTimely (Copied node copy) count = (0 < count (header_of node).address) × (count copy ≡ 0)
 IsTimely (Made address) count = count address ≡ 0
@@ -75,7 +78,8 @@ IsTimely (Left node) count = 0 < count (header_of node).address
 -- tellings turn one count of ways into another, each in its time
 abbrev pub Turns : (ℕ → ℕ) → List Telling → (ℕ → ℕ) → Type 0
 Turns before [] after = (q : ℕ) → after q ≡ before q
-Turns before (telling ∷ tellings) after = IsTimely telling before × Turns (λ q. (before q + gains telling q) - losses telling q) tellings after
+Turns before (telling ∷ tellings) after =
+    IsTimely telling before × Turns (λ q. (before q + gains telling q) - losses telling q) tellings after
 
 -- a node that is left has nothing under it
 abbrev pub IsBare : Telling → Type 0
@@ -84,33 +88,34 @@ IsBare (Made address) = ⊤
 IsBare (Left node) = (own_items node ≡ []) × (own_pointers node ≡ [])
 
 -- 1 where a node was copied
-abbrev pub copies : Telling → ℕ
-copies (Copied node copy) = 1
-copies (Made address) = 0
-copies (Left node) = 0
+abbrev pub copied_in : Telling → ℕ
+copied_in (Copied node copy) = 1
+copied_in (Made address) = 0
+copied_in (Left node) = 0
 
 -- 1 where a node was left
-abbrev pub leaves : Telling → ℕ
-leaves (Copied node copy) = 0
-leaves (Made address) = 0
-leaves (Left node) = 1
+abbrev pub left_in : Telling → ℕ
+left_in (Copied node copy) = 0
+left_in (Made address) = 0
+left_in (Left node) = 1
 
 -- 1 where a node was made
-abbrev pub makes : Telling → ℕ
-makes (Copied node copy) = 0
-makes (Made address) = 1
-makes (Left node) = 0
+abbrev pub made_in : Telling → ℕ
+made_in (Copied node copy) = 0
+made_in (Made address) = 1
+made_in (Left node) = 0
 
--- What a book was told in the course of a change: it turns the ways that led to each address before into those that lead there then. A node
--- came only into a slot that was free, or that was reached. What was left has nothing under it. At most so many nodes were copied, left
--- and made
-pub record IsTold (old : Ground) (Reached : ℕ → Type 0) (before after : ℕ → ℕ) (copied left made : ℕ) (tellings : List Telling) : Type 0 where
+-- What a book was told in the course of a change: it turns the ways that led to each address before into those that
+-- lead there then. A node came only into a slot that was free, or that was reached. What was left has nothing under
+-- it. At most so many nodes were copied, left and made
+pub record IsTold (old : Ground) (Reached : ℕ → Type 0) (before after : ℕ → ℕ) (copied left made : ℕ)
+    (tellings : List Telling) : Type 0 where
   pub turns : Turns before tellings after
   pub new : (q : ℕ) → 0 < sum_by (λ telling. gains telling q) tellings → IsTrue (is_free_slot old.space q) ⊎ Reached q
   pub bare : All IsBare tellings
-  pub few_copied : sum_by copies tellings ≤ copied
-  pub few_left : sum_by leaves tellings ≤ left
-  pub few_made : sum_by makes tellings ≤ made
+  pub few_copied : sum_by copied_in tellings ≤ copied
+  pub few_left : sum_by left_in tellings ≤ left
+  pub few_made : sum_by made_in tellings ≤ made
 
 -- ---- what a book is told of one node
 
@@ -125,16 +130,21 @@ tellings_made (Some more) = Made more ∷ []
 
 -- the right one of two neighbours is left with nothing under it, where the left one has all
 abbrev pub TellsUnited : ℕ → Instead → List Telling → Type 0
-TellsUnited right instead tellings = (instead.more ≡ Some right) × (tellings ≡ [])
-    ⊎ (instead.more ≡ None) × ((node : Node) × (tellings ≡ Left node ∷ []) × ((header_of node).address ≡ right) × IsBare (Left node))
+TellsUnited right instead tellings =
+    ((instead.more ≡ Some right) × (tellings ≡ []))
+    ⊎ ((instead.more ≡ None)
+    × ((node : Node) × (tellings ≡ Left node ∷ []) × ((header_of node).address ≡ right) × IsBare (Left node)))
 
 -- ---- what a book is told in the course of an edit
 
--- the pointers of a node were set to what stands in the place of the child at an index, and this was told meanwhile: a neighbour may have
--- been copied, and left
-pub record IsSettledTold (tree : Tree) (root : Root) (old new : Ground) (history : Option (List Event)) (level at place : ℕ) (child : Instead) (pointers : List Pointer) (header : Header) (items : List Item) (rest : Option Node) (tellings : List Telling) : Type 0 where
+-- the pointers of a node were set to what stands in the place of the child at an index, and this was told meanwhile:
+-- a neighbour may have been copied, and left
+pub record IsSettledTold (tree : Tree) (root : Root) (old new : Ground) (history : Option (List Event))
+    (level at place : ℕ) (child : Instead) (pointers : List Pointer) (header : Header) (items : List Item)
+    (rest : Option Node) (tellings : List Telling) : Type 0 where
   pub settled : IsSettled tree root old new history level at place child pointers header items rest
-  pub told : IsTold old (ReachesParts (told old.blocks.draft history) level pointers place child) (ways_parts (told old.blocks.draft history) level pointers place child)
+  pub told : IsTold old (ReachesParts (told old.blocks.draft history) level pointers place child)
+      (ways_parts (told old.blocks.draft history) level pointers place child)
       (ways_each (told new.blocks.draft history) level settled.pointers_new) 1 1 0 tellings
 
 -- the part of a tree that the node of a level at an address is the top of was edited, and this was told meanwhile
