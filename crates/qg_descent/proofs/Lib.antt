@@ -40,6 +40,9 @@ pub mod InFront
 pub mod Around
 pub mod PlacedBehind
 pub mod FirstLeaf
+pub mod LeafLists
+pub mod LeavesLed
+pub mod LeavesSettled
 pub mod LeafEdited
 pub mod AroundEdited
 pub mod Inner

@@ -192,3 +192,8 @@ returns-clause-stands g c =
     ok-known _ c.lead_to.result
     (g.met.B.Book.lasts c.unite.new.book c.unite.new.land c.lead_to.new.land c.unite.new.disk c.unite.new.disk refl refl third.backed
     (rewritten-spares c.unite.new.land c.lead_to.new.land c.args.at c.args.self.now.next node here rewritten) c.in_ok-instead.ensures.stands)
+
+-- ---- the leaves
+
+pub returns-clause-leaves : goal.returns-clause-leaves
+returns-clause-leaves g c items un first empty = ?

@@ -105,3 +105,11 @@ returns-clause-stands g c =
 
 pub returns-clause-cause : goal.returns-clause-cause
 returns-clause-cause g c = record { later = omega arith; rose = λ is. absurd (c.lead_to.ensures.no_disk is) }
+
+-- ---- the leaves
+
+pub returns-then-is_too_thin-clause-leaves : goal.returns-then-is_too_thin-clause-leaves
+returns-then-is_too_thin-clause-leaves g c = ?
+
+pub returns-clause-leaves : goal.returns-clause-leaves
+returns-clause-leaves g c items un first single empty = ?
