@@ -1,8 +1,9 @@
 -- The first child of a node was edited, and the pointers of the node are set: the leaves under it.
 use Rattle.std.proofs.Common.{◌≡◌, ◌≢◌, ◌⊎◌, ℕ, zero, suc, ◌+◌, ◌≤◌, ◌<◌, List, [], ◌∷◌, ◌++◌, drop, append-nil, arith, refl, sym, ap, subst, ◌∙◌, inl, inr, Option, Some, None}
-use Rattle.std.specs.Prelude.{IsTrue, slice_get}
+use Rattle.std.specs.Prelude.{IfOk, IsTrue, OnOk, Result, Ok, Err}
 use Rattle.qg_device.specs.History.{Event}
 use Rattle.qg_num.specs.declared.key.Key.{Key}
+use Rattle.qg_num.specs.declared.fault.BlockFault.{BlockFault}
 use Rattle.qg_node.specs.declared.item.Item.{Item}
 use Rattle.qg_node.specs.declared.pointer.Pointer.{Pointer}
 use Rattle.qg_node.specs.declared.node.Header.{Header}
@@ -36,6 +37,13 @@ use Rattle.qg_descent.proofs.PairedHolds.{child-apart, free-there, owned-there}
 use Rattle.qg_descent.proofs.RejoinedHolds.{both, differ, hold, new-stays, rejoined-can, size}
 use Rattle.qg_descent.proofs.Spliced.{drop-get, drop-there}
 use Rattle.qg_descent.proofs.UnitedHolds.{united-leaves}
+
+-- ---- what is known of the value of a call
+
+pub ok-both : {A : Type 0} (result : Result A BlockFault) (P Q : A → Type 0) (Z : Type 0) → ((x : A) → P x → Q x → Z)
+    → IfOk result P → IfOk result Q → OnOk result Z
+ok-both (Ok x) P Q Z known first second = known x first second
+ok-both (Err fault) P Q Z known first second = tt
 
 -- ---- a leaf without items
 
