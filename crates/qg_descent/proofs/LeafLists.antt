@@ -162,6 +162,12 @@ unfolding leaves
 joined-behind nodes zero at others some two = behind-one (items_of (nodes at)) others some
 joined-behind nodes (suc level) at others some two = behind-append (leaves nodes (suc level) at) others (two (omega arith))
 
+-- a leaf alone leaves an empty one
+pub behind-leaf : (nodes : ℕ → Option Node) (level at : ℕ) → level ≡ 0 → leaves_behind (leaves nodes level at) ≡ [] ∷ []
+unfolding leaves
+behind-leaf nodes zero at low = refl
+behind-leaf nodes (suc level) at low = absurd (omega (arith, low))
+
 -- ---- those of what stands in a second place
 
 -- none where nothing does

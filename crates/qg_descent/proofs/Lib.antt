@@ -48,6 +48,7 @@ pub mod AroundEdited
 pub mod Inner
 pub mod PartEdited
 pub mod PartBelow
+pub mod LeavesBelow
 pub mod Descended
 pub mod Handed
 pub mod Fitting
