@@ -6,8 +6,9 @@ ghost use Rattle.qg_node.specs.declared.item.Item.{Item as ItemValue};
 ghost use Rattle.qg_blocks.specs.Told.{BreaksNone, told};
 ghost use Rattle.qg_space.specs.Holding.{free_slots};
 ghost use Rattle.qg_ground.specs.Land.{Rests};
+ghost use Rattle.qg_edit.specs.declared.edit.Change.TheVariants as edit_change;
 ghost use Rattle.qg_edit.specs.Edits.{CanEdit, IsShort, growth_of, has_key, with_item, without_key};
-ghost use Rattle.qg_descent.specs.First.{first_leaf};
+ghost use Rattle.qg_descent.specs.First.{first_leaf, least, leaves, leaves_behind};
 ghost use Rattle.qg_descent.specs.Editing.{CanMake, IsEditable};
 ghost use Rattle.qg_descent.specs.Rooting.{IsEdited, IsReplaced, IsRooted, StaysTree};
 
@@ -142,7 +143,8 @@ impl Tree {
         self.edit::<P, D, L, B>(alloc, land, disk, book, edit, reads)
     }
 
-    /// Takes out exactly the items of the tree's first leaf; of a tree that is one leaf, all. The tree gets no higher. Else as [`Tree::insert`].
+    /// Takes out exactly the items of the tree's first leaf; of a tree that is one leaf, all. Each other leaf keeps its items. The tree gets no
+    /// higher. Else as [`Tree::insert`].
     pub fn drop_first_leaf<P: TreePart, D: Disk, L: Ledger, B: Book<D, L>>(
         &mut self,
         alloc: Global,
@@ -158,6 +160,9 @@ impl Tree {
         ensures dropped { (items : List ItemValue) → IsRooted P.tree self.old land.old (D.history disk.old) items
             → OnOk result (IsReplaced P.tree self.old self.new land.old land.new (D.history disk.old)
             (drop (length (first_leaf (told land.old.blocks.draft (D.history disk.old)) self.old.height self.old.address)) items)) }
+        ensures leaves { (items : List ItemValue) → IsRooted P.tree self.old land.old (D.history disk.old) items
+            → OnOk result (leaves (told land.new.blocks.draft (D.history disk.old)) self.new.height self.new.address
+            ≡ leaves_behind (leaves (told land.old.blocks.draft (D.history disk.old)) self.old.height self.old.address)) }
         ensures sound { (events : List Event) → D.history disk.old ≡ Some events → (items : List ItemValue)
             → IsRooted P.tree self.old land.old (D.history disk.old) items → BreaksNone result }
         ensures stays { StaysTree 0 self.old self.new }
@@ -194,6 +199,10 @@ impl Tree {
         requires short { IsShort edit.change }
         ensures edited { (items : List ItemValue) → IsRooted P.tree self.old land.old (D.history disk.old) items → CanEdit edit items
             → OnOk result (IsEdited P.tree self.old self.new land.old land.new (D.history disk.old) edit items) }
+        ensures leaves { (items : List ItemValue) → IsRooted P.tree self.old land.old (D.history disk.old) items → CanEdit edit items
+            → edit.key ≡ least → edit.change ≡ edit_change.Clear
+            → OnOk result (leaves (told land.new.blocks.draft (D.history disk.old)) self.new.height self.new.address
+            ≡ leaves_behind (leaves (told land.old.blocks.draft (D.history disk.old)) self.old.height self.old.address)) }
         ensures sound { (events : List Event) → D.history disk.old ≡ Some events → (items : List ItemValue)
             → IsRooted P.tree self.old land.old (D.history disk.old) items → CanEdit edit items → BreaksNone result }
         ensures stays { StaysTree (growth_of edit.change) self.old self.new }
