@@ -20,14 +20,15 @@ use Rattle.qg_edit.specs.Edits.{IsShort}
 use Rattle.qg_descent.specs.declared.instead.Instead.{Instead}
 use Rattle.qg_descent.specs.declared.way.Way.{Way}
 use Rattle.qg_descent.specs.Tree.{Root, super_of}
-use Rattle.qg_descent.specs.First.{first_leaf, least}
+use Rattle.qg_descent.specs.First.{first_leaf, least, leaves, leaves_behind}
 use Rattle.qg_descent.specs.Branch.{IsMember}
-use Rattle.qg_descent.specs.Editing.{CanMake, IsLeafEdited, IsOwned, IsPartEdited, IsPartFit, IsPlacedBehind, IsSettled, IsUnsettled, IsWayAt, KeepsAbove, ReachesParts}
+use Rattle.qg_descent.specs.Editing.{CanMake, IsLeafEdited, IsOwned, IsPartEdited, IsPartFit, IsPlacedBehind, IsSettled, IsUnsettled, IsWayAt, KeepsAbove, KeepsLeaves, ReachesParts}
 use Rattle.qg_descent.specs.Counting.{IsPartTold, IsTold, tellings_made, tellings_owned, ways_each, ways_parts}
 use Rattle.qg_descent.proofs.Around.{IsAround}
 use Rattle.qg_descent.proofs.AroundEdited.{edited-leaf, edited-whole, unsettled}
-use Rattle.qg_descent.proofs.PartBelow.{IsParted, around, first-below, fit-inner, owned-here, part, part-below}
+use Rattle.qg_descent.proofs.PartBelow.{IsParted, around, first-below, first-place, fit-inner, owned-here, part, part-below}
 use Rattle.qg_descent.proofs.PartEdited.{fit-branch, part-edited-unsettled, part-told-unsettled}
+use Rattle.qg_descent.proofs.LeavesBelow.{below-leaves}
 
 module _ (tree : Tree) (root : Root) (land mid : Ground) (history : Option (List Event)) (level : ℕ) (expected : Expected) (at now : ℕ) (edit : Edit) (items : List Item)
     (fit : IsPartFit tree root land history (suc level) expected at edit items) (owned : IsOwned tree root land mid history expected at now) (makes : CanMake tree root) (drafted : IsDrafted land root.next)
@@ -70,6 +71,10 @@ module _ (tree : Tree) (root : Root) (land mid : Ground) (history : Option (List
   below_first : edit.key ≡ least → first_leaf (told mid.blocks.draft history) level below.address ≡ first_leaf (told land.blocks.draft history) (suc level) at
   below_first = first-below tree root land mid history level expected at now edit items fit owned makes drafted sizes header descended-pointers here place below leads descended-way
 
+  -- the least key leads to the first child
+  pub descended-first : edit.key ≡ least → place ≡ 0
+  descended-first = first-place tree root land mid history level expected at now edit items fit owned makes drafted sizes header descended-pointers here place below leads descended-way
+
   about : IsAround tree root mid history level now expected.to place edit.key descended-pointers whole.front descended-mine whole.back items
   unfolding descended-mine whole
   about = around tree root land mid history level expected at now edit items fit owned makes drafted sizes header descended-pointers here place below leads descended-way
@@ -98,6 +103,14 @@ module _ (tree : Tree) (root : Root) (land mid : Ground) (history : Option (List
     descended-unsettled =
         unsettled tree root mid low history level now expected.to place edit descended-pointers whole.front descended-mine whole.back items about below.address child edited_child
         descended-way.pointer descended-way.there (sym descended-way.child) above sizes_low short
+
+    -- the first leaf of the child was cleared, and the pointers are set: the leaves under the node
+    pub descended-leaves : (set : Ground) → edit.key ≡ least → KeepsLeaves low set history level now child.now descended-unsettled.pointers
+        → leaves (told low.blocks.draft history) level child.now ≡ leaves_behind (leaves (told mid.blocks.draft history) level below.address)
+        → leaves (told set.blocks.draft history) (suc level) now ≡ leaves_behind (leaves (told land.blocks.draft history) (suc level) at)
+    descended-leaves set is kept cleared =
+        below-leaves tree root land mid history level expected at now edit items fit owned makes drafted header descended-pointers here place descended-way.pointer below.address
+        whole.front descended-mine whole.back descended-way.there descended-way.child (descended-first is) about low set child edited_child above descended-items descended-unsettled kept cleared
 
     module _ (set end : Ground) (own_later child_later set_later end_later : Option (List Event)) (rest : Option Node) (instead : Instead)
         (settled : IsSettled tree root low set history level now place child descended-unsettled.pointers descended-unsettled.header descended-items rest) (placed : IsPlacedBehind set end now rest instead)

@@ -1,5 +1,5 @@
 -- What is told of a disk before a call holds behind it, where its history is the same.
-use Rattle.std.proofs.Common.{◌≡◌, ℕ, List, sym, subst, ◌∙◌, Option, Some}
+use Rattle.std.proofs.Common.{◌≡◌, ℕ, List, sym, subst, ◌∙◌, Option, Some, None}
 use Rattle.std.specs.Prelude.{Result}
 use Rattle.qg_device.specs.History.{Event}
 use Rattle.qg_num.specs.declared.key.Key.{Key}
@@ -7,15 +7,17 @@ use Rattle.qg_num.specs.declared.fault.BlockFault.{BlockFault}
 use Rattle.qg_node.specs.declared.item.Item.{Item}
 use Rattle.qg_node.specs.declared.node.Node.{Node}
 use Rattle.qg_verdict.specs.declared.tree.Tree.{Tree}
-use Rattle.qg_blocks.specs.Told.{BreaksNone}
+use Rattle.qg_blocks.specs.Told.{BreaksNone, told}
 use Rattle.qg_ground.specs.declared.ground.Ground.{Ground}
 use Rattle.qg_ground.specs.Tellings.{Telling}
+use Rattle.qg_edit.specs.declared.edit.Change.TheVariants.{Clear}
 use Rattle.qg_edit.specs.declared.edit.Edit.{Edit}
 use Rattle.qg_descent.specs.declared.instead.Instead.{Instead}
 use Rattle.qg_descent.specs.declared.way.Way.{Way}
 use Rattle.qg_descent.specs.Tree.{Root}
-use Rattle.qg_descent.specs.Editing.{IsPartEdited, IsPartFit, IsSettled, IsUnsettled}
+use Rattle.qg_descent.specs.Editing.{IsEmptyIfLeaf, IsPartEdited, IsPartFit, IsSettled, IsUnsettled, KeepsLeaves}
 use Rattle.qg_descent.specs.Counting.{IsPartTold, IsSettledTold}
+use Rattle.qg_descent.specs.First.{least, leaves, leaves_behind}
 
 pub child-edited : (tree : Tree) (root : Root) (mid low : Ground) (level : ℕ) (below : Way) (edit : Edit) (mine : List Item) (history later : Option (List Event)) → later ≡ history → (child : Instead)
     → IsPartFit tree root mid history level below.expected below.address edit mine
@@ -58,3 +60,24 @@ module _ (tree : Tree) (root : Root) (low : Ground) where
   settle-told set level now to place child history later same rest Follows told =
       subst (λ (h : Option (List Event)). (items : List Item) (un : IsUnsettled tree root low h level now to place child items)
       → (tellings : List Telling) × Follows tellings × IsSettledTold tree root low set h level now place child un.pointers un.header items rest tellings) same told
+
+-- ---- the same of leaves
+
+pub child-leaves : (tree : Tree) (root : Root) (mid low : Ground) (level : ℕ) (below : Way) (edit : Edit) (mine : List Item) (history later : Option (List Event)) → later ≡ history → (child : Instead)
+    → IsPartFit tree root mid history level below.expected below.address edit mine
+    → ((items : List Item) → IsPartFit tree root mid later level below.expected below.address edit items → edit.key ≡ least → edit.change ≡ Clear
+    → leaves (told low.blocks.draft later) level child.now ≡ leaves_behind (leaves (told mid.blocks.draft later) level below.address))
+    → edit.key ≡ least → edit.change ≡ Clear → leaves (told low.blocks.draft history) level child.now ≡ leaves_behind (leaves (told mid.blocks.draft history) level below.address)
+child-leaves tree root mid low level below edit mine history later same child fit cleared first clear =
+    subst (λ (h : Option (List Event)). leaves (told low.blocks.draft h) level child.now ≡ leaves_behind (leaves (told mid.blocks.draft h) level below.address)) same
+    (cleared mine (subst (λ (h : Option (List Event)). IsPartFit tree root mid h level below.expected below.address edit mine) (sym same) fit) first clear)
+
+-- and of those of a node whose first child was edited, where no other stands beside the child
+pub settle-leaves : (tree : Tree) (root : Root) (low set : Ground) (level now : ℕ) (to : Option Key) (place : ℕ) (child : Instead) (history later : Option (List Event)) → later ≡ history
+    → ((items : List Item) (un : IsUnsettled tree root low later level now to place child items) → place ≡ 0 → child.more ≡ None → IsEmptyIfLeaf low later level child.now
+    → KeepsLeaves low set later level now child.now un.pointers)
+    → (items : List Item) (un : IsUnsettled tree root low history level now to place child items) → place ≡ 0 → child.more ≡ None → IsEmptyIfLeaf low history level child.now
+    → KeepsLeaves low set history level now child.now un.pointers
+settle-leaves tree root low set level now to place child history later same kept =
+    subst (λ (h : Option (List Event)). (items : List Item) (un : IsUnsettled tree root low h level now to place child items) → place ≡ 0 → child.more ≡ None
+    → IsEmptyIfLeaf low h level child.now → KeepsLeaves low set h level now child.now un.pointers) same kept

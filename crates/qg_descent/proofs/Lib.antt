@@ -40,11 +40,15 @@ pub mod InFront
 pub mod Around
 pub mod PlacedBehind
 pub mod FirstLeaf
+pub mod LeafLists
+pub mod LeavesLed
+pub mod LeavesSettled
 pub mod LeafEdited
 pub mod AroundEdited
 pub mod Inner
 pub mod PartEdited
 pub mod PartBelow
+pub mod LeavesBelow
 pub mod Descended
 pub mod Handed
 pub mod Fitting

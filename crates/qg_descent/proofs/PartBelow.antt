@@ -461,11 +461,16 @@ module _ (tree : Tree) (root : Root) (land mid : Ground) (history : Option (List
       can = can-between edit items part.front part.mine part.back part.items_are front_less back_greater fit.can;
     }
 
+    -- the least key leads to the first child
+    pub first-place : edit.key ≡ least → place ≡ 0
+    first-place is =
+        let keys = branches-keys tree (super_of root land.blocks.draft) (told land.blocks.draft history) level pointers items each ascending in
+        leads-first (keys_to pointers) place (subst (λ (k : Key). LeadsTo (keys_to pointers) k place) is leads) keys
+
     -- the first leaf is the child's first one, where the least key leads there
     pub first-below : edit.key ≡ least → first_leaf (told mid.blocks.draft history) level below.address ≡ first_leaf (told land.blocks.draft history) (suc level) at
     first-below is =
-        let keys = branches-keys tree (super_of root land.blocks.draft) (told land.blocks.draft history) level pointers items each ascending in
-        let first : place ≡ 0 = leads-first (keys_to pointers) place (subst (λ (k : Key). LeadsTo (keys_to pointers) k place) is leads) keys in
+        let first = first-place is in
         ap (λ (a : ℕ). first_leaf (told mid.blocks.draft history) level a) way.child
         ∙ first-same (told land.blocks.draft history) (told mid.blocks.draft history) level way.pointer.child (below_stays place way.pointer way.there)
         ∙ sym (first-inner (told land.blocks.draft history) level at header pointers way.pointer here (subst (λ (n : ℕ). slice_get pointers n ≡ Some way.pointer) first way.there))

@@ -1,5 +1,5 @@
 -- A root that is one node, or the child of a node with one pointer.
-use Rattle.std.proofs.Common.{◌≡◌, ◌≢◌, ◌⊎◌, ℕ, zero, suc, ◌+◌, ◌-◌, ◌*◌, ◌≤◌, ◌<◌, true, List, [], ◌∷◌, length, arith, refl, sym, ap, subst, ◌∙◌, inl, inr, Option, Some, None}
+use Rattle.std.proofs.Common.{◌≡◌, ◌≢◌, ◌⊎◌, ℕ, zero, suc, ◌+◌, ◌-◌, ◌*◌, ◌≤◌, ◌<◌, true, List, [], ◌∷◌, length, append-nil, arith, refl, sym, ap, subst, ◌∙◌, inl, inr, Option, Some, None}
 use Rattle.std.specs.Prelude.{IsTrue, slice_get}
 use Rattle.std.proofs.lemmas.Bool.{le-leb}
 use Rattle.std.proofs.lemmas.List.Elements.{All-from_recursion}
@@ -26,12 +26,14 @@ use Rattle.qg_edit.specs.Outcome.{cleared}
 use Rattle.qg_edit.proofs.Leaves.{IsNodeFor-cleared}
 use Rattle.qg_descent.specs.Tree.{IsTree, Reaches, Root, super_of}
 use Rattle.qg_descent.specs.Branch.{AreBranches, IsBranch}
+use Rattle.qg_descent.specs.First.{leaves}
 use Rattle.qg_descent.specs.Editing.{HoldInstead, IsRewritten, ReachesInstead, alone}
 use Rattle.qg_descent.specs.Counting.{IsBare, IsRootTold, one, ways, ways_instead}
 use Rattle.qg_descent.specs.Rooting.{HasRoot, StandsForRoot, lone_child, lone_of}
 use Rattle.qg_descent.proofs.BranchFrames.{reach-same, reach-top}
 use Rattle.qg_descent.proofs.Frames.{IsTree-same}
 use Rattle.qg_descent.proofs.Leading.{not-above}
+use Rattle.qg_descent.proofs.LeafLists.{leaves-inner, leaves-same}
 use Rattle.qg_descent.proofs.RootEdited.{root-alone, root-below}
 use Rattle.qg_descent.proofs.Served.{node-drafted, size-blocks}
 use Rattle.qg_descent.proofs.Turning.{told-more, told-none}
@@ -198,6 +200,18 @@ module _ (tree : Tree) (root : Root) (land : Ground) (history : Option (List Eve
         let low_is : low ≡ root.height - 1 = omega (arith, height) in
         subst (λ (c : ℕ). IsRootTold root (record root { address = c; height = root.height - 1 }) land new history (alone now) (Left (cleared node) ∷ [])) is_child
         (subst (λ (h : ℕ). IsRootTold root (record root { address = pointer.child; height = h }) land new history (alone now) (Left (cleared node) ∷ [])) low_is sunk_count)
+
+    -- with the leaves that were under both
+    pub sunk-leaves : leaves (told new.blocks.draft history) (root.height - 1) child ≡ leaves (told land.blocks.draft history) root.height now
+    sunk-leaves =
+        let low_is : root.height - 1 ≡ low = omega (arith, height) in
+        let before = λ (q : ℕ). leaves (told land.blocks.draft history) low q in
+        ap (λ (h : ℕ). leaves (told new.blocks.draft history) h child) low_is
+        ∙ ap (λ (c : ℕ). leaves (told new.blocks.draft history) low c) (sym is_child)
+        ∙ leaves-same (told land.blocks.draft history) (told new.blocks.draft history) low pointer.child (λ q reaches. others_told q (far q reaches))
+        ∙ sym (append-nil (before pointer.child))
+        ∙ sym (leaves-inner (told land.blocks.draft history) low now header (pointer ∷ []) lone_there)
+        ∙ ap (λ (h : ℕ). leaves (told land.blocks.draft history) h now) (sym height)
 
 -- an empty leaf in the place of a fresh node
 pub cleared-rewritten : (land : Ground) (at : ℕ) (node : Node) → IsNodeSize land.space.sizes.nodesize → IsRewritten land (edited land at (cleared node)) at node

@@ -29,12 +29,14 @@ use Rattle.qg_edit.proofs.Cuts.{alike-levels}
 use Rattle.qg_descent.specs.declared.instead.Instead.{Instead}
 use Rattle.qg_descent.specs.Tree.{Reaches}
 use Rattle.qg_descent.specs.Branch.{AreBranches, IsBranch, IsMember, IsPointed}
+use Rattle.qg_descent.specs.First.{leaves, leaves_joined, leaves_under}
 use Rattle.qg_descent.specs.Editing.{ArePair, FillsThere, HoldInstead, IsFreshOn, IsJoinedThere, ReachesInstead, StandsInstead, alone}
 use Rattle.qg_descent.specs.Uniting.{AreUnited, EndsAs}
 use Rattle.qg_descent.specs.Counting.{IsTold, TellsUnited, one, ways, ways_each, ways_instead}
 use Rattle.qg_descent.proofs.Branches.{each-append, each-get, each-join}
 use Rattle.qg_descent.proofs.BranchFrames.{branches-same, reach-same, reach-top}
 use Rattle.qg_descent.proofs.Leading.{not-above}
+use Rattle.qg_descent.proofs.LeafLists.{leaves-alone, leaves-inner, leaves-same, leaves_more, under-append, under-same}
 use Rattle.qg_descent.proofs.Spliced.{append-get}
 use Rattle.qg_descent.proofs.ToldUnited.{told-left}
 use Rattle.qg_descent.proofs.Turning.{told-more, told-none}
@@ -367,6 +369,42 @@ module _ (old new : Ground) (left right : ℕ) (instead : Instead) (differ : lef
           let same = ap (λ (ps : List Pointer). ways_each (told new.blocks.draft history) level ps q) parts.4 in
           omega (arith, all, a, b, sum, same)
 
+      -- the leaves under both
+      whole_leaves : leaves_under (λ q. leaves (told new.blocks.draft history) level q) (are.first ++ are.second)
+          ≡ leaves (told old.blocks.draft history) (suc level) left ++ leaves (told old.blocks.draft history) (suc level) right
+      whole_leaves =
+          let before = λ (q : ℕ). leaves (told old.blocks.draft history) level q in
+          under-same before (λ q. leaves (told new.blocks.draft history) level q) (are.first ++ are.second)
+          (λ place pointer there. leaves-same (told old.blocks.draft history) (told new.blocks.draft history) level pointer.child (below_same place pointer there))
+          ∙ under-append before are.first are.second
+          ∙ ap (λ (ls : List (List Item)). ls ++ leaves_under before are.second)
+          (sym (leaves-inner (told old.blocks.draft history) level left are.header are.first (told-fresh_at old.blocks.draft history left (Inner are.header are.first) left_fresh)))
+          ∙ ap (λ (ls : List (List Item)). leaves (told old.blocks.draft history) (suc level) left ++ ls)
+          (sym (leaves-inner (told old.blocks.draft history) level right are.other are.second (told-fresh_at old.blocks.draft history right (Inner are.other are.second) right_fresh)))
+
+      inner_one_leaves : IsInOne old is.mid new left right instead pair.a pair.b → leaves (told new.blocks.draft history) (suc level) left
+          ≡ leaves (told old.blocks.draft history) (suc level) left ++ leaves (told old.blocks.draft history) (suc level) right
+      inner_one_leaves one =
+          leaves-inner (told new.blocks.draft history) level left are.header (are.first ++ are.second)
+          (told-fresh_at new.blocks.draft history left (Inner are.header (are.first ++ are.second)) (inner_fresh one))
+          ∙ whole_leaves
+
+      inner_two_leaves : AreInTwo old is.mid new left right instead pair.a pair.b
+          → leaves (told new.blocks.draft history) (suc level) left ++ leaves (told new.blocks.draft history) (suc level) right
+          ≡ leaves (told old.blocks.draft history) (suc level) left ++ leaves (told old.blocks.draft history) (suc level) right
+      inner_two_leaves two =
+          let parts = inner_parts two in
+          let after = λ (q : ℕ). leaves (told new.blocks.draft history) level q in
+          ap (λ (ls : List (List Item)). ls ++ leaves (told new.blocks.draft history) (suc level) right)
+          (leaves-inner (told new.blocks.draft history) level left are.header parts.0
+          (told-fresh_at new.blocks.draft history left (Inner are.header parts.0) (two.here ∙ ap (λ (n : Node). Some n) parts.2)))
+          ∙ ap (λ (ls : List (List Item)). leaves_under after parts.0 ++ ls)
+          (leaves-inner (told new.blocks.draft history) level right are.other parts.1
+          (told-fresh_at new.blocks.draft history right (Inner are.other parts.1) (two.there ∙ ap (λ (n : Node). Some n) parts.3)))
+          ∙ sym (under-append after parts.0 parts.1)
+          ∙ ap (λ (ps : List Pointer). leaves_under after ps) (sym parts.4)
+          ∙ whole_leaves
+
     -- ---- both are leaves
 
     module _ (lefts rights : List Item) (are : AreLeaves tree super pair.a pair.b lefts rights) where
@@ -390,6 +428,23 @@ module _ (old new : Ground) (left right : ℕ) (instead : Instead) (differ : lef
             (are.header, told-fresh_at new.blocks.draft history left (Leaf are.header parts.0) (two.here ∙ ap (λ (n : Node). Some n) parts.2), are.member),
             (are.other, told-fresh_at new.blocks.draft history right (Leaf are.other parts.1) (two.there ∙ ap (λ (n : Node). Some n) parts.3), are.member_other),
           )
+
+      leaf_one_leaves : lefts ≡ [] → IsInOne old is.mid new left right instead pair.a pair.b
+          → leaves (told new.blocks.draft history) zero left ≡ leaves (told old.blocks.draft history) zero right
+      leaf_one_leaves empty one =
+          leaves-alone (told new.blocks.draft history) left are.header (lefts ++ rights)
+          (told-fresh_at new.blocks.draft history left (Leaf are.header (lefts ++ rights)) (one.here ∙ ap (λ (n : Node). Some n) leaf_whole))
+          ∙ ap (λ (xs : List Item). (xs ++ rights) ∷ []) empty
+          ∙ sym (leaves-alone (told old.blocks.draft history) right are.other rights
+          (told-fresh_at old.blocks.draft history right (Leaf are.other rights) (pair.right_here ∙ ap (λ (n : Node). Some n) are.right_is)))
+
+      -- an empty one fits in the other
+      empty_fits : lefts ≡ [] → AreInTwo old is.mid new left right instead pair.a pair.b → ⊥
+      empty_fits empty two =
+          let none : used_bytes pair.a ≡ 0 = ap used_bytes are.left_is ∙ ap (λ (xs : List Item). used_bytes (Leaf are.header xs)) empty in
+          let heavy = two.parted.heavy in
+          let fits = pair.right_sound.fits in
+          omega (arith, none, heavy, fits)
 
     -- ---- on any level
 
@@ -438,6 +493,19 @@ module _ (old new : Ground) (left right : ℕ) (instead : Instead) (differ : lef
         let d = ways-leaf (told old.blocks.draft history) right q in
         omega (arith, a, b, c, d)
     two_ways (suc level) lefts rights holds holds_other two q = inner_two_ways level lefts rights (inners_of level lefts rights holds holds_other) two q
+
+    one_leaves : (level : ℕ) (lefts rights : List Item) → IsBranch tree super (told old.blocks.draft history) level left lefts → IsBranch tree super (told old.blocks.draft history) level right rights
+        → (level ≡ 0 → lefts ≡ []) → IsInOne old is.mid new left right instead pair.a pair.b
+        → leaves (told new.blocks.draft history) level left ≡ leaves_joined level (leaves (told old.blocks.draft history) level left) (leaves (told old.blocks.draft history) level right)
+    one_leaves zero lefts rights holds holds_other empty one = leaf_one_leaves lefts rights (leaves_of lefts rights holds holds_other) (empty refl) one
+    one_leaves (suc level) lefts rights holds holds_other empty one = inner_one_leaves level lefts rights (inners_of level lefts rights holds holds_other) one
+
+    two_leaves : (level : ℕ) (lefts rights : List Item) → IsBranch tree super (told old.blocks.draft history) level left lefts → IsBranch tree super (told old.blocks.draft history) level right rights
+        → (level ≡ 0 → lefts ≡ []) → AreInTwo old is.mid new left right instead pair.a pair.b
+        → leaves (told new.blocks.draft history) level left ++ leaves (told new.blocks.draft history) level right
+        ≡ leaves_joined level (leaves (told old.blocks.draft history) level left) (leaves (told old.blocks.draft history) level right)
+    two_leaves zero lefts rights holds holds_other empty two = absurd (empty_fits lefts rights (leaves_of lefts rights holds holds_other) (empty refl) two)
+    two_leaves (suc level) lefts rights holds holds_other empty two = inner_two_leaves level lefts rights (inners_of level lefts rights holds holds_other) two
 
     module _ (level : ℕ) (lefts rights : List Item) (left_holds : IsBranch tree super (told old.blocks.draft history) level left lefts)
         (right_holds : IsBranch tree super (told old.blocks.draft history) level right rights) (size : super.nodesize ≡ old.space.sizes.nodesize) where
@@ -570,3 +638,17 @@ module _ (old new : Ground) (left right : ℕ) (instead : Instead) (differ : lef
         | inl one_node ↦ subst (λ (i : Instead). Tells i tellings) (sym one_node.instead_is) (one_tells one_node tellings tells)
         | inr two ↦ subst (λ (i : Instead). Tells i tellings) (sym two.instead_is) (two_tell two tellings tells)
       ]
+
+      -- ---- its leaves
+
+      -- an empty leaf on the left is gone, and all others keep their items
+      pub united-leaves : (level ≡ 0 → lefts ≡ [])
+          → leaves (told new.blocks.draft history) level instead.now ++ leaves_more (λ q. leaves (told new.blocks.draft history) level q) instead.more
+          ≡ leaves_joined level (leaves (told old.blocks.draft history) level left) (leaves (told old.blocks.draft history) level right)
+      united-leaves empty =
+          let after = λ (q : ℕ). leaves (told new.blocks.draft history) level q in
+          let all = λ (i : Instead). after i.now ++ leaves_more after i.more in
+          elim united_ends [
+            | inl one ↦ ap all one.instead_is ∙ append-nil (after left) ∙ one_leaves level lefts rights left_holds right_holds empty one
+            | inr two ↦ ap all two.instead_is ∙ two_leaves level lefts rights left_holds right_holds empty two
+          ]

@@ -39,7 +39,7 @@ use Rattle.qg_descent.specs.Tree.{Reaches, Root, found_in, super_of}
 use Rattle.qg_descent.specs.declared.way.Way.{Way}
 use Rattle.qg_descent.specs.declared.way.Neighbour.{Neighbour}
 use Rattle.qg_descent.specs.Branch.{AreBranches, IsBranch, IsMember}
-use Rattle.qg_descent.specs.First.{first_leaf, least}
+use Rattle.qg_descent.specs.First.{first_leaf, least, leaves, leaves_joined, leaves_under}
 
 -- ---- what an edit asks, over any disk
 
@@ -331,3 +331,14 @@ pub record HasLed (tree : Tree) (super : Super) (old new : Ground) (history : Op
   pub cut : IsCutThere old.space.sizes.nodesize new at (Inner header pointers) (Inner header (take from pointers ++ (now ∷ more) ++ drop to pointers)) rest
   pub others : (q : ℕ) → q ≢ at → told new.blocks.draft history q ≡ told old.blocks.draft history q
   pub space : new.space ≡ old.space
+
+-- ---- the leaves of a node whose first child was edited
+
+-- a child of a level is an empty leaf, if it is a leaf
+abbrev pub IsEmptyIfLeaf : Ground → Option (List Event) → ℕ → ℕ → Type 0
+IsEmptyIfLeaf land history level child = level ≡ 0 → leaves (told land.blocks.draft history) level child ≡ [] ∷ []
+
+-- The pointers of a node were set, whose first child was edited: each leaf below keeps its items, and a child that was an empty leaf is gone
+pub record KeepsLeaves (old new : Ground) (history : Option (List Event)) (level at child : ℕ) (pointers : List Pointer) : Type 0 where
+  pub kept : leaves (told new.blocks.draft history) (suc level) at
+      ≡ leaves_joined level (leaves (told old.blocks.draft history) level child) (leaves_under (λ q. leaves (told old.blocks.draft history) level q) (drop 1 pointers))

@@ -7,8 +7,9 @@ ghost use Rattle.qg_blocks.specs.Told.{BreaksNone, told};
 ghost use Rattle.qg_ground.specs.Tellings.{Telling};
 ghost use Rattle.qg_edit.specs.Edits.{CanEdit, IsShort, growth_of, has_key, with_item, without_key};
 ghost use Rattle.qg_descent.specs.Counting.{IsTreeTold};
-ghost use Rattle.qg_descent.specs.First.{first_leaf};
+ghost use Rattle.qg_descent.specs.First.{first_leaf, least, leaves, leaves_behind};
 ghost use Rattle.qg_descent.specs.Rooting.{Grows, IsEdited, IsReady, IsReplaced, IsRooted, LeavesBe};
+ghost use Rattle.qg_edit.specs.declared.edit.Change.TheVariants as edit_change;
 
 use crate::Tree;
 use qg_disk::Disk;
@@ -136,7 +137,8 @@ impl Tree {
         self.edit::<P, D, L, B>(alloc, land, disk, book, edit, reads)
     }
 
-    /// Takes out exactly the items of the tree's first leaf; of a tree that is one leaf, all. The tree gets no higher. Else as [`Tree::insert`].
+    /// Takes out exactly the items of the tree's first leaf; of a tree that is one leaf, all. Each other leaf keeps its items. The tree gets no
+    /// higher. Else as [`Tree::insert`].
     pub fn drop_first_leaf<P: TreePart, D: Disk, L: Ledger, B: Book<D, L>>(
         &mut self,
         alloc: Global,
@@ -154,6 +156,9 @@ impl Tree {
             → (before : B) (log : List Telling) → B.follows before log book.old
             → OnOk result ((tellings : List Telling) × B.follows before (log ++ tellings) book.new
             × IsTreeTold self.old self.new land.old land.new (D.history disk.old) tellings) }
+        ensures leaves { (items : List ItemValue) → IsRooted P.tree self.old land.old (D.history disk.old) items
+            → OnOk result (leaves (told land.new.blocks.draft (D.history disk.old)) self.new.height self.new.address
+            ≡ leaves_behind (leaves (told land.old.blocks.draft (D.history disk.old)) self.old.height self.old.address)) }
         ensures sound { (events : List Event) → D.history disk.old ≡ Some events → (items : List ItemValue)
             → IsRooted P.tree self.old land.old (D.history disk.old) items → BreaksNone result }
         ensures tree { MatchResult result (λ done. Grows 0 self.old self.new land.old land.new) (λ fault. self.new ≡ self.old) }
@@ -188,6 +193,10 @@ impl Tree {
             → (before : B) (log : List Telling) → B.follows before log book.old
             → OnOk result ((tellings : List Telling) × B.follows before (log ++ tellings) book.new
             × IsTreeTold self.old self.new land.old land.new (D.history disk.old) tellings) }
+        ensures leaves { (items : List ItemValue) → IsRooted P.tree self.old land.old (D.history disk.old) items → CanEdit edit items
+            → edit.key ≡ least → edit.change ≡ edit_change.Clear
+            → OnOk result (leaves (told land.new.blocks.draft (D.history disk.old)) self.new.height self.new.address
+            ≡ leaves_behind (leaves (told land.old.blocks.draft (D.history disk.old)) self.old.height self.old.address)) }
         ensures sound { (events : List Event) → D.history disk.old ≡ Some events → (items : List ItemValue)
             → IsRooted P.tree self.old land.old (D.history disk.old) items → CanEdit edit items → BreaksNone result }
         ensures tree { MatchResult result (λ done. Grows (growth_of edit.change) self.old self.new land.old land.new) (λ fault. self.new ≡ self.old) }

@@ -3,11 +3,13 @@ ghost use Rattle.std.specs.Prelude.{◌≡◌, ◌≢◌, ◌+◌, ◌*◌, ◌<
 ghost use Rattle.qg_device.specs.Cause.{HasCause};
 ghost use Rattle.qg_device.specs.History.{Event};
 ghost use Rattle.qg_node.specs.declared.item.Item.{Item as ItemValue};
-ghost use Rattle.qg_blocks.specs.Told.{BreaksNone};
+ghost use Rattle.qg_blocks.specs.Told.{BreaksNone, told};
 ghost use Rattle.qg_space.specs.Holding.{free_slots};
 ghost use Rattle.qg_ground.specs.Land.{Rests};
 ghost use Rattle.qg_ground.specs.Tellings.{Telling};
+ghost use Rattle.qg_edit.specs.declared.edit.Change.TheVariants as edit_change;
 ghost use Rattle.qg_edit.specs.Edits.{IsShort, growth_of};
+ghost use Rattle.qg_descent.specs.First.{least, leaves, leaves_behind};
 ghost use Rattle.qg_descent.specs.Editing.{CanMake, IsEditable, IsPartEdited, IsPartFit, Moves, StandsInstead};
 ghost use Rattle.qg_descent.specs.Counting.{IsPartTold};
 
@@ -48,6 +50,10 @@ impl Tree {
         ensures moves { OnOk result (Moves (2 * (level + 1)) level land.old land.new) }
         ensures edited { (items : List ItemValue) → IsPartFit P.tree self.now land.old (D.history disk.old) level way.expected way.address edit items
             → IfOk result (λ instead. IsPartEdited P.tree self.now land.old land.new (D.history disk.old) level way.address edit items instead) }
+        ensures leaves { (items : List ItemValue) → IsPartFit P.tree self.now land.old (D.history disk.old) level way.expected way.address edit items
+            → edit.key ≡ least → edit.change ≡ edit_change.Clear
+            → IfOk result (λ instead. leaves (told land.new.blocks.draft (D.history disk.old)) level instead.now
+            ≡ leaves_behind (leaves (told land.old.blocks.draft (D.history disk.old)) level way.address)) }
         ensures sound { (events : List Event) → D.history disk.old ≡ Some events → (items : List ItemValue)
             → IsPartFit P.tree self.now land.old (D.history disk.old) level way.expected way.address edit items → BreaksNone result }
         ensures rests { Rests land.old land.new (D.history disk.new) self.now.next }

@@ -1,5 +1,5 @@
 // The root of a tree that was edited.
-ghost use Rattle.std.specs.Prelude.{◌≡◌, ◌++◌, ◌+◌, ◌<◌, ◌≤◌, ◌∷◌, [], ℕ, List, IfOk, OnErr, OnOk, Some, IsErrOf, IsSome, IsTrue};
+ghost use Rattle.std.specs.Prelude.{◌≡◌, ◌++◌, ◌+◌, ◌<◌, ◌≤◌, ◌∷◌, [], ℕ, IfOk, IsErrOf, IsSome, IsTrue, List, None, OnErr, OnOk, Some};
 ghost use Rattle.std.specs.Ordering.{is_lt};
 ghost use Rattle.qg_device.specs.Cause.{HasCause};
 ghost use Rattle.qg_device.specs.History.{Event};
@@ -10,11 +10,12 @@ ghost use Rattle.qg_node.specs.declared.node.Node.{Node as NodeValue};
 ghost use Rattle.qg_node.specs.declared.node.Node.TheVariants as node;
 ghost use Rattle.qg_node.specs.NodeText.{IsNode, IsNodeSize};
 ghost use Rattle.qg_shape.specs.Pointing.{pointer_to};
-ghost use Rattle.qg_blocks.specs.Told.{BreaksNone, fresh_at};
+ghost use Rattle.qg_blocks.specs.Told.{BreaksNone, fresh_at, told};
 ghost use Rattle.qg_space.specs.Holding.{free_slots};
 ghost use Rattle.qg_ground.specs.Land.{Rests};
 ghost use Rattle.qg_ground.specs.Tellings.{Telling};
 ghost use Rattle.qg_edit.specs.Outcome.{cleared};
+ghost use Rattle.qg_descent.specs.First.{leaves};
 ghost use Rattle.qg_descent.specs.Editing.{CanMake, IsEditable, IsFreshOn, IsRewritten, StandsInstead, alone};
 ghost use Rattle.qg_descent.specs.Counting.{IsRootTold};
 ghost use Rattle.qg_descent.specs.Rooting.{HasRoot, StandsForRoot, StaysTree, levels_for, lone_child};
@@ -57,6 +58,9 @@ impl Tree {
             → (before : B) (log : List Telling) → B.follows before log book.old
             → OnOk result ((tellings : List Telling) × B.follows before (log ++ tellings) book.new
             × IsRootTold self.old self.new land.old land.new (D.history disk.old) instead tellings) }
+        ensures leaves { (items : List ItemValue) → StandsForRoot P.tree self.old land.old (D.history disk.old) instead items → instead.more ≡ None
+            → OnOk result (leaves (told land.new.blocks.draft (D.history disk.old)) self.new.height self.new.address
+            ≡ leaves (told land.old.blocks.draft (D.history disk.old)) self.old.height instead.now) }
         ensures stays { StaysTree (levels_for instead.more) self.old self.new }
         ensures count { OnOk result (free_slots land.old.space ≤ 1 + free_slots land.new.space) }
         ensures sound { (events : List Event) → D.history disk.old ≡ Some events → (items : List ItemValue)
@@ -153,6 +157,9 @@ impl Tree {
             → (before : B) (log : List Telling) → B.follows before log book.old
             → OnOk result ((tellings : List Telling) × B.follows before (log ++ tellings) book.new
             × IsRootTold self.old self.new land.old land.new (D.history disk.old) (alone now) tellings) }
+        ensures leaves { (items : List ItemValue) → StandsForRoot P.tree self.old land.old (D.history disk.old) (alone now) items
+            → OnOk result (leaves (told land.new.blocks.draft (D.history disk.old)) self.new.height self.new.address
+            ≡ leaves (told land.old.blocks.draft (D.history disk.old)) self.old.height now) }
         ensures stays { StaysTree 0 self.old self.new }
         ensures count { OnOk result (free_slots land.old.space ≤ free_slots land.new.space) }
         ensures sound { (events : List Event) → D.history disk.old ≡ Some events → BreaksNone result }

@@ -16,7 +16,7 @@ ghost use Rattle.qg_blocks.specs.Told.{BreaksNone, fresh_at};
 ghost use Rattle.qg_space.specs.Holding.{free_slots};
 ghost use Rattle.qg_ground.specs.Land.{Rests};
 ghost use Rattle.qg_ground.specs.Tellings.{Telling};
-ghost use Rattle.qg_descent.specs.Editing.{CanLead, CanMake, HasLed, IsEditable, IsFreshOn, IsNamed, IsRewritten, IsSettled, IsUnsettled, Moves, OfEach, RestIsReady, StandsInstead, StaysCut, alone, slots_for};
+ghost use Rattle.qg_descent.specs.Editing.{CanLead, CanMake, HasLed, IsEditable, IsEmptyIfLeaf, IsFreshOn, IsNamed, IsRewritten, IsSettled, IsUnsettled, KeepsLeaves, Moves, OfEach, RestIsReady, StandsInstead, StaysCut, alone, slots_for};
 ghost use Rattle.qg_descent.specs.Counting.{IsSettledTold};
 
 use crate::Tree;
@@ -61,6 +61,9 @@ impl Tree {
         ensures moves { IfOk result (λ rest. Moves (1 - slots_for rest) (level + 1) land.old land.new) }
         ensures settled { (items : List ItemValue) → (un : IsUnsettled P.tree self.now land.old (D.history disk.old) level at to place child items)
             → IfOk result (λ rest. IsSettled P.tree self.now land.old land.new (D.history disk.old) level at place child un.pointers un.header items rest) }
+        ensures leaves { (items : List ItemValue) → (un : IsUnsettled P.tree self.now land.old (D.history disk.old) level at to place child items)
+            → place ≡ 0 → child.more ≡ None → IsEmptyIfLeaf land.old (D.history disk.old) level child.now
+            → OnOk result (KeepsLeaves land.old land.new (D.history disk.old) level at child.now un.pointers) }
         ensures sound { (events : List Event) → D.history disk.old ≡ Some events → (items : List ItemValue)
             → IsUnsettled P.tree self.now land.old (D.history disk.old) level at to place child items → BreaksNone result }
         ensures rests { Rests land.old land.new (D.history disk.new) self.now.next }
@@ -109,6 +112,9 @@ impl Tree {
         ensures moves { IfOk result (λ rest. Moves (1 - slots_for rest) (level + 1) land.old land.new) }
         ensures settled { (items : List ItemValue) → (un : IsUnsettled P.tree self.now land.old (D.history disk.old) level at to place (alone child) items)
             → IfOk result (λ rest. IsSettled P.tree self.now land.old land.new (D.history disk.old) level at place (alone child) un.pointers un.header items rest) }
+        ensures leaves { (items : List ItemValue) → (un : IsUnsettled P.tree self.now land.old (D.history disk.old) level at to place (alone child) items)
+            → place ≡ 0 → IsEmptyIfLeaf land.old (D.history disk.old) level child
+            → OnOk result (KeepsLeaves land.old land.new (D.history disk.old) level at child un.pointers) }
         ensures sound { (events : List Event) → D.history disk.old ≡ Some events → (items : List ItemValue)
             → IsUnsettled P.tree self.now land.old (D.history disk.old) level at to place (alone child) items → BreaksNone result }
         ensures rests { Rests land.old land.new (D.history disk.new) self.now.next }

@@ -1,5 +1,5 @@
-use Rattle.std.proofs.Common.{◌≡◌, ℕ, suc, ◌+◌, ◌-◌, ◌*◌, ◌<◌, ◌++◌, arith, sym, ap, subst, ◌∙◌}
-use Rattle.std.specs.Prelude.{Err, IfOk, IsTrue, List, Option, Some, length, map}
+use Rattle.std.proofs.Common.{◌≡◌, ℕ, ◌+◌, ◌-◌, ◌*◌, ◌<◌, ◌++◌, ◌∙◌, ap, arith, subst, suc, sym}
+use Rattle.std.specs.Prelude.{Err, IfOk, IsTrue, List, None, Option, Some, length, map}
 use Rattle.std.proofs.Math.Nat.{mul-suc}
 use Rattle.std.proofs.lemmas.Result.{IfOk-weaker, err_from_is_err_and, on_ok_weaker}
 use Rattle.qg_node.specs.declared.item.Item.{Item}
@@ -8,15 +8,20 @@ use Rattle.qg_node.specs.declared.pointer.Pointer.{Pointer}
 use Rattle.qg_node.specs.Nodes.{is_ascending, own_pointers}
 use Rattle.qg_shape.specs.Parts.{IsInner}
 use Rattle.qg_ground.specs.Tellings.{Telling}
+use Rattle.qg_blocks.specs.Told.{told}
 use Rattle.qg_blocks.proofs.Telling.{fresh-held}
+use Rattle.qg_edit.specs.Edits.{growth_of}
 use Rattle.qg_descent.specs.declared.instead.Instead.{Instead}
 use Rattle.qg_device.specs.History.{Event}
 use Rattle.qg_node.specs.declared.node.Node.TheVariants.{Inner}
+use Rattle.qg_descent.specs.First.{leaves, leaves_behind}
 use Rattle.qg_descent.specs.Editing.{IsPartEdited, IsPartFit}
 use Rattle.qg_descent.specs.Counting.{IsPartTold, tellings_made, tellings_owned}
-use Rattle.qg_descent.proofs.Descended.{descended-edited, descended-fit, descended-items, descended-mine, descended-told, descended-unsettled}
+use Rattle.qg_descent.proofs.Descended.{descended-edited, descended-first, descended-fit, descended-items, descended-leaves, descended-mine, descended-told, descended-unsettled}
 use Rattle.qg_descent.proofs.FitTold.{fit-told}
-use Rattle.qg_descent.proofs.Handed.{child-edited, child-told, settle-settled, settle-sound, settle-told}
+use Rattle.qg_descent.proofs.Handed.{child-edited, child-leaves, child-told, settle-leaves, settle-settled, settle-sound, settle-told}
+use Rattle.qg_descent.proofs.LeafLists.{behind-leaf}
+use Rattle.qg_descent.proofs.LeavesBelow.{leaf-leaves, placed-leaves}
 use Rattle.qg_descent.proofs.PartBelow.{fit-inner, fit-there}
 use Rattle.qg_descent.proofs.Inner.{inner-ascending, inner-here, inner-some, place-inside}
 use Rattle.qg_descent.proofs.Paired.{owned-levelled}
@@ -263,6 +268,76 @@ returns-then-level-eq0-clause-told g t c =
     → (before : _) (log : List Telling) → g.B.Book.follows before log c.args.book.now
     → IfOk c.edit_there.result (λ instead. (tellings : List Telling) × g.B.Book.follows before (log ++ tellings) c.edit_there.new.book
     × IsPartTold c.args.land.now c.edit_there.new.land (g.D.Disk.history c.args.disk.now) n c.args.way.address instead tellings)) low c.edit_there.ensures.told
+
+-- ---- the leaves
+
+pub returns-clause-leaves : goal.returns-clause-leaves
+returns-clause-leaves g t c items fit first clear =
+    let tree = g.P.TreePart.tree in
+    let root = c.args.self.now in
+    let land = c.args.land.now in
+    let mid = c.own.new.land in
+    let low = c.edit_under.new.land in
+    let set = c.settle.new.land in
+    let history = g.D.Disk.history c.args.disk.now in
+    let low_level = c.args.level - 1 in
+    let expected = c.args.way.expected in
+    let at = c.args.way.address in
+    let now = c.in_ok-now.now in
+    let edit = c.args.edit in
+    let owned = c.in_ok-now.ensures.owned in
+    let child = c.in_ok-child.child in
+    let below = c.way_at-below.result in
+    let up : c.args.level ≡ suc low_level = omega arith in
+    let fit_up : IsPartFit tree root land history (suc low_level) expected at edit items =
+    subst (λ (n : ℕ). IsPartFit tree root land history n expected at edit items) up fit in
+    let mine = descended-mine tree root land mid history low_level expected at now edit items fit_up owned
+    c.requires.makes c.requires.editable.drafted c.own.ensures.rests.node_sizes c.peek.result.now c.peek-2.result.now c.peek.ensures c.peek-2.ensures c.place_for-place.result
+    c.place_for-place.ensures c.way_at-below.result c.way_at-below.ensures in
+    let fit_low = descended-fit tree root land mid history low_level expected at now edit items fit_up owned
+    c.requires.makes c.requires.editable.drafted c.own.ensures.rests.node_sizes c.peek.result.now c.peek-2.result.now c.peek.ensures c.peek-2.ensures c.place_for-place.result
+    c.place_for-place.ensures c.way_at-below.result c.way_at-below.ensures in
+    let edited_child = child-edited tree root mid low low_level below edit mine history (g.D.Disk.history c.own.new.disk) c.own.ensures.disk.0 child fit_low c.in_ok-child.ensures.edited in
+    let cleared = child-leaves tree root mid low low_level below edit mine history (g.D.Disk.history c.own.new.disk) c.own.ensures.disk.0 child fit_low c.in_ok-child.ensures.leaves first clear in
+    let none : child.more ≡ None = c.in_ok-child.ensures.whole (ap growth_of clear) in
+    let start = descended-first tree root land mid history low_level expected at now edit items fit_up owned
+    c.requires.makes c.requires.editable.drafted c.own.ensures.rests.node_sizes c.peek.result.now c.peek-2.result.now c.peek.ensures c.peek-2.ensures c.place_for-place.result
+    c.place_for-place.ensures c.way_at-below.result c.way_at-below.ensures first in
+    let items_new = descended-items tree root land mid history low_level expected at now edit items fit_up owned
+    c.requires.makes c.requires.editable.drafted c.own.ensures.rests.node_sizes c.peek.result.now c.peek-2.result.now c.peek.ensures c.peek-2.ensures c.place_for-place.result
+    c.place_for-place.ensures c.way_at-below.result c.way_at-below.ensures
+    low child edited_child c.in_ok-child.ensures.moves.above c.edit_under.ensures.rests.node_sizes c.requires.short in
+    let un = descended-unsettled tree root land mid history low_level expected at now edit items fit_up owned
+    c.requires.makes c.requires.editable.drafted c.own.ensures.rests.node_sizes c.peek.result.now c.peek-2.result.now c.peek.ensures c.peek-2.ensures c.place_for-place.result
+    c.place_for-place.ensures c.way_at-below.result c.way_at-below.ensures
+    low child edited_child c.in_ok-child.ensures.moves.above c.edit_under.ensures.rests.node_sizes c.requires.short in
+    let kept = settle-leaves tree root low set low_level now expected.to c.place_for-place.result child history (g.D.Disk.history c.edit_under.new.disk) (c.edit_under.ensures.disk.0 ∙ c.own.ensures.disk.0)
+    c.in_ok-rest.ensures.leaves items_new un start none (λ bottom. cleared ∙ behind-leaf (told mid.blocks.draft history) low_level below.address bottom) in
+    let all = descended-leaves tree root land mid history low_level expected at now edit items fit_up owned
+    c.requires.makes c.requires.editable.drafted c.own.ensures.rests.node_sizes c.peek.result.now c.peek-2.result.now c.peek.ensures c.peek-2.ensures c.place_for-place.result
+    c.place_for-place.ensures c.way_at-below.result c.way_at-below.ensures
+    low child edited_child c.in_ok-child.ensures.moves.above c.edit_under.ensures.rests.node_sizes c.requires.short set first kept cleared in
+    let there = subst (λ (n : ℕ). leaves (told set.blocks.draft history) n now ≡ leaves_behind (leaves (told land.blocks.draft history) n at)) (sym up) all in
+    IfOk-weaker c.place_rest.result _ _
+    (λ instead placed. placed-leaves set c.place_rest.new.land history c.args.level now c.in_ok-rest.rest instead (c.in_ok-rest.ensures.whole none) placed ∙ there)
+    c.place_rest.ensures.placed
+
+pub returns-then-level-eq0-clause-leaves : goal.returns-then-level-eq0-clause-leaves
+returns-then-level-eq0-clause-leaves g t c items fit first clear =
+    let tree = g.P.TreePart.tree in
+    let root = c.args.self.now in
+    let land = c.args.land.now in
+    let new = c.edit_there.new.land in
+    let history = g.D.Disk.history c.args.disk.now in
+    let expected = c.args.way.expected in
+    let at = c.args.way.address in
+    let edit = c.args.edit in
+    let low : c.args.level ≡ 0 = c.if-level-eq0.true in
+    let fit_low : IsPartFit tree root land history 0 expected at edit items = subst (λ (n : ℕ). IsPartFit tree root land history n expected at edit items) low fit in
+    IfOk-weaker c.edit_there.result _ _
+    (λ instead part. subst (λ (n : ℕ). leaves (told new.blocks.draft history) n instead.now ≡ leaves_behind (leaves (told land.blocks.draft history) n at)) (sym low)
+    (leaf-leaves tree root land new history expected at edit items instead fit_low part first clear))
+    (c.edit_there.ensures.edited items fit_low)
 
 pub returns-then-level-eq0-clause-reads : goal.returns-then-level-eq0-clause-reads
 returns-then-level-eq0-clause-reads g t c most all =

@@ -8,3 +8,6 @@ returns-clause-dropped g c items rooted =
     on_ok_weaker c.edit.result
     (λ is. replaced-first g.P.TreePart.tree c.args.self.now c.edit.new.self c.args.land.now c.edit.new.land (g.D.Disk.history c.args.disk.now) _ items refl refl is)
     (c.edit.ensures.edited items rooted tt)
+
+pub returns-clause-leaves : goal.returns-clause-leaves
+returns-clause-leaves g c items rooted = c.edit.ensures.leaves items rooted tt refl refl

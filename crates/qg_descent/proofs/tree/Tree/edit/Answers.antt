@@ -1,9 +1,12 @@
 use Rattle.std.proofs.Common.{◌≡◌, ◌+◌, ◌*◌, ◌++◌, ℕ, suc, append_assoc, arith, refl, sym, ap, subst, ◌∙◌}
 use Rattle.std.proofs.Math.Nat.{mul-suc}
 use Rattle.std.proofs.lemmas.Result.{err_from_is_err_and, on_ok_weaker}
-use Rattle.std.specs.Prelude.{List, Option}
+use Rattle.std.specs.Prelude.{List, None, Option}
 use Rattle.qg_num.specs.declared.fault.BlockFault.{BlockFault}
 use Rattle.qg_device.specs.History.{Event}
+use Rattle.qg_blocks.specs.Told.{told}
+use Rattle.qg_edit.specs.Edits.{growth_of}
+use Rattle.qg_descent.specs.First.{leaves, leaves_behind}
 use Rattle.qg_descent.specs.Editing.{IsPartEdited, IsPartFit}
 use Rattle.qg_ground.specs.Tellings.{Telling}
 use Rattle.qg_descent.specs.Counting.{IsPartTold, IsRootTold}
@@ -79,3 +82,36 @@ returns-clause-told g c items rooted can before log follows =
           (subst (λ (h : Option (List Event)). IsRootTold c.args.self.now c.set_root.new.self c.edit_under.new.land c.set_root.new.land h c.in_ok-instead.instead above.0) c.edit_under.ensures.disk.0 above.2),
     ))
     (c.set_root.ensures.rooted part.items_new stands_then) (c.set_root.ensures.told part.items_new stands_then before (log ++ below.0) below.1)
+
+-- ---- the leaves
+
+pub returns-clause-leaves : goal.returns-clause-leaves
+returns-clause-leaves g c items rooted can first clear =
+    let tree = g.P.TreePart.tree in
+    let root = c.args.self.now in
+    let land = c.args.land.now in
+    let mid = c.edit_under.new.land in
+    let new = c.set_root.new.land in
+    let after = c.set_root.new.self in
+    let history = g.D.Disk.history c.args.disk.now in
+    let later = g.D.Disk.history c.edit_under.new.disk in
+    let same : later ≡ history = c.edit_under.ensures.disk.0 in
+    let edit = c.args.edit in
+    let way = c.way-way.result in
+    let level = c.height-level.result in
+    let instead = c.in_ok-instead.instead in
+    let fit = fit-root tree root land history edit items rooted can way.expected way.address c.way-way.ensures.expected c.way-way.ensures.address in
+    let fit_there = subst (λ (n : ℕ). IsPartFit tree root land history n way.expected way.address edit items) (sym c.height-level.ensures) fit in
+    let part = subst (λ (n : ℕ). IsPartEdited tree root land mid history n way.address edit items instead) c.height-level.ensures (c.in_ok-instead.ensures.edited items fit_there) in
+    let stands = stands-root tree root land history edit items rooted can way.expected way.address c.way-way.ensures.expected c.way-way.ensures.address
+    mid instead part c.requires.ready.0.editable.drafted c.edit_under.ensures.rests.node_sizes c.requires.ready.1 in
+    let stands_then = subst (λ (h : Option (List Event)). StandsForRoot tree root mid h instead part.items_new) (sym same) stands in
+    let none : instead.more ≡ None = c.in_ok-instead.ensures.whole (ap growth_of clear) in
+    let cleared : leaves (told mid.blocks.draft history) root.height instead.now ≡ leaves_behind (leaves (told land.blocks.draft history) root.height root.address) =
+    ap (λ (n : ℕ). leaves (told mid.blocks.draft history) n instead.now) (sym c.height-level.ensures)
+    ∙ c.in_ok-instead.ensures.leaves items fit_there first clear
+    ∙ ap (λ (n : ℕ). leaves_behind (leaves (told land.blocks.draft history) n way.address)) c.height-level.ensures
+    ∙ ap (λ (a : ℕ). leaves_behind (leaves (told land.blocks.draft history) root.height a)) c.way-way.ensures.address in
+    on_ok_weaker c.set_root.result
+    (λ kept. subst (λ (h : Option (List Event)). leaves (told new.blocks.draft h) after.height after.address ≡ leaves (told mid.blocks.draft h) root.height instead.now) same kept ∙ cleared)
+    (c.set_root.ensures.leaves part.items_new stands_then none)

@@ -13,6 +13,7 @@ use Rattle.qg_descent.specs.Editing.{RestIsReady}
 use Rattle.qg_descent.specs.Counting.{tellings_owned}
 use Rattle.qg_edit.proofs.Leaves.{ok-known}
 use Rattle.qg_descent.proofs.Cutting.{ready-same, rewritten-moves, rewritten-rests, rewritten-spares}
+use Rattle.qg_descent.proofs.LeavesSettled.{ok-both, rejoined-leaves}
 use Rattle.qg_descent.proofs.Paired.{are-pair, pair-differ, pair-inside}
 use Rattle.qg_descent.proofs.PairedHolds.{pair-front}
 use Rattle.qg_descent.proofs.Rejoined.{rejoined-above, rejoined-count, rejoined-stands, unbroken-other}
@@ -215,3 +216,26 @@ returns-clause-told g c items un before log follows =
           c.own_neighbour.ensures.rests c.requires.child c.requires.thin c.in_ok-instead.ensures.united after led united.0 united.2,
     ))
     (c.lead_to.ensures.led g.P.TreePart.tree (super_of c.args.self.now c.args.land.now.blocks.draft) (g.D.Disk.history c.args.disk.now) c.args.level un.pointers un.header items can)
+
+-- ---- the leaves
+
+pub returns-clause-leaves : goal.returns-clause-leaves
+returns-clause-leaves g c items un first empty =
+    let tree = g.P.TreePart.tree in
+    let root = c.args.self.now in
+    let land = c.args.land.now in
+    let history = g.D.Disk.history c.args.disk.now in
+    let later = g.D.Disk.history c.own_neighbour.new.disk in
+    let last = g.D.Disk.history c.unite.new.disk in
+    let rests = c.own_neighbour.ensures.rests in
+    let after = c.unite.ensures.rests root.next rests.drafted in
+    let pair = c.in_ok-pair.pair in
+    let instead = c.in_ok-instead.instead in
+    let paired = c.in_ok-pair.ensures.paired (Inner un.header un.pointers) un.here in
+    let can = rejoined-can tree root land c.own_neighbour.new.land c.unite.new.land history later last c.args.level c.args.at c.args.to c.args.place c.args.child items un pair instead paired
+    c.requires.makes c.requires.editable.drafted rests c.requires.child c.requires.thin c.in_ok-instead.ensures.united after in
+    ok-both c.lead_to.result _ _ _
+    (λ rest led none. rejoined-leaves tree root land c.own_neighbour.new.land c.unite.new.land c.lead_to.new.land history later last c.args.level c.args.at c.args.to c.args.place c.args.child items rest un
+    pair instead paired c.requires.makes c.requires.editable.drafted rests c.requires.child c.requires.thin c.in_ok-instead.ensures.united after led first none empty)
+    (c.lead_to.ensures.led tree (super_of root land.blocks.draft) history c.args.level un.pointers un.header items can)
+    (c.lead_to.ensures.fits refl)

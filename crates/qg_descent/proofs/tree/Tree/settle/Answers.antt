@@ -1,16 +1,17 @@
-use Rattle.std.proofs.Common.{◌≡◌, ◌+◌, [], ◌++◌, append-nil, arith, refl, sym, subst, ◌∙◌}
-use Rattle.std.specs.Prelude.{IfOk, List, Some}
+use Rattle.std.proofs.Common.{◌≡◌, ◌+◌, [], ◌++◌, ◌∙◌, append-nil, arith, refl, subst, sym}
+use Rattle.std.specs.Prelude.{IfOk, List, OnOk, Some}
 use Rattle.std.proofs.lemmas.Result.{IfOk-weaker}
 use Rattle.qg_device.specs.History.{Event}
 use Rattle.qg_node.specs.declared.item.Item.{Item}
 use Rattle.qg_blocks.specs.Told.{BreaksNone}
 use Rattle.qg_ground.specs.Tellings.{Telling}
 use Rattle.qg_descent.specs.declared.instead.Instead.{Instead}
-use Rattle.qg_descent.specs.Editing.{IsSettled, IsUnsettled}
+use Rattle.qg_descent.specs.Editing.{IsEmptyIfLeaf, IsSettled, IsUnsettled, KeepsLeaves}
 use Rattle.qg_descent.specs.Counting.{IsSettledTold}
 use Rattle.qg_descent.specs.Tree.{super_of}
 use Rattle.qg_edit.proofs.Leaves.{ok-known}
 use Rattle.qg_descent.proofs.Cutting.{ready-same, rewritten-moves, rewritten-rests, rewritten-spares}
+use Rattle.qg_descent.proofs.LeavesSettled.{ok-both, settled-high, settled-leaves}
 use Rattle.qg_descent.proofs.Served.{fresh-inner, instead-named, node-drafted, places-few, size-blocks, size-drafted}
 use Rattle.qg_descent.proofs.Settled.{settled, settled-told}
 use Rattle.qg_descent.proofs.Unjoined.{can-lead}
@@ -128,3 +129,31 @@ returns-clause-told g c items un before log follows =
       settled-told g.P.TreePart.tree c.args.self.now c.args.land.now c.lead_to.new.land (g.D.Disk.history c.args.disk.now) c.args.level c.args.at c.args.to c.args.place c.args.child items rest un can led,
     ))
     (c.lead_to.ensures.led g.P.TreePart.tree (super_of c.args.self.now c.args.land.now.blocks.draft) (g.D.Disk.history c.args.disk.now) c.args.level un.pointers un.header items can)
+
+-- ---- the leaves
+
+pub returns-then-is_too_thin-clause-leaves : goal.returns-then-is_too_thin-clause-leaves
+returns-then-is_too_thin-clause-leaves g c items un first single empty =
+    let history = g.D.Disk.history c.args.disk.now in
+    let thin = c.is_too_thin.ensures.thin c.if-is_too_thin.true in
+    let joined = subst (λ (child : Instead). (items : List Item) → (un : IsUnsettled g.P.TreePart.tree c.args.self.now c.args.land.now history c.args.level c.args.at c.args.to c.args.place child items)
+    → c.args.place ≡ 0 → IsEmptyIfLeaf c.args.land.now history c.args.level c.args.child.now
+    → OnOk c.join_child.result (KeepsLeaves c.args.land.now c.join_child.new.land history c.args.level c.args.at c.args.child.now un.pointers))
+    (sym thin.0) c.join_child.ensures.leaves in
+    joined items un first empty
+
+pub returns-clause-leaves : goal.returns-clause-leaves
+returns-clause-leaves g c items un first single empty =
+    let tree = g.P.TreePart.tree in
+    let root = c.args.self.now in
+    let land = c.args.land.now in
+    let history = g.D.Disk.history c.args.disk.now in
+    let drafted = c.requires.editable.drafted in
+    let full = c.is_too_thin.ensures.full c.if-is_too_thin.false in
+    let can = can-lead tree root land history c.args.level c.args.at root.next c.args.to c.args.place c.args.child items drafted c.requires.child full un in
+    ok-both c.lead_to.result _ _ _
+    (λ rest led none. settled-leaves tree root land c.lead_to.new.land history c.args.level c.args.at c.args.to c.args.place c.args.child items rest un can led first single none
+    (settled-high tree root land c.lead_to.new.land history c.args.level c.args.at c.args.to c.args.place c.args.child items rest un can led
+    root.next c.requires.child.now (size-blocks land root.next drafted) (full single) empty))
+    (c.lead_to.ensures.led tree (super_of root land.blocks.draft) history c.args.level un.pointers un.header items can)
+    (c.lead_to.ensures.whole single)

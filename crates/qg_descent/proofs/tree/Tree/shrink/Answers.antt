@@ -2,18 +2,20 @@ use Rattle.std.proofs.Common.{◌≡◌, ℕ, suc, ◌-◌, [], ◌∷◌, arith
 use Rattle.std.specs.Prelude.{Some, None}
 use Rattle.std.proofs.lemmas.Result.{err_from_is_err_and}
 use Rattle.qg_device.specs.History.{content}
+use Rattle.qg_blocks.specs.Told.{told}
 use Rattle.qg_blocks.proofs.Telling.{fresh-held}
 use Rattle.qg_edit.specs.Outcome.{cleared}
 use Rattle.qg_ground.specs.declared.ground.Ground.{Ground}
 use Rattle.qg_ground.specs.Tellings.Telling.{Left}
 use Rattle.qg_ground.proofs.Lands.{Rests-after, told-fresh_at}
 use Rattle.qg_descent.specs.Tree.{Root}
+use Rattle.qg_descent.specs.First.{leaves}
 use Rattle.qg_descent.specs.Editing.{alone}
 use Rattle.qg_descent.specs.Rooting.{HasRoot, lone_child}
 use Rattle.qg_descent.proofs.Cutting.{rewritten-moves, rewritten-rests, rewritten-spares}
 use Rattle.qg_descent.proofs.Served.{node-drafted, size-drafted}
 use Rattle.qg_descent.specs.Counting.{IsRootTold}
-use Rattle.qg_descent.proofs.Shrunk.{lone-high, lone-is, stood, sunk, told-sunk}
+use Rattle.qg_descent.proofs.Shrunk.{lone-high, lone-is, stood, sunk, sunk-leaves, told-sunk}
 use Rattle.qg_descent.proofs.United.{fresh-unbroken}
 use Rattle.qg_descent.proofs.tree.Tree.shrink.Goals as goal
 
@@ -124,3 +126,31 @@ returns-in_ok-leave_node-in-Some-clause-told g c items stands before log follows
           c.clear_at.new.land c.leave_node.new.land (g.D.Disk.history c.leave_node.new.disk) c.in-Some.child (c.args.self.now.height - 1) is.0 is.1 is.2 is.3 height rewritten
           (ap (λ (l : Ground). l.space) rewritten.is) c.in_ok-leave_node-in-Some.ensures.gone rests),
     )
+
+-- ---- the leaves
+
+pub returns-in-None-clause-leaves : goal.returns-in-None-clause-leaves
+returns-in-None-clause-leaves g c items stands =
+    ap (λ (r : Root). leaves (told c.args.land.now.blocks.draft (g.D.Disk.history c.args.disk.now)) r.height r.address) c.stand_at.ensures
+
+pub returns-in_ok-leave_node-in-Some-clause-leaves : goal.returns-in_ok-leave_node-in-Some-clause-leaves
+returns-in_ok-leave_node-in-Some-clause-leaves g c items stands =
+    let tree = g.P.TreePart.tree in
+    let root = c.args.self.now in
+    let land = c.args.land.now in
+    let history = g.D.Disk.history c.args.disk.now in
+    let later = g.D.Disk.history c.leave_node.new.disk in
+    let drafted = c.requires.editable.drafted in
+    let fresh = c.requires.fresh in
+    let one = fresh-held land.blocks c.args.now fresh.node c.peek.result.now fresh.here c.peek.ensures in
+    let lone : lone_child fresh.node ≡ Some c.in-Some.child = sym (ap lone_child one) ∙ sym c.lone_child.ensures ∙ c.in-Some.is in
+    let is = lone-is fresh.node c.in-Some.child lone in
+    let high = lone-high land.space.sizes.nodesize fresh.node c.in-Some.child (node-drafted land root.next c.args.now fresh.node drafted fresh.here) lone in
+    let level = fresh.levelled in
+    let height : root.height ≡ suc (root.height - 1) = omega (arith, high, level) in
+    let rewritten = c.clear_at.ensures.cleared fresh.node fresh.here in
+    let first = rewritten-rests land c.clear_at.new.land c.args.now root.next fresh.node fresh.here rewritten history c.requires.editable.backed drafted in
+    let rests = Rests-after land c.clear_at.new.land c.leave_node.new.land history later root.next first (c.leave_node.ensures.rests root.next first.drafted) in
+    ap (λ (r : Root). leaves (told c.leave_node.new.land.blocks.draft history) r.height r.address) c.sink_to.ensures
+    ∙ sunk-leaves tree root land history c.args.now items fresh.node stands drafted fresh.here fresh.levelled c.clear_at.new.land c.leave_node.new.land later c.in-Some.child (root.height - 1)
+    is.0 is.1 is.2 is.3 height rewritten (ap (λ (l : Ground). l.space) rewritten.is) c.in_ok-leave_node-in-Some.ensures.gone rests
