@@ -1,5 +1,5 @@
 -- The first leaf of a tree, and the least key, which leads to it.
-use Rattle.std.proofs.Common.{◌≡◌, ℕ, zero, suc, ◌+◌, ◌<◌, true, false, List, [], ◌∷◌, add-one, arith, refl, sym, ap, subst, ◌∙◌, inl, inr, Option, Some, None, take, length}
+use Rattle.std.proofs.Common.{◌≡◌, ℕ, zero, suc, true, false, List, [], ◌∷◌, add-one, arith, refl, sym, ap, subst, ◌∙◌, inl, inr, Option, Some, None, take}
 use Rattle.std.specs.Prelude.{◌&&◌, not, slice_get}
 use Rattle.std.specs.List.{list_all}
 use Rattle.std.specs.Ordering.{is_lt, nat_cmp, ordering_then}

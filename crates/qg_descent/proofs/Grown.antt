@@ -1,5 +1,5 @@
 -- A new root above two nodes.
-use Rattle.std.proofs.Common.{◌≡◌, ◌≢◌, ◌⊎◌, ℕ, zero, suc, ◌+◌, true, List, [], ◌∷◌, add-one, arith, refl, sym, ap, subst, ◌∙◌, inl, inr, Option, Some, None}
+use Rattle.std.proofs.Common.{◌≡◌, ◌≢◌, ◌⊎◌, ℕ, zero, suc, ◌+◌, true, List, [], ◌∷◌, add-one, arith, refl, sym, ap, subst, ◌∙◌, inl, inr, Option, Some}
 use Rattle.std.specs.Prelude.{IsTrue, slice_get}
 use Rattle.std.specs.Ordering.{is_lt}
 use Rattle.std.proofs.lemmas.Bool.{and_parts}
@@ -36,7 +36,6 @@ use Rattle.qg_descent.proofs.Turning.{told-more}
 use Rattle.qg_descent.proofs.Ways.{ways-inner, ways-none, ways-same, ways_each-cons}
 use Rattle.qg_descent.proofs.RootEdited.{root-above}
 use Rattle.qg_descent.proofs.Served.{size-blocks}
-use Rattle.qg_descent.proofs.Split.{keys_to}
 
 -- two nodes stand in the place of a root
 abbrev pub two : ℕ → ℕ → Instead

@@ -22,7 +22,7 @@ use Rattle.qg_edit.specs.Edits.{changed, edited}
 use Rattle.qg_descent.specs.declared.instead.Instead.{Instead}
 use Rattle.qg_descent.specs.Tree.{Reaches, Root, super_of}
 use Rattle.qg_descent.specs.Branch.{AreBranches, IsBranch, IsPointed}
-use Rattle.qg_descent.specs.First.{first_leaf, least, leaves, leaves_behind, leaves_joined, leaves_under}
+use Rattle.qg_descent.specs.First.{least, leaves, leaves_behind, leaves_joined, leaves_under}
 use Rattle.qg_descent.specs.Editing.{CanMake, IsOwned, IsPartEdited, IsPartFit, IsPlacedBehind, IsUnsettled, KeepsAbove, KeepsLeaves}
 use Rattle.qg_descent.proofs.Around.{IsAround}
 use Rattle.qg_descent.proofs.BranchWalk.{branches-under}

@@ -1,18 +1,16 @@
 -- The first child of a node was edited, and the pointers of the node are set: the leaves under it.
-use Rattle.std.proofs.Common.{◌≡◌, ◌≢◌, ◌⊎◌, ℕ, zero, suc, ◌+◌, ◌≤◌, ◌<◌, List, [], ◌∷◌, ◌++◌, drop, append-nil, arith, refl, sym, ap, subst, ◌∙◌, inl, inr, Option, Some, None}
+use Rattle.std.proofs.Common.{◌≡◌, ℕ, zero, suc, ◌+◌, ◌≤◌, List, [], ◌∷◌, ◌++◌, drop, append-nil, arith, refl, sym, ap, ◌∙◌, inl, inr, Option, Some, None}
 use Rattle.std.specs.Prelude.{IfOk, IsTrue, OnOk, Result, Ok, Err}
 use Rattle.qg_device.specs.History.{Event}
 use Rattle.qg_num.specs.declared.key.Key.{Key}
 use Rattle.qg_num.specs.declared.fault.BlockFault.{BlockFault}
 use Rattle.qg_node.specs.declared.item.Item.{Item}
 use Rattle.qg_node.specs.declared.pointer.Pointer.{Pointer}
-use Rattle.qg_node.specs.declared.node.Header.{Header}
 use Rattle.qg_node.specs.declared.node.Node.{Node}
-use Rattle.qg_node.specs.declared.node.Node.TheVariants.{Leaf, Inner}
+use Rattle.qg_node.specs.declared.node.Node.TheVariants.{Leaf}
 use Rattle.qg_node.specs.Nodes.{used_bytes}
 use Rattle.qg_node.specs.NodeText.{IsNodeSize}
 use Rattle.qg_super.specs.declared.superblock.Super.{Super}
-use Rattle.qg_super.specs.Places.{capacity}
 use Rattle.qg_shape.specs.Filled.{IsThin}
 use Rattle.qg_verdict.specs.declared.tree.Tree.{Tree}
 use Rattle.qg_verdict.specs.declared.expected.Expected.{Expected}
@@ -24,9 +22,9 @@ use Rattle.qg_ground.proofs.Lands.{told-fresh_at}
 use Rattle.qg_descent.specs.declared.instead.Instead.{Instead}
 use Rattle.qg_descent.specs.declared.pairing.Pair.{Pair}
 use Rattle.qg_descent.specs.Tree.{Reaches, Root, super_of}
-use Rattle.qg_descent.specs.Branch.{AreBranches, IsBranch}
+use Rattle.qg_descent.specs.Branch.{IsBranch}
 use Rattle.qg_descent.specs.First.{leaves, leaves_joined, leaves_under}
-use Rattle.qg_descent.specs.Editing.{ArePair, CanLead, CanMake, HasLed, IsEmptyIfLeaf, IsFreshOn, IsOwned, IsUnsettled, KeepsLeaves, alone}
+use Rattle.qg_descent.specs.Editing.{CanLead, CanMake, HasLed, IsEmptyIfLeaf, IsFreshOn, IsOwned, IsUnsettled, KeepsLeaves, alone}
 use Rattle.qg_descent.specs.Uniting.{AreUnited, IsPaired}
 use Rattle.qg_descent.proofs.Beside.{other-branch}
 use Rattle.qg_descent.proofs.LeafLists.{joined-append, leaves-alone, leaves-inner, leaves-same, leaves_more, under-same}

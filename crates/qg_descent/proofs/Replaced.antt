@@ -1,5 +1,5 @@
 -- A tree whose leaf was edited, and whose root was set.
-use Rattle.std.proofs.Common.{◌≡◌, ◌⊎◌, ℕ, ◌+◌, ◌*◌, ◌≤◌, ◌<◌, true, List, [], ◌∷◌, ◌++◌, drop, length, append-nil, arith, refl, sym, ap, subst, ◌∙◌, inl, inr, Option, Some, None}
+use Rattle.std.proofs.Common.{◌≡◌, ◌⊎◌, ℕ, ◌+◌, ◌*◌, ◌<◌, true, List, [], ◌∷◌, ◌++◌, drop, length, arith, refl, sym, ap, subst, ◌∙◌, inl, inr, Option, Some, None}
 use Rattle.std.specs.Prelude.{IsTrue, OnOk, Result, Ok, Err}
 use Rattle.std.specs.List.{list_all}
 use Rattle.std.specs.Ordering.{is_lt}
@@ -15,17 +15,16 @@ use Rattle.qg_blocks.specs.Told.{told}
 use Rattle.qg_space.specs.Holding.{is_free_slot}
 use Rattle.qg_verdict.specs.declared.expected.Expected.{Expected}
 use Rattle.qg_verdict.specs.declared.tree.Tree.{Tree}
-use Rattle.qg_verdict.specs.Walk.{root_expected, walk_failure}
-use Rattle.qg_walk.specs.Standing.{form_failure}
+use Rattle.qg_verdict.specs.Walk.{root_expected}
 use Rattle.qg_ground.specs.declared.ground.Ground.{Ground}
-use Rattle.qg_ground.specs.Land.{IsDrafted, Rests}
+use Rattle.qg_ground.specs.Land.{IsDrafted}
 use Rattle.qg_ground.specs.Tellings.{Telling}
 use Rattle.qg_edit.specs.declared.edit.Edit.{Edit}
 use Rattle.qg_edit.specs.declared.edit.Change.{Change}
 use Rattle.qg_edit.specs.declared.edit.Change.TheVariants.{Clear}
 use Rattle.qg_edit.specs.Edits.{CanEdit, IsShort, changed, edited}
 use Rattle.qg_descent.specs.declared.instead.Instead.{Instead}
-use Rattle.qg_descent.specs.Tree.{Reaches, Root, found_in, super_for, super_of}
+use Rattle.qg_descent.specs.Tree.{Reaches, Root, super_for, super_of}
 use Rattle.qg_descent.specs.First.{first_leaf, least}
 use Rattle.qg_descent.specs.Editing.{HoldInstead, IsPartEdited, IsPartFit, ReachesInstead}
 use Rattle.qg_descent.specs.Counting.{IsPartTold, IsRootTold, IsTold, IsTreeTold, ways, ways_instead}

@@ -1,14 +1,13 @@
 -- A tree again, once what stands in the place of its root is known.
-use Rattle.std.proofs.Common.{◌≡◌, ◌≢◌, ℕ, zero, suc, ◌+◌, ◌*◌, ◌-◌, ◌≤◌, true, List, [], ◌∷◌, ◌++◌, length, append-nil, arith, refl, sym, ap, subst, ◌∙◌, inl, inr, Option, Some, None}
-use Rattle.std.specs.Prelude.{MatchOption, nat_le, slice_get}
+use Rattle.std.proofs.Common.{◌≡◌, ℕ, suc, ◌*◌, ◌≤◌, true, List, [], ◌∷◌, ◌++◌, length, append-nil, arith, refl, sym, ap, subst, ◌∙◌, inl, inr, Option, Some, None}
+use Rattle.std.specs.Prelude.{nat_le}
 use Rattle.std.proofs.lemmas.Bool.{le-leb, leb-true}
-use Rattle.qg_device.specs.History.{Event}
 use Rattle.qg_node.specs.declared.item.Item.{Item}
 use Rattle.qg_node.specs.declared.pointer.Pointer.{Pointer}
 use Rattle.qg_node.specs.declared.node.Header.{Header}
 use Rattle.qg_node.specs.declared.node.Node.{Node}
 use Rattle.qg_node.specs.declared.node.Node.TheVariants.{Leaf, Inner}
-use Rattle.qg_node.specs.Nodes.{ascends_from, header_of, is_ascending, own_pointers, used_bytes}
+use Rattle.qg_node.specs.Nodes.{ascends_from, header_of, is_ascending, used_bytes}
 use Rattle.std.specs.Ordering.{is_lt}
 use Rattle.qg_num.specs.Key.{key_cmp}
 use Rattle.qg_node.specs.NodeText.{IsNode, IsNodeSize}
@@ -17,11 +16,9 @@ use Rattle.qg_super.specs.Places.{capacity}
 use Rattle.qg_image.specs.IsShaped.{is_shaped}
 use Rattle.qg_shape.specs.Pointing.{pointer_to}
 use Rattle.qg_verdict.specs.declared.tree.Tree.{Tree}
-use Rattle.qg_descent.specs.declared.instead.Instead.{Instead}
-use Rattle.qg_descent.specs.Tree.{IsTree, Reaches}
-use Rattle.qg_descent.specs.Branch.{AreBranches, IsBranch, IsMember, IsPointed}
-use Rattle.qg_descent.specs.Editing.{FillsThere, HoldInstead, alone}
-use Rattle.qg_descent.proofs.Branches.{branch-top}
+use Rattle.qg_descent.specs.Tree.{IsTree}
+use Rattle.qg_descent.specs.Branch.{AreBranches, IsBranch, IsMember}
+use Rattle.qg_descent.specs.Editing.{HoldInstead, alone}
 use Rattle.qg_descent.proofs.BranchOrder.{keys_of}
 use Rattle.qg_descent.proofs.BranchRanges.{tree-branch}
 use Rattle.qg_descent.proofs.Leading.{two-lead}

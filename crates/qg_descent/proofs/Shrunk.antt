@@ -1,6 +1,6 @@
 -- A root that is one node, or the child of a node with one pointer.
-use Rattle.std.proofs.Common.{◌≡◌, ◌≢◌, ◌⊎◌, ℕ, zero, suc, ◌+◌, ◌-◌, ◌*◌, ◌≤◌, ◌<◌, true, List, [], ◌∷◌, length, append-nil, arith, refl, sym, ap, subst, ◌∙◌, inl, inr, Option, Some, None}
-use Rattle.std.specs.Prelude.{IsTrue, slice_get}
+use Rattle.std.proofs.Common.{◌≡◌, ◌≢◌, ◌⊎◌, ℕ, zero, suc, ◌+◌, ◌-◌, ◌≤◌, ◌<◌, true, List, [], ◌∷◌, length, append-nil, arith, refl, sym, ap, subst, ◌∙◌, inl, inr, Option, Some, None}
+use Rattle.std.specs.Prelude.{IsTrue}
 use Rattle.std.proofs.lemmas.Bool.{le-leb}
 use Rattle.std.proofs.lemmas.List.Elements.{All-from_recursion}
 use Rattle.qg_device.specs.History.{Event}
@@ -27,7 +27,7 @@ use Rattle.qg_edit.proofs.Leaves.{IsNodeFor-cleared}
 use Rattle.qg_descent.specs.Tree.{IsTree, Reaches, Root, super_of}
 use Rattle.qg_descent.specs.Branch.{AreBranches, IsBranch}
 use Rattle.qg_descent.specs.First.{leaves}
-use Rattle.qg_descent.specs.Editing.{HoldInstead, IsRewritten, ReachesInstead, alone}
+use Rattle.qg_descent.specs.Editing.{IsRewritten, ReachesInstead, alone}
 use Rattle.qg_descent.specs.Counting.{IsBare, IsRootTold, one, ways, ways_instead}
 use Rattle.qg_descent.specs.Rooting.{HasRoot, StandsForRoot, lone_child, lone_of}
 use Rattle.qg_descent.proofs.BranchFrames.{reach-same, reach-top}
@@ -183,10 +183,13 @@ module _ (tree : Tree) (root : Root) (land : Ground) (history : Option (List Eve
         let timely : 0 < ways_instead (told land.blocks.draft history) root.height (alone now) (header_of node).address =
         subst (λ (q : ℕ). 0 < ways_instead (told land.blocks.draft history) root.height (alone now) q) (sym named) (omega (arith, top)) in
         record {
-          turns = (timely, λ q.
-              let all = gone_ways q in
-              let at = ap (λ (a : ℕ). one a q) named in
-              omega (arith, all, at));
+          turns = (
+            timely,
+            λ q.
+                let all = gone_ways q in
+                let at = ap (λ (a : ℕ). one a q) named in
+                omega (arith, all, at),
+          );
           new = λ q some. absurd (omega (arith, some));
           bare = All-from_recursion IsBare (Left (cleared node) ∷ []) ((refl, refl), tt);
           few_copied = omega arith;

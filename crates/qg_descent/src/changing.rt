@@ -208,7 +208,9 @@ impl Tree {
     {
         let way = self.way();
         let level = self.height();
-        let instead = self.edit_under::<P, D, L, B>(alloc, land, disk, book, way, level, edit, reads)?;
+        let instead = self.edit_under::<P, D, L, B>(
+            alloc, land, disk, book, way, level, edit, reads,
+        )?;
         self.set_root::<P, D, L, B>(alloc, land, disk, book, instead, reads)
     }
 }

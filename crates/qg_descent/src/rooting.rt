@@ -128,12 +128,7 @@ impl Tree {
             owner: self.owner(),
             level: self.height() + 1,
         };
-        let node = node_above(
-            alloc,
-            header,
-            land.blocks.peek(now),
-            land.blocks.peek(more),
-        )?;
+        let node = node_above(alloc, header, land.blocks.peek(now), land.blocks.peek(more))?;
         let root = make_node(land, disk, book, node, reads)?;
         self.rise_to(root);
         Ok(())

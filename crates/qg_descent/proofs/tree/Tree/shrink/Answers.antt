@@ -1,4 +1,4 @@
-use Rattle.std.proofs.Common.{◌≡◌, ℕ, suc, ◌-◌, [], ◌∷◌, arith, refl, sym, ap, subst, ◌∙◌}
+use Rattle.std.proofs.Common.{◌≡◌, suc, ◌-◌, [], ◌∷◌, arith, refl, sym, ap, subst, ◌∙◌}
 use Rattle.std.specs.Prelude.{Some, None}
 use Rattle.std.proofs.lemmas.Result.{err_from_is_err_and}
 use Rattle.qg_device.specs.History.{content}
