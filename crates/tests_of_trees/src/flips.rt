@@ -102,7 +102,7 @@ fn is_right<L: Ledger>(
     setting.disk.flip_after(u64::MAX);
     match answer {
         Err(BlockFault::Image { rule, .. }) => Ok(rule == Rule::Csum && right < reads),
-        Err(_) => Ok(false),
+        Err(fault) => Err(fault),
         Ok(is_found) => {
             Ok(is_found && right >= reads && are(&all_items(setting)?, &plain.entries))
         }
