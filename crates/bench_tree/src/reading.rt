@@ -4,7 +4,7 @@ ghost use Rattle.std.specs.Prelude.{◌≡◌, ◌≤◌};
 use crate::work::failed;
 use qg_blocks::Blocks;
 use qg_crc32c::crc32c;
-use qg_disk::{Disk, DiskFault};
+use qg_disk::Disk;
 use qg_node::read_node;
 use qg_num::{Address, BlockFault, Steps};
 use std::alloc::Global;
@@ -26,7 +26,7 @@ pub(crate) fn time_reads<D: Disk + Drop, L: Ledger>(
     reads: Steps<L>,
 ) -> io::Result<()> {
     let (mut disk, mut reads) = (disk, reads);
-    let mut image = vec![in alloc; 0u8; addresses.len() * NODE]?;
+    let mut image = vec![in alloc; 0u8; addresses.len().saturating_mul(NODE)]?;
     for _ in 0..5u32 {
         let start = Instant::now(rt)?;
         let loaded = load_all(alloc, &mut disk, addresses, &mut reads).map_err(failed)?;
@@ -68,15 +68,19 @@ fn read_all<D: Disk>(
     addresses: &[Address],
     image: &mut [u8],
 ) -> Result<usize, BlockFault> {
-    let len = disk.len();
     for (slot, address) in image.chunks_exact_mut(NODE).zip(addresses) {
-        if NODE as u64 <= len && address.value() <= len - NODE as u64 && slot.len() == NODE {
-            if let Err(DiskFault::Failed) = disk.read(address.value(), slot) {
-                return Err(BlockFault::Disk);
-            }
-        }
+        read_one(disk, address.value(), slot)?;
     }
     Ok(addresses.len())
+}
+
+/// Reads bytes from a place on, if the disk has so many.
+fn read_one<D: Disk>(disk: &mut D, at: u64, slot: &mut [u8]) -> Result<(), BlockFault> {
+    let (len, count) = (disk.len(), slot.len() as u64);
+    if count > len || at > len - count {
+        return Err(BlockFault::Disk);
+    }
+    disk.read(at, slot).map_err(|_| BlockFault::Disk)
 }
 
 /// The sum of the checksums of nodes.

@@ -61,7 +61,9 @@ fn make_call<L: Ledger>(
         }
         Call::Range => {
             let found = setting.range(key_of(3), key_of(10))?;
-            return Ok(are(&found, &[4, 6, 8, 10].map(|number| entry_of(number, 1))));
+            let [first, second] = [entry_of(4, 1), entry_of(6, 1)];
+            let [third, fourth] = [entry_of(8, 1), entry_of(10, 1)];
+            return Ok(are(&found, &[first, second, third, fourth]));
         }
         Call::Insert => put(setting, plain, entry_of(201, 2))?,
         Call::Replace => put(setting, plain, entry_of(200, 2))?,
@@ -80,7 +82,7 @@ fn drop_first<L: Ledger>(
 ) -> Result<(), BlockFault> {
     for _ in 0..count {
         setting.drop_first_leaf()?;
-        plain.entries.drain(..2);
+        plain.drop_first(2);
     }
     Ok(())
 }
@@ -100,7 +102,7 @@ fn is_right<L: Ledger>(
     setting.disk.flip_after(u64::MAX);
     match answer {
         Err(BlockFault::Image { rule, .. }) => Ok(rule == Rule::Csum && right < reads),
-        Err(_) => Ok(false),
+        Err(fault) => Err(fault),
         Ok(is_found) => {
             Ok(is_found && right >= reads && are(&all_items(setting)?, &plain.entries))
         }

@@ -97,7 +97,7 @@ fn edit_both<L: Ledger>(
         Edit::Put(number) => put(setting, plain, entry_of(number, 2)),
         Edit::Take(number) => take(setting, plain, number),
         Edit::DropFirst => {
-            plain.entries.drain(..2);
+            plain.drop_first(2);
             setting.drop_first_leaf()
         }
     }
@@ -137,7 +137,7 @@ fn edit_written<L: Ledger>(rt: &impl Abort, alloc: Global, blank: Blank) -> Resu
     for (one, told, used) in EDITS {
         let before = setting.told();
         edit_both(&mut setting, &mut plain, one)?;
-        assert!(rt; setting.told() == before + told, "{one:?}");
+        assert!(rt; setting.told() == before.saturating_add(told), "{one:?}");
         assert!(rt; setting.used_slots() == used, "{one:?}");
     }
     let mut setting = setting.commit()?;

@@ -137,7 +137,7 @@ fn drop_one<D: Disk + Drop, L: Ledger>(
         bytes <= MOST && (items.is_empty() || bytes >= LEAST),
         "{bytes}"
     );
-    plain.entries.drain(..gone);
+    plain.drop_first(gone);
     assert!(rt; are(&items, &plain.entries));
     Ok(())
 }
@@ -171,9 +171,12 @@ fn edit_many<L: Ledger>(
         setting = commit_and_compare(rt, setting, &plain)?;
     }
     assert!(rt; setting.height() == 1);
-    while !plain.entries.is_empty() {
-        drop_one(rt, &mut setting, &mut plain)?;
+    for _ in 0..200u32 {
+        if !plain.entries.is_empty() {
+            drop_one(rt, &mut setting, &mut plain)?;
+        }
     }
+    assert!(rt; plain.entries.is_empty());
     let setting = commit_and_compare(rt, setting, &plain)?;
     assert!(rt; setting.height() == 0 && setting.used_slots() == 1);
     Ok(())

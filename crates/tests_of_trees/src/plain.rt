@@ -1,12 +1,12 @@
 // A plain sorted list, which says what a tree holds that was edited as the list was.
-ghost use Rattle.std.specs.Prelude.{◌≡◌, ◌≤◌, ◌<◌};
+ghost use Rattle.std.specs.Prelude.{◌≡◌, ◌≤◌, ◌<◌, length};
 ghost use Rattle.qg_blocks.specs.Held.{most_clean};
 
 use crate::Setting;
 use qg_disk::Disk;
 use qg_node::{Body, Item, Items};
 use qg_num::{BlockFault, Key};
-use std::alloc::Global;
+use std::alloc::{AllocError, Global};
 use std::sync::ledger::{Blank, Ledger};
 
 /// The bytes that an item takes of a leaf beside its body.
@@ -54,14 +54,41 @@ impl Plain {
         }
     }
 
-    /// Where the item with a number stands; where there is none, where it would.
-    pub(crate) fn find(&self, number: u64) -> Result<usize, usize> {
-        let place = self.entries.partition_point(|entry| entry.number < number);
-        if place < self.entries.len() && self.entries[place].number == number {
-            Ok(place)
-        } else {
-            Err(place)
+    // How many items have a lesser number.
+    fn place_of(&self, number: u64) -> usize
+        ensures { result ≤ length self.now.entries.items }
+    {
+        self.entries.partition_point(|entry| entry.number < number)
+    }
+
+    /// Whether there is an item with a number.
+    pub(crate) fn has(&self, number: u64) -> bool {
+        let place = self.place_of(number);
+        place < self.entries.len() && self.entries[place].number == number
+    }
+
+    /// Puts an item in, in the place of the one with its number, if there is one.
+    pub(crate) fn put(&mut self, entry: Entry) -> Result<(), AllocError> {
+        let place = self.place_of(entry.number);
+        if place < self.entries.len() && self.entries[place].number == entry.number {
+            self.entries[place] = entry;
+            return Ok(());
         }
+        Ok(self.entries.insert(place, entry)?)
+    }
+
+    /// Takes out the item with a number, which is there.
+    pub(crate) fn take(&mut self, number: u64) {
+        let place = self.place_of(number);
+        if place < self.entries.len() {
+            self.entries.remove(place);
+        }
+    }
+
+    /// Takes out the first so many items.
+    pub(crate) fn drop_first(&mut self, count: usize) {
+        let count = count.min(self.entries.len());
+        self.entries.drain(..count);
     }
 
     /// What all items take of leaves, in bytes.
@@ -74,7 +101,7 @@ impl Plain {
 pub(crate) fn bytes_of(entries: &[Entry]) -> u64 {
     let mut bytes = 0u64;
     for entry in entries {
-        bytes = bytes.saturating_add(ITEM_BYTES + entry.length as u64);
+        bytes = bytes.saturating_add(ITEM_BYTES.saturating_add(entry.length as u64));
     }
     bytes
 }
@@ -104,17 +131,12 @@ pub(crate) fn put<D: Disk + Drop, L: Ledger>(
 ) -> Result<(), BlockFault> {
     let bytes = [entry.byte; 1024];
     let body = &bytes[..entry.length.min(1024)];
-    match plain.find(entry.number) {
-        Ok(place) => {
-            setting.replace(key_of(entry.number), body)?;
-            plain.entries[place] = entry;
-        }
-        Err(place) => {
-            setting.insert(key_of(entry.number), body)?;
-            plain.entries.insert(place, entry)?;
-        }
+    if plain.has(entry.number) {
+        setting.replace(key_of(entry.number), body)?;
+    } else {
+        setting.insert(key_of(entry.number), body)?;
     }
-    Ok(())
+    Ok(plain.put(entry)?)
 }
 
 /// Takes an item out of both, if there is one with that number.
@@ -123,9 +145,9 @@ pub(crate) fn take<D: Disk + Drop, L: Ledger>(
     plain: &mut Plain,
     number: u64,
 ) -> Result<(), BlockFault> {
-    if let Ok(place) = plain.find(number) {
+    if plain.has(number) {
         setting.remove(key_of(number))?;
-        plain.entries.remove(place);
+        plain.take(number);
     }
     Ok(())
 }

@@ -1,17 +1,17 @@
 // A tree that is edited, with all that its calls are lent.
-ghost use Rattle.std.specs.Prelude.{◌≡◌, ◌≤◌, IsTrue};
-ghost use Rattle.qg_blocks.specs.Held.{most_clean, slots_of};
+ghost use Rattle.std.specs.Prelude.{◌≡◌, ◌+◌, ◌*◌, ◌<◌, ◌≤◌, IsTrue};
+ghost use Rattle.qg_node.specs.Nodes.{header_of};
 ghost use Rattle.qg_super.specs.Places.{is_served};
+ghost use Rattle.qg_blocks.specs.Held.{most_clean, slots_of};
+ghost use Rattle.qg_space.specs.Holding.{free_slots};
 
-use crate::writing::{hold_first, lengthen, write_fresh};
-use qg_blocks::Blocks;
+use crate::writing::{empty_land, hold_first, lengthen, write_fresh};
 use qg_descent::Tree;
 use qg_disk::Disk;
 use qg_ground::{Ground, SlotBook, make_node};
 use qg_image::FilePart;
 use qg_node::{Body, Header, Item, Items, Node};
-use qg_num::{Address, BlockFault, Generation, Key, NoMemory, RootId, Sequence, Steps};
-use qg_space::Space;
+use qg_num::{Address, BlockFault, Generation, Key, RootId, Sequence, Steps};
 use qg_super::Sizes;
 use std::alloc::Global;
 use std::marker::Model;
@@ -218,7 +218,7 @@ impl<D: Disk + Drop, L: Ledger> Setting<D, L> {
 
     /// `Tree::insert`.
     pub fn insert(&mut self, key: Key, body: &[u8]) -> Result<(), BlockFault> {
-        if body.len() > LONGEST_BODY || !self.has_room() {
+        if body.len() > LONGEST_BODY || !has_room(&self.tree, &self.land) {
             return Err(BlockFault::NoMemory);
         }
         let body = Body::from_slice(self.alloc, body)?;
@@ -235,7 +235,7 @@ impl<D: Disk + Drop, L: Ledger> Setting<D, L> {
 
     /// `Tree::replace`.
     pub fn replace(&mut self, key: Key, body: &[u8]) -> Result<(), BlockFault> {
-        if body.len() > LONGEST_BODY || !self.has_room() {
+        if body.len() > LONGEST_BODY || !has_room(&self.tree, &self.land) {
             return Err(BlockFault::NoMemory);
         }
         let body = Body::from_slice(self.alloc, body)?;
@@ -252,7 +252,7 @@ impl<D: Disk + Drop, L: Ledger> Setting<D, L> {
 
     /// `Tree::remove`.
     pub fn remove(&mut self, key: Key) -> Result<(), BlockFault> {
-        if !self.has_room() {
+        if !has_room(&self.tree, &self.land) {
             return Err(BlockFault::NoMemory);
         }
         self.tree.remove::<FilePart, D, L, SlotBook>(
@@ -267,7 +267,7 @@ impl<D: Disk + Drop, L: Ledger> Setting<D, L> {
 
     /// `Tree::drop_first_leaf`.
     pub fn drop_first_leaf(&mut self) -> Result<(), BlockFault> {
-        if !self.has_room() {
+        if !has_room(&self.tree, &self.land) {
             return Err(BlockFault::NoMemory);
         }
         self.tree.drop_first_leaf::<FilePart, D, L, SlotBook>(
@@ -278,11 +278,13 @@ impl<D: Disk + Drop, L: Ledger> Setting<D, L> {
             &mut self.reads,
         )
     }
+}
 
-    // Whether so many slots are free as an edit asks for.
-    fn has_room(&self) -> bool {
-        3 * (self.tree.height() as u64 + 2) <= self.land.space.free_slots()
-    }
+// Whether so many slots are free as an edit asks for.
+fn has_room(tree: &Tree, land: &Ground) -> bool
+    ensures { IsTrue result → 3 * (tree.now.height + 2) ≤ free_slots land.now.space }
+{
+    3 * (tree.height() as u64 + 2) <= land.space.free_slots()
 }
 
 fn sizes_of(nodesize: u32, slots: u64) -> Sizes
@@ -295,7 +297,9 @@ fn sizes_of(nodesize: u32, slots: u64) -> Sizes
     }
 }
 
-fn tree_at(root: Address, height: u8, generation: u64) -> Tree {
+fn tree_at(root: Address, height: u8, generation: u64) -> Tree
+    ensures { result ≡ record { address = root; height = height; owner = OWNER; next = generation } }
+{
     Tree::at(
         root,
         height,
@@ -304,19 +308,9 @@ fn tree_at(root: Address, height: u8, generation: u64) -> Tree {
     )
 }
 
-// No node is in memory, and no slot is taken.
-fn empty_land(alloc: Global, nodesize: u32, slots: u64, bound: usize) -> Result<Ground, NoMemory>
-    requires served { IsTrue (is_served (slots_of nodesize slots)) }
-    requires some { 1 ≤ bound }
-    requires most { bound ≤ most_clean }
+fn empty_leaf(alloc: Global) -> Node
+    ensures { (header_of result).generation ≡ 1 }
 {
-    Ok(Ground {
-        blocks: Blocks::with_bound(alloc, nodesize, slots, bound)?,
-        space: Space::new(alloc, slots, nodesize, 16)?,
-    })
-}
-
-fn empty_leaf(alloc: Global) -> Node {
     Node::Leaf {
         header: Header {
             address: Address::new(0),
