@@ -39,14 +39,14 @@ pub struct Setting<D: Disk + Drop, L: Ledger> {
 
 impl<D: Disk + Drop, L: Ledger> Model for Setting<D, L> {
     ghost use Rattle.std.specs.Prelude.{◌≡◌, ⊤};
-    ghost use Rattle.qg_image.specs.declared.part.FilePart.{FilePart};
+    ghost use Rattle.qg_verdict.specs.declared.tree.Tree.TheVariants.{Files};
     ghost use Rattle.qg_descent.specs.Editing.{CanMake, IsEditable};
 
     ghost Value = { ⊤ };
 
     ghost view = { λ _. tt };
 
-    ghost invariant = { λ s. IsEditable s.land (D.history s.disk) (D.size s.disk) s.tree.next × CanMake FilePart.tree s.tree
+    ghost invariant = { λ s. IsEditable s.land (D.history s.disk) (D.size s.disk) s.tree.next × CanMake Files s.tree
         × (s.land.blocks.draft.sizes ≡ s.sizes) };
 }
 
