@@ -28,7 +28,8 @@ const LONGEST_BODY: usize = 1024;
 #[derive(Drop)]
 pub struct Setting<D: Disk + Drop, L: Ledger> {
     alloc: Global,
-    sizes: Sizes,
+    nodesize: u32,
+    slots: u64,
     tree: Tree,
     generation: u64,
     land: Ground,
@@ -38,7 +39,8 @@ pub struct Setting<D: Disk + Drop, L: Ledger> {
 }
 
 impl<D: Disk + Drop, L: Ledger> Model for Setting<D, L> {
-    ghost use Rattle.std.specs.Prelude.{◌≡◌, ⊤};
+    ghost use Rattle.std.specs.Prelude.{◌≡◌, ◌<◌, ⊤};
+    ghost use Rattle.qg_blocks.specs.Held.{slots_of};
     ghost use Rattle.qg_verdict.specs.declared.tree.Tree.TheVariants.{Files};
     ghost use Rattle.qg_descent.specs.Editing.{CanMake, IsEditable};
 
@@ -47,7 +49,7 @@ impl<D: Disk + Drop, L: Ledger> Model for Setting<D, L> {
     ghost view = { λ _. tt };
 
     ghost invariant = { λ s. IsEditable s.land (D.history s.disk) (D.size s.disk) s.tree.next × CanMake Files s.tree
-        × (s.land.blocks.draft.sizes ≡ s.sizes) };
+        × (s.land.blocks.draft.sizes ≡ slots_of s.nodesize s.slots) × (s.land.space.sizes ≡ slots_of s.nodesize s.slots) × (0 < s.generation) };
 }
 
 impl<D: Disk + Drop, L: Ledger> Setting<D, L> {
@@ -79,7 +81,8 @@ impl<D: Disk + Drop, L: Ledger> Setting<D, L> {
         let root = make_node(&mut land, &mut disk, &mut book, node, &mut reads)?;
         Ok(Setting {
             alloc,
-            sizes: sizes_of(nodesize, slots),
+            nodesize,
+            slots,
             tree: tree_at(root, 0, 1),
             generation: 1,
             land,
@@ -93,7 +96,8 @@ impl<D: Disk + Drop, L: Ledger> Setting<D, L> {
     pub fn commit(self) -> Result<Setting<D, L>, BlockFault> {
         let Setting {
             alloc,
-            sizes,
+            nodesize,
+            slots,
             tree,
             generation,
             mut land,
@@ -101,12 +105,18 @@ impl<D: Disk + Drop, L: Ledger> Setting<D, L> {
             book,
             reads,
         } = self;
-        write_fresh(alloc, &sizes, &mut land.blocks, &mut disk)?;
+        write_fresh(
+            alloc,
+            &sizes_of(nodesize, slots),
+            &mut land.blocks,
+            &mut disk,
+        )?;
         land.space.committed();
         let generation = generation.saturating_add(1);
         Ok(Setting {
             alloc,
-            sizes,
+            nodesize,
+            slots,
             tree: tree_at(tree.root(), tree.height(), generation),
             generation,
             land,
@@ -121,7 +131,7 @@ impl<D: Disk + Drop, L: Ledger> Setting<D, L> {
         self,
         root: Address,
         height: u8,
-        slots: u64,
+        used: u64,
         bound: usize,
     ) -> Result<Setting<D, L>, BlockFault>
         requires some { 1 ≤ bound }
@@ -129,17 +139,19 @@ impl<D: Disk + Drop, L: Ledger> Setting<D, L> {
     {
         let Setting {
             alloc,
-            sizes,
+            nodesize,
+            slots,
             generation,
             disk,
             reads,
             ..
         } = self;
-        let mut land = empty_land(alloc, sizes.nodesize as u32, sizes.slots, bound)?;
-        hold_first(&mut land.space, slots)?;
+        let mut land = empty_land(alloc, nodesize, slots, bound)?;
+        hold_first(&mut land.space, used)?;
         Ok(Setting {
             alloc,
-            sizes,
+            nodesize,
+            slots,
             tree: tree_at(root, height, generation),
             generation,
             land,
@@ -161,9 +173,7 @@ impl<D: Disk + Drop, L: Ledger> Setting<D, L> {
 
     /// How many slots the tree's nodes and the last commit's take.
     pub fn used_slots(&self) -> u64 {
-        self.sizes
-            .slots
-            .saturating_sub(self.land.space.free_slots())
+        self.slots.saturating_sub(self.land.space.free_slots())
     }
 
     /// How many nodes were copied, made or left.
