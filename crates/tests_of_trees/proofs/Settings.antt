@@ -16,7 +16,6 @@ use Rattle.qg_descent.specs.Editing.{CanMake, IsEditable}
 use Rattle.qg_descent.specs.Way.{HasRead, IsReadable}
 
 module _ (land : Ground) (history : Option (List Event)) (bytes generation : ℕ) where
-
   -- it is read
   pub readable_land : IsEditable land history bytes generation → IsReadable land.blocks history bytes
   readable_land is = record { backed = is.backed; placed = ArePlaced-drafted land generation bytes is.room is.drafted }
@@ -48,7 +47,6 @@ makes_files root address height next is later = record {
 
 -- nodes and space of these sizes, of which no node is fresh
 module _ (land : Ground) (sizes : Sizes) (served : is_served sizes ≡ true) (draft : land.blocks.draft ≡ nothing_fresh sizes) (space : land.space.sizes ≡ sizes) where
-
   empty_drafted : (generation : ℕ) → IsDrafted land generation
   empty_drafted generation =
       let same : land.blocks.draft.sizes ≡ land.space.sizes = ap (λ (d : Draft). d.sizes) draft ∙ sym space in

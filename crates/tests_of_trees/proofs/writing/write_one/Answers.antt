@@ -1,4 +1,4 @@
-use Rattle.std.proofs.Common.{◌≡◌, ℕ, length, arith, sym, subst, ◌∙◌, Ok}
+use Rattle.std.proofs.Common.{◌≡◌, arith, sym, subst, ◌∙◌, Ok}
 use Rattle.std.proofs.lemmas.Result.{on_ok_weaker}
 use Rattle.qg_node.specs.NodeText.{IsNodeSize}
 use Rattle.qg_node.specs.Reading.{node_read}

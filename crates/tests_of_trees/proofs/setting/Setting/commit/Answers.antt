@@ -1,4 +1,4 @@
-use Rattle.std.proofs.Common.{◌≡◌, ◌<◌, ◌≤◌, ap, arith, subst, sym, true, ◌∙◌}
+use Rattle.std.proofs.Common.{◌≡◌, ◌<◌, ◌≤◌, ap, arith, subst, true, ◌∙◌}
 use Rattle.qg_super.specs.declared.sizes.Sizes.{Sizes}
 use Rattle.qg_super.specs.Places.{is_served, second_place}
 use Rattle.qg_blocks.specs.Held.{nothing_fresh, slots_of}
