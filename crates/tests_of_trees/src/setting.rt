@@ -13,6 +13,7 @@ use qg_image::FilePart;
 use qg_node::{Body, Header, Item, Items, Node};
 use qg_num::{Address, BlockFault, Generation, Key, RootId, Sequence, Steps};
 use qg_super::Sizes;
+use qg_tree_edits::{drop_first_leaf, insert, remove, replace};
 use std::alloc::Global;
 use std::marker::Model;
 use std::sync::ledger::{Blank, Ledger};
@@ -42,7 +43,7 @@ impl<D: Disk + Drop, L: Ledger> Model for Setting<D, L> {
     ghost use Rattle.std.specs.Prelude.{◌≡◌, ◌<◌, ⊤};
     ghost use Rattle.qg_blocks.specs.Held.{slots_of};
     ghost use Rattle.qg_verdict.specs.declared.tree.Tree.TheVariants.{Files};
-    ghost use Rattle.qg_descent.specs.Editing.{CanMake, IsEditable};
+    ghost use Rattle.qg_tree_edits.specs.Editing.{CanMake, IsEditable};
 
     ghost Value = { ⊤ };
 
@@ -226,13 +227,14 @@ impl<D: Disk + Drop, L: Ledger> Setting<D, L> {
         )
     }
 
-    /// `Tree::insert`.
+    /// `insert` of the tree.
     pub fn insert(&mut self, key: Key, body: &[u8]) -> Result<(), BlockFault> {
         if body.len() > LONGEST_BODY || !has_room(&self.tree, &self.land) {
             return Err(BlockFault::NoMemory);
         }
         let body = Body::from_slice(self.alloc, body)?;
-        self.tree.insert::<FilePart, D, L, SlotBook>(
+        insert::<FilePart, D, L, SlotBook>(
+            &mut self.tree,
             self.alloc,
             &mut self.land,
             &mut self.disk,
@@ -243,13 +245,14 @@ impl<D: Disk + Drop, L: Ledger> Setting<D, L> {
         )
     }
 
-    /// `Tree::replace`.
+    /// `replace` of the tree.
     pub fn replace(&mut self, key: Key, body: &[u8]) -> Result<(), BlockFault> {
         if body.len() > LONGEST_BODY || !has_room(&self.tree, &self.land) {
             return Err(BlockFault::NoMemory);
         }
         let body = Body::from_slice(self.alloc, body)?;
-        self.tree.replace::<FilePart, D, L, SlotBook>(
+        replace::<FilePart, D, L, SlotBook>(
+            &mut self.tree,
             self.alloc,
             &mut self.land,
             &mut self.disk,
@@ -260,12 +263,13 @@ impl<D: Disk + Drop, L: Ledger> Setting<D, L> {
         )
     }
 
-    /// `Tree::remove`.
+    /// `remove` of the tree.
     pub fn remove(&mut self, key: Key) -> Result<(), BlockFault> {
         if !has_room(&self.tree, &self.land) {
             return Err(BlockFault::NoMemory);
         }
-        self.tree.remove::<FilePart, D, L, SlotBook>(
+        remove::<FilePart, D, L, SlotBook>(
+            &mut self.tree,
             self.alloc,
             &mut self.land,
             &mut self.disk,
@@ -275,12 +279,13 @@ impl<D: Disk + Drop, L: Ledger> Setting<D, L> {
         )
     }
 
-    /// `Tree::drop_first_leaf`.
+    /// `drop_first_leaf` of the tree.
     pub fn drop_first_leaf(&mut self) -> Result<(), BlockFault> {
         if !has_room(&self.tree, &self.land) {
             return Err(BlockFault::NoMemory);
         }
-        self.tree.drop_first_leaf::<FilePart, D, L, SlotBook>(
+        drop_first_leaf::<FilePart, D, L, SlotBook>(
+            &mut self.tree,
             self.alloc,
             &mut self.land,
             &mut self.disk,
