@@ -1,11 +1,16 @@
 -- What edits of items, one by one, make of a subvolume's files (this project's own).
 use Rattle.std.specs.Prelude.{◌≡◌, ℕ, List, is_some, Some, None, if◌then◌else◌}
+use Rattle.std.specs.List.{flat_map}
+use Rattle.std.specs.List.Sorted.{IsStrictlyIncreasing}
 use Rattle.qg_num.specs.declared.key.Key.{Key}
 use Rattle.qg_node.specs.declared.item.Item.{Item}
+use Rattle.qg_image.specs.declared.file.File.{File}
 use Rattle.qg_image.specs.IsShaped.{same_key}
+use Rattle.qg_image.specs.Table.{keys_of}
+use Rattle.qg_contents.specs.Written.{items_of_file}
 use Rattle.qg_edit.specs.Edits.{has_key, with_item, without_key}
 use Rattle.qg_descent.specs.Reading.{body_at}
-use Rattle.qg_file_items.specs.Bodies.{Ascend}
+use Rattle.qg_file_items.specs.Bodies.{Ascend, body_in_files}
 
 -- ---- items by their bodies
 
@@ -32,3 +37,10 @@ pub record IsTakenOut (gone : Key) (items : List Item) : Type 0 where
 
 abbrev pub TakesOut : Type 0
 TakesOut = (gone : Key) (items : List Item) → IsTakenOut gone items
+
+-- ---- the items of files
+
+-- under each key of the items of files stands what the file of its number has there
+abbrev pub FilesHaveBodies : Type 0
+FilesHaveBodies = (files : List (ℕ × File)) → IsStrictlyIncreasing (keys_of files) → (key : Key)
+    → body_at key (flat_map items_of_file files) ≡ body_in_files key files

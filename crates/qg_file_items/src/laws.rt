@@ -1,5 +1,5 @@
 // What stands under each key, and what edits of items make of files.
-ghost use Rattle.qg_file_items.specs.Laws.{AreTold, HasBody, PutsIn, TakesOut};
+ghost use Rattle.qg_file_items.specs.Laws.{AreTold, FilesHaveBodies, HasBody, PutsIn, TakesOut};
 
 /// A law: items whose keys ascend are told by what stands under each key (this project's own).
 pub fn items_are_told_by_bodies()
@@ -11,4 +11,9 @@ pub fn items_are_told_by_bodies()
 pub fn edits_by_bodies()
     ensures put { PutsIn }
     ensures taken { TakesOut }
+{}
+
+/// A law: the items of files are known by their keys, (this project's own).
+pub fn items_of_files()
+    ensures bodies { FilesHaveBodies }
 {}
