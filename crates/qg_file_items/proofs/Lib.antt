@@ -4,3 +4,6 @@ pub mod FileBodies
 pub mod Numbers
 pub mod Said
 pub mod Read
+pub mod Spelled
+pub mod Tables
+pub mod OneFile

@@ -13,6 +13,7 @@ use Rattle.qg_image.specs.declared.file.File.{File}
 use Rattle.qg_image.specs.FilesOf.{piece_end}
 use Rattle.qg_image.specs.Table.{value_at}
 use Rattle.qg_contents.specs.Written.{inode_of, extent_data_of}
+use Rattle.qg_descent.specs.Reading.{body_at}
 
 -- the keys of items ascend
 abbrev pub Ascend : List Item → Type 0
@@ -48,3 +49,13 @@ body_in_file kind offset file =
 -- what files have under a key
 abbrev pub body_in_files : Key → List (ℕ × File) → Option (List ℕ)
 body_in_files key files = option_and_then (body_in_file key.kind key.offset) (value_at key.objectid files)
+
+-- ---- one file changed
+
+-- what is under a key once a file is this one, and other files' items stay
+abbrev pub body_with_file : ℕ → File → List Item → Key → Option (List ℕ)
+body_with_file ino file items key = if ino == key.objectid then body_in_file key.kind key.offset file else body_at key items
+
+-- and once there is no such file
+abbrev pub body_without_file : ℕ → List Item → Key → Option (List ℕ)
+body_without_file ino items key = if ino == key.objectid then None else body_at key items

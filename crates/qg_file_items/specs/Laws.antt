@@ -1,16 +1,19 @@
 -- What edits of items, one by one, make of a subvolume's files (this project's own).
-use Rattle.std.specs.Prelude.{◌≡◌, ℕ, List, is_some, Some, None, if◌then◌else◌}
+use Rattle.std.specs.Prelude.{◌≡◌, ℕ, List, All, is_some, Some, None, if◌then◌else◌}
 use Rattle.std.specs.List.{flat_map}
 use Rattle.std.specs.List.Sorted.{IsStrictlyIncreasing}
 use Rattle.qg_num.specs.declared.key.Key.{Key}
+use Rattle.qg_bytes.specs.Fields.{IsBytes}
 use Rattle.qg_node.specs.declared.item.Item.{Item}
 use Rattle.qg_image.specs.declared.file.File.{File}
 use Rattle.qg_image.specs.IsShaped.{same_key}
-use Rattle.qg_image.specs.Table.{keys_of}
+use Rattle.qg_image.specs.FilesOf.{files_of}
+use Rattle.qg_image.specs.Table.{keys_of, with_value, without_key as without_value}
+use Rattle.qg_rules.specs.Writable.{AreWritableFiles, IsFileBy, IsWritableFile}
 use Rattle.qg_contents.specs.Written.{items_of_file}
 use Rattle.qg_edit.specs.Edits.{has_key, with_item, without_key}
 use Rattle.qg_descent.specs.Reading.{body_at}
-use Rattle.qg_file_items.specs.Bodies.{Ascend, body_in_files}
+use Rattle.qg_file_items.specs.Bodies.{Ascend, body_in_files, body_with_file, body_without_file}
 
 -- ---- items by their bodies
 
@@ -40,7 +43,45 @@ TakesOut = (gone : Key) (items : List Item) → IsTakenOut gone items
 
 -- ---- the items of files
 
--- under each key of the items of files stands what the file of its number has there
+-- items that are read as files are those that are written for these files, which can be written
+pub record AreItemsOf (generation : ℕ) (files : List (ℕ × File)) (items : List Item) : Type 0 where
+  pub are : items ≡ flat_map items_of_file files
+  pub writable : AreWritableFiles files
+  pub by : All (IsFileBy generation) files
+
+abbrev pub AreSpelled : Type 0
+AreSpelled = (generation : ℕ) (items : List Item) (files : List (ℕ × File)) → All (λ item. IsBytes item.body) items → Ascend items
+    → files_of generation items ≡ Some files → AreItemsOf generation files items
+
+-- their keys ascend
+abbrev pub FilesAscend : Type 0
+FilesAscend = (files : List (ℕ × File)) → AreWritableFiles files → Ascend (flat_map items_of_file files)
+
+-- under each key stands what the file of its number has there
 abbrev pub FilesHaveBodies : Type 0
 FilesHaveBodies = (files : List (ℕ × File)) → IsStrictlyIncreasing (keys_of files) → (key : Key)
     → body_at key (flat_map items_of_file files) ≡ body_in_files key files
+
+-- ---- one file changed
+
+-- with one file put in the place of another, or made, its bodies stand under the keys of its number
+abbrev pub HasFileBodies : Type 0
+HasFileBodies = (ino : ℕ) (file : File) (files : List (ℕ × File)) → IsStrictlyIncreasing (keys_of files) → (key : Key)
+    → body_at key (flat_map items_of_file (with_value ino file files)) ≡ body_with_file ino file (flat_map items_of_file files) key
+
+-- and with a file taken out, none
+abbrev pub HasNoFileBodies : Type 0
+HasNoFileBodies = (ino : ℕ) (files : List (ℕ × File)) → IsStrictlyIncreasing (keys_of files) → (key : Key)
+    → body_at key (flat_map items_of_file (without_value ino files)) ≡ body_without_file ino (flat_map items_of_file files) key
+
+-- so items with these bodies are those of the files with this one in its place
+abbrev pub PutsFile : Type 0
+PutsFile = (ino : ℕ) (file : File) (files : List (ℕ × File)) (items : List Item) → AreWritableFiles files → IsWritableFile (ino, file)
+    → Ascend items → ((key : Key) → body_at key items ≡ body_with_file ino file (flat_map items_of_file files) key)
+    → items ≡ flat_map items_of_file (with_value ino file files)
+
+-- or of the files without it
+abbrev pub TakesFile : Type 0
+TakesFile = (ino : ℕ) (files : List (ℕ × File)) (items : List Item) → AreWritableFiles files → Ascend items
+    → ((key : Key) → body_at key items ≡ body_without_file ino (flat_map items_of_file files) key)
+    → items ≡ flat_map items_of_file (without_value ino files)

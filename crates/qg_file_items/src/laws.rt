@@ -1,5 +1,7 @@
 // What stands under each key, and what edits of items make of files.
-ghost use Rattle.qg_file_items.specs.Laws.{AreTold, FilesHaveBodies, HasBody, PutsIn, TakesOut};
+ghost use Rattle.qg_file_items.specs.Laws.{
+    AreSpelled, AreTold, FilesAscend, FilesHaveBodies, HasBody, HasFileBodies, HasNoFileBodies, PutsFile, PutsIn, TakesFile, TakesOut,
+};
 
 /// A law: items whose keys ascend are told by what stands under each key (this project's own).
 pub fn items_are_told_by_bodies()
@@ -13,7 +15,19 @@ pub fn edits_by_bodies()
     ensures taken { TakesOut }
 {}
 
-/// A law: the items of files are known by their keys, (this project's own).
+/// A law: items of bytes that are read as files are exactly those that are written for these files, and so is what stands
+/// under each key of them (this project's own).
 pub fn items_of_files()
+    ensures spelled { AreSpelled }
+    ensures ascending { FilesAscend }
     ensures bodies { FilesHaveBodies }
+{}
+
+/// A law: what stands under each key once one file is changed, made or taken out, and that only these items have it
+/// (this project's own).
+pub fn one_file_by_bodies()
+    ensures with_it { HasFileBodies }
+    ensures without_it { HasNoFileBodies }
+    ensures put { PutsFile }
+    ensures taken { TakesFile }
 {}
