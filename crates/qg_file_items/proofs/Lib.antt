@@ -7,3 +7,4 @@ pub mod Read
 pub mod Spelled
 pub mod Tables
 pub mod OneFile
+pub mod Pieces

@@ -1,19 +1,22 @@
 -- What edits of items, one by one, make of a subvolume's files (this project's own).
-use Rattle.std.specs.Prelude.{◌≡◌, ℕ, List, All, is_some, Some, None, if◌then◌else◌}
+use Rattle.std.specs.Prelude.{◌≡◌, ℕ, List, All, IsTrue, is_some, Some, None, if◌then◌else◌}
 use Rattle.std.specs.List.{flat_map}
 use Rattle.std.specs.List.Sorted.{IsStrictlyIncreasing}
 use Rattle.qg_num.specs.declared.key.Key.{Key}
+use Rattle.qg_num.specs.declared.piece.Piece.{Piece}
 use Rattle.qg_bytes.specs.Fields.{IsBytes}
 use Rattle.qg_node.specs.declared.item.Item.{Item}
 use Rattle.qg_image.specs.declared.file.File.{File}
 use Rattle.qg_image.specs.IsShaped.{same_key}
-use Rattle.qg_image.specs.FilesOf.{files_of}
+use Rattle.qg_image.specs.FilesOf.{are_pieces, files_of}
 use Rattle.qg_image.specs.Table.{keys_of, with_value, without_key as without_value}
+use Rattle.qg_machine.specs.FileChange.{before, with_range}
 use Rattle.qg_rules.specs.Writable.{AreWritableFiles, IsFileBy, IsWritableFile}
 use Rattle.qg_contents.specs.Written.{items_of_file}
 use Rattle.qg_edit.specs.Edits.{has_key, with_item, without_key}
 use Rattle.qg_descent.specs.Reading.{body_at}
-use Rattle.qg_file_items.specs.Bodies.{Ascend, body_in_files, body_with_file, body_without_file}
+use Rattle.qg_file_items.specs.Bodies.{Ascend, body_in_files, body_with_file, body_without_file, piece_at}
+use Rattle.qg_file_items.specs.Pieces.{piece_at_cut, piece_at_range}
 
 -- ---- items by their bodies
 
@@ -85,3 +88,14 @@ abbrev pub TakesFile : Type 0
 TakesFile = (ino : ℕ) (files : List (ℕ × File)) (items : List Item) → AreWritableFiles files → Ascend items
     → ((key : Key) → body_at key items ≡ body_without_file ino (flat_map items_of_file files) key)
     → items ≡ flat_map items_of_file (without_value ino files)
+
+-- ---- one range of a file
+
+-- the piece at each position once a range of a file has other pieces
+abbrev pub PutsRange : Type 0
+PutsRange = (from to : ℕ) (given pieces : List Piece) → IsTrue (are_pieces from to given) → (position : ℕ)
+    → piece_at position (with_range from to given pieces) ≡ piece_at_range from to given pieces position
+
+-- and once it is cut to a size
+abbrev pub CutsPieces : Type 0
+CutsPieces = (size : ℕ) (pieces : List Piece) (position : ℕ) → piece_at position (before size pieces) ≡ piece_at_cut size pieces position

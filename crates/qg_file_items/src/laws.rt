@@ -1,6 +1,6 @@
 // What stands under each key, and what edits of items make of files.
 ghost use Rattle.qg_file_items.specs.Laws.{
-    AreSpelled, AreTold, FilesAscend, FilesHaveBodies, HasBody, HasFileBodies, HasNoFileBodies, PutsFile, PutsIn, TakesFile, TakesOut,
+    AreSpelled, AreTold, CutsPieces, FilesAscend, FilesHaveBodies, HasBody, HasFileBodies, HasNoFileBodies, PutsFile, PutsIn, PutsRange, TakesFile, TakesOut,
 };
 
 /// A law: items whose keys ascend are told by what stands under each key (this project's own).
@@ -30,4 +30,10 @@ pub fn one_file_by_bodies()
     ensures without_it { HasNoFileBodies }
     ensures put { PutsFile }
     ensures taken { TakesFile }
+{}
+
+/// A law: the piece at each position once a range of a file has other pieces, or the file is cut (this project's own).
+pub fn one_range_by_positions()
+    ensures put { PutsRange }
+    ensures cut { CutsPieces }
 {}

@@ -1,0 +1,8 @@
+use Rattle.qg_file_items.proofs.Pieces.{at-cut, at-range}
+use Rattle.qg_file_items.proofs.laws.one_range_by_positions.Goals as goal
+
+pub returns-clause-put : goal.returns-clause-put
+returns-clause-put c from to given pieces are position = at-range from to given pieces position are
+
+pub returns-clause-cut : goal.returns-clause-cut
+returns-clause-cut c = at-cut
