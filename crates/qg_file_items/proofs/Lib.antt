@@ -8,3 +8,4 @@ pub mod Spelled
 pub mod Tables
 pub mod OneFile
 pub mod Pieces
+pub mod RangeBodies

@@ -1,3 +1,4 @@
 pub mod Bodies
 pub mod Pieces
+pub mod FileEdits
 pub mod Laws

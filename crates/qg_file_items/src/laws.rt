@@ -1,6 +1,8 @@
 // What stands under each key, and what edits of items make of files.
 ghost use Rattle.qg_file_items.specs.Laws.{
-    AreSpelled, AreTold, CutsPieces, FilesAscend, FilesHaveBodies, HasBody, HasFileBodies, HasNoFileBodies, PutsFile, PutsIn, PutsRange, TakesFile, TakesOut,
+    AreSpelled, AreTold, CutHasBodies, CutsPieces, EditsRange, EditsSize, ExchangesPieces, FilesAscend, FilesHaveBodies,
+    HasBody, HasFileBodies, HasNoFileBodies, MakesFile, PutsFile, PutsIn, PutsRange, RangeHasBodies, RemovesFile, TakesFile,
+    TakesOut,
 };
 
 /// A law: items whose keys ascend are told by what stands under each key (this project's own).
@@ -32,8 +34,21 @@ pub fn one_file_by_bodies()
     ensures taken { TakesFile }
 {}
 
-/// A law: the piece at each position once a range of a file has other pieces, or the file is cut (this project's own).
+/// A law: the piece at each position once a range of a file has other pieces, or the file is cut to a size, and what
+/// stands under each key of the file then (this project's own).
 pub fn one_range_by_positions()
     ensures put { PutsRange }
     ensures cut { CutsPieces }
+    ensures put_bodies { RangeHasBodies }
+    ensures cut_bodies { CutHasBodies }
+{}
+
+/// A law: with which edits, one after the other, the items of files become those of the files with one made, changed in a
+/// range, cut to a size, or taken out (this project's own).
+pub fn edits_of_one_file()
+    ensures exchanged { ExchangesPieces }
+    ensures made { MakesFile }
+    ensures range { EditsRange }
+    ensures size { EditsSize }
+    ensures removed { RemovesFile }
 {}
