@@ -30,13 +30,13 @@ body-append key (item ∷ front) back = elim (cases_Bool (same_key item.key key)
 -- ---- the pieces of a file
 
 -- where the key is none of a piece of this file
-pieces_other : (ino : ℕ) (pieces : List Piece) (key : Key) → ((ino == key.objectid) && (108 == key.kind)) ≡ false
+pub pieces_other : (ino : ℕ) (pieces : List Piece) (key : Key) → ((ino == key.objectid) && (108 == key.kind)) ≡ false
     → body_at key (map (item_of_piece ino) pieces) ≡ None
 pieces_other ino [] key other = refl
 pieces_other ino (piece ∷ pieces) key other = rw other (pieces_other ino pieces key other)
 
 -- and where it is one
-pieces_own : (ino : ℕ) (pieces : List Piece) (key : Key) → ((ino == key.objectid) && (108 == key.kind)) ≡ true
+pub pieces_own : (ino : ℕ) (pieces : List Piece) (key : Key) → ((ino == key.objectid) && (108 == key.kind)) ≡ true
     → body_at key (map (item_of_piece ino) pieces) ≡ option_map piece_body (piece_at key.offset pieces)
 pieces_own ino [] key own = refl
 pieces_own ino (piece ∷ pieces) key own = elim (cases_Bool (piece.position == key.offset)) [

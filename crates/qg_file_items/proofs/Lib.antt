@@ -9,3 +9,5 @@ pub mod Tables
 pub mod OneFile
 pub mod Pieces
 pub mod RangeBodies
+pub mod Sequences
+pub mod Exchanged

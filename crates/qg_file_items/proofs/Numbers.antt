@@ -7,6 +7,7 @@ use Rattle.std.specs.Ordering.{is_lt, nat_cmp}
 use Rattle.std.specs.Cmp.{nat_cmp_is}
 use Rattle.std.specs.declared.cmp.Ordering.TheVariants.{Less, Equal}
 use Rattle.std.proofs.lemmas.Bool.{and_from, cases_eq, cases_lt, true≢false}
+use Rattle.std.proofs.lemmas.List.{append-nil}
 use Rattle.std.proofs.lemmas.List.Elements.{recursion_from_All}
 use Rattle.qg_num.specs.declared.key.Key.{Key}
 use Rattle.qg_num.specs.declared.piece.Piece.{Piece}
@@ -83,6 +84,21 @@ pieces_ascend ino kind offset from size (piece ∷ pieces) rest before are follo
     and_from (is_lt (key_cmp (key_with ino kind offset) (key_with ino 108 piece.position)))
     (ascends_from (key_with ino 108 piece.position) (keys_of_items (map (item_of_piece ino) pieces ++ rest)))
     (before piece.position first.begins) later
+
+-- alone they ascend
+pub pieces-ascend : (ino size : ℕ) (pieces : List Piece) → are_pieces 0 size pieces ≡ true → Ascend (map (item_of_piece ino) pieces)
+unfolding is_ascending ascends_from
+pieces-ascend ino size [] are = refl
+pieces-ascend ino size (piece ∷ pieces) are =
+    let first = FirstPiece-are_pieces 0 size piece pieces are in
+    let some : 0 < piece.len = (WholePiece-is_piece piece first.is).some in
+    let none : Follow ino [] = record { after = λ kind offset. refl } in
+    let behind =
+    pieces_ascend ino 108 piece.position (piece_end piece) size pieces []
+    (λ position above. by_position ino piece.position position (omega arith)) first.rest none
+    in
+    ap (λ (items : List Item). ascends_from (key_with ino 108 piece.position) (keys_of_items items)) (sym (append-nil (map (item_of_piece ino) pieces)))
+    ∙ behind
 
 -- ---- all files
 
