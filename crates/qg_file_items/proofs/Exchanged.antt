@@ -38,7 +38,7 @@ is_some-map f (Some x) = refl
 exchanged_bodies : (put gone old : Option Piece)
     → option_map piece_body (put orelse (if is_some gone then None else old))
     ≡ (option_map piece_body put orelse (if is_some (option_map piece_body gone) then None else option_map piece_body old))
-exchanged_bodies (Some piece) gone old = refl
+exchanged_bodies (Some piece) out old = refl
 exchanged_bodies None None old = refl
 exchanged_bodies None (Some piece) old = refl
 

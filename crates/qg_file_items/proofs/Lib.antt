@@ -11,3 +11,5 @@ pub mod Pieces
 pub mod RangeBodies
 pub mod Sequences
 pub mod Exchanged
+pub mod MetPieces
+pub mod RangeEdits

@@ -47,6 +47,12 @@ before-some to piece less = ap (λ (b : Bool). then_some b (front_of to piece)) 
 before-none : (to : ℕ) (piece : Piece) → to ≤ piece.position → part_before to piece ≡ None
 before-none to piece past = ap (λ (b : Bool). then_some b (front_of to piece)) (le-ltb piece.position to past)
 
+-- a piece that ends by the position is left whole
+pub before-whole : (to : ℕ) (piece : Piece) → piece.position < to → piece_end piece ≤ to → part_before to piece ≡ Some piece
+before-whole to piece less ends =
+    let len : min piece.len (to - piece.position) ≡ piece.len = omega arith in
+    before-some to piece less ∙ ap (λ (n : ℕ). let p : Piece = record piece { len = n } in Some p) len
+
 -- a piece at another position does not count
 before_other : (to : ℕ) (piece : Piece) (pieces : List Piece) (position : ℕ) → (piece.position ≡ position → ⊥)
     → piece_at position (before to (piece ∷ pieces)) ≡ piece_at position (before to pieces)
@@ -118,6 +124,9 @@ rest-whole from piece begins =
     let len : piece_end piece - max from piece.position ≡ piece.len = omega arith in
     let offset : piece.offset + (max from piece.position - piece.position) ≡ piece.offset = omega arith in
     λ i. record piece { position = at i; len = len i; offset = offset i }
+
+pub after-whole : (from : ℕ) (piece : Piece) → from ≤ piece.position → from < piece_end piece → part_after from piece ≡ Some piece
+after-whole from piece begins past = after-some from piece past ∙ ap (λ (p : Piece). Some p) (rest-whole from piece begins)
 
 -- the first of two parts, the one of which counts
 after_first : (from : ℕ) (piece : Piece) (pieces : List Piece) (position : ℕ) → from < piece_end piece
