@@ -1,6 +1,6 @@
 -- What stands under each key once an item is put in, or one goes.
-use Rattle.std.proofs.Common.{◌≡◌, true, false, List, [], ◌∷◌, map, Some, None, refl, sym, ap, subst, ◌∙◌, inl, inr}
-use Rattle.std.specs.Prelude.{Bool, ℕ, not, ◌==◌, ◌&&◌, Option, if◌then◌else◌}
+use Rattle.std.proofs.Common.{◌≡◌, true, false, List, [], ◌∷◌, Some, None, refl, sym, ap, subst, ◌∙◌, inl, inr}
+use Rattle.std.specs.Prelude.{ℕ, ◌==◌, Option, if◌then◌else◌}
 use Rattle.std.specs.Ordering.{is_lt}
 use Rattle.std.proofs.Math.Bool.{and_assoc}
 use Rattle.std.proofs.lemmas.Bool.{and_from, and_parts, cases_Bool, true≢false}
@@ -16,7 +16,6 @@ use Rattle.qg_edit.proofs.Lists.{keys_of, same-not_less}
 use Rattle.qg_descent.specs.Reading.{body_at}
 use Rattle.qg_file_items.specs.Bodies.{Ascend}
 use Rattle.qg_file_items.specs.Laws.{IsPutIn, IsTakenOut}
-use Rattle.qg_file_items.proofs.Told.{body-first, body-later}
 
 -- ---- of one list in front of two tests
 

@@ -1,16 +1,14 @@
 -- Edits that exchange pieces of one file make its items those of the new file.
-use Rattle.std.proofs.Common.{◌≡◌, ℕ, ◌≤◌, true, false, List, [], ◌∷◌, ◌++◌, map, Some, None, refl, sym, ap, subst, ◌∙◌, arith, inl, inr}
+use Rattle.std.proofs.Common.{◌≡◌, ℕ, true, false, List, [], map, Some, None, refl, sym, ap, ◌∙◌, arith, inl, inr}
 use Rattle.std.specs.Prelude.{Bool, IsTrue, Option, ◌==◌, ◌&&◌, is_some, if◌then◌else◌}
 use Rattle.std.specs.List.{flat_map}
 use Rattle.std.specs.Option.{option_and_then, option_map}
 use Rattle.std.proofs.lemmas.Bool.{cases_Bool, cases_eq, eq-eqb, eqb-true, ne_eqb}
-use Rattle.std.proofs.lemmas.List.{append-nil}
 use Rattle.qg_num.specs.declared.key.Key.{Key}
 use Rattle.qg_num.specs.declared.piece.Piece.{Piece}
 use Rattle.qg_node.specs.declared.item.Item.{Item}
-use Rattle.qg_node.specs.Nodes.{is_ascending}
 use Rattle.qg_image.specs.declared.file.File.{File}
-use Rattle.qg_image.specs.FilesOf.{are_pieces, is_file}
+use Rattle.qg_image.specs.FilesOf.{are_pieces}
 use Rattle.qg_image.specs.IsShaped.{same_key}
 use Rattle.qg_image.specs.ItemMeaning.{◌orelse◌}
 use Rattle.qg_image.specs.Table.{value_at, with_value, without_key as without_value}
@@ -20,7 +18,7 @@ use Rattle.qg_parts.proofs.Parts.{and-false, orelse-none}
 use Rattle.qg_rules.specs.Writable.{AreWritableFiles, IsWritableFile}
 use Rattle.qg_contents.specs.Written.{item_of_inode, item_of_piece, items_of_file}
 use Rattle.qg_descent.specs.Reading.{body_at}
-use Rattle.qg_file_items.specs.Bodies.{Ascend, body_in_file, body_in_files, body_with_file, inode_body, piece_at, piece_body}
+use Rattle.qg_file_items.specs.Bodies.{Ascend, body_in_file, body_with_file, inode_body, piece_at, piece_body}
 use Rattle.qg_file_items.specs.FileEdits.{AreExchanged, file_edited, with_items, without_items}
 use Rattle.qg_file_items.proofs.Edited.{ascending-with_item, body-with_item}
 use Rattle.qg_file_items.proofs.FileBodies.{body-file, body-files, pieces_other, pieces_own}

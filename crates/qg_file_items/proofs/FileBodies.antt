@@ -1,9 +1,9 @@
 -- What stands under each key of the items of files.
-use Rattle.std.proofs.Common.{◌≡◌, ℕ, ◌+◌, ◌<◌, true, false, List, [], ◌∷◌, ◌++◌, map, Some, None, refl, sym, ap, ◌∙◌, arith, inl, inr}
+use Rattle.std.proofs.Common.{◌≡◌, ℕ, ◌+◌, ◌<◌, true, false, List, [], ◌∷◌, ◌++◌, map, None, refl, sym, ap, ◌∙◌, arith, inl, inr}
 use Rattle.std.specs.Prelude.{Bool, ◌==◌, ◌&&◌, Option, if◌then◌else◌}
 use Rattle.std.specs.List.{AllByRecursion, flat_map}
 use Rattle.std.specs.List.Sorted.{IsStrictlyIncreasing}
-use Rattle.std.specs.Option.{option_map, option_and_then}
+use Rattle.std.specs.Option.{option_map}
 use Rattle.std.proofs.lemmas.Bool.{cases_Bool, cases_eq, eq-eqb, eqb-true, ne_eqb}
 use Rattle.qg_num.specs.declared.key.Key.{Key}
 use Rattle.qg_num.specs.declared.piece.Piece.{Piece}
@@ -11,12 +11,12 @@ use Rattle.qg_node.specs.declared.item.Item.{Item}
 use Rattle.qg_image.specs.declared.file.File.{File}
 use Rattle.qg_image.specs.IsShaped.{same_key}
 use Rattle.qg_image.specs.ItemMeaning.{◌orelse◌}
-use Rattle.qg_image.specs.Table.{keys_of, value_at}
+use Rattle.qg_image.specs.Table.{keys_of}
 use Rattle.qg_parts.proofs.Parts.{and-false, orelse-none}
-use Rattle.qg_contents.specs.Written.{item_of_inode, item_of_piece, items_of_file}
+use Rattle.qg_contents.specs.Written.{item_of_piece, items_of_file}
 use Rattle.qg_subvol.proofs.Ascending.{Ascends, Ascends-increasing, all_past}
 use Rattle.qg_descent.specs.Reading.{body_at}
-use Rattle.qg_file_items.specs.Bodies.{body_in_file, body_in_files, inode_body, piece_at, piece_body}
+use Rattle.qg_file_items.specs.Bodies.{body_in_file, body_in_files, piece_at, piece_body}
 
 -- ---- one list behind another
 

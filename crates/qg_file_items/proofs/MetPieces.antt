@@ -1,15 +1,15 @@
 -- Which pieces are taken out and put in where a range of a file is written over, or it is cut. Positions are in bytes.
-use Rattle.std.proofs.Common.{◌≡◌, ℕ, ◌+◌, ◌-◌, ◌<◌, ◌≤◌, max, min, true, false, List, [], ◌∷◌, Some, None, refl, sym, ap, subst, ◌∙◌, arith, inl, inr}
-use Rattle.std.specs.Prelude.{Bool, IsTrue, Option, ◌==◌, ◌&&◌, filter, is_some, nat_le, nat_lt, if◌then◌else◌}
+use Rattle.std.proofs.Common.{◌≡◌, ℕ, ◌<◌, ◌≤◌, true, false, List, [], ◌∷◌, Some, None, refl, sym, ap, subst, ◌∙◌, arith, inl, inr}
+use Rattle.std.specs.Prelude.{Bool, Option, ◌&&◌, filter, is_some, nat_lt, if◌then◌else◌}
 use Rattle.std.specs.Option.{option_and_then}
-use Rattle.std.proofs.lemmas.Bool.{and_from, cases_Bool, cases_eq, cases_lt, le-leb, le-ltb, leb-true, lt-ltb, ltb-false, ltb-true}
+use Rattle.std.proofs.lemmas.Bool.{and_from, cases_Bool, cases_eq, cases_lt, le-leb, le-ltb, leb-true, lt-ltb, ltb-false}
 use Rattle.std.proofs.lemmas.Option.{none-some, same_Some}
 use Rattle.qg_num.specs.declared.piece.Piece.{Piece}
 use Rattle.qg_image.specs.FilesOf.{are_pieces, piece_end}
 use Rattle.qg_image.specs.ItemMeaning.{◌orelse◌}
 use Rattle.qg_image.proofs.Pieces.{FirstPiece-are_pieces, WholePiece-is_piece, are_pieces-FirstPiece}
-use Rattle.qg_machine.specs.FileChange.{after, before, part_after, part_before, with_range}
-use Rattle.qg_parts.proofs.Parts.{and-false, orelse-none}
+use Rattle.qg_machine.specs.FileChange.{before, part_after, part_before, with_range}
+use Rattle.qg_parts.proofs.Parts.{orelse-none}
 use Rattle.qg_file_items.specs.Bodies.{piece_at, piece_over}
 use Rattle.qg_file_items.specs.FileEdits.{AreExchanged}
 use Rattle.qg_file_items.specs.Pieces.{pieces_cut, pieces_met}

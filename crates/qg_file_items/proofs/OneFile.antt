@@ -1,6 +1,6 @@
 -- What stands under each key once one file is changed, made or taken out.
-use Rattle.std.proofs.Common.{◌≡◌, ℕ, true, List, Some, None, refl, sym, ap, ◌∙◌, inl, inr}
-use Rattle.std.specs.Prelude.{Bool, Option, ◌==◌}
+use Rattle.std.proofs.Common.{◌≡◌, ℕ, List, refl, sym, ap, ◌∙◌, inl, inr}
+use Rattle.std.specs.Prelude.{Option, ◌==◌}
 use Rattle.std.specs.List.{flat_map}
 use Rattle.std.specs.List.Sorted.{IsStrictlyIncreasing}
 use Rattle.std.specs.Option.{option_and_then}
@@ -8,11 +8,11 @@ use Rattle.std.proofs.lemmas.Bool.{cases_Bool}
 use Rattle.qg_num.specs.declared.key.Key.{Key}
 use Rattle.qg_node.specs.declared.item.Item.{Item}
 use Rattle.qg_image.specs.declared.file.File.{File}
-use Rattle.qg_image.specs.Table.{keys_of, value_at, with_value, without_key}
+use Rattle.qg_image.specs.Table.{keys_of, with_value, without_key}
 use Rattle.qg_rules.specs.Writable.{AreWritableFiles, IsWritableFile}
 use Rattle.qg_contents.specs.Written.{items_of_file}
 use Rattle.qg_descent.specs.Reading.{body_at}
-use Rattle.qg_file_items.specs.Bodies.{Ascend, body_in_file, body_in_files, body_with_file, body_without_file}
+use Rattle.qg_file_items.specs.Bodies.{Ascend, body_in_file, body_with_file, body_without_file}
 use Rattle.qg_file_items.proofs.FileBodies.{body-files}
 use Rattle.qg_file_items.proofs.Numbers.{files-ascend}
 use Rattle.qg_file_items.proofs.Tables.{increasing-with, increasing-without, value-with, value-without, writable-with, writable-without}

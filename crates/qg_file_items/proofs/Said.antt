@@ -1,7 +1,6 @@
 -- Each item of a subvolume's tree is the one text of what it says.
 use Rattle.std.proofs.Common.{◌≡◌, ℕ, ◌≤◌, true, false, List, [], ◌∷◌, map, Some, None, refl, sym, ap, subst, ◌∙◌}
-use Rattle.std.specs.Prelude.{Bool, Option, All, ◌==◌, ◌&&◌, nat_le}
-use Rattle.std.specs.Bool.{then_some}
+use Rattle.std.specs.Prelude.{Bool, Option, ◌==◌, ◌&&◌, nat_le}
 use Rattle.std.specs.List.{AllByRecursion, cons_option, list_all}
 use Rattle.std.specs.Option.{option_and_then, option_map}
 use Rattle.std.proofs.lemmas.Bool.{and_parts, eqb-true, leb-true}

@@ -1,7 +1,7 @@
 -- Items that are read as files are those that are written for these files.
-use Rattle.std.proofs.Common.{◌≡◌, ℕ, ◌≤◌, true, List, [], ◌∷◌, ◌++◌, map, Some, refl, sym, ap, subst, ◌∙◌}
+use Rattle.std.proofs.Common.{◌≡◌, ℕ, true, List, [], ◌∷◌, ◌++◌, map, Some, refl, ap, subst, ◌∙◌}
 use Rattle.std.specs.Prelude.{All, ◌&&◌}
-use Rattle.std.specs.List.{AllByRecursion, flat_map, list_all}
+use Rattle.std.specs.List.{flat_map, list_all}
 use Rattle.std.proofs.lemmas.Bool.{and_parts}
 use Rattle.std.proofs.lemmas.List.{map-append}
 use Rattle.std.proofs.lemmas.List.Elements.{All-from_recursion, recursion_from_All}
@@ -11,7 +11,6 @@ use Rattle.qg_node.specs.declared.item.Item.{Item}
 use Rattle.qg_node.specs.Nodes.{is_ascending}
 use Rattle.qg_items.proofs.Trips.{then_some_parts}
 use Rattle.qg_image.specs.declared.file.File.{File}
-use Rattle.qg_image.specs.declared.part.FilePart.{FilePart}
 use Rattle.qg_image.specs.declared.part.FilePart.TheVariants.{PieceOf}
 use Rattle.qg_image.specs.FilesOf.{are_files, file_parts, files_in, files_of, is_file_item}
 use Rattle.qg_rules.specs.Writable.{IsFileBy, IsWritableFile}

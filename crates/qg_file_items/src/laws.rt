@@ -1,8 +1,25 @@
 // What stands under each key, and what edits of items make of files.
 ghost use Rattle.qg_file_items.specs.Laws.{
-    AreSpelled, AreTold, CutHasBodies, CutsPieces, EditsRange, EditsSize, ExchangesPieces, FilesAscend, FilesHaveBodies,
-    HasBody, HasFileBodies, HasNoFileBodies, MakesFile, PutsFile, PutsIn, PutsRange, RangeHasBodies, RemovesFile, TakesFile,
-    TakesOut,
+  AreSpelled,
+  AreTold,
+  CutHasBodies,
+  CutsPieces,
+  EditsRange,
+  EditsSize,
+  ExchangesPieces,
+  FilesAscend,
+  FilesHaveBodies,
+  HasBody,
+  HasFileBodies,
+  HasNoFileBodies,
+  MakesFile,
+  PutsFile,
+  PutsIn,
+  PutsRange,
+  RangeHasBodies,
+  RemovesFile,
+  TakesFile,
+  TakesOut,
 };
 
 /// A law: items whose keys ascend are told by what stands under each key (this project's own).
