@@ -79,7 +79,8 @@ ascends-with_item low new (item ∷ items) less ascends =
     elim (cases_Bool (is_lt (key_cmp item.key new.key))) [
       | inl front ↦
           let later = ascends-with_item item.key new items front parts.1 in
-          rw front (and_from (is_lt (key_cmp low item.key)) (ascends_from item.key (keys_of (with_item new items))) parts.0 later)
+          rw front (and_from (is_lt (key_cmp low item.key))
+          (ascends_from item.key (keys_of (with_item new items))) parts.0 later)
       | inr unless ↦ elim (cases_Bool (same_key item.key new.key)) [
         | inl same ↦
             let keys = same_key-true item.key new.key same in
@@ -92,7 +93,8 @@ ascends-with_item low new (item ∷ items) less ascends =
             let later : ascends_from new.key (keys_of (item ∷ items)) ≡ true =
             and_from (is_lt (key_cmp new.key item.key)) (ascends_from item.key (keys_of items)) more parts.1
             in
-            rw (unless, differ) (and_from (is_lt (key_cmp low new.key)) (ascends_from new.key (keys_of (item ∷ items))) less later)
+            rw (unless, differ) (and_from (is_lt (key_cmp low new.key))
+            (ascends_from new.key (keys_of (item ∷ items))) less later)
       ]
     ]
 
@@ -107,7 +109,8 @@ ascending-with_item new (item ∷ items) ascending = elim (cases_Bool (is_lt (ke
         rw (unless, same) (subst (λ (k : Key). ascends_from k (keys_of items) ≡ true) keys ascending)
     | inr differ ↦
         let more = behind item.key new.key unless differ in
-        rw (unless, differ) (and_from (is_lt (key_cmp new.key item.key)) (ascends_from item.key (keys_of items)) more ascending)
+        rw (unless, differ) (and_from (is_lt (key_cmp new.key item.key))
+        (ascends_from item.key (keys_of items)) more ascending)
   ]
 ]
 
@@ -166,7 +169,8 @@ ascends-without_key low gone (item ∷ items) ascends =
     elim (cases_Bool (same_key item.key gone)) [
       | inl same ↦ rw same (from_lower low item.key (keys_of (without_key gone items)) parts.0 later)
       | inr differ ↦
-          rw differ (and_from (is_lt (key_cmp low item.key)) (ascends_from item.key (keys_of (without_key gone items))) parts.0 later)
+          rw differ (and_from (is_lt (key_cmp low item.key))
+          (ascends_from item.key (keys_of (without_key gone items))) parts.0 later)
     ]
 
 pub ascending-without_key : (gone : Key) (items : List Item) → Ascend items → Ascend (without_key gone items)

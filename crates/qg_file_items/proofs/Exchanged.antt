@@ -35,7 +35,8 @@ is_some-map f (Some x) = refl
 -- the bodies of what is put in, else of what stays
 exchanged_bodies : (put gone old : Option Piece)
     → option_map piece_body (put orelse (if is_some gone then None else old))
-    ≡ (option_map piece_body put orelse (if is_some (option_map piece_body gone) then None else option_map piece_body old))
+    ≡ (option_map piece_body put orelse
+    (if is_some (option_map piece_body gone) then None else option_map piece_body old))
 exchanged_bodies (Some piece) out old = refl
 exchanged_bodies None None old = refl
 exchanged_bodies None (Some piece) old = refl
@@ -67,16 +68,20 @@ module _ (ino : ℕ) (file : File) (gone put : List Piece) (files : List (ℕ ×
       let pieces = body-with_items put_items left key (pieces-ascend ino file.size put whole) in
       let rest = body-without_items gone_items items key in
       inode
-      ∙ ap (λ (o : Option (List ℕ)). if same_key (item_of_inode ino file).key key then Some (inode_body file) else o) pieces
+      ∙ ap (λ (o : Option (List ℕ)). if same_key (item_of_inode ino file).key key then Some (inode_body file)
+      else o) pieces
       ∙ ap
-      (λ (o : Option (List ℕ)). if same_key (item_of_inode ino file).key key then Some (inode_body file) else (body_at key put_items orelse o))
+      (λ (o : Option (List ℕ)). if same_key (item_of_inode ino file).key key then Some (inode_body file)
+      else (body_at key put_items orelse o))
       rest
 
   module _ (key : Key) where
     -- of another number
     of_other : (ino == key.objectid) ≡ false → after key ≡ body_with_file ino file items key
     of_other other =
-        let no_piece : ((ino == key.objectid) && (108 == key.kind)) ≡ false = ap (λ (b : Bool). b && (108 == key.kind)) other in
+        let no_piece : ((ino == key.objectid) && (108 == key.kind)) ≡ false =
+        ap (λ (b : Bool). b && (108 == key.kind)) other
+        in
         rw (other, pieces_other ino put key no_piece, pieces_other ino gone key no_piece) refl
 
     module _ (own : (ino == key.objectid) ≡ true) where
@@ -92,13 +97,21 @@ module _ (ino : ℕ) (file : File) (gone put : List Piece) (files : List (ℕ ×
       -- the INODE_ITEM
       of_inode : key.kind ≡ 1 → key.offset ≡ 0 → after key ≡ body_with_file ino file items key
       of_inode kind offset =
-          rw (own, eq-eqb 1 key.kind (sym kind), eq-eqb 0 key.offset (sym offset), eq-eqb key.kind 1 kind, eq-eqb key.offset 0 offset) refl
+          rw (
+            own,
+            eq-eqb 1 key.kind (sym kind),
+            eq-eqb 0 key.offset (sym offset),
+            eq-eqb key.kind 1 kind,
+            eq-eqb key.offset 0 offset,
+          ) refl
 
       -- a piece
       old_piece : key.kind ≡ 108 → (found : Option File)
-          → option_and_then (body_in_file key.kind key.offset) found ≡ option_map piece_body (piece_at key.offset (pieces_or_none found))
+          → option_and_then (body_in_file key.kind key.offset) found
+          ≡ option_map piece_body (piece_at key.offset (pieces_or_none found))
       old_piece kind None = refl
-      old_piece kind (Some old) = rw (ne_eqb key.kind 1 (λ same. omega (arith, kind, same)), eq-eqb key.kind 108 kind) refl
+      old_piece kind (Some old) =
+          rw (ne_eqb key.kind 1 (λ same. omega (arith, kind, same)), eq-eqb key.kind 108 kind) refl
 
       of_piece : key.kind ≡ 108 → after key ≡ body_with_file ino file items key
       of_piece kind =
@@ -154,7 +167,8 @@ module _ (ino : ℕ) (file : File) (gone put : List Piece) (files : List (ℕ ×
           | inl zero ↦ of_inode inode zero
           | inr behind ↦
               of_neither
-              (ap (λ (b : Bool). (1 == key.kind) && b) (ne_eqb 0 key.offset (λ same. behind (sym same))) ∙ and-false (1 == key.kind))
+              (ap (λ (b : Bool). (1 == key.kind) && b) (ne_eqb 0 key.offset (λ same. behind (sym same)))
+              ∙ and-false (1 == key.kind))
               (ap (λ (b : Bool). (key.kind == 1) && b) (ne_eqb key.offset 0 behind) ∙ and-false (key.kind == 1))
               (λ same. omega (arith, inode, same))
         ]
@@ -177,20 +191,23 @@ module _ (ino : ℕ) (file : File) (gone put : List Piece) (files : List (ℕ ×
 
   pub exchanges : file_edited ino file gone put items ≡ flat_map items_of_file (with_value ino file files)
   exchanges =
-      puts-file ino file files (file_edited ino file gone put items) are is ascends (λ key. body_after key ∙ is_after key)
+      puts-file ino file files (file_edited ino file gone put items) are is ascends
+      (λ key. body_after key ∙ is_after key)
 
 -- ---- a file is made
 
 pub makes-file : (ino : ℕ) (file : File) (files : List (ℕ × File)) → AreWritableFiles files → IsWritableFile (ino, file)
     → value_at ino files ≡ None
-    → file_edited ino file [] file.pieces (flat_map items_of_file files) ≡ flat_map items_of_file (with_value ino file files)
+    → file_edited ino file [] file.pieces (flat_map items_of_file files)
+    ≡ flat_map items_of_file (with_value ino file files)
 makes-file ino file files are is none =
     let whole = (WholeFile-is_file file is.sound).pieces in
     exchanges ino file [] file.pieces files are is whole (λ position.
     let old : piece_at position (pieces_or_none (value_at ino files)) ≡ None =
     ap (λ (o : Option File). piece_at position (pieces_or_none o)) none
     in
-    sym (ap (λ (o : Option Piece). piece_at position file.pieces orelse o) old ∙ orelse-none (piece_at position file.pieces)))
+    sym (ap (λ (o : Option Piece). piece_at position file.pieces orelse o) old
+    ∙ orelse-none (piece_at position file.pieces)))
 
 -- ---- a file is taken out
 
@@ -198,12 +215,15 @@ none_left : (o : Option (List ℕ)) → (if is_some o then None else o) ≡ None
 none_left None = refl
 none_left (Some body) = refl
 
-pub removes-file : (ino : ℕ) (file : File) (files : List (ℕ × File)) → AreWritableFiles files → value_at ino files ≡ Some file
-    → without_items (items_of_file (ino, file)) (flat_map items_of_file files) ≡ flat_map items_of_file (without_value ino files)
+pub removes-file : (ino : ℕ) (file : File) (files : List (ℕ × File)) → AreWritableFiles files
+    → value_at ino files ≡ Some file
+    → without_items (items_of_file (ino, file)) (flat_map items_of_file files)
+    ≡ flat_map items_of_file (without_value ino files)
 removes-file ino file files are there =
     let items = flat_map items_of_file files in
     let own_items = items_of_file (ino, file) in
-    takes-file ino files (without_items own_items items) are (ascending-without_items own_items items (files-ascend files are)) (λ key.
+    takes-file ino files (without_items own_items items) are
+    (ascending-without_items own_items items (files-ascend files are)) (λ key.
     body-without_items own_items items key
     ∙ ap (λ (o : Option (List ℕ)). if is_some o then None else body_at key items) (body-file (ino, file) key)
     ∙ elim (cases_Bool (ino == key.objectid)) [
@@ -211,7 +231,8 @@ removes-file ino file files are there =
       | inl own ↦
           let here : body_at key items ≡ body_in_file key.kind key.offset file =
           body-files files are.ascending key
-          ∙ ap (λ (n : ℕ). option_and_then (body_in_file key.kind key.offset) (value_at n files)) (sym (eqb-true ino key.objectid own))
+          ∙ ap (λ (n : ℕ). option_and_then (body_in_file key.kind key.offset) (value_at n files))
+          (sym (eqb-true ino key.objectid own))
           ∙ ap (option_and_then (body_in_file key.kind key.offset)) there
           in
           rw (own, here) (none_left (body_in_file key.kind key.offset file))

@@ -20,7 +20,8 @@ use Rattle.qg_file_items.specs.Bodies.{body_in_file, body_in_files, piece_at, pi
 
 -- ---- one list behind another
 
-pub body-append : (key : Key) (front back : List Item) → body_at key (front ++ back) ≡ (body_at key front orelse body_at key back)
+pub body-append : (key : Key) (front back : List Item)
+    → body_at key (front ++ back) ≡ (body_at key front orelse body_at key back)
 body-append key [] back = refl
 body-append key (item ∷ front) back = elim (cases_Bool (same_key item.key key)) [
   | inl same ↦ rw same refl
@@ -49,7 +50,9 @@ pieces_own ino (piece ∷ pieces) key own = elim (cases_Bool (piece.position == 
 -- under a key of another number
 body-other : (file : ℕ × File) (key : Key) → (file.0 == key.objectid) ≡ false → body_at key (items_of_file file) ≡ None
 body-other file key other =
-    let pieces : ((file.0 == key.objectid) && (108 == key.kind)) ≡ false = ap (λ (b : Bool). b && (108 == key.kind)) other in
+    let pieces : ((file.0 == key.objectid) && (108 == key.kind)) ≡ false =
+    ap (λ (b : Bool). b && (108 == key.kind)) other
+    in
     rw other (pieces_other file.0 file.1.pieces key pieces)
 
 -- under one of its own number, by the kind
@@ -57,10 +60,17 @@ module _ (file : ℕ × File) (key : Key) (own : (file.0 == key.objectid) ≡ tr
   -- (ino, INODE_ITEM, 0)
   of_inode : key.kind ≡ 1 → key.offset ≡ 0 → body_at key (items_of_file file) ≡ body_in_file key.kind key.offset file.1
   of_inode kind offset =
-      rw (own, eq-eqb 1 key.kind (sym kind), eq-eqb 0 key.offset (sym offset), eq-eqb key.kind 1 kind, eq-eqb key.offset 0 offset) refl
+      rw (
+        own,
+        eq-eqb 1 key.kind (sym kind),
+        eq-eqb 0 key.offset (sym offset),
+        eq-eqb key.kind 1 kind,
+        eq-eqb key.offset 0 offset,
+      ) refl
 
   -- (ino, INODE_ITEM, another offset)
-  of_inode_behind : key.kind ≡ 1 → (key.offset ≡ 0 → ⊥) → body_at key (items_of_file file) ≡ body_in_file key.kind key.offset file.1
+  of_inode_behind : key.kind ≡ 1 → (key.offset ≡ 0 → ⊥)
+      → body_at key (items_of_file file) ≡ body_in_file key.kind key.offset file.1
   of_inode_behind kind differ =
       let no_piece : (key.kind ≡ 108 → ⊥) = λ is. omega arith in
       let not_108 = ne_eqb 108 key.kind (λ is. no_piece (sym is)) in
@@ -91,7 +101,8 @@ module _ (file : ℕ × File) (key : Key) (own : (file.0 == key.objectid) ≡ tr
       ) (pieces_own file.0 file.1.pieces key pieces)
 
   -- another kind
-  of_neither : (key.kind ≡ 1 → ⊥) → (key.kind ≡ 108 → ⊥) → body_at key (items_of_file file) ≡ body_in_file key.kind key.offset file.1
+  of_neither : (key.kind ≡ 1 → ⊥) → (key.kind ≡ 108 → ⊥)
+      → body_at key (items_of_file file) ≡ body_in_file key.kind key.offset file.1
   of_neither no_inode no_piece =
       let not_108 = ne_eqb 108 key.kind (λ is. no_piece (sym is)) in
       let pieces : ((file.0 == key.objectid) && (108 == key.kind)) ≡ false =
@@ -117,7 +128,8 @@ module _ (file : ℕ × File) (key : Key) (own : (file.0 == key.objectid) ≡ tr
   ]
 
 pub body-file : (file : ℕ × File) (key : Key)
-    → body_at key (items_of_file file) ≡ (if file.0 == key.objectid then body_in_file key.kind key.offset file.1 else None)
+    → body_at key (items_of_file file)
+    ≡ (if file.0 == key.objectid then body_in_file key.kind key.offset file.1 else None)
 body-file file key = elim (cases_Bool (file.0 == key.objectid)) [
   | inl own ↦ body-own file key own ∙ sym (rw own refl)
   | inr other ↦ body-other file key other ∙ sym (rw other refl)
@@ -131,7 +143,8 @@ body-greater [] key greater = refl
 body-greater (file ∷ files) key greater =
     let differ = ne_eqb file.0 key.objectid (λ is. omega (arith, is, greater.0)) in
     body-append key (items_of_file file) (flat_map items_of_file files)
-    ∙ ap (λ (body : Option (List ℕ)). body orelse body_at key (flat_map items_of_file files)) (body-other file key differ)
+    ∙ ap (λ (body : Option (List ℕ)). body orelse body_at key (flat_map items_of_file files))
+    (body-other file key differ)
     ∙ body-greater files key greater.1
 
 body-files-from : (from : ℕ) (files : List (ℕ × File)) (key : Key) → Ascends from files

@@ -24,7 +24,8 @@ kept test (Some piece) = if test piece then Some piece else None
 
 module _ (test : Piece → Bool) where
   -- pieces may begin later than is asked
-  from_earlier : (low from size : ℕ) (pieces : List Piece) → low ≤ from → are_pieces from size pieces ≡ true → are_pieces low size pieces ≡ true
+  from_earlier : (low from size : ℕ) (pieces : List Piece) → low ≤ from → are_pieces from size pieces ≡ true
+      → are_pieces low size pieces ≡ true
   unfolding are_pieces
   from_earlier low from size [] earlier are = le-leb low size (let above = leb-true from size are in omega arith)
   from_earlier low from size (piece ∷ pieces) earlier are =
@@ -32,7 +33,8 @@ module _ (test : Piece → Bool) where
       let begins : from ≤ piece.position = first.begins in
       are_pieces-FirstPiece low size piece pieces (record { begins = omega arith; is = first.is; rest = first.rest })
 
-  pub filter-are : (from size : ℕ) (pieces : List Piece) → are_pieces from size pieces ≡ true → are_pieces from size (filter test pieces) ≡ true
+  pub filter-are : (from size : ℕ) (pieces : List Piece) → are_pieces from size pieces ≡ true
+      → are_pieces from size (filter test pieces) ≡ true
   filter-are from size [] are = are
   filter-are from size (piece ∷ pieces) are =
       let first = FirstPiece-are_pieces from size piece pieces are in
@@ -40,7 +42,8 @@ module _ (test : Piece → Bool) where
       let begins : from ≤ piece.position = first.begins in
       elim (cases_Bool (test piece)) [
         | inl passes ↦
-            rw passes (are_pieces-FirstPiece from size piece (filter test pieces) (record { begins = begins; is = first.is; rest = later }))
+            rw passes (are_pieces-FirstPiece from size piece (filter test pieces)
+            (record { begins = begins; is = first.is; rest = later }))
         | inr fails ↦ rw fails (from_earlier from (piece_end piece) size (filter test pieces) (omega arith) later)
       ]
 
@@ -57,7 +60,8 @@ module _ (test : Piece → Bool) where
             let none = range-front (piece_end piece) size pieces position first.rest (omega arith) in
             let there = at-here position piece pieces here in
             elim (cases_Bool (test piece)) [
-              | inl passes ↦ rw passes (at-here position piece (filter test pieces) here ∙ sym (ap (kept test) there ∙ rw passes refl))
+              | inl passes ↦ rw passes (at-here position piece (filter test pieces) here
+                  ∙ sym (ap (kept test) there ∙ rw passes refl))
               | inr fails ↦ rw fails (later ∙ ap (kept test) none ∙ sym (ap (kept test) there ∙ rw fails refl))
             ]
         | inr differ ↦
@@ -69,15 +73,18 @@ module _ (test : Piece → Bool) where
       ]
 
   -- and the one over it
-  over_none : (from size : ℕ) (pieces : List Piece) (position : ℕ) → are_pieces from size pieces ≡ true → position < from
+  over_none : (from size : ℕ) (pieces : List Piece) (position : ℕ) → are_pieces from size pieces ≡ true
+      → position < from
       → piece_over position pieces ≡ None
   over_none from size [] position are less = refl
   over_none from size (piece ∷ pieces) position are less =
       let first = FirstPiece-are_pieces from size piece pieces are in
       let begins : from ≤ piece.position = first.begins in
-      over-before position piece pieces (omega arith) ∙ over_none (piece_end piece) size pieces position first.rest (omega arith)
+      over-before position piece pieces (omega arith)
+      ∙ over_none (piece_end piece) size pieces position first.rest (omega arith)
 
-  over_other : (piece : Piece) (pieces : List Piece) (position : ℕ) → piece_over position (piece ∷ pieces) ≡ piece_over position pieces
+  over_other : (piece : Piece) (pieces : List Piece) (position : ℕ)
+      → piece_over position (piece ∷ pieces) ≡ piece_over position pieces
       → piece_over position (piece ∷ filter test pieces) ≡ piece_over position (filter test pieces)
       → piece_over position (filter test pieces) ≡ kept test (piece_over position pieces)
       → piece_over position (filter test (piece ∷ pieces)) ≡ kept test (piece_over position (piece ∷ pieces))
@@ -94,16 +101,19 @@ module _ (test : Piece → Bool) where
       let later = over-filter (piece_end piece) size pieces position first.rest in
       elim (cases_lt position piece.position) [
         | inl less ↦
-            over_other piece pieces position (over-before position piece pieces less) (over-before position piece (filter test pieces) less) later
+            over_other piece pieces position (over-before position piece pieces less)
+            (over-before position piece (filter test pieces) less) later
         | inr begins ↦ elim (cases_lt position (piece_end piece)) [
           | inr ends ↦
-              over_other piece pieces position (over-behind position piece pieces ends) (over-behind position piece (filter test pieces) ends) later
+              over_other piece pieces position (over-behind position piece pieces ends)
+              (over-behind position piece (filter test pieces) ends) later
           | inl over ↦
               let there = over-here position piece pieces begins over in
               let none = over_none (piece_end piece) size pieces position first.rest over in
               elim (cases_Bool (test piece)) [
                 | inl passes ↦
-                    rw passes (over-here position piece (filter test pieces) begins over ∙ sym (ap (kept test) there ∙ rw passes refl))
+                    rw passes (over-here position piece (filter test pieces) begins over
+                    ∙ sym (ap (kept test) there ∙ rw passes refl))
                 | inr fails ↦ rw fails (later ∙ ap (kept test) none ∙ sym (ap (kept test) there ∙ rw fails refl))
               ]
         ]
@@ -123,8 +133,10 @@ found_at from size (first ∷ pieces) position piece are is =
     elim (cases_eq first.position position) [
       | inl here ↦
           let same = same_Some first piece (sym (at-here position first pieces here) ∙ is) in
-          subst (λ (p : Piece). IsFoundAt position p) same (record { at = here; some = (WholePiece-is_piece first known.is).some })
-      | inr differ ↦ found_at (piece_end first) size pieces position piece known.rest (sym (at-later position first pieces differ) ∙ is)
+          subst (λ (p : Piece). IsFoundAt position p) same
+          (record { at = here; some = (WholePiece-is_piece first known.is).some })
+      | inr differ ↦ found_at (piece_end first) size pieces position piece known.rest
+          (sym (at-later position first pieces differ) ∙ is)
     ]
 
 record IsFoundOver (position : ℕ) (pieces : List Piece) (piece : Piece) : Type 0 where
@@ -142,7 +154,10 @@ found_over from size (first ∷ pieces) position piece are is =
     let some : 0 < first.len = (WholePiece-is_piece first known.is).some in
     elim (cases_lt position first.position) [
       | inl less ↦
-          let later = found_over (piece_end first) size pieces position piece known.rest (sym (over-before position first pieces less) ∙ is) in
+          let later =
+          found_over (piece_end first) size pieces position piece known.rest
+          (sym (over-before position first pieces less) ∙ is)
+          in
           let skip = at-later position first pieces (λ same. omega (arith, same)) in
           record {
             begins = later.begins;
@@ -152,7 +167,10 @@ found_over from size (first ∷ pieces) position piece are is =
           }
       | inr begins ↦ elim (cases_lt position (piece_end first)) [
         | inr ends ↦
-            let later = found_over (piece_end first) size pieces position piece known.rest (sym (over-behind position first pieces ends) ∙ is) in
+            let later =
+            found_over (piece_end first) size pieces position piece known.rest
+            (sym (over-behind position first pieces ends) ∙ is)
+            in
             let skip = at-later position first pieces (λ same. omega (arith, same)) in
             record {
               begins = later.begins;
@@ -184,11 +202,13 @@ over_at from size (piece ∷ pieces) position are is =
     elim (cases_lt position piece.position) [
       | inl less ↦
           at-later position piece pieces (λ same. omega (arith, same))
-          ∙ over_at (piece_end piece) size pieces position known.rest (sym (over-before position piece pieces less) ∙ is)
+          ∙ over_at (piece_end piece) size pieces position known.rest
+          (sym (over-before position piece pieces less) ∙ is)
       | inr begins ↦ elim (cases_lt position (piece_end piece)) [
         | inr ends ↦
             at-later position piece pieces (λ same. omega (arith, same))
-            ∙ over_at (piece_end piece) size pieces position known.rest (sym (over-behind position piece pieces ends) ∙ is)
+            ∙ over_at (piece_end piece) size pieces position known.rest
+            (sym (over-behind position piece pieces ends) ∙ is)
         | inl over ↦ absurd (none-some piece (sym is ∙ over-here position piece pieces begins over))
       ]
     ]
@@ -198,13 +218,15 @@ over_at from size (piece ∷ pieces) position are is =
 abbrev exchange : Option Piece → Option Piece → Option Piece → Option Piece
 exchange put gone old = put orelse (if is_some gone then None else old)
 
-by_parts : (a new b put c out old : Option Piece) → a ≡ new → b ≡ put → c ≡ out → new ≡ exchange put out old → a ≡ exchange b c old
+by_parts : (a new b put c out old : Option Piece) → a ≡ new → b ≡ put → c ≡ out → new ≡ exchange put out old
+    → a ≡ exchange b c old
 by_parts a new b put c out old e f g is = e ∙ is ∙ sym (rw (f, g) refl)
 
 -- the front of a piece that is taken out, or a whole one that stays
 front_case : (test : Piece → Bool) (bound : ℕ) (old : Option Piece)
     → ((piece : Piece) → old ≡ Some piece → test piece ≡ false → part_before bound piece ≡ Some piece)
-    → option_and_then (part_before bound) old ≡ exchange (option_and_then (part_before bound) (kept test old)) (kept test old) old
+    → option_and_then (part_before bound) old
+    ≡ exchange (option_and_then (part_before bound) (kept test old)) (kept test old) old
 front_case test bound None stays = refl
 front_case test bound (Some piece) stays = elim (cases_Bool (test piece)) [
   | inl passes ↦ rw passes (sym (orelse-none (part_before bound piece)))
@@ -212,7 +234,8 @@ front_case test bound (Some piece) stays = elim (cases_Bool (test piece)) [
 ]
 
 -- a given piece, and none that was there
-inside_case : (test : Piece → Bool) (given old : Option Piece) → ((piece : Piece) → old ≡ Some piece → test piece ≡ true)
+inside_case : (test : Piece → Bool) (given old : Option Piece)
+    → ((piece : Piece) → old ≡ Some piece → test piece ≡ true)
     → given ≡ exchange given (kept test old) old
 inside_case test (Some piece) old passes = refl
 inside_case test None None passes = refl
@@ -221,11 +244,13 @@ inside_case test None (Some piece) passes = rw (passes piece refl) refl
 -- the piece that was there
 behind_case : (test : Piece → Bool) (old : Option Piece) → old ≡ exchange (kept test old) (kept test old) old
 behind_case test None = refl
-behind_case test (Some piece) = elim (cases_Bool (test piece)) [ inl passes ↦ rw passes refl | inr fails ↦ rw fails refl ]
+behind_case test (Some piece) =
+    elim (cases_Bool (test piece)) [ inl passes ↦ rw passes refl | inr fails ↦ rw fails refl ]
 
 -- ---- a range
 
-module _ (from to size : ℕ) (given old : List Piece) (given_are : are_pieces from to given ≡ true) (old_are : are_pieces 0 size old ≡ true) where
+module _ (from to size : ℕ) (given old : List Piece) (given_are : are_pieces from to given ≡ true)
+    (old_are : are_pieces 0 size old ≡ true) where
   abbrev meets : Piece → Bool
   meets piece = nat_lt piece.position to && nat_lt from (piece_end piece)
 
@@ -240,11 +265,13 @@ module _ (from to size : ℕ) (given old : List Piece) (given_are : are_pieces f
 
   does_meet : (piece : Piece) → piece.position < to → from < piece_end piece → meets piece ≡ true
   does_meet piece less past =
-      and_from (nat_lt piece.position to) (nat_lt from (piece_end piece)) (lt-ltb piece.position to less) (lt-ltb from (piece_end piece) past)
+      and_from (nat_lt piece.position to) (nat_lt from (piece_end piece)) (lt-ltb piece.position to less)
+      (lt-ltb from (piece_end piece) past)
 
   ends_by : (piece : Piece) → piece.position < to → meets piece ≡ false → piece_end piece ≤ from
   ends_by piece less fails =
-      ltb-false from (piece_end piece) (sym (ap (λ (b : Bool). b && nat_lt from (piece_end piece)) (lt-ltb piece.position to less)) ∙ fails)
+      ltb-false from (piece_end piece)
+      (sym (ap (λ (b : Bool). b && nat_lt from (piece_end piece)) (lt-ltb piece.position to less)) ∙ fails)
 
   module _ (position : ℕ) where
     abbrev was : Option Piece
@@ -256,10 +283,12 @@ module _ (from to size : ℕ) (given old : List Piece) (given_are : are_pieces f
     met_at : piece_at position met ≡ kept meets was
     met_at = at-filter meets 0 size old position old_are
 
-    in_front : position < from → piece_at position (with_range from to given old) ≡ exchange (piece_at position put) (piece_at position met) was
+    in_front : position < from → piece_at position (with_range from to given old)
+        ≡ exchange (piece_at position put) (piece_at position met) was
     in_front less =
         by_parts (piece_at position (with_range from to given old)) (option_and_then (part_before from) was)
-        (piece_at position put) (option_and_then (part_before from) (kept meets was)) (piece_at position met) (kept meets was) was
+        (piece_at position put) (option_and_then (part_before from) (kept meets was)) (piece_at position met)
+        (kept meets was) was
         (at-range-front from to given old position given_are less)
         (at-range-front from to given met position given_are less ∙ ap (option_and_then (part_before from)) met_at)
         met_at
@@ -268,7 +297,9 @@ module _ (from to size : ℕ) (given old : List Piece) (given_are : are_pieces f
         let ends = ends_by piece (omega (arith, order, at)) fails in
         before-whole from piece (omega (arith, at)) ends))
 
-    inside : from ≤ position → position < to → piece_at position (with_range from to given old) ≡ exchange (piece_at position put) (piece_at position met) was
+    inside : from ≤ position → position < to
+        → piece_at position (with_range from to given old)
+        ≡ exchange (piece_at position put) (piece_at position met) was
     inside begins less =
         by_parts (piece_at position (with_range from to given old)) (piece_at position given)
         (piece_at position put) (piece_at position given) (piece_at position met) (kept meets was) was
@@ -281,47 +312,47 @@ module _ (from to size : ℕ) (given old : List Piece) (given_are : are_pieces f
         let some = known.some in
         does_meet piece (omega (arith, at)) (omega (arith, at, some))))
 
-    behind : to < position → piece_at position (with_range from to given old) ≡ exchange (piece_at position put) (piece_at position met) was
+    behind : to < position → piece_at position (with_range from to given old)
+        ≡ exchange (piece_at position put) (piece_at position met) was
     behind past =
         by_parts (piece_at position (with_range from to given old)) was
         (piece_at position put) (kept meets was) (piece_at position met) (kept meets was) was
         (at-range-behind from to given old position given_are (omega arith) ∙ at-after-behind to old position past)
-        (at-range-behind from to given met position given_are (omega arith) ∙ at-after-behind to met position past ∙ met_at)
+        (at-range-behind from to given met position given_are (omega arith) ∙ at-after-behind to met position past
+        ∙ met_at)
         met_at
         (behind_case meets was)
 
-  -- what rests of the piece over the end
+  -- what rests of the piece over the end, where that is taken out, or the one that was there
+  abbrev rests : Option Piece → Option Piece → Option Piece
+  rests over there = exchange (option_and_then (part_after to) (kept meets over)) (kept meets there) there
+
   end_case : (over : Option Piece) → piece_over to old ≡ over
-      → option_and_then (part_after to) over
-      ≡ exchange (option_and_then (part_after to) (kept meets over)) (kept meets (piece_at to old)) (piece_at to old)
-  end_case None is =
-      let none = over_at 0 size old to old_are is in
-      sym (ap (λ (o : Option Piece). exchange None (kept meets o) o) none)
+      → option_and_then (part_after to) over ≡ rests over (piece_at to old)
+  end_case None is = sym (ap (rests None) (over_at 0 size old to old_are is))
   end_case (Some piece) is =
       let known = found_over 0 size old to piece old_are is in
       let ends = known.ends in
-      let rest = part_after to piece in
+      let left : Option Piece = option_and_then (part_after to) (kept meets (Some piece)) in
       elim (cases_lt piece.position to) [
         | inl less ↦
             let passes = does_meet piece less (omega (arith, order, ends)) in
             let none = known.alone less in
-            sym (ap (λ (o : Option Piece). exchange (option_and_then (part_after to) (kept meets (Some piece))) (kept meets o) o) none
-            ∙ orelse-none (option_and_then (part_after to) (kept meets (Some piece)))
-            ∙ rw passes refl)
+            sym (ap (rests (Some piece)) none ∙ orelse-none left ∙ rw passes refl)
         | inr past ↦
             let begins = known.begins in
-            let fails : meets piece ≡ false = ap (λ (b : Bool). b && nat_lt from (piece_end piece)) (le-ltb piece.position to past) in
+            let behind_it = le-ltb piece.position to past in
+            let fails : meets piece ≡ false = ap (λ (b : Bool). b && nat_lt from (piece_end piece)) behind_it in
             let there = known.itself (omega (arith, past, begins)) in
-            after-whole to piece past ends
-            ∙ sym (ap (λ (o : Option Piece). exchange (option_and_then (part_after to) (kept meets (Some piece))) (kept meets o) o) there
-            ∙ rw fails refl)
+            after-whole to piece past ends ∙ sym (ap (rests (Some piece)) there ∙ rw fails refl)
       ]
 
   at_end : piece_at to (with_range from to given old) ≡ exchange (piece_at to put) (piece_at to met) (piece_at to old)
   at_end =
       let over = piece_over to old in
       by_parts (piece_at to (with_range from to given old)) (option_and_then (part_after to) over)
-      (piece_at to put) (option_and_then (part_after to) (kept meets over)) (piece_at to met) (kept meets (piece_at to old)) (piece_at to old)
+      (piece_at to put) (option_and_then (part_after to) (kept meets over)) (piece_at to met)
+      (kept meets (piece_at to old)) (piece_at to old)
       (at-range-behind from to given old to given_are (omega arith) ∙ at-after to old)
       (at-range-behind from to given met to given_are (omega arith) ∙ at-after to met
       ∙ ap (option_and_then (part_after to)) (over-filter meets 0 size old to old_are))
@@ -335,7 +366,8 @@ module _ (from to size : ℕ) (given old : List Piece) (given_are : are_pieces f
       | inl less ↦ inside position begins less
       | inr past ↦ elim (cases_eq position to) [
         | inl same ↦
-            subst (λ (p : ℕ). piece_at p (with_range from to given old) ≡ exchange (piece_at p put) (piece_at p met) (piece_at p old)) (sym same) at_end
+            subst (λ (p : ℕ). piece_at p (with_range from to given old)
+            ≡ exchange (piece_at p put) (piece_at p met) (piece_at p old)) (sym same) at_end
         | inr differ ↦ behind position (omega arith)
       ]
     ]
@@ -357,7 +389,8 @@ module _ (by size : ℕ) (old : List Piece) (old_are : are_pieces 0 size old ≡
     cut_at : piece_at position cut ≡ kept ends_past stood
     cut_at = at-filter ends_past 0 size old position old_are
 
-    cut_front : position < by → piece_at position (before by old) ≡ exchange (piece_at position (before by cut)) (piece_at position cut) stood
+    cut_front : position < by → piece_at position (before by old)
+        ≡ exchange (piece_at position (before by cut)) (piece_at position cut) stood
     cut_front less =
         by_parts (piece_at position (before by old)) (option_and_then (part_before by) stood)
         (piece_at position (before by cut)) (option_and_then (part_before by) (kept ends_past stood))
@@ -369,9 +402,11 @@ module _ (by size : ℕ) (old : List Piece) (old_are : are_pieces 0 size old ≡
         let at = (found_at 0 size old position piece old_are is).at in
         before-whole by piece (omega (arith, at)) (ltb-false by (piece_end piece) fails)))
 
-    cut_behind : by ≤ position → piece_at position (before by old) ≡ exchange (piece_at position (before by cut)) (piece_at position cut) stood
+    cut_behind : by ≤ position → piece_at position (before by old)
+        ≡ exchange (piece_at position (before by cut)) (piece_at position cut) stood
     cut_behind past =
-        by_parts (piece_at position (before by old)) None (piece_at position (before by cut)) None (piece_at position cut) (kept ends_past stood) stood
+        by_parts (piece_at position (before by old)) None (piece_at position (before by cut)) None
+        (piece_at position cut) (kept ends_past stood) stood
         (at-before-none by old position past)
         (at-before-none by cut position past)
         cut_at
@@ -382,4 +417,5 @@ module _ (by size : ℕ) (old : List Piece) (old_are : are_pieces 0 size old ≡
         lt-ltb by (piece_end piece) (omega (arith, at, some))))
 
   pub cut-exchanged : AreExchanged cut (before by cut) old (before by old)
-  cut-exchanged position = elim (cases_lt position by) [ inl less ↦ cut_front position less | inr past ↦ cut_behind position past ]
+  cut-exchanged position =
+      elim (cases_lt position by) [ inl less ↦ cut_front position less | inr past ↦ cut_behind position past ]

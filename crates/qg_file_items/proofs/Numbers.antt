@@ -85,7 +85,8 @@ pieces_ascend ino kind offset from size (piece ∷ pieces) rest before are follo
     (before piece.position first.begins) later
 
 -- alone they ascend
-pub pieces-ascend : (ino size : ℕ) (pieces : List Piece) → are_pieces 0 size pieces ≡ true → Ascend (map (item_of_piece ino) pieces)
+pub pieces-ascend : (ino size : ℕ) (pieces : List Piece) → are_pieces 0 size pieces ≡ true
+    → Ascend (map (item_of_piece ino) pieces)
 unfolding is_ascending ascends_from
 pieces-ascend ino size [] are = refl
 pieces-ascend ino size (piece ∷ pieces) are =
@@ -96,7 +97,8 @@ pieces-ascend ino size (piece ∷ pieces) are =
     pieces_ascend ino 108 piece.position (piece_end piece) size pieces []
     (λ position above. by_position ino piece.position position (omega arith)) first.rest none
     in
-    ap (λ (items : List Item). ascends_from (key_with ino 108 piece.position) (keys_of_items items)) (sym (append-nil (map (item_of_piece ino) pieces)))
+    ap (λ (items : List Item). ascends_from (key_with ino 108 piece.position) (keys_of_items items))
+    (sym (append-nil (map (item_of_piece ino) pieces)))
     ∙ behind
 
 -- ---- all files
@@ -146,7 +148,8 @@ files-ascend files are =
 
 greater_back : (low : Key) (front back : List Item) → AreGreater low (front ++ back) → AreGreater low back
 greater_back low [] back greater = greater
-greater_back low (item ∷ front) back greater = greater_back low front back (greater-later low item (front ++ back) greater)
+greater_back low (item ∷ front) back greater =
+    greater_back low front back (greater-later low item (front ++ back) greater)
 
 ascend_back : (front back : List Item) → Ascend (front ++ back) → Ascend back
 ascend_back [] back ascending = ascending
@@ -162,7 +165,9 @@ later_numbers file (next ∷ files) ascending =
     let rest = flat_map items_of_file (next ∷ files) in
     let behind = first_least (item_of_inode file.0 file.1) (pieces ++ rest) ascending in
     let greater = greater_back (key_with file.0 1 0) pieces rest behind in
-    let less = number_of file.0 next.0 (greater-first (key_with file.0 1 0) (item_of_inode next.0 next.1) others greater) in
+    let less =
+    number_of file.0 next.0 (greater-first (key_with file.0 1 0) (item_of_inode next.0 next.1) others greater)
+    in
     (omega arith, later_numbers next files (ascend_back (items_of_file file) rest ascending))
 
 numbers_from : (files : List (ℕ × File)) → Ascend (flat_map items_of_file files) → Ascends 0 files
@@ -170,5 +175,6 @@ unfolding Ascends
 numbers_from [] ascending = tt
 numbers_from (file ∷ files) ascending = (omega arith, later_numbers file files ascending)
 
-pub numbers-ascend : (files : List (ℕ × File)) → Ascend (flat_map items_of_file files) → IsStrictlyIncreasing (keys_of files)
+pub numbers-ascend : (files : List (ℕ × File)) → Ascend (flat_map items_of_file files)
+    → IsStrictlyIncreasing (keys_of files)
 numbers-ascend files ascending = increasing-Ascends 0 files (numbers_from files ascending)

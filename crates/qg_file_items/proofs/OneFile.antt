@@ -26,7 +26,8 @@ module _ (ino : ℕ) (files : List (ℕ × File)) (up : IsStrictlyIncreasing (ke
   abbrev there : Option File → Option (List ℕ)
   there found = option_and_then (body_in_file key.kind key.offset) found
 
-  pub body-with_file : (file : File) → body_at key (flat_map items_of_file (with_value ino file files)) ≡ body_with_file ino file old key
+  pub body-with_file : (file : File)
+      → body_at key (flat_map items_of_file (with_value ino file files)) ≡ body_with_file ino file old key
   body-with_file file =
       body-files (with_value ino file files) (increasing-with ino files up file) key
       ∙ ap there (value-with key.objectid ino file files)
@@ -46,12 +47,14 @@ module _ (ino : ℕ) (files : List (ℕ × File)) (up : IsStrictlyIncreasing (ke
 
 -- ---- no other items have these bodies
 
-pub puts-file : (ino : ℕ) (file : File) (files : List (ℕ × File)) (items : List Item) → AreWritableFiles files → IsWritableFile (ino, file)
+pub puts-file : (ino : ℕ) (file : File) (files : List (ℕ × File)) (items : List Item) → AreWritableFiles files
+    → IsWritableFile (ino, file)
     → Ascend items → ((key : Key) → body_at key items ≡ body_with_file ino file (flat_map items_of_file files) key)
     → items ≡ flat_map items_of_file (with_value ino file files)
 puts-file ino file files items are new ascending bodies =
     let files' = with_value ino file files in
-    same-bodies items (flat_map items_of_file files') ascending (files-ascend files' (writable-with ino file files are new))
+    same-bodies items (flat_map items_of_file files') ascending
+    (files-ascend files' (writable-with ino file files are new))
     (λ key. bodies key ∙ sym (body-with_file ino files are.ascending key file))
 
 pub takes-file : (ino : ℕ) (files : List (ℕ × File)) (items : List Item) → AreWritableFiles files → Ascend items

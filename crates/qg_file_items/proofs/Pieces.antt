@@ -48,7 +48,8 @@ before-none : (to : ℕ) (piece : Piece) → to ≤ piece.position → part_befo
 before-none to piece past = ap (λ (b : Bool). then_some b (front_of to piece)) (le-ltb piece.position to past)
 
 -- a piece that ends by the position is left whole
-pub before-whole : (to : ℕ) (piece : Piece) → piece.position < to → piece_end piece ≤ to → part_before to piece ≡ Some piece
+pub before-whole : (to : ℕ) (piece : Piece) → piece.position < to → piece_end piece ≤ to
+    → part_before to piece ≡ Some piece
 before-whole to piece less ends =
     let len : min piece.len (to - piece.position) ≡ piece.len = omega arith in
     before-some to piece less ∙ ap (λ (n : ℕ). let p : Piece = record piece { len = n } in Some p) len
@@ -61,7 +62,8 @@ before_other to piece pieces position differ = elim (cases_lt piece.position to)
   | inl less ↦
       ap (λ (o : Option Piece). piece_at position (cons_option o (before to pieces))) (before-some to piece less)
       ∙ at-later position (front_of to piece) (before to pieces) differ
-  | inr past ↦ ap (λ (o : Option Piece). piece_at position (cons_option o (before to pieces))) (before-none to piece past)
+  | inr past ↦ ap (λ (o : Option Piece). piece_at position (cons_option o (before to pieces)))
+      (before-none to piece past)
 ]
 
 pub at-before : (to : ℕ) (pieces : List Piece) (position : ℕ) → position < to
@@ -82,7 +84,8 @@ at-before to (piece ∷ pieces) position less = elim (cases_eq piece.position po
 ]
 
 -- and none behind it
-pub at-before-none : (to : ℕ) (pieces : List Piece) (position : ℕ) → to ≤ position → piece_at position (before to pieces) ≡ None
+pub at-before-none : (to : ℕ) (pieces : List Piece) (position : ℕ) → to ≤ position
+    → piece_at position (before to pieces) ≡ None
 unfolding before
 at-before-none to [] position past = refl
 at-before-none to (piece ∷ pieces) position past = elim (cases_lt piece.position to) [
@@ -95,7 +98,8 @@ at-before-none to (piece ∷ pieces) position past = elim (cases_lt piece.positi
       ∙ at-before-none to pieces position past
 ]
 
-pub at-cut : (size : ℕ) (pieces : List Piece) (position : ℕ) → piece_at position (before size pieces) ≡ piece_at_cut size pieces position
+pub at-cut : (size : ℕ) (pieces : List Piece) (position : ℕ)
+    → piece_at position (before size pieces) ≡ piece_at_cut size pieces position
 at-cut size pieces position = elim (cases_lt position size) [
   | inl less ↦ at-before size pieces position less ∙ sym (rw (lt-ltb position size less) refl)
   | inr past ↦ at-before-none size pieces position past ∙ sym (rw (le-ltb position size past) refl)
@@ -125,8 +129,10 @@ rest-whole from piece begins =
     let offset : piece.offset + (max from piece.position - piece.position) ≡ piece.offset = omega arith in
     λ i. record piece { position = at i; len = len i; offset = offset i }
 
-pub after-whole : (from : ℕ) (piece : Piece) → from ≤ piece.position → from < piece_end piece → part_after from piece ≡ Some piece
-after-whole from piece begins past = after-some from piece past ∙ ap (λ (p : Piece). Some p) (rest-whole from piece begins)
+pub after-whole : (from : ℕ) (piece : Piece) → from ≤ piece.position → from < piece_end piece
+    → part_after from piece ≡ Some piece
+after-whole from piece begins past =
+    after-some from piece past ∙ ap (λ (p : Piece). Some p) (rest-whole from piece begins)
 
 -- the first of two parts, the one of which counts
 after_first : (from : ℕ) (piece : Piece) (pieces : List Piece) (position : ℕ) → from < piece_end piece
@@ -142,7 +148,8 @@ after_later from piece pieces position ends =
     ap (λ (o : Option Piece). piece_at position (cons_option o (after from pieces))) (after-none from piece ends)
 
 -- in front of it none
-pub at-after-none : (from : ℕ) (pieces : List Piece) (position : ℕ) → position < from → piece_at position (after from pieces) ≡ None
+pub at-after-none : (from : ℕ) (pieces : List Piece) (position : ℕ) → position < from
+    → piece_at position (after from pieces) ≡ None
 unfolding after
 at-after-none from [] position less = refl
 at-after-none from (piece ∷ pieces) position less =
@@ -155,9 +162,11 @@ at-after-none from (piece ∷ pieces) position less =
     ]
 
 -- the piece over a position
-pub over-here : (position : ℕ) (piece : Piece) (pieces : List Piece) → piece.position ≤ position → position < piece_end piece
+pub over-here : (position : ℕ) (piece : Piece) (pieces : List Piece) → piece.position ≤ position
+    → position < piece_end piece
     → piece_over position (piece ∷ pieces) ≡ Some piece
-over-here position piece pieces begins ends = rw (le-leb piece.position position begins, lt-ltb position (piece_end piece) ends) refl
+over-here position piece pieces begins ends =
+    rw (le-leb piece.position position begins, lt-ltb position (piece_end piece) ends) refl
 
 pub over-before : (position : ℕ) (piece : Piece) (pieces : List Piece) → position < piece.position
     → piece_over position (piece ∷ pieces) ≡ piece_over position pieces
@@ -165,7 +174,8 @@ over-before position piece pieces less = rw (lt-leb piece.position position less
 
 pub over-behind : (position : ℕ) (piece : Piece) (pieces : List Piece) → piece_end piece ≤ position
     → piece_over position (piece ∷ pieces) ≡ piece_over position pieces
-over-behind position piece pieces ends = rw (le-ltb position (piece_end piece) ends, and-false (nat_le piece.position position)) refl
+over-behind position piece pieces ends =
+    rw (le-ltb position (piece_end piece) ends, and-false (nat_le piece.position position)) refl
 
 -- at it what rests of the piece over it
 pub at-after : (from : ℕ) (pieces : List Piece)
@@ -227,14 +237,16 @@ range-order from to (piece ∷ pieces) are =
     let later = range-order (piece_end piece) to pieces first.rest in
     omega (arith, first.begins, later)
 
-pub range-front : (from to : ℕ) (pieces : List Piece) (position : ℕ) → are_pieces from to pieces ≡ true → position < from
+pub range-front : (from to : ℕ) (pieces : List Piece) (position : ℕ) → are_pieces from to pieces ≡ true
+    → position < from
     → piece_at position pieces ≡ None
 unfolding are_pieces
 range-front from to [] position are less = refl
 range-front from to (piece ∷ pieces) position are less =
     let first = FirstPiece-are_pieces from to piece pieces are in
     let begins = first.begins in
-    at-later position piece pieces (λ is. omega (arith, is)) ∙ range-front (piece_end piece) to pieces position first.rest (omega arith)
+    at-later position piece pieces (λ is. omega (arith, is))
+    ∙ range-front (piece_end piece) to pieces position first.rest (omega arith)
 
 pub range-behind : (from to : ℕ) (pieces : List Piece) (position : ℕ) → are_pieces from to pieces ≡ true → to ≤ position
     → piece_at position pieces ≡ None
@@ -244,7 +256,8 @@ range-behind from to (piece ∷ pieces) position are past =
     let first = FirstPiece-are_pieces from to piece pieces are in
     let some : 0 < piece.len = (WholePiece-is_piece piece first.is).some in
     let ends = range-order (piece_end piece) to pieces first.rest in
-    at-later position piece pieces (λ is. omega (arith, is)) ∙ range-behind (piece_end piece) to pieces position first.rest past
+    at-later position piece pieces (λ is. omega (arith, is))
+    ∙ range-behind (piece_end piece) to pieces position first.rest past
 
 -- ---- with other pieces in a range
 
@@ -257,24 +270,29 @@ module _ (from to : ℕ) (given pieces : List Piece) (position : ℕ) (are : are
   first_of front middle back = (front orelse middle) orelse back
 
   in_three : piece_at position (with_range from to given pieces)
-      ≡ first_of (piece_at position (before from pieces)) (piece_at position given) (piece_at position (after to pieces))
+      ≡ first_of (piece_at position (before from pieces)) (piece_at position given)
+      (piece_at position (after to pieces))
   in_three =
       at-append position (before from pieces ++ given) (after to pieces)
-      ∙ ap (λ (o : Option Piece). o orelse piece_at position (after to pieces)) (at-append position (before from pieces) given)
+      ∙ ap (λ (o : Option Piece). o orelse piece_at position (after to pieces))
+      (at-append position (before from pieces) given)
 
   pub at-range-front : position < from
-      → piece_at position (with_range from to given pieces) ≡ option_and_then (part_before from) (piece_at position pieces)
+      → piece_at position (with_range from to given pieces)
+      ≡ option_and_then (part_before from) (piece_at position pieces)
   at-range-front less =
       let none = range-front from to given position are less in
       let behind = at-after-none to pieces position (omega (arith, order)) in
       in_three
-      ∙ ap (λ (o : Option Piece). first_of (piece_at position (before from pieces)) o (piece_at position (after to pieces))) none
+      ∙ ap (λ (o : Option Piece). first_of (piece_at position (before from pieces)) o
+      (piece_at position (after to pieces))) none
       ∙ ap (λ (o : Option Piece). first_of (piece_at position (before from pieces)) None o) behind
       ∙ orelse-none (piece_at position (before from pieces) orelse None)
       ∙ orelse-none (piece_at position (before from pieces))
       ∙ at-before from pieces position less
 
-  pub at-range-inside : from ≤ position → position < to → piece_at position (with_range from to given pieces) ≡ piece_at position given
+  pub at-range-inside : from ≤ position → position < to
+      → piece_at position (with_range from to given pieces) ≡ piece_at position given
   at-range-inside begins less =
       let front = at-before-none from pieces position begins in
       let behind = at-after-none to pieces position less in
@@ -283,7 +301,8 @@ module _ (from to : ℕ) (given pieces : List Piece) (position : ℕ) (are : are
       ∙ ap (λ (o : Option Piece). first_of None (piece_at position given) o) behind
       ∙ orelse-none (piece_at position given)
 
-  pub at-range-behind : to ≤ position → piece_at position (with_range from to given pieces) ≡ piece_at position (after to pieces)
+  pub at-range-behind : to ≤ position
+      → piece_at position (with_range from to given pieces) ≡ piece_at position (after to pieces)
   at-range-behind past =
       let front = at-before-none from pieces position (omega (arith, order)) in
       let none = range-behind from to given position are past in
@@ -295,7 +314,8 @@ module _ (from to : ℕ) (given pieces : List Piece) (position : ℕ) (are : are
   at-range = elim (cases_lt position from) [
     | inl front ↦ at-range-front front ∙ sym (rw (lt-ltb position from front) refl)
     | inr begins ↦ elim (cases_lt position to) [
-      | inl inside ↦ at-range-inside begins inside ∙ sym (rw (le-ltb position from begins, lt-ltb position to inside) refl)
+      | inl inside ↦ at-range-inside begins inside
+          ∙ sym (rw (le-ltb position from begins, lt-ltb position to inside) refl)
       | inr past ↦ elim (cases_eq position to) [
         | inl at ↦
             at-range-behind past

@@ -22,7 +22,8 @@ module _ (ino : ℕ) (file : File) (files : List (ℕ × File)) (up : IsStrictly
   under_inode : body_at (key_with ino 1 0) (flat_map items_of_file (with_value ino file files)) ≡ Some (inode_body file)
   under_inode = body-with_file ino files up (key_with ino 1 0) file ∙ rw (eq-eqb ino ino refl) refl
 
-  under_piece : (position : ℕ) → body_at (key_with ino 108 position) (flat_map items_of_file (with_value ino file files))
+  under_piece : (position : ℕ) → body_at (key_with ino 108 position)
+      (flat_map items_of_file (with_value ino file files))
       ≡ option_map piece_body (piece_at position file.pieces)
   under_piece position = body-with_file ino files up (key_with ino 108 position) file ∙ rw (eq-eqb ino ino refl) refl
 
@@ -35,14 +36,18 @@ range-bodies generation ino from to given old files up are =
     record {
       inode = under_inode ino new files up;
       pieces = λ position.
-          under_piece ino new files up position ∙ ap (option_map piece_body) (at-range from to given old.pieces position are);
+          under_piece ino new files up position
+          ∙ ap (option_map piece_body) (at-range from to given old.pieces position are);
     }
 
 pub cut-bodies : (generation ino size : ℕ) (old : File) (files : List (ℕ × File)) → IsStrictlyIncreasing (keys_of files)
-    → HasCutBodies ino size old (with_size generation size old) (flat_map items_of_file (with_value ino (with_size generation size old) files))
+    → HasCutBodies ino size old (with_size generation size old)
+    (flat_map items_of_file (with_value ino (with_size generation size old) files))
 cut-bodies generation ino size old files up =
     let new = with_size generation size old in
     record {
       inode = under_inode ino new files up;
-      pieces = λ position. under_piece ino new files up position ∙ ap (option_map piece_body) (at-cut size old.pieces position);
+      pieces =
+          λ position. under_piece ino new files up position
+          ∙ ap (option_map piece_body) (at-cut size old.pieces position);
     }

@@ -37,8 +37,10 @@ sound_pieces ino old files are there =
     let found = found_file IsWritableFile ino old files there (recursion_from_All IsWritableFile files are.each) in
     (WholeFile-is_file old found.sound).pieces
 
-pub edits-range : (generation ino from to : ℕ) (given : List Piece) (old : File) (files : List (ℕ × File)) → AreWritableFiles files
-    → value_at ino files ≡ Some old → IsTrue (is_aligned from) → IsTrue (is_aligned to) → IsTrue (are_pieces from to given)
+pub edits-range : (generation ino from to : ℕ) (given : List Piece) (old : File) (files : List (ℕ × File))
+    → AreWritableFiles files
+    → value_at ino files ≡ Some old → IsTrue (is_aligned from) → IsTrue (is_aligned to)
+    → IsTrue (are_pieces from to given)
     → IsWritableFile (ino, with_pieces generation from to given old)
     → file_edited ino (with_pieces generation from to given old) (pieces_met from to old.pieces)
     (with_range from to given (pieces_met from to old.pieces)) (flat_map items_of_file files)
@@ -56,7 +58,8 @@ edits-range generation ino from to given old files are there from_aligned to_ali
 
 pub edits-size : (generation ino size : ℕ) (old : File) (files : List (ℕ × File)) → AreWritableFiles files
     → value_at ino files ≡ Some old → IsTrue (is_aligned size) → IsWritableFile (ino, with_size generation size old)
-    → file_edited ino (with_size generation size old) (pieces_cut size old.pieces) (before size (pieces_cut size old.pieces))
+    → file_edited ino (with_size generation size old) (pieces_cut size old.pieces)
+    (before size (pieces_cut size old.pieces))
     (flat_map items_of_file files)
     ≡ flat_map items_of_file (with_value ino (with_size generation size old) files)
 edits-size generation ino size old files are there aligned new_is =
@@ -67,4 +70,5 @@ edits-size generation ino size old files are there aligned new_is =
     let put_are = are_pieces-before old.size size cut aligned cut_are in
     let exchanged = cut-exchanged size old.size old.pieces old_are in
     exchanges ino new cut (before size cut) files are new_is put_are
-    (subst (λ (found : Option File). AreExchanged cut (before size cut) (pieces_or_none found) new.pieces) (sym there) exchanged)
+    (subst (λ (found : Option File). AreExchanged cut (before size cut) (pieces_or_none found) new.pieces)
+    (sym there) exchanged)

@@ -36,7 +36,8 @@ record IsParted (ino : ℕ) (parts : List FilePart) : Type 0 where
 
 parted : (ino : ℕ) (parts : List FilePart) → IsParted ino parts
 parted ino [] = record { pieces = []; others = []; are = refl; other = tt }
-parted ino (Inode other inode ∷ parts) = record { pieces = []; others = Inode other inode ∷ parts; are = refl; other = refl }
+parted ino (Inode other inode ∷ parts) =
+    record { pieces = []; others = Inode other inode ∷ parts; are = refl; other = refl }
 parted ino (PieceOf other piece ∷ parts) = elim (cases_Bool (other == ino)) [
   | inl own ↦
       let later = parted ino parts in
@@ -89,7 +90,8 @@ same_inode one sum =
 
 pieces_placed : (generation ino : ℕ) (pieces : List Piece) (others : List FilePart)
     → AllByRecursion (IsPartBy generation) (map (PieceOf ino) pieces ++ others)
-    → AllByRecursion IsPlaced pieces × AllByRecursion (λ piece. piece.stamp ≤ generation) pieces × AllByRecursion (IsPartBy generation) others
+    → AllByRecursion IsPlaced pieces × AllByRecursion (λ piece. piece.stamp ≤ generation) pieces × AllByRecursion
+    (IsPartBy generation) others
 pieces_placed generation ino [] others each = (tt, tt, each)
 pieces_placed generation ino (piece ∷ pieces) others each =
     let later = pieces_placed generation ino pieces others each.1 in
@@ -129,7 +131,8 @@ module _ (one : FileItems) (others : List FilePart) (starts : StartsOther one.in
         IsReading-more whole whole [] one others (whole_file one) start next (file_told-judged one true judged)
 
     -- what is behind it stands the same way, and so does all
-    all_read : (generation : ℕ) → AllByRecursion (IsPartBy generation) whole → AreRead generation others (files_in others)
+    all_read : (generation : ℕ) → AllByRecursion (IsPartBy generation) whole
+        → AreRead generation others (files_in others)
         → AreRead generation whole (files_in whole)
     all_read generation each later =
         let file : ℕ × File = (one.ino, whole_file one) in
@@ -157,11 +160,14 @@ module _ (one : FileItems) (others : List FilePart) (starts : StartsOther one.in
         subst (λ (files : List (ℕ × File)). AreRead generation whole files) (sym more.told) read
 
 -- a piece that stands in front has no file
-orphan : (ino : ℕ) (piece : Piece) (rest : List FilePart) → is_ascending (map file_key (PieceOf ino piece ∷ rest)) ≡ true
+orphan : (ino : ℕ) (piece : Piece) (rest : List FilePart)
+    → is_ascending (map file_key (PieceOf ino piece ∷ rest)) ≡ true
     → are_files (PieceOf ino piece ∷ rest) ≡ true → ⊥
 orphan ino piece rest ascending sound =
     let parts : List FilePart = PieceOf ino piece ∷ rest in
-    let none = IsReading-orphan parts parts ino piece (PieceOf ino piece) rest [] (IsReading-none parts ascending) refl refl in
+    let none =
+    IsReading-orphan parts parts ino piece (PieceOf ino piece) rest [] (IsReading-none parts ascending) refl refl
+    in
     let some : ◌≡◌ None (Some (files_in parts)) = none ∙ ap (λ (b : Bool). then_some b (files_in parts)) sound in
     none-some (files_in parts) some
 
@@ -170,7 +176,8 @@ abbrev AreReadUpto : ℕ → ℕ → Type 0
 AreReadUpto generation most = (parts : List FilePart) → length parts ≤ most → is_ascending (map file_key parts) ≡ true
     → are_files parts ≡ true → AllByRecursion (IsPartBy generation) parts → AreRead generation parts (files_in parts)
 
-read_one : (generation most ino : ℕ) (inode : InodeItem) (rest : List FilePart) → IsParted ino rest → AreReadUpto generation most
+read_one : (generation most ino : ℕ) (inode : InodeItem) (rest : List FilePart) → IsParted ino rest
+    → AreReadUpto generation most
     → length (Inode ino inode ∷ rest) ≤ suc most → is_ascending (map file_key (Inode ino inode ∷ rest)) ≡ true
     → are_files (Inode ino inode ∷ rest) ≡ true → AllByRecursion (IsPartBy generation) (Inode ino inode ∷ rest)
     → AreRead generation (Inode ino inode ∷ rest) (files_in (Inode ino inode ∷ rest))
@@ -192,11 +199,14 @@ read_one generation most ino inode rest split read few ascending sound each =
 
 read_upto : (generation most : ℕ) → AreReadUpto generation most
 read_upto generation most [] few ascending sound each = record { are = refl; writable = tt; by = tt }
-read_upto generation most (PieceOf ino piece ∷ rest) few ascending sound each = absurd (orphan ino piece rest ascending sound)
+read_upto generation most (PieceOf ino piece ∷ rest) few ascending sound each =
+    absurd (orphan ino piece rest ascending sound)
 read_upto generation zero (Inode ino inode ∷ rest) few ascending sound each = absurd (omega arith)
 read_upto generation (suc most) (Inode ino inode ∷ rest) few ascending sound each =
     read_one generation most ino inode rest (parted ino rest) (read_upto generation most) few ascending sound each
 
-pub read-files : (generation : ℕ) (parts : List FilePart) → is_ascending (map file_key parts) ≡ true → are_files parts ≡ true
+pub read-files : (generation : ℕ) (parts : List FilePart) → is_ascending (map file_key parts) ≡ true
+    → are_files parts ≡ true
     → AllByRecursion (IsPartBy generation) parts → AreRead generation parts (files_in parts)
-read-files generation parts ascending sound each = read_upto generation (length parts) parts (omega arith) ascending sound each
+read-files generation parts ascending sound each =
+    read_upto generation (length parts) parts (omega arith) ascending sound each

@@ -68,7 +68,9 @@ module _ (objectid position : ℕ) (body : List ℕ) (are : IsBytes body) where
   of_inode part is = map_some (Inode objectid) (inode_read body) part is (λ inode read same. from inode read same) where
     from : (inode : InodeItem) → inode_read body ≡ Some inode → Inode objectid inode ≡ part → IsBodyOf body part
     from inode read same =
-        let here : IsBodyOf body (Inode objectid inode) = record { text = inode_text-from_read body inode are read; placed = tt } in
+        let here : IsBodyOf body (Inode objectid inode) =
+        record { text = inode_text-from_read body inode are read; placed = tt }
+        in
         rw (sym same) here
 
   -- the extent's length stands twice in what is read
@@ -81,13 +83,17 @@ module _ (objectid position : ℕ) (body : List ℕ) (are : IsBytes body) where
       in
       once ∙ ap extent_data_of parts.1
 
-  of_piece : (part : FilePart) → option_map (PieceOf objectid) (option_and_then (piece_told position) (extent_data_read body)) ≡ Some part
+  of_piece : (part : FilePart) → option_map (PieceOf objectid)
+      (option_and_then (piece_told position) (extent_data_read body)) ≡ Some part
       → IsBodyOf body part
   of_piece part is =
-      map_some (PieceOf objectid) (option_and_then (piece_told position) (extent_data_read body)) part is (λ piece given same.
-      option_and_then_some (piece_told position) (extent_data_read body) piece given (λ told read said. from piece told read said same))
+      map_some (PieceOf objectid) (option_and_then (piece_told position) (extent_data_read body)) part is
+      (λ piece given same.
+      option_and_then_some (piece_told position) (extent_data_read body) piece given
+      (λ told read said. from piece told read said same))
     where
-      from : (piece : Piece) (told : ExtentData) → extent_data_read body ≡ Some told → piece_told position told ≡ Some piece → PieceOf objectid piece ≡ part
+      from : (piece : Piece) (told : ExtentData) → extent_data_read body ≡ Some told
+          → piece_told position told ≡ Some piece → PieceOf objectid piece ≡ part
           → IsBodyOf body part
       from piece told read said same =
           let twice = told_twice told piece said in
@@ -105,7 +111,9 @@ body_of item part are is =
     let number = item.key.objectid in
     let position = item.key.offset in
     let inode : Option FilePart = option_map (Inode number) (inode_read item.body) in
-    let piece : Option FilePart = option_map (PieceOf number) (option_and_then (piece_told position) (extent_data_read item.body)) in
+    let piece : Option FilePart =
+    option_map (PieceOf number) (option_and_then (piece_told position) (extent_data_read item.body))
+    in
     let is_inode = is_keyed number INODE_ITEM 0 item in
     let is_piece = item.key.kind == EXTENT_DATA in
     either_some (when is_inode inode) (when is_piece piece) part is
@@ -136,7 +144,8 @@ pub record AreSaidBy (generation : ℕ) (items : List Item) : Type 0 where
   pub keys : map file_key (file_parts items) ≡ keys_of items
   pub each : AllByRecursion (IsPartBy generation) (file_parts items)
 
-has_stamps : (generation : ℕ) (part : FilePart) → list_all (λ stamp. nat_le stamp generation) (file_part_stamps part) ≡ true
+has_stamps : (generation : ℕ) (part : FilePart)
+    → list_all (λ stamp. nat_le stamp generation) (file_part_stamps part) ≡ true
     → HasStamps generation part
 has_stamps generation (Inode ino inode) all =
     let first = and_parts (nat_le inode.generation generation) (nat_le inode.transid generation && true) all in
@@ -146,7 +155,8 @@ has_stamps generation (PieceOf ino piece) all =
     leb-true piece.stamp generation (and_parts (nat_le piece.stamp generation) true all).0
 
 -- an item that the tree may hold says something
-some_part : (generation : ℕ) (item : Item) (part : Option FilePart) → file_part item ≡ part → is_file_item generation item ≡ true
+some_part : (generation : ℕ) (item : Item) (part : Option FilePart) → file_part item ≡ part
+    → is_file_item generation item ≡ true
     → (x : FilePart) × (file_part item ≡ Some x) × HasStamps generation x
 unfolding is_file_item
 some_part generation item None is passes =

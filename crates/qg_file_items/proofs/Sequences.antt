@@ -26,14 +26,16 @@ body-with_items (new ∷ news) items key ascending =
       | inr differ ↦ rw differ refl
       | inl same ↦
           let none : body_at key news ≡ None =
-          ap (λ (k : Key). body_at k news) (sym (same_key-true new.key key same)) ∙ no_body new.key news (first_least new news ascending)
+          ap (λ (k : Key). body_at k news) (sym (same_key-true new.key key same))
+          ∙ no_body new.key news (first_least new news ascending)
           in
           rw (same, none) refl
     ]
 
 pub ascending-with_items : (news items : List Item) → Ascend items → Ascend (with_items news items)
 ascending-with_items [] items ascending = ascending
-ascending-with_items (new ∷ news) items ascending = ascending-with_items news (with_item new items) (ascending-with_item new items ascending)
+ascending-with_items (new ∷ news) items ascending =
+    ascending-with_items news (with_item new items) (ascending-with_item new items ascending)
 
 -- ---- taken out
 

@@ -23,9 +23,11 @@ use Rattle.qg_file_items.proofs.Said.{item_of_part, said-by}
 
 -- ---- the items of what a file's items say
 
-pieces_items : (ino : ℕ) (pieces : List Piece) → map item_of_part (map (PieceOf ino) pieces) ≡ map (item_of_piece ino) pieces
+pieces_items : (ino : ℕ) (pieces : List Piece)
+    → map item_of_part (map (PieceOf ino) pieces) ≡ map (item_of_piece ino) pieces
 pieces_items ino [] = refl
-pieces_items ino (piece ∷ pieces) = ap (λ (items : List Item). item_of_piece ino piece ∷ items) (pieces_items ino pieces)
+pieces_items ino (piece ∷ pieces) =
+    ap (λ (items : List Item). item_of_piece ino piece ∷ items) (pieces_items ino pieces)
 
 file_items : (file : ℕ × File) → map item_of_part (parts_of_file file) ≡ items_of_file file
 file_items file = ap (λ (items : List Item). item_of_inode file.0 file.1 ∷ items) (pieces_items file.0 file.1.pieces)
@@ -49,15 +51,20 @@ is_read : (generation : ℕ) (items : List Item) (files : List (ℕ × File)) �
 unfolding files_of
 is_read generation items files is =
     let parts = file_parts items in
-    let both = then_some_parts (list_all (is_file_item generation) items && are_files parts) (files_in parts) files is in
+    let both =
+    then_some_parts (list_all (is_file_item generation) items && are_files parts) (files_in parts) files is
+    in
     let tests = and_parts (list_all (is_file_item generation) items) (are_files parts) both.0 in
     record { allowed = tests.0; sound = tests.1; told = both.1 }
 
-pub spelled : (generation : ℕ) (items : List Item) (files : List (ℕ × File)) → All (λ item. IsBytes item.body) items → Ascend items
+pub spelled : (generation : ℕ) (items : List Item) (files : List (ℕ × File)) → All (λ item. IsBytes item.body) items
+    → Ascend items
     → files_of generation items ≡ Some files → AreItemsOf generation files items
 spelled generation items files bytes ascending is =
     let read = is_read generation items files is in
-    let said = said-by generation items (recursion_from_All (λ (item : Item). IsBytes item.body) items bytes) read.allowed in
+    let said =
+    said-by generation items (recursion_from_All (λ (item : Item). IsBytes item.body) items bytes) read.allowed
+    in
     let told = read-files generation (file_parts items) (ap is_ascending said.keys ∙ ascending) read.sound said.each in
     let whole = said.are ∙ ap (map item_of_part) told.are ∙ files_items (files_in (file_parts items)) in
     let are : AreItemsOf generation (files_in (file_parts items)) items = record {

@@ -38,7 +38,8 @@ module _ {A : Type 0} (n ino : ℕ) where
     ]
   ]
 
-  pub value-without : (table : List (ℕ × A)) → value_at n (without_key ino table) ≡ (if ino == n then None else value_at n table)
+  pub value-without : (table : List (ℕ × A))
+      → value_at n (without_key ino table) ≡ (if ino == n then None else value_at n table)
   value-without [] = elim (cases_Bool (ino == n)) [ inl here ↦ rw here refl | inr other ↦ rw other refl ]
   value-without (entry ∷ table) = elim (cases_Bool (entry.0 == ino)) [
     | inl same ↦ elim (cases_Bool (ino == n)) [
@@ -56,12 +57,15 @@ module _ {A : Type 0} (n ino : ℕ) where
 module _ {A : Type 0} (ino : ℕ) (table : List (ℕ × A)) (up : IsStrictlyIncreasing (keys_of table)) where
   pub increasing-with : (value : A) → IsStrictlyIncreasing (keys_of (with_value ino value table))
   increasing-with value =
-      increasing-Ascends 0 (with_value ino value table) (ascends-with_value 0 ino value table (omega arith) (Ascends-increasing table up))
+      increasing-Ascends 0 (with_value ino value table)
+      (ascends-with_value 0 ino value table (omega arith) (Ascends-increasing table up))
 
   pub increasing-without : IsStrictlyIncreasing (keys_of (without_key ino table))
-  increasing-without = increasing-Ascends 0 (without_key ino table) (ascends-filter 0 _ table (Ascends-increasing table up))
+  increasing-without =
+      increasing-Ascends 0 (without_key ino table) (ascends-filter 0 _ table (Ascends-increasing table up))
 
-pub writable-with : (ino : ℕ) (file : File) (files : List (ℕ × File)) → AreWritableFiles files → IsWritableFile (ino, file)
+pub writable-with : (ino : ℕ) (file : File) (files : List (ℕ × File)) → AreWritableFiles files
+    → IsWritableFile (ino, file)
     → AreWritableFiles (with_value ino file files)
 writable-with ino file files are new =
     let each = all-with_value IsWritableFile ino file files new (recursion_from_All IsWritableFile files are.each) in
@@ -70,7 +74,8 @@ writable-with ino file files are new =
       each = All-from_recursion IsWritableFile (with_value ino file files) each;
     }
 
-pub writable-without : (ino : ℕ) (files : List (ℕ × File)) → AreWritableFiles files → AreWritableFiles (without_key ino files)
+pub writable-without : (ino : ℕ) (files : List (ℕ × File)) → AreWritableFiles files
+    → AreWritableFiles (without_key ino files)
 writable-without ino files are = record {
   ascending = increasing-without ino files are.ascending;
   each = All-filter _ IsWritableFile files are.each;

@@ -110,12 +110,15 @@ first_bodies x y a b same alike =
     let both : ◌≡◌ (Some x.body) (Some y.body) = sym left ∙ alike x.key ∙ right in
     cc
 
-later_alike : (x y : Item) (a b : List Item) → Ascend (x ∷ a) → Ascend (y ∷ b) → x.key ≡ y.key → AreAlike (x ∷ a) (y ∷ b)
+later_alike : (x y : Item) (a b : List Item) → Ascend (x ∷ a) → Ascend (y ∷ b) → x.key ≡ y.key
+    → AreAlike (x ∷ a) (y ∷ b)
     → AreAlike a b
 later_alike x y a b ascend_a ascend_b same alike key = elim (cases_Bool (same_key x.key key)) [
   | inl here ↦
       let is = same_key-true x.key key here in
-      let left : body_at key a ≡ None = ap (λ (k : Key). body_at k a) (sym is) ∙ no_body x.key a (first_least x a ascend_a) in
+      let left : body_at key a ≡ None =
+      ap (λ (k : Key). body_at k a) (sym is) ∙ no_body x.key a (first_least x a ascend_a)
+      in
       let right : body_at key b ≡ None =
       ap (λ (k : Key). body_at k b) (sym is ∙ same) ∙ no_body y.key b (first_least y b ascend_b)
       in
@@ -138,7 +141,8 @@ same-bodies (x ∷ a) (y ∷ b) ascend_a ascend_b alike =
     let keys = first_keys x y a b ascend_a ascend_b alike in
     let first = same_item x y keys (first_bodies x y a b keys alike) in
     let later =
-    same-bodies a b (later_ascend x a ascend_a) (later_ascend y b ascend_b) (later_alike x y a b ascend_a ascend_b keys alike)
+    same-bodies a b (later_ascend x a ascend_a) (later_ascend y b ascend_b)
+    (later_alike x y a b ascend_a ascend_b keys alike)
     in
     ap (λ (i : Item). i ∷ a) first ∙ ap (λ (items : List Item). y ∷ items) later
 

@@ -30,7 +30,8 @@ piece_at position (piece ∷ pieces) = if piece.position == position then Some p
 abbrev pub piece_over : ℕ → List Piece → Option Piece
 piece_over position [] = None
 piece_over position (piece ∷ pieces) =
-    if nat_le piece.position position && nat_lt position (piece_end piece) then Some piece else piece_over position pieces
+    if nat_le piece.position position && nat_lt position (piece_end piece) then Some piece
+    else piece_over position pieces
 
 -- ---- bodies
 
@@ -40,7 +41,8 @@ inode_body file = inode_text (inode_of file)
 abbrev pub piece_body : Piece → List ℕ
 piece_body piece = extent_data_text (extent_data_of piece)
 
--- what a file has under keys of its number: its INODE_ITEM at 0, the EXTENT_DATA of a piece at the piece's position, and nothing else
+-- what a file has under keys of its number: its INODE_ITEM at 0, the EXTENT_DATA of a piece at the piece's position,
+-- and nothing else
 abbrev pub body_in_file : ℕ → ℕ → File → Option (List ℕ)
 body_in_file kind offset file =
     if (kind == INODE_ITEM) && (offset == 0) then Some (inode_body file)
@@ -54,7 +56,8 @@ body_in_files key files = option_and_then (body_in_file key.kind key.offset) (va
 
 -- what is under a key once a file is this one, and other files' items stay
 abbrev pub body_with_file : ℕ → File → List Item → Key → Option (List ℕ)
-body_with_file ino file items key = if ino == key.objectid then body_in_file key.kind key.offset file else body_at key items
+body_with_file ino file items key =
+    if ino == key.objectid then body_in_file key.kind key.offset file else body_at key items
 
 -- and once there is no such file
 abbrev pub body_without_file : ℕ → List Item → Key → Option (List ℕ)

@@ -21,7 +21,8 @@ old = of_extent 0 12288 0 ∷ of_extent 16384 4096 12288 ∷ []
 meets_the_first : pieces_met 4096 8192 old ≡ of_extent 0 12288 0 ∷ []
 meets_the_first = refl
 
-puts_three : with_range 4096 8192 (written ∷ []) (pieces_met 4096 8192 old) ≡ of_extent 0 4096 0 ∷ written ∷ of_extent 8192 4096 8192 ∷ []
+puts_three : with_range 4096 8192 (written ∷ []) (pieces_met 4096 8192 old)
+    ≡ of_extent 0 4096 0 ∷ written ∷ of_extent 8192 4096 8192 ∷ []
 unfolding before after
 puts_three = refl
 

@@ -21,9 +21,12 @@ without_items (gone ∷ later) items = without_items later (without_key gone.key
 -- pieces of a file taken out, others put in, and then its INODE_ITEM
 abbrev pub file_edited : ℕ → File → List Piece → List Piece → List Item → List Item
 file_edited ino file gone put items =
-    with_item (item_of_inode ino file) (with_items (map (item_of_piece ino) put) (without_items (map (item_of_piece ino) gone) items))
+    with_item (item_of_inode ino file)
+    (with_items (map (item_of_piece ino) put) (without_items (map (item_of_piece ino) gone) items))
 
--- so old pieces become new ones: at each position the piece that is put in, else none where one is taken out, else the old one
+-- so old pieces become new ones: at each position the piece that is put in, else none where one is taken out, else the
+-- old one
 abbrev pub AreExchanged : List Piece → List Piece → List Piece → List Piece → Type 0
 AreExchanged gone put old new = (position : ℕ)
-    → piece_at position new ≡ (piece_at position put orelse (if is_some (piece_at position gone) then None else piece_at position old))
+    → piece_at position new ≡ (piece_at position put
+    orelse (if is_some (piece_at position gone) then None else piece_at position old))

@@ -34,7 +34,8 @@ HasBody = (key : Key) (items : List Item) → has_key key items ≡ is_some (bod
 
 -- once an item is put in, it stands under its key, and what it was under any other; keys go on ascending
 pub record IsPutIn (new : Item) (items : List Item) : Type 0 where
-  pub bodies : (key : Key) → body_at key (with_item new items) ≡ (if same_key new.key key then Some new.body else body_at key items)
+  pub bodies : (key : Key) → body_at key (with_item new items)
+      ≡ (if same_key new.key key then Some new.body else body_at key items)
   pub ascending : Ascend items → Ascend (with_item new items)
 
 abbrev pub PutsIn : Type 0
@@ -42,7 +43,8 @@ PutsIn = (new : Item) (items : List Item) → IsPutIn new items
 
 -- once a key is taken out, nothing stands under it, and what it was under any other; keys go on ascending
 pub record IsTakenOut (gone : Key) (items : List Item) : Type 0 where
-  pub bodies : (key : Key) → body_at key (without_key gone items) ≡ (if same_key gone key then None else body_at key items)
+  pub bodies : (key : Key) → body_at key (without_key gone items)
+      ≡ (if same_key gone key then None else body_at key items)
   pub ascending : Ascend items → Ascend (without_key gone items)
 
 abbrev pub TakesOut : Type 0
@@ -57,7 +59,9 @@ pub record AreItemsOf (generation : ℕ) (files : List (ℕ × File)) (items : L
   pub by : All (IsFileBy generation) files
 
 abbrev pub AreSpelled : Type 0
-AreSpelled = (generation : ℕ) (items : List Item) (files : List (ℕ × File)) → All (λ item. IsBytes item.body) items → Ascend items
+AreSpelled =
+    (generation : ℕ) (items : List Item) (files : List (ℕ × File)) → All (λ item. IsBytes item.body) items
+    → Ascend items
     → files_of generation items ≡ Some files → AreItemsOf generation files items
 
 -- their keys ascend
@@ -74,16 +78,20 @@ FilesHaveBodies = (files : List (ℕ × File)) → IsStrictlyIncreasing (keys_of
 -- with one file put in the place of another, or made, its bodies stand under the keys of its number
 abbrev pub HasFileBodies : Type 0
 HasFileBodies = (ino : ℕ) (file : File) (files : List (ℕ × File)) → IsStrictlyIncreasing (keys_of files) → (key : Key)
-    → body_at key (flat_map items_of_file (with_value ino file files)) ≡ body_with_file ino file (flat_map items_of_file files) key
+    → body_at key (flat_map items_of_file (with_value ino file files))
+    ≡ body_with_file ino file (flat_map items_of_file files) key
 
 -- and with a file taken out, none
 abbrev pub HasNoFileBodies : Type 0
 HasNoFileBodies = (ino : ℕ) (files : List (ℕ × File)) → IsStrictlyIncreasing (keys_of files) → (key : Key)
-    → body_at key (flat_map items_of_file (without_value ino files)) ≡ body_without_file ino (flat_map items_of_file files) key
+    → body_at key (flat_map items_of_file (without_value ino files))
+    ≡ body_without_file ino (flat_map items_of_file files) key
 
 -- so items with these bodies are those of the files with this one in its place
 abbrev pub PutsFile : Type 0
-PutsFile = (ino : ℕ) (file : File) (files : List (ℕ × File)) (items : List Item) → AreWritableFiles files → IsWritableFile (ino, file)
+PutsFile =
+    (ino : ℕ) (file : File) (files : List (ℕ × File)) (items : List Item) → AreWritableFiles files
+    → IsWritableFile (ino, file)
     → Ascend items → ((key : Key) → body_at key items ≡ body_with_file ino file (flat_map items_of_file files) key)
     → items ≡ flat_map items_of_file (with_value ino file files)
 
@@ -102,13 +110,16 @@ PutsRange = (from to : ℕ) (given pieces : List Piece) → IsTrue (are_pieces f
 
 -- and once it is cut to a size
 abbrev pub CutsPieces : Type 0
-CutsPieces = (size : ℕ) (pieces : List Piece) (position : ℕ) → piece_at position (before size pieces) ≡ piece_at_cut size pieces position
+CutsPieces =
+    (size : ℕ) (pieces : List Piece) (position : ℕ)
+    → piece_at position (before size pieces) ≡ piece_at_cut size pieces position
 
 -- so what stands under the keys of the file
 pub record HasRangeBodies (ino from to : ℕ) (given : List Piece) (old new : File) (items : List Item) : Type 0 where
   pub inode : body_at (key_with ino INODE_ITEM 0) items ≡ Some (inode_body new)
   pub pieces : (position : ℕ)
-      → body_at (key_with ino EXTENT_DATA position) items ≡ option_map piece_body (piece_at_range from to given old.pieces position)
+      → body_at (key_with ino EXTENT_DATA position) items
+      ≡ option_map piece_body (piece_at_range from to given old.pieces position)
 
 abbrev pub RangeHasBodies : Type 0
 RangeHasBodies = (generation ino from to : ℕ) (given : List Piece) (old : File) (files : List (ℕ × File))
@@ -119,11 +130,13 @@ RangeHasBodies = (generation ino from to : ℕ) (given : List Piece) (old : File
 pub record HasCutBodies (ino size : ℕ) (old new : File) (items : List Item) : Type 0 where
   pub inode : body_at (key_with ino INODE_ITEM 0) items ≡ Some (inode_body new)
   pub pieces : (position : ℕ)
-      → body_at (key_with ino EXTENT_DATA position) items ≡ option_map piece_body (piece_at_cut size old.pieces position)
+      → body_at (key_with ino EXTENT_DATA position) items
+      ≡ option_map piece_body (piece_at_cut size old.pieces position)
 
 abbrev pub CutHasBodies : Type 0
 CutHasBodies = (generation ino size : ℕ) (old : File) (files : List (ℕ × File)) → IsStrictlyIncreasing (keys_of files)
-    → let new = with_size generation size old in HasCutBodies ino size old new (flat_map items_of_file (with_value ino new files))
+    → let new = with_size generation size old in HasCutBodies ino size old new
+    (flat_map items_of_file (with_value ino new files))
 
 -- ---- edits one after the other
 
@@ -136,28 +149,40 @@ ExchangesPieces = (ino : ℕ) (file : File) (gone put : List Piece) (files : Lis
 
 -- a file is made: its pieces are put in
 abbrev pub MakesFile : Type 0
-MakesFile = (ino : ℕ) (file : File) (files : List (ℕ × File)) → AreWritableFiles files → IsWritableFile (ino, file) → value_at ino files ≡ None
-    → file_edited ino file [] file.pieces (flat_map items_of_file files) ≡ flat_map items_of_file (with_value ino file files)
+MakesFile =
+    (ino : ℕ) (file : File) (files : List (ℕ × File)) → AreWritableFiles files → IsWritableFile (ino, file)
+    → value_at ino files ≡ None
+    → file_edited ino file [] file.pieces (flat_map items_of_file files)
+    ≡ flat_map items_of_file (with_value ino file files)
 
--- a range of a file gets other pieces: those that it meets are taken out, and what rests of them is put in with those given
+-- a range of a file gets other pieces: those that it meets are taken out, and what rests of them is put in with those
+-- given
 abbrev pub EditsRange : Type 0
-EditsRange = (generation ino from to : ℕ) (given : List Piece) (old : File) (files : List (ℕ × File)) → AreWritableFiles files
-    → value_at ino files ≡ Some old → IsTrue (is_aligned from) → IsTrue (is_aligned to) → IsTrue (are_pieces from to given)
+EditsRange =
+    (generation ino from to : ℕ) (given : List Piece) (old : File) (files : List (ℕ × File)) → AreWritableFiles files
+    → value_at ino files ≡ Some old → IsTrue (is_aligned from) → IsTrue (is_aligned to)
+    → IsTrue (are_pieces from to given)
     → let met = pieces_met from to old.pieces in
     let new = with_pieces generation from to given old in
     IsWritableFile (ino, new)
-    → file_edited ino new met (with_range from to given met) (flat_map items_of_file files) ≡ flat_map items_of_file (with_value ino new files)
+    → file_edited ino new met (with_range from to given met) (flat_map items_of_file files)
+    ≡ flat_map items_of_file (with_value ino new files)
 
 -- a file is cut to a size: the pieces that end past it are taken out, and what rests of them is put in
 abbrev pub EditsSize : Type 0
-EditsSize = (generation ino size : ℕ) (old : File) (files : List (ℕ × File)) → AreWritableFiles files → value_at ino files ≡ Some old
+EditsSize =
+    (generation ino size : ℕ) (old : File) (files : List (ℕ × File)) → AreWritableFiles files
+    → value_at ino files ≡ Some old
     → IsTrue (is_aligned size)
     → let cut = pieces_cut size old.pieces in
     let new = with_size generation size old in
     IsWritableFile (ino, new)
-    → file_edited ino new cut (before size cut) (flat_map items_of_file files) ≡ flat_map items_of_file (with_value ino new files)
+    → file_edited ino new cut (before size cut) (flat_map items_of_file files)
+    ≡ flat_map items_of_file (with_value ino new files)
 
 -- a file is taken out: so are all its items
 abbrev pub RemovesFile : Type 0
-RemovesFile = (ino : ℕ) (file : File) (files : List (ℕ × File)) → AreWritableFiles files → value_at ino files ≡ Some file
-    → without_items (items_of_file (ino, file)) (flat_map items_of_file files) ≡ flat_map items_of_file (without_value ino files)
+RemovesFile =
+    (ino : ℕ) (file : File) (files : List (ℕ × File)) → AreWritableFiles files → value_at ino files ≡ Some file
+    → without_items (items_of_file (ino, file)) (flat_map items_of_file files)
+    ≡ flat_map items_of_file (without_value ino files)

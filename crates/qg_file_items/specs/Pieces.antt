@@ -16,9 +16,12 @@ pieces_met from to pieces = filter (λ piece. nat_lt piece.position to && nat_lt
 abbrev pub pieces_cut : ℕ → List Piece → List Piece
 pieces_cut size pieces = filter (λ piece. nat_lt size (piece_end piece)) pieces
 
--- the piece at a position once a range has these pieces. In front of the range it is the one that was there, shortened where it
--- reaches into the range; in the range one of those given; at its end what rests of the piece over the end; behind that the one that
--- was there
+-- the piece at a position once a range has these pieces:
+--
+-- - in front of the range the one that was there, shortened where it reaches into the range;
+-- - in the range one of those given;
+-- - at the range's end what rests of the piece over it;
+-- - behind that the one that was there.
 abbrev pub piece_at_range : ℕ → ℕ → List Piece → List Piece → ℕ → Option Piece
 piece_at_range from to given pieces position =
     if nat_lt position from then option_and_then (part_before from) (piece_at position pieces)
@@ -27,4 +30,5 @@ piece_at_range from to given pieces position =
 
 -- and once a file is cut to a size
 abbrev pub piece_at_cut : ℕ → List Piece → ℕ → Option Piece
-piece_at_cut size pieces position = if nat_lt position size then option_and_then (part_before size) (piece_at position pieces) else None
+piece_at_cut size pieces position =
+    if nat_lt position size then option_and_then (part_before size) (piece_at position pieces) else None

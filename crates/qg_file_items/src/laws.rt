@@ -34,8 +34,8 @@ pub fn edits_by_bodies()
     ensures taken { TakesOut }
 {}
 
-/// A law: items of bytes that are read as files are exactly those that are written for these files, and so is what stands
-/// under each key of them (this project's own).
+/// A law: items of bytes that are read as files are exactly those that are written for these files. Their keys ascend,
+/// and under each stands what the file of its number has there (this project's own).
 pub fn items_of_files()
     ensures spelled { AreSpelled }
     ensures ascending { FilesAscend }
@@ -60,8 +60,8 @@ pub fn one_range_by_positions()
     ensures cut_bodies { CutHasBodies }
 {}
 
-/// A law: with which edits, one after the other, the items of files become those of the files with one made, changed in a
-/// range, cut to a size, or taken out (this project's own).
+/// A law: with which edits, one after the other, the items of files become those of the files with one made, changed in
+/// a range, cut to a size, or taken out (this project's own).
 pub fn edits_of_one_file()
     ensures exchanged { ExchangesPieces }
     ensures made { MakesFile }
