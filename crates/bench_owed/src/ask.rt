@@ -16,6 +16,7 @@ use std::time::Instant;
 pub(crate) fn ask(
     rt: &(impl Clock + Print),
     alloc: Global,
+    size: &str,
     name: &str,
     image: &Image,
     is_timed: bool,
@@ -25,14 +26,15 @@ pub(crate) fn ask(
     let start = Instant::now(rt)?;
     let home = ask_home(alloc, roots, nodes);
     let took = start.elapsed(rt)?.as_micros();
-    tell(rt, name, "home", home, is_timed, took)?;
-    ask_both(rt, alloc, name, image, is_timed)
+    tell(rt, size, name, "home", home, is_timed, took)?;
+    ask_both(rt, alloc, size, name, image, is_timed)
 }
 
 /// The same of both rules.
 fn ask_both(
     rt: &(impl Clock + Print),
     alloc: Global,
+    size: &str,
     name: &str,
     image: &Image,
     is_timed: bool,
@@ -58,12 +60,13 @@ fn ask_both(
         nodes,
     );
     let took = start.elapsed(rt)?.as_micros();
-    tell(rt, name, "both", both, is_timed, took)
+    tell(rt, size, name, "both", both, is_timed, took)
 }
 
 /// Prints an answer.
 fn tell(
     rt: &impl Print,
+    size: &str,
     name: &str,
     rule: &str,
     answer: u64,
@@ -71,9 +74,9 @@ fn tell(
     took: u128,
 ) -> io::Result<()> {
     if is_timed {
-        println!(rt; "{name}-{rule} {answer} {took}")
+        println!(rt; "{size}-{name}-{rule} {answer} {took}")
     } else {
-        println!(rt; "{name}-{rule} {answer}")
+        println!(rt; "{size}-{name}-{rule} {answer}")
     }
 }
 

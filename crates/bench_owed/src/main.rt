@@ -18,58 +18,108 @@ use std::{env, io};
 
 fn main(rt: HostRuntime) -> io::Result<()> {
     let is_timed = env::args(&rt)?.any(|word| word.as_str() == "time");
-    let sizes = if is_timed {
-        Sizes {
-            roots: 4096,
-            width: 3008,
-            inner: 99,
-            leaves: 11933,
-            fan: 121,
-            pieces: 60000,
-        }
-    } else {
-        Sizes {
-            roots: 100,
-            width: 60,
-            inner: 6,
-            leaves: 55,
-            fan: 10,
-            pieces: 500,
-        }
-    };
     let alloc = rt.alloc();
-    show(&rt, alloc, "same", same_children(alloc, &sizes), is_timed)?;
-    show(
-        &rt,
-        alloc,
-        "other",
-        other_children(alloc, &sizes, 0),
-        is_timed,
-    )?;
-    show(
-        &rt,
-        alloc,
-        "strange",
-        other_children(alloc, &sizes, sizes.width / 3),
-        is_timed,
-    )?;
-    show(&rt, alloc, "extent", one_extent(alloc, &sizes), is_timed)
+    if is_timed {
+        show_all(&rt, alloc, "half", &half(), true)?;
+        return show_all(&rt, alloc, "whole", &whole(), true);
+    }
+    show_all(&rt, alloc, "few", &few(), false)
 }
 
-/// Prints what the rules answer of an image, three times where times are asked for.
+/// The greatest sizes, at 16128 slots of 4096 bytes.
+fn whole() -> Sizes {
+    Sizes {
+        roots: 4096,
+        width: 3008,
+        inner: 99,
+        leaves: 11933,
+        fan: 121,
+        pieces: 60000,
+    }
+}
+
+/// Half as many of all, with as many children each.
+fn half() -> Sizes {
+    Sizes {
+        roots: 2048,
+        width: 1504,
+        inner: 50,
+        leaves: 5966,
+        fan: 121,
+        pieces: 30000,
+    }
+}
+
+/// A few of all.
+fn few() -> Sizes {
+    Sizes {
+        roots: 100,
+        width: 60,
+        inner: 6,
+        leaves: 55,
+        fan: 10,
+        pieces: 500,
+    }
+}
+
+/// Prints what the rules answer of each image.
+fn show_all(
+    rt: &(impl Clock + Print),
+    alloc: Global,
+    size: &str,
+    sizes: &Sizes,
+    is_timed: bool,
+) -> io::Result<()> {
+    let turn = sizes.width / 3;
+    show(
+        rt,
+        alloc,
+        size,
+        "same",
+        same_children(alloc, sizes),
+        is_timed,
+    )?;
+    show(
+        rt,
+        alloc,
+        size,
+        "other",
+        other_children(alloc, sizes, 0),
+        is_timed,
+    )?;
+    show(
+        rt,
+        alloc,
+        size,
+        "strange",
+        other_children(alloc, sizes, turn),
+        is_timed,
+    )?;
+    show(
+        rt,
+        alloc,
+        size,
+        "extent",
+        one_extent(alloc, sizes),
+        is_timed,
+    )
+}
+
+/// Prints what the rules answer of an image, five times where times are asked for.
 fn show(
     rt: &(impl Clock + Print),
     alloc: Global,
+    size: &str,
     name: &str,
     made: Result<Image, NoMemory>,
     is_timed: bool,
 ) -> io::Result<()> {
     let Ok(image) = made else {
-        return println!(rt; "{name}: no memory");
+        return println!(rt; "{size}-{name} no memory");
     };
-    let rounds = if is_timed { 3u32 } else { 1 };
+    let rounds = if is_timed { 5u32 } else { 1 };
     for _ in 0..rounds {
-        ask(rt, alloc, name, &image, is_timed)?;
+        ask(rt, alloc, size, name, &image, is_timed)?;
     }
     Ok(())
 }

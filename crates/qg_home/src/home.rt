@@ -10,6 +10,7 @@ use crate::Linked;
 use crate::below::all_below;
 use crate::housed::{first_homeless, full_ones, house};
 use crate::marks::MARKS;
+use crate::own::house_own;
 use qg_num::{Address, NoMemory, RootId};
 use std::alloc::Global;
 
@@ -30,6 +31,7 @@ pub fn homeless(
 {
     let below = all_below(alloc, nodes)?;
     let mut housed = full_ones(alloc, nodes)?;
+    house_own(alloc, housed.as_mut_slice(), nodes, below.as_slice(), roots)?;
     let mut later = roots;
     while !later.is_empty() {
         let (group, others) = later.split_at(later.len().min(MARKS));
