@@ -1,5 +1,5 @@
 -- What an edit makes of items in the order of their keys (on-disk format, "B-tree").
-use Rattle.std.specs.Prelude.{⊤, ◌≤◌, Bool, not, List, [], ◌∷◌, length, IsTrue, if◌then◌else◌}
+use Rattle.std.specs.Prelude.{⊤, ℕ, ◌≤◌, Bool, not, List, [], ◌∷◌, length, IsTrue, if◌then◌else◌}
 use Rattle.std.specs.List.{filter, list_any}
 use Rattle.std.specs.Ordering.{is_lt}
 use Rattle.qg_num.specs.Key.{key_cmp}
@@ -45,6 +45,13 @@ IsShort (Insert body) = length body ≤ 1024
 IsShort (Replace body) = length body ≤ 1024
 IsShort Remove = ⊤
 IsShort Clear = ⊤
+
+-- how many nodes more an edit may make of one
+abbrev pub growth_of : Change → ℕ
+growth_of (Insert body) = 1
+growth_of (Replace body) = 1
+growth_of Remove = 0
+growth_of Clear = 0
 
 abbrev pub edited : Edit → List Item → List Item
 edited edit items = changed edit.key edit.change items

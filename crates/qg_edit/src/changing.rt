@@ -1,12 +1,13 @@
 // An edit of one leaf.
-ghost use Rattle.std.specs.Prelude.{◌≡◌, ◌↔◌, IfOk, IfErr, OnOk, OnErr, IsSome, map, slice_get, Some};
+ghost use Rattle.std.specs.Prelude.{◌≡◌, ◌↔◌, ◌<◌, IfOk, IfErr, OnOk, OnErr, IsSome, length, map, slice_get, None, Some};
+ghost use Rattle.qg_node.specs.declared.item.Item.{Item as ItemValue};
 ghost use Rattle.qg_node.specs.NodeText.{IsNode, IsNodeSize};
 ghost use Rattle.qg_node.specs.Nodes.{own_items};
 ghost use Rattle.qg_shape.specs.Filled.{HasShortBodies, IsOverfull};
 ghost use Rattle.qg_shape.specs.Parts.{IsLeaf, with_items};
 ghost use Rattle.qg_shape.specs.Places.{GoesAt};
 ghost use Rattle.qg_blocks.specs.Told.{BreaksNone};
-ghost use Rattle.qg_edit.specs.Edits.{CanChange, CanEdit, IsShort, changed, edited};
+ghost use Rattle.qg_edit.specs.Edits.{CanChange, CanEdit, IsShort, changed, edited, growth_of};
 ghost use Rattle.qg_edit.specs.Answering.{AnswersBy, IsBrokenByChange, IsChangeable};
 ghost use Rattle.qg_edit.specs.Outcome.{IsCutOf, IsNodeFor, IsOldOrCleared, RestIsNode};
 ghost use Rattle.qg_edit.specs.declared.edit.Change.TheVariants.{Insert, Replace, Remove};
@@ -34,6 +35,7 @@ pub fn edit_leaf(leaf: &mut Node, nodesize: u32, edit: Edit) -> Result<Option<No
     ensures answers { AnswersBy (IsChangeable nodesize edit.key edit.change leaf.old) (IsBrokenByChange nodesize edit.key edit.change leaf.old) result }
     ensures node { IsNodeFor nodesize leaf.old leaf.new }
     ensures rest { IfOk result (λ rest. RestIsNode nodesize leaf.old rest) }
+    ensures whole { growth_of edit.change ≡ 0 → IfOk result (λ rest. rest ≡ None) }
     ensures sound { CanEdit edit (own_items leaf.old) → HasShortBodies leaf.old → BreaksNone result }
     ensures err { OnErr result (IsOldOrCleared leaf.old leaf.new) }
 {
@@ -80,7 +82,7 @@ fn insert(leaf: &mut Node, nodesize: u32, key: Key, body: Body) -> Result<Option
         Ok(_) => Err(misfit(leaf)),
         Err(place) => {
             insert_item(leaf, place, Item { key, body })?;
-            cut(leaf, nodesize, place)
+            cut(leaf, nodesize, place, true)
         }
     }
 }
@@ -101,10 +103,23 @@ fn replace(leaf: &mut Node, nodesize: u32, key: Key, body: Body) -> Result<Optio
 {
     match place_of(leaf, nodesize, key) {
         Ok(place) => {
+            let has_grown = body.len() > body_length(leaf, place);
             replace_body(leaf, place, body);
-            cut(leaf, nodesize, place)
+            cut(leaf, nodesize, place, has_grown)
         }
         Err(_) => Err(misfit(leaf)),
+    }
+}
+
+// How many bytes the body of an item of a leaf has.
+fn body_length(leaf: &Node, place: usize) -> usize
+    requires leaf { IsLeaf leaf.now }
+    requires place { place < length (own_items leaf.now) }
+    ensures { (item : ItemValue) → slice_get (own_items leaf.now) place ≡ Some item → result ≡ length item.body }
+{
+    match leaf {
+        Node::Leaf { items, .. } => items.as_slice()[place].body.len(),
+        Node::Inner { .. } => unreachable!(),
     }
 }
 
@@ -118,6 +133,7 @@ fn remove(leaf: &mut Node, nodesize: u32, key: Key) -> Result<Option<Node>, Bloc
     ensures answers { AnswersBy (IsChangeable nodesize key Remove leaf.old) (IsBrokenByChange nodesize key Remove leaf.old) result }
     ensures node { IsNodeFor nodesize leaf.old leaf.new }
     ensures rest { IfOk result (λ rest. RestIsNode nodesize leaf.old rest) }
+    ensures whole { IfOk result (λ rest. rest ≡ None) }
     ensures sound { CanChange key Remove (own_items leaf.old) → HasShortBodies leaf.old → BreaksNone result }
     ensures err { OnErr result (IsOldOrCleared leaf.old leaf.new) }
 {
