@@ -1,5 +1,5 @@
-//! How long the rules `refs` and `home` take, over what is told of images that are made to be slow. With the word `time`
-//! it asks for images of the greatest size and prints times, and else for small ones.
+//! How long the rules `refs` and `home` take, over what is told of images that are made to be slow. With the word
+//! `time` it asks for images of the greatest size and prints times, and else for small ones.
 #![tactic(auto)]
 
 mod ask;

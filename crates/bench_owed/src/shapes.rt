@@ -93,8 +93,8 @@ fn round(sizes: &Sizes, place: u64) -> u64 {
 }
 
 /// Roots that each have another choice of the same children, and below these three levels more, whose nodes have each
-/// another choice of those below. Each node is reached by its owner; on the lower levels by way of nodes of its own
-/// where `turn` is 0, and else of others alone.
+/// another choice of those below. Each node is reached by its owner. Where `turn` is 0 there is a way of the owner's
+/// own nodes, and else each way to a node of the three lower levels goes through another's node.
 pub(crate) fn other_children(alloc: Global, sizes: &Sizes, turn: u64) -> Result<Image, NoMemory> {
     let mut nodes = Vec::new(alloc);
     for place in 0..sizes.roots {

@@ -17,8 +17,9 @@ use std::alloc::Global;
 /// The least address of a node that isn't full and that its owner doesn't reach (this project's own). Addresses are in
 /// bytes.
 ///
-/// The roots ascend by their subvolumes' numbers, and the nodes by address. 64 subvolumes take one pass over the nodes
-/// together, so the time is that of the pointers, times the subvolumes by 64 at most.
+/// The roots ascend by their subvolumes' numbers, and the nodes by address. One pass over the nodes settles all that
+/// their owners reach by way of their own nodes. Then 64 subvolumes take one pass together, where one of them owns a
+/// node that is still open; so the time is that of the pointers, times the subvolumes by 64 at most.
 pub fn homeless(
     alloc: Global,
     roots: &[(RootId, Address)],
