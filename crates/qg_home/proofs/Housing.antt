@@ -1,15 +1,14 @@
 -- Which nodes are known to be at home, once those of one more group are, or of one more node.
-use Rattle.std.proofs.Common.{◌≡◌, ℕ, ◌+◌, ◌<◌, ◌≤◌, ◌≢◌, Bool, true, false, List, [], ◌++◌, length, take, get_or, set}
+use Rattle.std.proofs.Common.{◌≡◌, ℕ, ◌+◌, ◌<◌, ◌≤◌, ◌≢◌, Bool, true, false, List, [], length, take, get_or, set}
 use Rattle.std.proofs.Common.{map, Some, refl, sym, ap, subst, ◌∙◌, arith, ◌⊎◌, inl, inr, ◌↔◌, get_or-set_same}
 use Rattle.std.proofs.Common.{get_or-set_other}
 use Rattle.std.specs.Prelude.{slice_get}
 use Rattle.std.specs.Int.{bit_at}
-use Rattle.std.specs.List.{All, Contains}
+use Rattle.std.specs.List.{All}
 use Rattle.std.specs.List.Sorted.{IsStrictlyIncreasing}
 use Rattle.std.proofs.lemmas.Bool.{cases_lt}
 use Rattle.std.proofs.lemmas.List.{get_or-map}
-use Rattle.std.proofs.lemmas.List.Elements.{All-contains, Contains-append_left, Contains-append_right}
-use Rattle.std.proofs.lemmas.List.Elements.{Contains-append_cases}
+use Rattle.std.proofs.lemmas.List.Elements.{All-contains}
 use Rattle.std.proofs.lemmas.Option.{slice_get_within, get_or_from_slice_get}
 use Rattle.qg_home.specs.declared.linked.Linked.{Linked}
 use Rattle.qg_home.specs.Leading.{Leads, IsReached, IsAtHome}
@@ -142,7 +141,7 @@ own_none_same nodes group housed own place node at = (inl, back) where
   back (inl has) = has
   back (inr reached) = none (own place node at) reached
 
--- ---- group after group
+-- ---- before any group
 
 pub housed_none : (nodes : List Linked) (housed : List Bool) → housed ≡ map (λ node. node.full) nodes
     → AreHoused nodes [] housed
@@ -156,23 +155,3 @@ housed_none nodes housed are place node at = (λ has. inl (sym is ∙ has), back
   back : IsAtHome nodes [] node → IsHoused housed place
   back (inl full) = is ∙ full
   back (inr reached) = absurd (omega (arith, reached.1.1))
-
-pub housed_more : (nodes : List Linked) (taken group : List (ℕ × ℕ)) (old new : List Bool) → AreHoused nodes taken old
-    → AreHousedToo nodes group old new → AreHoused nodes (taken ++ group) new
-housed_more nodes taken group old new are too place node at = (λ has. into ((too place node at).0 has), back) where
-  wider : IsAtHome nodes taken node → IsAtHome nodes (taken ++ group) node
-  wider (inl full) = inl full
-  wider (inr reached) = inr (reached.0, Contains-append_left taken group reached.0 reached.1, reached.2, reached.3)
-
-  into : IsHoused old place ⊎ IsReached nodes group node → IsAtHome nodes (taken ++ group) node
-  into (inl has) = wider ((are place node at).0 has)
-  into (inr reached) = inr (reached.0, Contains-append_right taken group reached.0 reached.1, reached.2, reached.3)
-
-  parted : (root : ℕ × ℕ) → root.0 ≡ node.owner → Leads nodes root.1 node → Contains taken root ⊎ Contains group root
-      → IsHoused new place
-  parted root own leads (inl has) = (too place node at).1 (inl ((are place node at).1 (inr (root, has, own, leads))))
-  parted root own leads (inr has) = (too place node at).1 (inr (root, has, own, leads))
-
-  back : IsAtHome nodes (taken ++ group) node → IsHoused new place
-  back (inl full) = (too place node at).1 (inl ((are place node at).1 (inl full)))
-  back (inr reached) = parted reached.0 reached.2 reached.3 (Contains-append_cases taken group reached.0 reached.1)

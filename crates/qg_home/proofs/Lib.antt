@@ -4,5 +4,6 @@ pub mod Pointing
 pub mod Marking
 pub mod Spreading
 pub mod Housing
+pub mod Owning
 pub mod Reaching
 pub mod Homes

@@ -10,14 +10,16 @@ use crate::Linked;
 use crate::below::all_below;
 use crate::housed::{first_homeless, full_ones, house};
 use crate::marks::MARKS;
+use crate::own::house_own;
 use qg_num::{Address, NoMemory, RootId};
 use std::alloc::Global;
 
 /// The least address of a node that isn't full and that its owner doesn't reach (this project's own). Addresses are in
 /// bytes.
 ///
-/// The roots ascend by their subvolumes' numbers, and the nodes by address. 64 subvolumes take one pass over the nodes
-/// together, so the time is that of the pointers, times the subvolumes by 64 at most.
+/// The roots ascend by their subvolumes' numbers, and the nodes by address. One pass over the nodes settles all that
+/// their owners reach by way of their own nodes. Then 64 subvolumes take one pass together, where one of them owns a
+/// node that is still open; so the time is that of the pointers, times the subvolumes by 64 at most.
 pub fn homeless(
     alloc: Global,
     roots: &[(RootId, Address)],
@@ -30,6 +32,7 @@ pub fn homeless(
 {
     let below = all_below(alloc, nodes)?;
     let mut housed = full_ones(alloc, nodes)?;
+    house_own(alloc, housed.as_mut_slice(), nodes, below.as_slice(), roots)?;
     let mut later = roots;
     while !later.is_empty() {
         let (group, others) = later.split_at(later.len().min(MARKS));

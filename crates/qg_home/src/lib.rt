@@ -6,6 +6,7 @@ mod home;
 mod housed;
 mod linked;
 mod marks;
+mod own;
 mod places;
 
 pub use home::homeless;
