@@ -1,0 +1,12 @@
+//! The book of references that a subvolume's tree tells what it does.
+#![tactic(auto)]
+
+mod cases;
+mod coming;
+mod exchange;
+mod giving;
+mod lists;
+mod taking;
+mod tree_refs;
+
+pub use tree_refs::TreeRefs;
