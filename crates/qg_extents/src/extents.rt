@@ -92,6 +92,14 @@ impl Extents {
         Ok(items_of_table(alloc, &self.table)?)
     }
 
+    /// At how many addresses something has a reference.
+    pub fn len(&self) -> usize
+        ensures count { result ≡ length self.now }
+        ensures table { IsTable self.now }
+    {
+        self.table.len()
+    }
+
     /// The allocator from which it takes its memory.
     pub fn allocator(&self) -> Global {
         self.alloc
@@ -119,15 +127,11 @@ impl Extents {
 
     /// How many different references there are to what begins at an address; a node has each of its references once.
     pub fn how_many(&self, at: Address) -> usize
-        ensures count { result ≡ length (references_at (book_of self.now) at) }
-        ensures table { IsTable self.now }
+        ensures { result ≡ length (references_at (book_of self.now) at) }
     {
         match self.kept(at) {
             Some(kept) => kept.references.len(),
-            None => {
-                let _table = &self.table;
-                0
-            }
+            None => 0,
         }
     }
 

@@ -2,7 +2,7 @@
 use Rattle.std.specs.Prelude.{◌≡◌, ⊤, ℕ, ◌+◌, ◌<◌, ◌≤◌, Bool, false, ◌||◌, List, [], ◌∷◌, ◌++◌, Option, Some, None, ◌==◌, if◌then◌else◌}
 use Rattle.std.specs.List.{All, count_by, filter_map}
 use Rattle.qg_items.specs.declared.extent.Reference.{Reference}
-use Rattle.qg_blocks.specs.Told.{first_of}
+use Rattle.std.specs.Option.{option_or}
 use Rattle.qg_state.specs.Record.{same_reference}
 use Rattle.qg_state.specs.Owed.{Owing}
 use Rattle.qg_cow.specs.Children.{way_to}
@@ -85,6 +85,19 @@ abbrev pub turns_full : Option ℕ → ℕ → Bool
 turns_full None at = false
 turns_full (Some full) at = at == full
 
+-- a node that has references becomes full, if there is one, and nothing else changes
+pub record IsMarked (old new : Book) (full : Option ℕ) : Type 0 where
+  pub counts : (at : ℕ) (reference : Reference) → count_at new at reference ≡ count_at old at reference
+  pub known : (at : ℕ) → what_in (new at) ≡ what_in (old at)
+  pub mark : (at : ℕ) → full_in (new at) ≡ (full_in (old at) || turns_full full at)
+
+-- the node that comes had no reference and has its first one, and nothing else changes
+pub record Begins (old new : Book) (coming : Option Coming) : Type 0 where
+  pub first : IsNew old coming
+  pub counts : (at : ℕ) (reference : Reference) → count_at new at reference ≡ count_at old at reference + times (ways_to coming) at reference
+  pub known : (at : ℕ) → what_in (new at) ≡ option_or (what_in (old at)) (what_comes coming at)
+  pub full : (at : ℕ) → full_in (new at) ≡ full_in (old at)
+
 -- what is lost is there, what is gained may be there besides and is known, and the node that comes is new
 pub record CanExchange (book : Book) (exchange : Exchange) (coming : Option Coming) : Type 0 where
   pub there : CanTake book exchange.losses
@@ -97,6 +110,6 @@ pub record Exchanges (old new : Book) (exchange : Exchange) (coming : Option Com
   pub counts : (at : ℕ) (reference : Reference)
       → count_at new at reference + times exchange.losses at reference ≡ count_at old at reference + times (ways_to coming ++ exchange.gains) at reference
   pub first : IsNew old coming
-  pub known : (at : ℕ) (kept : Kept) → new at ≡ Some kept → first_of (what_in (old at)) (what_comes coming at) ≡ Some kept.what
+  pub known : (at : ℕ) (kept : Kept) → new at ≡ Some kept → option_or (what_in (old at)) (what_comes coming at) ≡ Some kept.what
   pub full : (at : ℕ) (kept : Kept) → new at ≡ Some kept → kept.full ≡ (full_in (old at) || turns_full exchange.full at)
   pub gone : (at : ℕ) → ((reference : Reference) → count_at new at reference ≡ 0) → new at ≡ None

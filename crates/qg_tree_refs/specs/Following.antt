@@ -11,7 +11,7 @@ use Rattle.qg_cow.specs.Children.{way_to}
 use Rattle.qg_cow.specs.Copying.{case_of, children_gain, copy_losses}
 use Rattle.qg_cow.specs.Left.{leaving_gains, leaving_losses} 
 use Rattle.qg_cow.specs.Left.{case_of as leaving_case}
-use Rattle.qg_blocks.specs.Told.{first_of}
+use Rattle.std.specs.Option.{option_or}
 use Rattle.qg_ground.specs.Tellings.{Telling}
 use Rattle.qg_ground.specs.Tellings.Telling.{Copied, Made, Left}
 use Rattle.qg_refs.specs.Book.{Book, full_in, references_at}
@@ -97,7 +97,7 @@ pub record Step (before : TreeRefs) (telling : Telling) (after : TreeRefs) : Typ
   pub misfit : Option ℕ
   pub done : misfit ≡ None → Exchanges (book_of before.refs) (book_of after.refs) (exchange_of before telling) (coming_of before level telling)
   pub proper : IsProper telling before → misfit ≡ None
-  pub noted : after ≡ record before { refs = after.refs; misfit = first_of before.misfit misfit }
+  pub noted : after ≡ record before { refs = after.refs; misfit = option_or before.misfit misfit }
 
 -- and what a list of them makes of it, in this order
 unfoldable pub Follows : TreeRefs → List Telling → TreeRefs → Type 0

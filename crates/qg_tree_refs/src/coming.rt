@@ -1,9 +1,7 @@
 // A node that comes.
-ghost use Rattle.std.specs.Prelude.{◌≡◌, IfOk, IfNone, IfSome, IsNone, None, Some};
-ghost use Rattle.qg_items.specs.declared.extent.Reference.TheVariants.{KeyedBlock};
-ghost use Rattle.qg_refs.specs.Book.{Adds};
+ghost use Rattle.std.specs.Prelude.{◌≡◌, IfOk, None};
 ghost use Rattle.qg_extents.specs.Table.{book_of};
-ghost use Rattle.qg_tree_refs.specs.Exchange.{IsNew};
+ghost use Rattle.qg_tree_refs.specs.Exchange.{Begins, IsNew};
 
 use qg_extents::Extents;
 use qg_num::{Address, NoMemory, RootId};
@@ -17,16 +15,19 @@ pub(crate) struct Coming {
     pub(crate) tree: RootId,
 }
 
-/// Gives a node its first reference. Where it has one already nothing changes, and the answer is its address.
+/// Gives a node that comes its first reference. Where it has one already nothing changes, and the answer is its address.
 pub(crate) fn give_first(
     refs: &mut Extents,
-    coming: &Coming,
+    coming: &Option<Coming>,
 ) -> Result<Option<Address>, NoMemory>
-    ensures done { IfOk result (λ misfit. misfit ≡ None → (book_of refs.old coming.now.address ≡ None)
-        × Adds (book_of refs.old) (book_of refs.new) coming.now.address coming.now.what (KeyedBlock coming.now.tree)) }
-    ensures proper { IsNew (book_of refs.old) (Some coming.now) → IfOk result (λ misfit. misfit ≡ None) }
+    ensures done { IfOk result (λ misfit. misfit ≡ None → Begins (book_of refs.old) (book_of refs.new) coming.now) }
+    ensures proper { IsNew (book_of refs.old) coming.now → IfOk result (λ misfit. misfit ≡ None) }
 {
-    if refs.how_many(coming.address) > 0 {
+    let Some(coming) = coming else {
+        return Ok(None);
+    };
+    let _count = refs.len();
+    if refs.known(coming.address).is_some() {
         return Ok(Some(coming.address));
     }
     let from = Reference::KeyedBlock { root: coming.tree };

@@ -1,6 +1,6 @@
 // A subvolume's book.
 ghost use Rattle.std.specs.Prelude.{◌≡◌, None, OnOk};
-ghost use Rattle.qg_blocks.specs.Told.{first_of};
+ghost use Rattle.std.specs.Option.{option_or};
 ghost use Rattle.qg_ground.specs.Tellings.Telling.{Copied, Made, Left};
 
 use crate::cases::{lists_of_copy, lists_of_leaving};
@@ -61,7 +61,7 @@ impl TreeRefs {
 
     /// Notes a misfit, if there is one and none is noted yet.
     pub(crate) fn note(&mut self, misfit: Option<Address>)
-        ensures { self.new ≡ record self.old { misfit = first_of self.old.misfit misfit } }
+        ensures { self.new ≡ record self.old { misfit = option_or self.old.misfit misfit } }
     {
         self.misfit = self.misfit.or(misfit);
     }

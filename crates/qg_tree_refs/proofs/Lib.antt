@@ -1,0 +1,4 @@
+pub mod Times
+pub mod Gains
+pub mod Losses
+pub mod Whole
