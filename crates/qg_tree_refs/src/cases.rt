@@ -1,8 +1,9 @@
 // What a copy, and leaving a node, does to references.
-ghost use Rattle.std.specs.Prelude.{◌≡◌, ◌<◌, ◌∷◌, [], IfOk, IfSome, None, length};
-ghost use Rattle.qg_cow.specs.Children.{way_to};
+ghost use Rattle.std.specs.Prelude.{◌≡◌, ◌<◌, ◌∷◌, ◌++◌, [], IfOk, IfSome, None, OnOk, length};
+ghost use Rattle.qg_cow.specs.Children.{keyed_children, way_to};
 ghost use Rattle.qg_refs.specs.Book.{references_at};
 ghost use Rattle.qg_extents.specs.Table.{book_of};
+ghost use Rattle.qg_owed.specs.Told.{owings_told};
 ghost use Rattle.qg_tree_refs.specs.Exchange.{exchange_told};
 ghost use Rattle.qg_tree_refs.specs.Following.{exchange_by_copy, exchange_by_leaving};
 
@@ -11,7 +12,8 @@ use qg_cow::{Edits, Leaving, edits, leaving};
 use qg_extents::Extents;
 use qg_node::{Header, Node};
 use qg_num::{Address, NoMemory, RootId};
-use qg_owed::{owing_of_root, owings_of_node, owings_under};
+use qg_owed::{Owing, owings_of_node, owings_under};
+use qg_refs::Reference;
 use std::alloc::Global;
 
 /// The lists of a tree that no more has its reference to an address; nothing else changes.
@@ -19,12 +21,26 @@ fn way_lost(alloc: Global, at: Address, tree: RootId) -> Result<Lists, NoMemory>
     ensures { IfOk result (λ lists. exchange_told lists ≡ record { full = None; gains = []; losses = way_to at tree ∷ [] }) }
 {
     let mut losses = Vec::new(alloc);
-    losses.push(owing_of_root(tree, at))?;
+    losses.push(Owing {
+        address: at,
+        reference: Reference::KeyedBlock { root: tree },
+    })?;
     Ok(Lists {
         full: None,
         gains: Vec::new(alloc),
         losses,
     })
+}
+
+/// Puts a keyed reference of a tree to each child of a node at the end (on-disk format, "backreferences").
+fn put_keyed(node: &Node, tree: RootId, owings: &mut Vec<Owing>) -> Result<(), NoMemory>
+    ensures { OnOk result (owings_told owings.new.items ≡ owings_told owings.old.items ++ keyed_children node.now tree) }
+{
+    let keyed = Header {
+        owner: tree,
+        ..node.header()
+    };
+    owings_under(&keyed, node, false, owings)
 }
 
 /// What changes where a subvolume copies a node, beside the reference to the copy.
@@ -38,21 +54,17 @@ pub(crate) fn lists_of_copy(
 {
     let header = node.header();
     let at = header.address;
-    let keyed = Header {
-        owner: tree,
-        ..header
-    };
     let count = refs.how_many(at) as u64;
     let mut lists = way_lost(refs.allocator(), at, tree)?;
     match edits(count, refs.is_marked(at), header.owner, tree) {
         Edits::ShareOld => {
             lists.full = Some(at);
-            owings_under(&header, node, true, &mut lists.gains)?;
+            owings_of_node(node, true, &mut lists.gains)?;
         }
-        Edits::AddKeyed => owings_under(&keyed, node, false, &mut lists.gains)?,
+        Edits::AddKeyed => put_keyed(node, tree, &mut lists.gains)?,
         Edits::TurnKeyed => {
-            owings_under(&keyed, node, false, &mut lists.gains)?;
-            owings_under(&header, node, true, &mut lists.losses)?;
+            put_keyed(node, tree, &mut lists.gains)?;
+            owings_of_node(node, true, &mut lists.losses)?;
         }
         Edits::TakeOver => {}
     }
@@ -77,8 +89,8 @@ pub(crate) fn lists_of_leaving(
         Leaving::Goes => owings_of_node(node, full, &mut lists.losses)?,
         Leaving::TurnsFull => {
             lists.full = Some(at);
-            owings_under(&header, node, true, &mut lists.gains)?;
-            owings_under(&header, node, false, &mut lists.losses)?;
+            owings_of_node(node, true, &mut lists.gains)?;
+            put_keyed(node, header.owner, &mut lists.losses)?;
         }
         Leaving::Stays => {}
     }

@@ -1,6 +1,7 @@
 //! The book of references that a subvolume's tree tells what it does.
 #![tactic(auto)]
 
+mod book;
 mod cases;
 mod coming;
 mod exchange;
