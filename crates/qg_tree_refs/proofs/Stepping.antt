@@ -1,6 +1,7 @@
 -- What one telling makes of a subvolume's book, and a list of them.
 use Rattle.std.proofs.Common.{◌≡◌, ℕ, List, [], ◌∷◌, ◌++◌, Option, Some, None, refl, sym, ap, subst, ◌∙◌}
 use Rattle.std.specs.Option.{option_or}
+use Rattle.qg_node.specs.declared.node.Node.{Node}
 use Rattle.qg_state.specs.Owed.{Owing}
 use Rattle.qg_ground.specs.Tellings.{Telling}
 use Rattle.qg_ground.specs.Tellings.Telling.{Copied, Made, Left}
@@ -50,16 +51,6 @@ pub nothing-told : (gains losses : List Listed) → gains ≡ [] → losses ≡ 
 nothing-told gains losses first last =
     ap (λ (xs : List Listed). exchange_with (owings_told xs) (owings_told losses)) first ∙ ap (λ (ys : List Listed). exchange_with [] (owings_told ys)) last
 
--- a misfit is met in a step of which only the misfit changes
-pub Step-misfit : (before after : TreeRefs) (telling : Telling) (at : ℕ) → (IsProper telling before → ⊥) → after ≡ record before { misfit = option_or before.misfit (Some at) } → Step before telling after
-Step-misfit before after telling at not noted = record {
-  level = 0;
-  misfit = Some at;
-  done = λ none. cc;
-  proper = λ may. absurd (not may);
-  noted = noted ∙ ap (λ (table : List (ℕ × Kept)). record before { refs = table; misfit = option_or before.misfit (Some at) }) (sym (ap (λ (book : TreeRefs). book.refs) noted));
-}
-
 -- ---- a list of tellings
 
 pub Follows-none : (book : TreeRefs) → Follows book [] book
@@ -71,3 +62,16 @@ pub Follows-more : (before mid after : TreeRefs) (log : List Telling) (telling :
 unfolding Follows
 Follows-more before mid after [] telling same step = (after, subst (λ (book : TreeRefs). Step book telling after) same step, refl)
 Follows-more before mid after (first ∷ log) telling follows step = (follows.0, follows.1, Follows-more follows.0 mid after log telling follows.2 step)
+
+-- one more of the node that was in memory
+pub Follows-left : (before mid after : TreeRefs) (log : List Telling) (node held : Node) (place : Option Node) → place ≡ Some held → place ≡ Some node → Follows before log mid
+    → Step mid (Left held) after → Follows before (log ++ Left node ∷ []) after
+Follows-left before mid after log node held place is was follows step =
+    let same : held ≡ node = cc in
+    Follows-more before mid after log (Left node) follows (subst (λ (n : Node). Step mid (Left n) after) same step)
+
+pub Follows-copied : (before mid after : TreeRefs) (log : List Telling) (node held : Node) (copy : ℕ) (place : Option Node) → place ≡ Some held → place ≡ Some node → Follows before log mid
+    → Step mid (Copied held copy) after → Follows before (log ++ Copied node copy ∷ []) after
+Follows-copied before mid after log node held copy place is was follows step =
+    let same : held ≡ node = cc in
+    Follows-more before mid after log (Copied node copy) follows (subst (λ (n : Node). Step mid (Copied n copy) after) same step)

@@ -44,7 +44,7 @@ fn give(refs: &mut Extents, owing: &Owing) -> Result<bool, NoMemory>
 }
 
 /// How often a reference may be there: one to a node is there or not.
-fn greatest_count(reference: &Reference) -> u32
+pub(crate) fn greatest_count(reference: &Reference) -> u32
     ensures { result ≡ greatest_count reference.now }
 {
     match reference {

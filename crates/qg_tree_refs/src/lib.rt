@@ -11,3 +11,6 @@ mod taking;
 mod tree_refs;
 
 pub use tree_refs::TreeRefs;
+
+#[cfg(test)]
+mod tests;
