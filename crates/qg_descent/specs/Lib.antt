@@ -2,8 +2,3 @@ pub mod Tree
 pub mod Reading
 pub mod Way
 pub mod Branch
-pub mod First
-pub mod Editing
-pub mod Uniting
-pub mod Rooting
-pub mod Counting

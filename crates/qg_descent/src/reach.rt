@@ -20,8 +20,8 @@ use qg_walk::form_failure;
 use std::sync::ledger::Ledger;
 
 impl Tree {
-    // Sees to it that the node that a way has come to is in memory, and that it is what the way leads to expect.
-    pub(crate) fn visit<P: TreePart, D: Disk, L: Ledger>(
+    /// Sees to it that the node that a way has come to is in memory, and that it is what the way leads to expect. It takes a step.
+    pub fn visit<P: TreePart, D: Disk, L: Ledger>(
         &self,
         blocks: &mut Blocks,
         disk: &mut D,

@@ -55,29 +55,29 @@ impl Tree {
         self.height
     }
 
-    // The number of the tree that makes its nodes.
-    pub(crate) fn owner(&self) -> RootId
+    /// The number of the tree that makes its nodes.
+    pub fn owner(&self) -> RootId
         ensures { result ≡ self.now.owner }
     {
         self.owner
     }
 
-    // The generation to come.
-    pub(crate) fn next(&self) -> Generation
+    /// The generation to come.
+    pub fn next(&self) -> Generation
         ensures { result ≡ self.now.next }
     {
         self.next
     }
 
-    // The root lies at another address.
-    pub(crate) fn stand_at(&mut self, root: Address)
+    /// The root lies at another address from now on.
+    pub fn stand_at(&mut self, root: Address)
         ensures { self.new ≡ record self.old { address = root } }
     {
         self.root = root;
     }
 
-    // The root lies at another address, a level higher.
-    pub(crate) fn rise_to(&mut self, root: Address)
+    /// The root lies at another address from now on, a level higher.
+    pub fn rise_to(&mut self, root: Address)
         requires { self.old.height < 255 }
         ensures { self.new ≡ record self.old { address = root; height = self.old.height + 1 } }
     {
@@ -85,8 +85,8 @@ impl Tree {
         self.height += 1;
     }
 
-    // The root lies at another address, a level lower.
-    pub(crate) fn sink_to(&mut self, root: Address)
+    /// The root lies at another address from now on, a level lower.
+    pub fn sink_to(&mut self, root: Address)
         requires { 0 < self.old.height }
         ensures { self.new ≡ record self.old { address = root; height = self.old.height - 1 } }
     {
@@ -94,8 +94,8 @@ impl Tree {
         self.height -= 1;
     }
 
-    // What is expected of the root.
-    pub(crate) fn way(&self) -> Way
+    /// The way to the root: where it lies, and what is expected of it.
+    pub fn way(&self) -> Way
         ensures address { result.address ≡ self.now.address }
         ensures expected { result.expected ≡ root_expected (Some self.now.height) None }
     {

@@ -13,7 +13,7 @@ use Rattle.qg_node.specs.declared.pointer.Pointer.{Pointer}
 use Rattle.qg_node.specs.declared.node.Header.{Header}
 use Rattle.qg_node.specs.declared.node.Node.{Node}
 use Rattle.qg_node.specs.declared.node.Node.TheVariants.{Leaf, Inner}
-use Rattle.qg_node.specs.Nodes.{header_of, is_ascending, own_items, own_keys, used_bytes}
+use Rattle.qg_node.specs.Nodes.{header_of, is_ascending, item_bytes, own_items, own_keys, used_bytes}
 use Rattle.qg_node.specs.NodeText.{IsLevelled, IsNode, IsNodeSize}
 use Rattle.qg_shape.specs.Filled.{HasShortBodies, IsOverfull}
 use Rattle.qg_shape.specs.Parts.{IsInner, IsLeaf, with_items, with_pointers}
@@ -118,6 +118,16 @@ module _ (nodesize : ℕ) (leaf : Node) (leafy : IsLeaf leaf) (sound : IsNode no
 
   bytes_at : (place : ℕ) (item : Item) → slice_get (own_items leaf) place ≡ Some item → get_or (own_items leaf) place item ≡ item
   bytes_at place item there = get_or_from_slice_get (own_items leaf) place item item there
+
+  -- with a body that is no longer than the old one it fits still
+  pub replaced-fits : (body : List ℕ) (place : ℕ) (mid : Node) (item : Item) → slice_get (own_items leaf) place ≡ Some item → length body ≤ length item.body
+      → mid ≡ with_items leaf (set (own_items leaf) place (record item { body = body })) → 101 + used_bytes mid ≤ nodesize
+  replaced-fits body place mid item there less is =
+      let used = used_bytes-set_item leaf place (record item { body = body }) item leafy (within (own_items leaf) place item there) in
+      let old = ap item_bytes (bytes_at place item there) in
+      let same = ap used_bytes is in
+      let fits = sound.fits in
+      omega (arith, used, old, same, fits, less)
 
   pub replaced : (key : Key) (body : List ℕ) (place : ℕ) (mid : Node) → length body ≤ 1024 → slice_get (keys_of (own_items leaf)) place ≡ Some key
       → ((item : Item) → slice_get (own_items leaf) place ≡ Some item → mid ≡ with_items leaf (set (own_items leaf) place (record item { body = body }))) → IsChanged nodesize key (Replace body) leaf mid

@@ -2,3 +2,4 @@ pub mod Lists
 pub mod Leaves
 pub mod Cuts
 pub mod Order
+pub mod Singles

@@ -1,5 +1,6 @@
 // An edit of one leaf.
-ghost use Rattle.std.specs.Prelude.{◌≡◌, ◌↔◌, IfOk, IfErr, OnOk, OnErr, IsSome, map, slice_get, None, Some};
+ghost use Rattle.std.specs.Prelude.{◌≡◌, ◌↔◌, ◌<◌, IfOk, IfErr, OnOk, OnErr, IsSome, length, map, slice_get, None, Some};
+ghost use Rattle.qg_node.specs.declared.item.Item.{Item as ItemValue};
 ghost use Rattle.qg_node.specs.NodeText.{IsNode, IsNodeSize};
 ghost use Rattle.qg_node.specs.Nodes.{own_items};
 ghost use Rattle.qg_shape.specs.Filled.{HasShortBodies, IsOverfull};
@@ -81,7 +82,7 @@ fn insert(leaf: &mut Node, nodesize: u32, key: Key, body: Body) -> Result<Option
         Ok(_) => Err(misfit(leaf)),
         Err(place) => {
             insert_item(leaf, place, Item { key, body })?;
-            cut(leaf, nodesize, place)
+            cut(leaf, nodesize, place, true)
         }
     }
 }
@@ -102,10 +103,23 @@ fn replace(leaf: &mut Node, nodesize: u32, key: Key, body: Body) -> Result<Optio
 {
     match place_of(leaf, nodesize, key) {
         Ok(place) => {
+            let has_grown = body.len() > body_length(leaf, place);
             replace_body(leaf, place, body);
-            cut(leaf, nodesize, place)
+            cut(leaf, nodesize, place, has_grown)
         }
         Err(_) => Err(misfit(leaf)),
+    }
+}
+
+// How many bytes the body of an item of a leaf has.
+fn body_length(leaf: &Node, place: usize) -> usize
+    requires leaf { IsLeaf leaf.now }
+    requires place { place < length (own_items leaf.now) }
+    ensures { (item : ItemValue) → slice_get (own_items leaf.now) place ≡ Some item → result ≡ length item.body }
+{
+    match leaf {
+        Node::Leaf { items, .. } => items.as_slice()[place].body.len(),
+        Node::Inner { .. } => unreachable!(),
     }
 }
 

@@ -1,5 +1,5 @@
 // A node that may have too much.
-ghost use Rattle.std.specs.Prelude.{◌≡◌, ◌+◌, ◌≤◌, ◌↔◌, length, IfOk, OnErr, IsSome, IsTrue};
+ghost use Rattle.std.specs.Prelude.{◌≡◌, ◌+◌, ◌≤◌, ◌↔◌, false, length, IfOk, OnErr, IsSome, IsTrue};
 ghost use Rattle.std.specs.List.{All};
 ghost use Rattle.qg_num.specs.declared.fault.BlockFault.TheVariants as fault;
 ghost use Rattle.qg_num.specs.declared.rule.Rule.TheVariants as rule;
@@ -54,13 +54,19 @@ fn are_short(items: &[Item]) -> bool
     items.iter().all(|item| item.body.len() <= LONGEST_BODY)
 }
 
-/// Cuts a node in two where it has too much, by an item at most. `newest` is where the item or pointer stands that was
-/// put in last. After an `Err` the node is an empty leaf.
-pub(crate) fn cut(node: &mut Node, nodesize: u32, newest: usize) -> Result<Option<Node>, BlockFault>
+/// Cuts a node in two where it has too much, by an item at most, which is only looked for where it has grown. `newest`
+/// is where the item or pointer stands that was put in last. After an `Err` the node is an empty leaf.
+pub(crate) fn cut(
+    node: &mut Node,
+    nodesize: u32,
+    newest: usize,
+    has_grown: bool,
+) -> Result<Option<Node>, BlockFault>
     requires size { IsNodeSize nodesize }
     requires levelled { IsLevelled node.old }
     requires ascending { IsTrue (is_ascending (own_keys node.old)) }
     requires by_one { 101 + used_bytes node.old ≤ nodesize + 1049 }
+    requires kept { has_grown ≡ false → 101 + used_bytes node.old ≤ nodesize }
     ensures cut { IfOk result (λ rest. IsCutOf nodesize node.old node.new rest) }
     ensures overfull { IfOk result (λ rest. IsSome rest ↔ IsOverfull nodesize node.old) }
     ensures answers { AnswersBy (CanCut nodesize node.old) (IsBrokenUnless rule.Item node.old (CanCut nodesize node.old)) result }
@@ -69,6 +75,9 @@ pub(crate) fn cut(node: &mut Node, nodesize: u32, newest: usize) -> Result<Optio
     ensures sound { HasShortBodies node.old → BreaksNone result }
     ensures err { OnErr result (node.new ≡ cleared node.old) }
 {
+    if !has_grown {
+        return Ok(None);
+    }
     if !is_overfull(node, nodesize) {
         return Ok(None);
     }

@@ -48,7 +48,7 @@ pub fn splice(
         clear(node);
         return Err(BlockFault::from(fault));
     }
-    cut(node, nodesize, from + new.len() - 1)
+    cut(node, nodesize, from + new.len() - 1, new.len() > to - from)
 }
 
 // Whether keys ascend with pointers in the place of others.
@@ -89,9 +89,15 @@ fn put_pointers(node: &mut Node, from: usize, to: usize, new: &[Pointer]) -> Res
 {
     match node {
         Node::Leaf { .. } => unreachable!(),
-        Node::Inner { pointers, .. } => {
-            pointers.remove_range(from, to);
-            Ok(pointers.insert_slice(from, new)?)
-        }
+        Node::Inner { pointers, .. } => match new {
+            [one] if to - from == 1 => {
+                pointers.set(from, *one);
+                Ok(())
+            }
+            _ => {
+                pointers.remove_range(from, to);
+                Ok(pointers.insert_slice(from, new)?)
+            }
+        },
     }
 }

@@ -1,7 +1,8 @@
-use Rattle.std.proofs.Common.{sym, ◌∙◌}
+use Rattle.std.proofs.Common.{arith, sym, ◌∙◌}
+use borrow.Author.Tests.{ltb-false}
 use Rattle.std.proofs.lemmas.Bool.{true≢false}
-use Rattle.qg_edit.proofs.Leaves.{answers-cut, answers-misfit, edited-cut, err-cut, IsNodeFor-header, overfull-cut, ok-known, replaced, rest-cut}
-use Rattle.qg_edit.proofs.Lists.{has_key-goes}
+use Rattle.qg_edit.proofs.Leaves.{answers-cut, answers-misfit, edited-cut, err-cut, IsNodeFor-header, overfull-cut, ok-known, replaced, replaced-fits, rest-cut}
+use Rattle.qg_edit.proofs.Lists.{has_key-goes, item-there}
 use Rattle.qg_node.specs.Nodes.{own_items}
 use Rattle.qg_edit.specs.declared.edit.Change.TheVariants.{Replace}
 use Rattle.qg_edit.proofs.changing.replace.Goals as goal
@@ -46,3 +47,11 @@ returns-in-Ok-clause-sound c = λ can short. c.cut.ensures.sound ((replaced c.ar
 
 pub returns-in-Err-clause-sound : goal.returns-in-Err-clause-sound
 returns-in-Err-clause-sound c = λ can short. absurd (true≢false (sym can ∙ has_key-goes c.args.key (own_items c.args.leaf.now) c.in-Err.field-0 c.in-Err.ensures.absent))
+
+pub cut-requires-clause-kept : goal.cut-requires-clause-kept
+cut-requires-clause-kept c same =
+    let at = item-there c.args.key (own_items c.args.leaf.now) c.in-Ok.place c.in-Ok.ensures.found in
+    let old = c.body_length.ensures at.0 at.1.0 in
+    let new = c.len.ensures in
+    let less = ltb-false c.body_length.result c.len.result same in
+    replaced-fits c.args.nodesize c.args.leaf.now c.requires.leaf c.requires.sound c.args.body c.in-Ok.place c.replace_body.new.node at.0 at.1.0 (omega (arith, old, new, less)) (c.replace_body.ensures at.0 at.1.0)

@@ -1,0 +1,15 @@
+pub mod Told
+pub mod Edited
+pub mod FileBodies
+pub mod Numbers
+pub mod Said
+pub mod Read
+pub mod Spelled
+pub mod Tables
+pub mod OneFile
+pub mod Pieces
+pub mod RangeBodies
+pub mod Sequences
+pub mod Exchanged
+pub mod MetPieces
+pub mod RangeEdits

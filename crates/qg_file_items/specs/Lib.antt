@@ -1,0 +1,5 @@
+pub mod Bodies
+pub mod Pieces
+pub mod FileEdits
+pub mod Laws
+pub mod Examples

@@ -1,0 +1,4 @@
+pub mod Leaf
+pub mod Owed
+pub mod OneLeaf
+pub mod Image

@@ -1,0 +1,2 @@
+pub mod FreshExtents
+pub mod Examples

@@ -1,0 +1,315 @@
+-- A child was joined with its neighbour, and the pointers of their node are set: what a book is told meanwhile.
+use Rattle.std.proofs.Common.{◌≡◌, ◌≢◌, ◌⊎◌, ℕ, suc, ◌+◌, ◌<◌, ◌≤◌, List, [], ◌∷◌, ◌++◌, take, drop, arith, refl, sym, ap, subst, ◌∙◌, inl, inr, Option, Some}
+use Rattle.std.specs.Prelude.{IsTrue, slice_get}
+use Rattle.qg_device.specs.History.{Event}
+use Rattle.qg_num.specs.declared.key.Key.{Key}
+use Rattle.qg_node.specs.declared.item.Item.{Item}
+use Rattle.qg_node.specs.declared.pointer.Pointer.{Pointer}
+use Rattle.qg_node.specs.declared.node.Node.{Node}
+use Rattle.qg_verdict.specs.declared.tree.Tree.{Tree}
+use Rattle.qg_blocks.specs.Told.{told}
+use Rattle.qg_space.specs.Holding.{is_free_slot}
+use Rattle.qg_ground.specs.declared.ground.Ground.{Ground}
+use Rattle.qg_ground.specs.Land.{IsDrafted, Rests}
+use Rattle.qg_ground.specs.Tellings.{Telling}
+use Rattle.qg_tree_edits.specs.declared.instead.Instead.{Instead}
+use Rattle.qg_tree_edits.specs.declared.pairing.Pair.{Pair}
+use Rattle.qg_descent.specs.Tree.{Reaches, Root, super_of}
+use Rattle.qg_descent.specs.Branch.{IsBranch}
+use Rattle.qg_tree_edits.specs.Editing.{CanMake, HasLed, IsFreshOn, IsUnsettled, ReachesParts, alone}
+use Rattle.qg_tree_edits.specs.Uniting.{AreUnited, IsPaired}
+use Rattle.qg_tree_edits.specs.Counting.{IsSettledTold, IsTold, TellsUnited, tellings_owned, ways, ways_each, ways_instead, ways_parts}
+use Rattle.qg_tree_edits.proofs.Beside.{beside-differs, other-branch}
+use Rattle.qg_tree_edits.proofs.LedTold.{led-ways}
+use Rattle.qg_tree_edits.proofs.OwnedTold.{owned-told}
+use Rattle.qg_tree_edits.proofs.Paired.{IsThinAt}
+use Rattle.qg_tree_edits.proofs.PairedFrames.{pair-free_others, pair-freed}
+use Rattle.qg_tree_edits.proofs.PairedHolds.{child-apart}
+use Rattle.qg_tree_edits.proofs.RejoinedHolds.{aside-beside, aside-child, both, differ, hold, new-stays, rejoined-can, size}
+use Rattle.qg_tree_edits.proofs.RejoinedSettled.{rejoined-pointers, rejoined-settled}
+use Rattle.qg_tree_edits.proofs.Spliced.{drop-get, drop-there, take-get, take-there}
+use Rattle.qg_tree_edits.proofs.Turning.{told-apart, told-append, told-same, told-within}
+use Rattle.qg_tree_edits.proofs.UnitedHolds.{united-tells}
+use Rattle.qg_tree_edits.proofs.Ways.{ways-none, ways-same, ways_each-append, ways_each-cons, ways_each-none, ways_each-same}
+
+module _ (tree : Tree) (root : Root) (land mid new end : Ground) (history later last : Option (List Event))
+    (level at : ℕ) (to : Option Key) (place child : ℕ) (items : List Item) (rest : Option Node)
+    (un : IsUnsettled tree root land history level at to place (alone child) items) (pair : Pair) (instead : Instead)
+    (is : IsPaired tree root land mid history un.pointers to level place child pair)
+    (makes : CanMake tree root) (drafted : IsDrafted land root.next) (rests : Rests land mid later root.next)
+    (fresh : IsFreshOn land level child) (thin : IsThinAt land child)
+    (united : AreUnited mid new pair.left pair.right instead) (after : Rests mid new last root.next)
+    (led : HasLed tree (super_of root land.blocks.draft) new end history level at pair.front
+    (pair.front + 2) instead un.pointers un.header items rest)
+    (tellings : List Telling) (tells : TellsUnited pair.right instead tellings) where
+  Parts : ℕ → Type 0
+  Parts q = ReachesParts (told land.blocks.draft history) level un.pointers place (alone child) q
+
+  -- the other children
+  others : ℕ → ℕ
+  others q =
+      ways_each (told land.blocks.draft history) level (take pair.front un.pointers) q
+      + ways_each (told land.blocks.draft history) level (drop (pair.front + 2) un.pointers) q
+
+  Aside : ℕ → Type 0
+  Aside i = (i < pair.front) ⊎ (pair.front + 2 ≤ i)
+
+  not_child : (i : ℕ) → Aside i → i ≢ place
+  unfolding Aside
+  not_child = aside-child tree root land mid new history later last level at to place child items un pair instead is
+      makes drafted rests fresh thin united after
+
+  not_beside : (i : ℕ) → Aside i → i ≢ is.is.other
+  unfolding Aside
+  not_beside = aside-beside tree root land mid new history later last level at to place child items un pair instead is
+      makes drafted rests fresh thin united after
+
+  differs : is.is.other ≢ place
+  differs = beside-differs un.pointers to level place is.beside is.is
+
+  others_none : (q : ℕ) → ((i : ℕ) (p : Pointer) → Aside i → slice_get un.pointers i ≡ Some p
+      → Reaches (told land.blocks.draft history) level p.child q → ⊥) → others q ≡ 0
+  unfolding others Aside
+  others_none q apart =
+      let front = ways_each-none (told land.blocks.draft history) level (take pair.front un.pointers) q
+      (λ i p there reaches. let found = take-get pair.front un.pointers i p there in apart i p
+      (inl found.0) found.1 reaches) in
+      let back = ways_each-none (told land.blocks.draft history) level (drop (pair.front + 2) un.pointers) q
+      (λ i p there reaches. let found = drop-get (pair.front + 2) un.pointers i p there in apart found.0 p
+      (inr found.1) found.2 reaches) in
+      omega (arith, front, back)
+
+  -- ---- before
+
+  beside_ways : (q : ℕ) → ways (told land.blocks.draft history) level is.is.way.pointer.child q
+      ≡ ways (told land.blocks.draft history) level is.beside.way.address q
+  beside_ways q = ap (λ (a : ℕ). ways (told land.blocks.draft history) level a q) (sym is.is.way.child)
+
+  before : (q : ℕ) → ways_parts (told land.blocks.draft history) level un.pointers place (alone child) q
+      ≡ ways (told land.blocks.draft history) level is.beside.way.address q
+      + (ways (told land.blocks.draft history) level child q + others q)
+  unfolding others
+  before q = elim is.is.pair [
+    | inl behind ↦
+        let nodes = told land.blocks.draft history in
+        let front_is : pair.front ≡ place = is.front ∙ behind.0 in
+        let there = drop-there un.pointers is.is.other is.is.way.pointer is.is.way.there in
+        let back = ap (λ (n : ℕ). ways_each nodes level (drop n un.pointers) q) (sym behind.1)
+        ∙ ap (λ (ps : List Pointer). ways_each nodes level ps q) there in
+        let first = ways_each-cons nodes level is.is.way.pointer (drop (suc is.is.other) un.pointers) q in
+        let next = ap (λ (n : ℕ). ways_each nodes level (drop n un.pointers) q)
+        (let a = behind.1 in let e : suc is.is.other ≡ pair.front + 2 = omega (arith, a, front_is) in e) in
+        let same = ap (λ (n : ℕ). ways_each nodes level (take n un.pointers) q) front_is in
+        let beside = beside_ways q in
+        omega (arith, back, first, next, same, beside)
+    | inr front ↦
+        let nodes = told land.blocks.draft history in
+        let front_is : pair.front ≡ is.is.other = is.front ∙ sym front.1 in
+        let there = take-there un.pointers is.is.other is.is.way.pointer is.is.way.there in
+        let upto = ap (λ (n : ℕ). ways_each nodes level (take n un.pointers) q)
+        (let a = front.0 in let b = front.1 in let e : place ≡ suc is.is.other = omega (arith, a, b) in e)
+        ∙ ap (λ (ps : List Pointer). ways_each nodes level ps q) there in
+        let parts = ways_each-append nodes level (take is.is.other un.pointers) (is.is.way.pointer ∷ []) q in
+        let first = ways_each-cons nodes level is.is.way.pointer [] q in
+        let next = ap (λ (n : ℕ). ways_each nodes level (drop n un.pointers) q)
+        (let a = front.0 in let b = is.front in let e : place + 1 ≡ pair.front + 2 = omega (arith, a, b) in e) in
+        let same = ap (λ (n : ℕ). ways_each nodes level (take n un.pointers) q) front_is in
+        let beside = beside_ways q in
+        omega (arith, upto, parts, first, next, same, beside)
+  ]
+
+  -- ---- the neighbour was owned
+
+  From : ℕ → Type 0
+  From q = Reaches (told land.blocks.draft history) level is.beside.way.address q
+
+  from_beside : (q : ℕ) → From q → Reaches (told land.blocks.draft history) level is.is.way.pointer.child q
+  unfolding From
+  from_beside q reaches = subst (λ (a : ℕ). Reaches (told land.blocks.draft history) level a q) is.is.way.child reaches
+
+  from_parts : (q : ℕ) → IsTrue (is_free_slot land.space q) ⊎ From q → IsTrue (is_free_slot land.space q) ⊎ Parts q
+  unfolding Parts
+  from_parts q (inl free) = inl free
+  from_parts q (inr reaches) = inr
+      (inr (is.is.other, is.is.way.pointer, differs, is.is.way.there, from_beside q reaches))
+
+  beside_free : (q : ℕ) → IsTrue (is_free_slot land.space q) → From q → ⊥
+  beside_free q free reaches = un.free q free
+      (inr (is.is.other, is.is.way.pointer, differs, is.is.way.there, from_beside q reaches))
+
+  beside_branch : (under : List Item) × IsBranch tree (super_of root land.blocks.draft)
+      (told land.blocks.draft history) level is.beside.way.address under
+  beside_branch =
+      let apart : (is.is.other < place) ⊎ (place + 1 ≤ is.is.other) = elim is.is.pair [
+        | inl behind ↦ inr (let a = behind.1 in omega (arith, a))
+        | inr front ↦ inl (let a = front.0 in let b = front.1 in omega (arith, a, b))
+      ] in
+      let found = other-branch tree root land history level at to place
+      (alone child) items un is.is.other is.is.way.pointer apart is.is.way.there in (
+        found.0,
+        subst (λ (a : ℕ). IsBranch tree (super_of root land.blocks.draft) (told land.blocks.draft history) level
+            a found.0) (sym is.is.way.child) found.2,
+      )
+
+  own_told : IsTold land From (ways (told land.blocks.draft history) level is.beside.way.address)
+      (ways (told mid.blocks.draft history) level is.now) 1 0 0
+      (tellings_owned is.owned.node is.beside.way.address is.now)
+  unfolding From
+  own_told = owned-told tree root land mid history is.beside.way.expected is.beside.way.address is.now is.owned makes
+      level beside_branch.0 beside_branch.1 beside_free
+
+  -- the child and the others are elsewhere
+  else_none : (q : ℕ) → IsTrue (is_free_slot land.space q) ⊎ From q
+      → ways (told land.blocks.draft history) level child q + others q ≡ 0
+  unfolding Parts Aside
+  else_none q (inl free) =
+      let mine = ways-none (told land.blocks.draft history) level child q
+      (λ reaches. un.free q free (inl (inl reaches))) in
+      let rest_none = others_none q
+      (λ i p aside there reaches. un.free q free (inr (i, p, not_child i aside, there, reaches))) in
+      omega (arith, mine, rest_none)
+  else_none q (inr from) =
+      let below = from_beside q from in
+      let mine = ways-none (told land.blocks.draft history) level child q
+      (λ reaches. un.alone is.is.other is.is.way.pointer differs is.is.way.there q below (inl reaches)) in
+      let rest_none = others_none q
+      (λ i p aside there reaches. un.apart i is.is.other p is.is.way.pointer (not_child i aside) differs
+      (not_beside i aside) there is.is.way.there q reaches below) in
+      omega (arith, mine, rest_none)
+
+  child_ways : (q : ℕ) → ways (told mid.blocks.draft history) level child q
+      ≡ ways (told land.blocks.draft history) level child q
+  child_ways =
+      ways-same (told land.blocks.draft history) (told mid.blocks.draft history) level child
+      (λ r reaches. is.owned.others history r
+      (child-apart tree root land mid history level at to place child items un pair is makes r reaches))
+
+  -- from both, and the others
+  both_ways : ℕ → ℕ
+  both_ways q = (ways (told mid.blocks.draft history) level pair.left q
+      + ways (told mid.blocks.draft history) level pair.right q) + others q
+
+  between : (q : ℕ) → both_ways q ≡ ways (told mid.blocks.draft history) level is.now q
+      + (ways (told land.blocks.draft history) level child q + others q)
+  unfolding both_ways
+  between q =
+      let mine = child_ways q in
+      elim is.sides [
+        | inl behind ↦
+            let left = ap (λ (a : ℕ). ways (told mid.blocks.draft history) level a q) behind.1 in
+            let right = ap (λ (a : ℕ). ways (told mid.blocks.draft history) level a q) behind.2 in
+            omega (arith, mine, left, right)
+        | inr front ↦
+            let left = ap (λ (a : ℕ). ways (told mid.blocks.draft history) level a q) front.1 in
+            let right = ap (λ (a : ℕ). ways (told mid.blocks.draft history) level a q) front.2 in
+            omega (arith, mine, left, right)
+      ]
+
+  first_told : IsTold land Parts (ways_parts (told land.blocks.draft history) level un.pointers place (alone child))
+      both_ways 1 0 0 (tellings_owned is.owned.node is.beside.way.address is.now)
+  first_told =
+      let more = λ (q : ℕ). ways (told land.blocks.draft history) level child q + others q in
+      let old_beside = ways (told land.blocks.draft history) level is.beside.way.address in
+      let new_beside = ways (told mid.blocks.draft history) level is.now in
+      let log = tellings_owned is.owned.node is.beside.way.address is.now in
+      let framed = told-apart land From old_beside new_beside more 1 0 0 log else_none own_told in
+      let whole = told-within land Parts land From (λ q. old_beside q + more q) (λ q. new_beside q + more q) 1 0 0 log
+      from_parts framed in
+      told-same land Parts (λ q. old_beside q + more q)
+      (ways_parts (told land.blocks.draft history) level un.pointers place (alone child))
+      (λ q. new_beside q + more q) both_ways 1 0 0 log
+      before between whole
+
+  -- ---- both were joined
+
+  mid_free : (q : ℕ) → IsTrue (is_free_slot mid.space q) ⊎ ⊥ → others q ≡ 0
+  mid_free q (inl free) = others_none q
+      (λ i p aside there reaches. pair-free_others tree root land mid history later level at to place child items un
+      pair is makes drafted rests i p (not_child i aside) (not_beside i aside) there q free reaches)
+  mid_free q (inr none) = absurd none
+
+  mid_parts : (q : ℕ) → IsTrue (is_free_slot mid.space q) ⊎ ⊥ → IsTrue (is_free_slot land.space q) ⊎ Parts q
+  unfolding Parts
+  mid_parts q (inl free) = pair-freed tree root land mid history later level at to place child items un pair is makes
+      drafted rests q free
+  mid_parts q (inr none) = absurd none
+
+  instead_ways : ℕ → ℕ
+  instead_ways q = ways_instead (told new.blocks.draft history) level instead q + others q
+
+  later_told : IsTold land Parts both_ways instead_ways 0 1 0 tellings
+  unfolding both_ways instead_ways
+  later_told =
+      let held = hold tree root land mid new history later last level at to place child items un pair instead is makes
+      drafted rests fresh thin united after in
+      let joined = united-tells mid new pair.left pair.right instead
+      (differ tree root land mid new history later last level at to place child items un pair instead is makes drafted
+      rests fresh thin united after)
+      (both tree root land mid new history later last level at to place child items un pair instead is makes drafted
+      rests fresh thin united after)
+      united tree (super_of root land.blocks.draft) history level held.ls held.rs held.left_holds held.right_holds
+      (size tree root land mid new history later last level at to place child items un pair instead is makes drafted
+      rests fresh thin united after) tellings tells in
+      let two = λ (q : ℕ). ways (told mid.blocks.draft history) level pair.left q
+      + ways (told mid.blocks.draft history) level pair.right q in
+      let one_then = ways_instead (told new.blocks.draft history) level instead in
+      told-within land Parts mid (λ q. ⊥) (λ q. two q + others q) (λ q. one_then q + others q) 0 1 0 tellings mid_parts
+      (told-apart mid (λ q. ⊥) two one_then others 0 1 0 tellings mid_free joined)
+
+  -- ---- the pointers were set
+
+  others_new : (q : ℕ) → ways_each (told new.blocks.draft history) level (take pair.front un.pointers) q
+      + ways_each (told new.blocks.draft history) level (drop (pair.front + 2) un.pointers) q ≡ others q
+  unfolding others Aside
+  others_new q =
+      let stays = new-stays tree root land mid new history later last level at to place child items un pair instead is
+      makes drafted rests fresh thin united after in
+      let front = ways_each-same (told land.blocks.draft history) (told new.blocks.draft history) level
+      (take pair.front un.pointers)
+      (λ i p there r reaches. let found = take-get pair.front un.pointers i p there in stays i p
+      (inl found.0) found.1 r reaches) q in
+      let back = ways_each-same (told land.blocks.draft history) (told new.blocks.draft history) level
+      (drop (pair.front + 2) un.pointers)
+      (λ i p there r reaches. let found = drop-get (pair.front + 2) un.pointers i p there in stays found.0 p
+      (inr found.1) found.2 r reaches) q in
+      omega (arith, front, back)
+
+  then : (q : ℕ) → ways_each (told end.blocks.draft history) level
+      (take pair.front un.pointers ++ (led.now ∷ led.more) ++ drop (pair.front + 2) un.pointers) q ≡ instead_ways q
+  unfolding instead_ways
+  then q =
+      let can = rejoined-can tree root land mid new history later last level at to place child items un pair instead is
+      makes drafted rests fresh thin united after in
+      let set = led-ways tree (super_of root land.blocks.draft) new end history level at pair.front
+      (pair.front + 2) instead un.pointers un.header items rest can led q in
+      let same = others_new q in
+      omega (arith, set, same)
+
+  all_told : IsTold land Parts (ways_parts (told land.blocks.draft history) level un.pointers place (alone child))
+      (ways_each (told end.blocks.draft history) level (take pair.front un.pointers ++ (led.now ∷ led.more)
+      ++ drop (pair.front + 2) un.pointers)) 1 1 0
+      (tellings_owned is.owned.node is.beside.way.address is.now ++ tellings)
+  all_told =
+      let start = ways_parts (told land.blocks.draft history) level un.pointers place (alone child) in
+      let log = tellings_owned is.owned.node is.beside.way.address is.now ++ tellings in
+      told-same land Parts start start instead_ways (ways_each (told end.blocks.draft history) level
+      (take pair.front un.pointers ++ (led.now ∷ led.more) ++ drop (pair.front + 2) un.pointers)) 1 1 0 log
+      (λ q. refl) then
+      (told-append land Parts start both_ways instead_ways 1 0 0 0 1 0
+      (tellings_owned is.owned.node is.beside.way.address is.now) tellings first_told later_told)
+
+  pub rejoined-told : IsSettledTold tree root land end history level at place (alone child) un.pointers un.header items
+      rest (tellings_owned is.owned.node is.beside.way.address is.now ++ tellings)
+  unfolding Parts
+  rejoined-told = record {
+    settled = rejoined-settled tree root land mid new end history later last level at to place child items rest un pair
+        instead is makes drafted rests fresh thin united after led;
+    told = subst
+        (λ (ps : List Pointer). IsTold land (ReachesParts (told land.blocks.draft history) level un.pointers place
+        (alone child))
+        (ways_parts (told land.blocks.draft history) level un.pointers place (alone child))
+        (ways_each (told end.blocks.draft history) level ps) 1 1 0
+        (tellings_owned is.owned.node is.beside.way.address is.now ++ tellings))
+        (sym (rejoined-pointers tree root land mid new end history later last level at to place child items rest un pair
+        instead is makes drafted rests fresh thin united after led)) all_told;
+  }

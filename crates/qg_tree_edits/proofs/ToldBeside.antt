@@ -1,0 +1,89 @@
+-- What a book is told where the neighbour of a child is owned.
+use Rattle.std.proofs.Common.{◌≡◌, ◌≢◌, ℕ, false, List, ◌++◌, refl, sym, ap, ◌∙◌, inl, inr, Option, Some}
+use Rattle.std.proofs.lemmas.Bool.{false_from_ne_true}
+use Rattle.qg_device.specs.History.{Event}
+use Rattle.qg_num.specs.declared.key.Key.{Key}
+use Rattle.qg_node.specs.declared.item.Item.{Item}
+use Rattle.qg_verdict.specs.declared.tree.Tree.{Tree}
+use Rattle.qg_blocks.specs.Told.{told}
+use Rattle.qg_space.specs.Holding.{is_free_slot}
+use Rattle.qg_ground.specs.declared.ground.Ground.{Ground}
+use Rattle.qg_ground.specs.Tellings.{Telling}
+use Rattle.qg_tree_edits.specs.declared.child.Neighbour.{Neighbour}
+use Rattle.qg_descent.specs.Tree.{Root}
+use Rattle.qg_tree_edits.specs.Editing.{IsBeside, IsOwned, IsUnsettled, alone}
+use Rattle.qg_tree_edits.specs.Uniting.{IsPaired}
+use Rattle.qg_tree_edits.specs.Counting.{tellings_owned}
+use Rattle.qg_tree_edits.proofs.Beside.{beside-differs}
+use Rattle.qg_descent.proofs.BranchFrames.{reach-top}
+
+module _ (tree : Tree) (root : Root) (land new : Ground) (history : Option (List Event)) (level at : ℕ)
+    (to : Option Key) (place child : ℕ) (items : List Item)
+    (un : IsUnsettled tree root land history level at to place (alone child) items) (beside : Neighbour) (now : ℕ)
+    (is : IsBeside un.pointers to level place beside)
+    (owned : IsOwned tree root land new history beside.way.expected beside.way.address now) where
+  differs : is.other ≢ place
+  differs = beside-differs un.pointers to level place beside is
+
+  -- it is told, and lies in a slot that is taken
+  pub beside-told : told land.blocks.draft history beside.way.address ≡ Some owned.node
+  beside-told =
+      let node = un.judged is.other is.way.pointer differs is.way.there in
+      let there : told land.blocks.draft history beside.way.address ≡ Some node.0 = ap
+      (told land.blocks.draft history) is.way.child ∙ node.1 in
+      there ∙ ap Some (owned.alone node.0 there)
+
+  pub beside-taken : is_free_slot land.space beside.way.address ≡ false
+  beside-taken = false_from_ne_true (is_free_slot land.space beside.way.address) (λ free.
+      un.free is.way.pointer.child (ap (is_free_slot land.space) (sym is.way.child) ∙ free)
+      (inr (
+        is.other,
+        is.way.pointer,
+        differs,
+        is.way.there,
+        reach-top (told land.blocks.draft history) level
+            is.way.pointer.child,
+      )))
+
+  module _ (Follows : List Telling → Type 0) (log : List Telling)
+      (follows : Follows (log ++ tellings_owned owned.node beside.way.address now)) (apart : now ≢ child) where
+    -- it is the one behind
+    pub paired-behind : beside.front ≡ place
+        → (pair : IsPaired tree root land new history un.pointers to level place child
+        (record { front = place; left = child; right = now }))
+        × Follows (log ++ tellings_owned pair.owned.node pair.beside.way.address pair.now)
+    paired-behind first = (
+      record {
+        beside = beside;
+        now = now;
+        is = is;
+        owned = owned;
+        apart = apart;
+        front = sym first;
+        sides = inl
+            (first, refl, refl);
+      },
+      follows,
+    )
+
+    -- or the one in front
+    pub paired-front : beside.front ≢ place
+        → (pair : IsPaired tree root land new history un.pointers to level place child
+        (record { front = beside.front; left = now; right = child }))
+        × Follows (log ++ tellings_owned pair.owned.node pair.beside.way.address pair.now)
+    paired-front other = elim is.pair [
+      | inl behind ↦ absurd (other behind.0)
+      | inr front ↦ (
+        record {
+          beside = beside;
+          now = now;
+          is = is;
+          owned = owned;
+          apart = apart;
+          front = refl;
+          sides = inr
+              (front.0, refl, refl);
+        },
+        follows,
+      )
+    ]

@@ -1,0 +1,23 @@
+use Rattle.std.proofs.Common.{◌∙◌}
+use Rattle.qg_node.specs.declared.node.Node.{Node}
+use Rattle.qg_node.specs.Nodes.{own_pointers}
+use Rattle.qg_shape.specs.Parts.{with_pointers}
+use Rattle.qg_edit.specs.Outcome.{spliced}
+use Rattle.qg_tree_edits.proofs.Fitting.{none-cut}
+use Rattle.qg_tree_edits.proofs.Rewritten.{IsCutThere-edited}
+use Rattle.qg_tree_edits.proofs.rewriting.rewrite_pointers.Goals as goal
+
+pub splice-requires-clause-within : goal.splice-requires-clause-within
+splice-requires-clause-within c = c.requires.within c.get_mut.result.now c.get_mut.ensures.value
+
+pub returns-clause-cut : goal.returns-clause-cut
+returns-clause-cut c node is = IsCutThere-edited c.args.land.now c.args.at c.args.land.now.space.sizes.nodesize c.nodesize-nodesize.result c.get_mut.result.now c.splice.new.node node
+    (λ (n : Node). with_pointers n (spliced c.args.from c.args.to c.args.new.now (own_pointers n))) c.splice.result
+    c.get_mut.ensures.value (c.nodesize-nodesize.ensures ∙ c.requires.nodesize) c.splice.ensures.spliced c.splice.ensures.rest is
+
+pub returns-clause-fits : goal.returns-clause-fits
+returns-clause-fits c few =
+    let node = c.get_mut.result.now in
+    let within = c.requires.within node c.get_mut.ensures.value in
+    none-cut c.nodesize-nodesize.result c.args.land.now.space.sizes.nodesize c.args.from c.args.to node c.args.new.now c.splice.result (c.requires.inner node c.get_mut.ensures.value)
+    (c.requires.sound node c.get_mut.ensures.value) (c.nodesize-nodesize.ensures ∙ c.requires.nodesize) within.0 within.1 few c.splice.ensures.overfull

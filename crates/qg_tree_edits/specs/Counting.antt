@@ -1,0 +1,166 @@
+-- What an edit of a tree tells the book of references, by how many ways lead to each address (this project's own).
+-- Addresses are in bytes.
+use Rattle.std.specs.Prelude.{◌≡◌, ⊤, ◌⊎◌, ◌==◌, if◌then◌else◌, ℕ, zero, suc, ◌+◌, ◌-◌, ◌*◌, ◌<◌, ◌≤◌, List, [], ◌∷◌, take, drop, Option, Some, None, IsTrue}
+use Rattle.std.specs.List.{All, sum_by}
+use Rattle.qg_device.specs.History.{Event}
+use Rattle.qg_node.specs.declared.item.Item.{Item}
+use Rattle.qg_node.specs.declared.pointer.Pointer.{Pointer}
+use Rattle.qg_node.specs.declared.node.Header.{Header}
+use Rattle.qg_node.specs.declared.node.Node.{Node}
+use Rattle.qg_node.specs.Nodes.{header_of, own_items, own_pointers}
+use Rattle.qg_verdict.specs.declared.tree.Tree.{Tree}
+use Rattle.qg_blocks.specs.Told.{told}
+use Rattle.qg_space.specs.Holding.{is_free_slot}
+use Rattle.qg_ground.specs.declared.ground.Ground.{Ground}
+use Rattle.qg_ground.specs.Tellings.{Telling}
+use Rattle.qg_ground.specs.Tellings.Telling.{Copied, Made, Left}
+use Rattle.qg_tree_edits.specs.declared.instead.Instead.{Instead}
+use Rattle.qg_descent.specs.Tree.{Reaches, Root}
+use Rattle.qg_tree_edits.specs.Editing.{IsSettled, ReachesInstead, ReachesParts}
+
+-- ---- ways
+
+-- 1 at an address, and 0 at any other
+abbrev pub one : ℕ → ℕ → ℕ
+one at q = if q == at then 1 else 0
+
+-- the pointers of what is told at an address
+abbrev pub pointers_there : Option Node → List Pointer
+pointers_there None = []
+pointers_there (Some node) = own_pointers node
+
+-- how many ways lead to an address from the node of a level at another
+unfoldable pub ways : (ℕ → Option Node) → ℕ → ℕ → ℕ → ℕ
+ways nodes zero from q = one from q
+ways nodes (suc level) from q =
+    one from q + sum_by (λ pointer. ways nodes level pointer.child q) (pointers_there (nodes from))
+
+-- how many lead there from the nodes of a level that pointers lead to
+abbrev pub ways_each : (ℕ → Option Node) → ℕ → List Pointer → ℕ → ℕ
+ways_each nodes level pointers q = sum_by (λ pointer. ways nodes level pointer.child q) pointers
+
+-- how many lead there from a node, if it is any
+abbrev pub ways_more : (ℕ → Option Node) → ℕ → Option ℕ → ℕ → ℕ
+ways_more nodes level None q = 0
+ways_more nodes level (Some more) q = ways nodes level more q
+
+-- how many lead there from what stands in the place of a node
+abbrev pub ways_instead : (ℕ → Option Node) → ℕ → Instead → ℕ → ℕ
+ways_instead nodes level instead q = ways nodes level instead.now q + ways_more nodes level instead.more q
+
+-- how many lead there from what stands in the place of the child at an index, and from the other children
+abbrev pub ways_parts : (ℕ → Option Node) → ℕ → List Pointer → ℕ → Instead → ℕ → ℕ
+ways_parts nodes level pointers place child q =
+    ways_instead nodes level child q
+    + (ways_each nodes level (take place pointers) q + ways_each nodes level (drop (place + 1) pointers) q)
+
+-- ---- what a book is told
+
+-- how many ways more lead to an address after it was told something
+abbrev pub gains : Telling → ℕ → ℕ
+gains (Copied node copy) q = one copy q
+gains (Made address) q = one address q
+gains (Left node) q = 0
+
+-- and how many fewer
+abbrev pub losses : Telling → ℕ → ℕ
+losses (Copied node copy) q = one (header_of node).address q
+losses (Made address) q = 0
+losses (Left node) q = one (header_of node).address q
+
+-- it is told while so many ways lead to each address: what is copied or left is reached then, and a copy or what is
+-- made is not reached before
+abbrev pub IsTimely : Telling → (ℕ → ℕ) → Type 0
+IsTimely (Copied node copy) count = (0 < count (header_of node).address) × (count copy ≡ 0)
+IsTimely (Made address) count = count address ≡ 0
+IsTimely (Left node) count = 0 < count (header_of node).address
+
+-- tellings turn one count of ways into another, each in its time
+abbrev pub Turns : (ℕ → ℕ) → List Telling → (ℕ → ℕ) → Type 0
+Turns before [] after = (q : ℕ) → after q ≡ before q
+Turns before (telling ∷ tellings) after =
+    IsTimely telling before × Turns (λ q. (before q + gains telling q) - losses telling q) tellings after
+
+-- a node that is left has nothing under it
+abbrev pub IsBare : Telling → Type 0
+IsBare (Copied node copy) = ⊤
+IsBare (Made address) = ⊤
+IsBare (Left node) = (own_items node ≡ []) × (own_pointers node ≡ [])
+
+-- 1 where a node was copied
+abbrev pub copied_in : Telling → ℕ
+copied_in (Copied node copy) = 1
+copied_in (Made address) = 0
+copied_in (Left node) = 0
+
+-- 1 where a node was left
+abbrev pub left_in : Telling → ℕ
+left_in (Copied node copy) = 0
+left_in (Made address) = 0
+left_in (Left node) = 1
+
+-- 1 where a node was made
+abbrev pub made_in : Telling → ℕ
+made_in (Copied node copy) = 0
+made_in (Made address) = 1
+made_in (Left node) = 0
+
+-- What a book was told in the course of a change: it turns the ways that led to each address before into those that
+-- lead there then. A node came only into a slot that was free, or that was reached. What was left has nothing under
+-- it. At most so many nodes were copied, left and made
+pub record IsTold (old : Ground) (Reached : ℕ → Type 0) (before after : ℕ → ℕ) (copied left made : ℕ)
+    (tellings : List Telling) : Type 0 where
+  pub turns : Turns before tellings after
+  pub new : (q : ℕ) → 0 < sum_by (λ telling. gains telling q) tellings → IsTrue (is_free_slot old.space q) ⊎ Reached q
+  pub bare : All IsBare tellings
+  pub few_copied : sum_by copied_in tellings ≤ copied
+  pub few_left : sum_by left_in tellings ≤ left
+  pub few_made : sum_by made_in tellings ≤ made
+
+-- ---- what a book is told of one node
+
+-- a node is owned: nothing where it stays, else that it was copied
+abbrev pub tellings_owned : Node → ℕ → ℕ → List Telling
+tellings_owned node at now = if now == at then [] else Copied node now ∷ []
+
+-- a node is made behind another, or none is
+abbrev pub tellings_made : Option ℕ → List Telling
+tellings_made None = []
+tellings_made (Some more) = Made more ∷ []
+
+-- the right one of two neighbours is left with nothing under it, where the left one has all
+abbrev pub TellsUnited : ℕ → Instead → List Telling → Type 0
+TellsUnited right instead tellings =
+    ((instead.more ≡ Some right) × (tellings ≡ []))
+    ⊎ ((instead.more ≡ None)
+    × ((node : Node) × (tellings ≡ Left node ∷ []) × ((header_of node).address ≡ right) × IsBare (Left node)))
+
+-- ---- what a book is told in the course of an edit
+
+-- the pointers of a node were set to what stands in the place of the child at an index, and this was told meanwhile:
+-- a neighbour may have been copied, and left
+pub record IsSettledTold (tree : Tree) (root : Root) (old new : Ground) (history : Option (List Event))
+    (level at place : ℕ) (child : Instead) (pointers : List Pointer) (header : Header) (items : List Item)
+    (rest : Option Node) (tellings : List Telling) : Type 0 where
+  pub settled : IsSettled tree root old new history level at place child pointers header items rest
+  pub told : IsTold old (ReachesParts (told old.blocks.draft history) level pointers place child)
+      (ways_parts (told old.blocks.draft history) level pointers place child)
+      (ways_each (told new.blocks.draft history) level settled.pointers_new) 1 1 0 tellings
+
+-- the part of a tree that the node of a level at an address is the top of was edited, and this was told meanwhile
+abbrev pub IsPartTold : Ground → Ground → Option (List Event) → ℕ → ℕ → Instead → List Telling → Type 0
+IsPartTold old new history level at instead =
+    IsTold old (Reaches (told old.blocks.draft history) level at) (ways (told old.blocks.draft history) level at) (ways_instead (told new.blocks.draft history) level instead)
+    (2 * (level + 1)) (level + 1) (level + 1)
+
+-- what stands in the place of a tree's root became the tree, and this was told meanwhile
+abbrev pub IsRootTold : Root → Root → Ground → Ground → Option (List Event) → Instead → List Telling → Type 0
+IsRootTold before after old new history instead tellings =
+    IsTold old (ReachesInstead (told old.blocks.draft history) before.height instead) (ways_instead (told old.blocks.draft history) before.height instead)
+    (ways (told new.blocks.draft history) after.height after.address) 0 1 1 tellings
+
+-- a tree was edited, and this was told meanwhile: at most 2·height + 3 nodes were copied, and as many left and made
+abbrev pub IsTreeTold : Root → Root → Ground → Ground → Option (List Event) → List Telling → Type 0
+IsTreeTold before after old new history tellings =
+    IsTold old (Reaches (told old.blocks.draft history) before.height before.address) (ways (told old.blocks.draft history) before.height before.address)
+    (ways (told new.blocks.draft history) after.height after.address) (2 * before.height + 3) (2 * before.height + 3) (2 * before.height + 3) tellings

@@ -1,0 +1,5 @@
+pub mod First
+pub mod Editing
+pub mod Uniting
+pub mod Rooting
+pub mod Counting

@@ -1,0 +1,16 @@
+//! Trees over nodes by address, edited by copy on write.
+#![tactic(auto)]
+
+mod changing;
+mod child;
+mod editing;
+mod instead;
+mod joining;
+mod owning;
+mod pairing;
+mod rewriting;
+mod rooting;
+mod settling;
+mod standing;
+
+pub use changing::{drop_first_leaf, insert, remove, replace};

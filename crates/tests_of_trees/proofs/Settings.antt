@@ -1,0 +1,65 @@
+-- What the calls of a tree ask between any two of them.
+use Rattle.std.proofs.Common.{◌≡◌, ◌<◌, ◌≤◌, ℕ, List, Option, true, ap, sym, ◌∙◌, refl}
+use Rattle.qg_device.specs.History.{Event}
+use Rattle.qg_super.specs.declared.sizes.Sizes.{Sizes}
+use Rattle.qg_super.specs.Places.{is_served, second_place}
+use Rattle.qg_blocks.specs.Held.{Draft, Held, nothing_fresh}
+use Rattle.qg_blocks.specs.Told.{IsBacked}
+use Rattle.qg_image.specs.ItemMeaning.{is_subvolume_number}
+use Rattle.qg_verdict.specs.declared.tree.Tree.TheVariants.{Files}
+use Rattle.qg_ground.specs.declared.ground.Ground.{Ground}
+use Rattle.qg_ground.specs.Land.{IsDrafted, IsGround, Rests}
+use Rattle.qg_ground.proofs.Editing.{ArePlaced-drafted}
+use Rattle.qg_ground.proofs.Lands.{IsDrafted-none, Rests-draft}
+use Rattle.qg_descent.specs.Tree.{Root}
+use Rattle.qg_descent.specs.Editing.{CanMake, IsEditable}
+use Rattle.qg_descent.specs.Way.{HasRead, IsReadable}
+
+module _ (land : Ground) (history : Option (List Event)) (bytes generation : ℕ) where
+  -- it is read
+  pub readable_land : IsEditable land history bytes generation → IsReadable land.blocks history bytes
+  readable_land is = record { backed = is.backed; placed = ArePlaced-drafted land generation bytes is.room is.drafted }
+
+  -- and is edited as before when it was
+  pub read_land : IsEditable land history bytes generation → (blocks : Held) (after : Option (List Event)) (left : ℕ)
+      → HasRead land.blocks blocks history after bytes left → IsReadable blocks after left
+      → IsEditable (record land { blocks = blocks }) after left generation
+  read_land is blocks after left read readable =
+      let new : Ground = record land { blocks = blocks } in
+      let rests = Rests-draft land new after generation read.draft read.bound refl readable.backed is.drafted in
+      record { backed = readable.backed; drafted = rests.drafted; room = rw read.size is.room }
+
+-- what rests is edited, on a disk with room
+pub rested_land : (old new : Ground) (history : Option (List Event)) (bytes generation : ℕ) → Rests old new history generation → second_place ≤ bytes
+    → IsEditable new history bytes generation
+rested_land old new history bytes generation rests room = record { backed = rests.backed; drafted = rests.drafted; room = room }
+
+-- the tree of the first subvolume has such nodes
+own_number : is_subvolume_number 5 ≡ true
+unfolding is_subvolume_number
+own_number = refl
+
+pub makes_files : (root : Root) (address height next : ℕ) → root ≡ record { address = address; height = height; owner = 5; next = next } → 0 < next → CanMake Files root
+makes_files root address height next is later = record {
+  owner = rw is own_number;
+  next = rw is later;
+}
+
+-- nodes and space of these sizes, of which no node is fresh
+module _ (land : Ground) (sizes : Sizes) (served : is_served sizes ≡ true) (draft : land.blocks.draft ≡ nothing_fresh sizes) (space : land.space.sizes ≡ sizes) where
+  empty_drafted : (generation : ℕ) → IsDrafted land generation
+  empty_drafted generation =
+      let same : land.blocks.draft.sizes ≡ land.space.sizes = ap (λ (d : Draft). d.sizes) draft ∙ sym space in
+      let ground : IsGround land = record {
+        served = rw space served;
+        nodesize = ap (λ (s : Sizes). s.nodesize) same;
+        slots = ap (λ (s : Sizes). s.slots) same;
+      } in
+      IsDrafted-none land generation ground (ap (λ (d : Draft). d.fresh) draft)
+
+  pub empty_land : (history : Option (List Event)) (bytes generation : ℕ) → IsBacked land.blocks history → second_place ≤ bytes → IsEditable land history bytes generation
+  empty_land history bytes generation backed room = record { backed = backed; drafted = empty_drafted generation; room = room }
+
+-- and so their sizes are those of nodes in memory
+pub draft_sizes : (draft : Draft) (sizes : Sizes) → draft ≡ nothing_fresh sizes → draft.sizes ≡ sizes
+draft_sizes draft sizes is = ap (λ (d : Draft). d.sizes) is
