@@ -12,7 +12,7 @@ ghost use Rattle.qg_verdict.specs.Walk.{is_item_of};
 ghost use Rattle.qg_verdict.specs.declared.tree.Tree.TheVariants.{Extents as ExtentTree};
 ghost use Rattle.qg_refs.specs.Book.{count_at, references_at, full_in, what_in, Adds, Drops, Marks};
 ghost use Rattle.qg_refs.specs.Counts.{greatest_count};
-ghost use Rattle.qg_extents.specs.Table.{IsPut, MayKeep, book_of};
+ghost use Rattle.qg_extents.specs.Table.{IsPut, IsTable, MayKeep, book_of};
 ghost use Rattle.qg_extents.specs.Written.{items_of_book, parts_of_book};
 
 use crate::items::items_of_table;
@@ -92,8 +92,21 @@ impl Extents {
         Ok(items_of_table(alloc, &self.table)?)
     }
 
-    // What is known of what begins at an address.
-    pub(crate) fn known(&self, at: Address) -> Option<What>
+    /// At how many addresses something has a reference.
+    pub fn len(&self) -> usize
+        ensures count { result ≡ length self.now }
+        ensures table { IsTable self.now }
+    {
+        self.table.len()
+    }
+
+    /// The allocator from which it takes its memory.
+    pub fn allocator(&self) -> Global {
+        self.alloc
+    }
+
+    /// What is known of what begins at an address.
+    pub fn known(&self, at: Address) -> Option<What>
         ensures { result ≡ what_in (book_of self.now at) }
     {
         match self.kept(at) {
@@ -112,8 +125,18 @@ impl Extents {
         }
     }
 
-    // How often a reference is there.
-    pub(crate) fn count_one(&self, at: Address, reference: &Reference) -> u32
+    /// How many different references there are to what begins at an address; a node has each of its references once.
+    pub fn how_many(&self, at: Address) -> usize
+        ensures { result ≡ length (references_at (book_of self.now) at) }
+    {
+        match self.kept(at) {
+            Some(kept) => kept.references.len(),
+            None => 0,
+        }
+    }
+
+    /// How often a reference is there.
+    pub fn count_one(&self, at: Address, reference: &Reference) -> u32
         ensures { result ≡ count_at (book_of self.now) at reference.now }
     {
         match self.kept(at) {
@@ -122,8 +145,8 @@ impl Extents {
         }
     }
 
-    // Whether what begins at an address is full.
-    pub(crate) fn is_marked(&self, at: Address) -> bool
+    /// Whether what begins at an address is full.
+    pub fn is_marked(&self, at: Address) -> bool
         ensures { result ≡ full_in (book_of self.now at) }
     {
         match self.kept(at) {
@@ -139,8 +162,8 @@ impl Extents {
         self.table.get(&at.value())
     }
 
-    // One reference more at an address.
-    pub(crate) fn add_one(
+    /// One reference more at an address. What is told of it is kept where it has no reference yet.
+    pub fn add_one(
         &mut self,
         at: Address,
         what: What,
@@ -177,8 +200,8 @@ impl Extents {
         Ok(())
     }
 
-    // One reference less at an address.
-    pub(crate) fn drop_at(&mut self, at: Address, reference: &Reference)
+    /// One reference less at an address. Where it was the last one, nothing is kept of what is there.
+    pub fn drop_at(&mut self, at: Address, reference: &Reference)
         requires { 0 < count_at (book_of self.old) at reference.now }
         ensures { Drops (book_of self.old) (book_of self.new) at reference.now }
     {
@@ -190,8 +213,8 @@ impl Extents {
         }
     }
 
-    // What is at an address is full.
-    pub(crate) fn mark(&mut self, at: Address)
+    /// What is at an address is full from now on.
+    pub fn mark(&mut self, at: Address)
         requires { 0 < length (references_at (book_of self.old) at) }
         ensures { Marks (book_of self.old) (book_of self.new) at }
     {

@@ -4,6 +4,7 @@ ghost use Rattle.std.specs.List.{flat_map};
 ghost use Rattle.std.specs.Option.{option_and_then, option_map, option_to_list};
 ghost use Rattle.qg_items.specs.declared.extent.Reference.TheVariants.{KeyedBlock};
 ghost use Rattle.qg_items.specs.ItemReading.{extent_data_read};
+ghost use Rattle.qg_node.specs.Nodes.{own_items, own_pointers};
 ghost use Rattle.qg_image.specs.ItemMeaning.{file_part, piece_told};
 ghost use Rattle.qg_image.specs.declared.part.FilePart.TheVariants.{PieceOf};
 ghost use Rattle.qg_state.specs.Owed.{owed_by_node, owed_by_part, owed_to_child};
@@ -33,10 +34,25 @@ pub fn owings_of_node(node: &Node, full: bool, owings: &mut Vec<Owing>) -> Resul
         ≡ owings_told owings.old.items ++ owed_by_node (record { node = node.now; full = full })) }
 {
     let header = node.header();
+    owings_under(&header, node, full, owings)
+}
+
+/// Puts at the end what a node would owe under another header: that of a copy, or of the same node with another owner
+/// (on-disk format, "backreferences").
+pub fn owings_under(
+    header: &Header,
+    node: &Node,
+    full: bool,
+    owings: &mut Vec<Owing>,
+) -> Result<(), NoMemory>
+    ensures { OnOk result (owings_told owings.new.items ≡ owings_told owings.old.items
+        ++ (map (λ pointer. owed_to_child header.now full pointer.child) (own_pointers node.now)
+        ++ flat_map (λ item. owed_by_part header.now full (file_part item)) (own_items node.now))) }
+{
     match node {
-        Node::Leaf { items, .. } => owings_of_items(&header, full, items.as_slice(), owings),
+        Node::Leaf { items, .. } => owings_of_items(header, full, items.as_slice(), owings),
         Node::Inner { pointers, .. } => {
-            owings_of_pointers(&header, full, pointers.as_slice(), owings)
+            owings_of_pointers(header, full, pointers.as_slice(), owings)
         }
     }
 }

@@ -13,7 +13,7 @@ mod references;
 mod rules;
 mod thing;
 
-pub use collect::{owing_of_root, owings_of_node};
+pub use collect::{owing_of_root, owings_of_node, owings_under};
 pub use failure::owed_failure;
 pub use owing::Owing;
 pub use rules::references_failure;

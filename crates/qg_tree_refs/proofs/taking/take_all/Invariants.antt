@@ -1,0 +1,12 @@
+use Rattle.std.proofs.Common.{◌≡◌, take}
+use Rattle.std.specs.Prelude.{None}
+use Rattle.qg_extents.specs.Table.{book_of}
+use Rattle.qg_owed.specs.Told.{owings_told}
+use Rattle.qg_tree_refs.specs.Exchange.{CanTake, Takes}
+use Rattle.qg_tree_refs.proofs.taking.take_all.Given as goal
+
+abbrev pub invariant-loop-owing : goal.invariant-loop-owing
+invariant-loop-owing l = record {
+  done : l.misfit ≡ None → Takes (book_of l.initial.refs) (book_of l.refs) (owings_told (take l.owing-index l.owings));
+  proper : CanTake (book_of l.initial.refs) (owings_told l.owings) → l.misfit ≡ None;
+}

@@ -1,0 +1,108 @@
+-- What a subvolume's book makes of what its tree tells (this project's own). Addresses are in bytes.
+use Rattle.std.specs.Prelude.{◌≡◌, ℕ, ◌-◌, List, [], ◌∷◌, length, Option, Some, None}
+use Rattle.qg_node.specs.declared.node.Node.{Node}
+use Rattle.qg_node.specs.Nodes.{header_of}
+use Rattle.qg_state.specs.State.{Placed}
+use Rattle.qg_cow.specs.declared.cases.Edits.{Edits}
+use Rattle.qg_cow.specs.declared.cases.Edits.TheVariants.{ShareOld, AddKeyed, TurnKeyed, TakeOver}
+use Rattle.qg_cow.specs.declared.cases.Leaving.{Leaving}
+use Rattle.qg_cow.specs.declared.cases.Leaving.TheVariants.{Goes, TurnsFull, Stays}
+use Rattle.qg_cow.specs.Children.{way_to}
+use Rattle.qg_cow.specs.Copying.{case_of, children_gain, copy_losses}
+use Rattle.qg_cow.specs.Left.{leaving_gains, leaving_losses}
+use Rattle.qg_cow.specs.Left.{case_of as leaving_case}
+use Rattle.std.specs.Option.{option_or}
+use Rattle.qg_ground.specs.Tellings.{Telling}
+use Rattle.qg_ground.specs.Tellings.Telling.{Copied, Made, Left}
+use Rattle.qg_refs.specs.Book.{Book, full_in, references_at}
+use Rattle.qg_extents.specs.Table.{book_of}
+use Rattle.qg_tree_refs.specs.declared.coming.Coming.{Coming}
+use Rattle.qg_tree_refs.specs.declared.tree_refs.TreeRefs.{TreeRefs}
+use Rattle.qg_tree_refs.specs.Exchange.{Exchange, CanExchange, Exchanges}
+
+-- ---- one node
+
+-- how many references there are to an address
+abbrev pub references_to : Book → ℕ → ℕ
+references_to book at = length (references_at book at)
+
+-- a node with the mark that a book has of it
+abbrev pub placed_by : Book → Node → Placed
+placed_by book node = record { node = node; full = full_in (book (header_of node).address) }
+
+-- the case of a copy by a subvolume, and of a node that one leaves
+abbrev pub copying_in : Book → ℕ → Node → Edits
+copying_in book tree node = case_of (references_to book (header_of node).address) (placed_by book node) tree
+
+abbrev pub leaving_in : Book → ℕ → Node → Leaving
+leaving_in book tree node = leaving_case (references_to book (header_of node).address - 1) (placed_by book node) tree
+
+-- the node that becomes full
+abbrev pub full_by_copy : Edits → ℕ → Option ℕ
+full_by_copy ShareOld at = Some at
+full_by_copy AddKeyed at = None
+full_by_copy TurnKeyed at = None
+full_by_copy TakeOver at = None
+
+abbrev pub full_by_leaving : Leaving → ℕ → Option ℕ
+full_by_leaving Goes at = None
+full_by_leaving TurnsFull at = Some at
+full_by_leaving Stays at = None
+
+-- what a subvolume's copy of a node does to references, beside that to the copy
+abbrev pub exchange_by_copy : Book → ℕ → Node → Exchange
+exchange_by_copy book tree node = record {
+  full = full_by_copy (copying_in book tree node) (header_of node).address;
+  gains = children_gain (copying_in book tree node) (placed_by book node) tree;
+  losses = copy_losses (copying_in book tree node) (placed_by book node) tree;
+}
+
+-- and that it leaves one
+abbrev pub exchange_by_leaving : Book → ℕ → Node → Exchange
+exchange_by_leaving book tree node = record {
+  full = full_by_leaving (leaving_in book tree node) (header_of node).address;
+  gains = leaving_gains (leaving_in book tree node) (placed_by book node);
+  losses = way_to (header_of node).address tree ∷ leaving_losses (leaving_in book tree node) (placed_by book node);
+}
+
+-- ---- one telling
+
+-- a node of a level comes to an address
+abbrev pub comes : TreeRefs → ℕ → ℕ → Coming
+comes book address level = record {
+  address = address;
+  what = record { bytes = book.nodesize; level = Some level; generation = book.next };
+  tree = book.tree;
+}
+
+abbrev pub exchange_of : TreeRefs → Telling → Exchange
+exchange_of book (Copied node copy) = exchange_by_copy (book_of book.refs) book.tree node
+exchange_of book (Made address) = record { full = None; gains = []; losses = [] }
+exchange_of book (Left node) = exchange_by_leaving (book_of book.refs) book.tree node
+
+-- the node that comes: a copy has the level of the node, and a node that was made has some level
+abbrev pub coming_of : TreeRefs → ℕ → Telling → Option Coming
+coming_of book level (Copied node copy) = Some (comes book copy (header_of node).level)
+coming_of book level (Made address) = Some (comes book address level)
+coming_of book level (Left node) = None
+
+-- a book can do what it is told: the references that go are there, those that come may be there besides, and to a copy
+-- or a node that was made there is none yet
+abbrev pub IsProper : Telling → TreeRefs → Type 0
+IsProper telling book = CanExchange (book_of book.refs) (exchange_of book telling) (coming_of book 0 telling)
+
+-- what a telling makes of a book: where no misfit is met it is done, and where it is proper none is met. The first
+-- misfit ever met is noted
+pub record Step (before : TreeRefs) (telling : Telling) (after : TreeRefs) : Type 0 where
+  pub level : ℕ
+  pub misfit : Option ℕ
+  pub done : misfit ≡ None
+      → Exchanges (book_of before.refs) (book_of after.refs) (exchange_of before telling)
+      (coming_of before level telling)
+  pub proper : IsProper telling before → misfit ≡ None
+  pub noted : after ≡ record before { refs = after.refs; misfit = option_or before.misfit misfit }
+
+-- and what a list of them makes of it, in this order
+unfoldable pub Follows : TreeRefs → List Telling → TreeRefs → Type 0
+Follows before [] after = after ≡ before
+Follows before (telling ∷ tellings) after = (mid : TreeRefs) × Step before telling mid × Follows mid tellings after

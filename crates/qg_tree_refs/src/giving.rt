@@ -1,0 +1,55 @@
+// References that are given.
+ghost use Rattle.std.specs.Prelude.{◌≡◌, ◌∷◌, [], true, IfOk, None};
+ghost use Rattle.qg_refs.specs.Counts.{greatest_count};
+ghost use Rattle.qg_extents.specs.Table.{book_of};
+ghost use Rattle.qg_owed.specs.Told.{owing_told, owings_told};
+ghost use Rattle.qg_tree_refs.specs.Exchange.{CanGive, Gives};
+
+use qg_extents::Extents;
+use qg_num::{Address, NoMemory};
+use qg_owed::Owing;
+use qg_refs::Reference;
+
+/// Gives references to what is known, in this order. One that is there as often as it may be, or that leads to what is
+/// not known, is left alone; the answer is the address of the first such, in bytes.
+pub(crate) fn give_all(refs: &mut Extents, owings: &[Owing]) -> Result<Option<Address>, NoMemory>
+    ensures done { IfOk result (λ misfit. misfit ≡ None
+        → Gives (book_of refs.old) (book_of refs.new) (owings_told owings.now)) }
+    ensures proper { CanGive (book_of refs.old) (owings_told owings.now) → IfOk result (λ misfit. misfit ≡ None) }
+{
+    let mut misfit = None;
+    for owing in owings {
+        if !give(refs, owing)? {
+            misfit = misfit.or(Some(owing.address));
+        }
+    }
+    Ok(misfit)
+}
+
+/// Gives one reference, and whether it could.
+fn give(refs: &mut Extents, owing: &Owing) -> Result<bool, NoMemory>
+    ensures done { IfOk result (λ given. given ≡ true
+        → Gives (book_of refs.old) (book_of refs.new) (owing_told owing.now ∷ [])) }
+    ensures proper { CanGive (book_of refs.old) (owing_told owing.now ∷ []) → IfOk result (λ given. given ≡ true) }
+{
+    let Some(what) = refs.known(owing.address) else {
+        return Ok(false);
+    };
+    if refs.count_one(owing.address, &owing.reference) >= greatest_count(&owing.reference) {
+        return Ok(false);
+    }
+    refs.add_one(owing.address, what, owing.reference)?;
+    Ok(true)
+}
+
+/// How often a reference may be there: one to a node is there or not.
+pub(crate) fn greatest_count(reference: &Reference) -> u32
+    ensures { result ≡ greatest_count reference.now }
+{
+    match reference {
+        Reference::KeyedBlock { .. } => 1,
+        Reference::SharedBlock { .. } => 1,
+        Reference::KeyedData { .. } => u32::MAX,
+        Reference::SharedData { .. } => u32::MAX,
+    }
+}

@@ -1,0 +1,16 @@
+//! The book of references that a subvolume's tree tells what it does.
+#![tactic(auto)]
+
+mod book;
+mod cases;
+mod coming;
+mod exchange;
+mod giving;
+mod lists;
+mod taking;
+mod tree_refs;
+
+pub use tree_refs::TreeRefs;
+
+#[cfg(test)]
+mod tests;

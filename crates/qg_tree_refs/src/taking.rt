@@ -1,0 +1,36 @@
+// References that are taken.
+ghost use Rattle.std.specs.Prelude.{◌≡◌, ◌∷◌, [], true, None};
+ghost use Rattle.qg_extents.specs.Table.{book_of};
+ghost use Rattle.qg_owed.specs.Told.{owing_told, owings_told};
+ghost use Rattle.qg_tree_refs.specs.Exchange.{CanTake, Takes};
+
+use qg_extents::Extents;
+use qg_num::Address;
+use qg_owed::Owing;
+
+/// Takes references away, in this order. One that is not there is left alone; the answer is the address of the first
+/// such, in bytes.
+pub(crate) fn take_all(refs: &mut Extents, owings: &[Owing]) -> Option<Address>
+    ensures done { result ≡ None → Takes (book_of refs.old) (book_of refs.new) (owings_told owings.now) }
+    ensures proper { CanTake (book_of refs.old) (owings_told owings.now) → result ≡ None }
+{
+    let mut misfit = None;
+    for owing in owings {
+        if !take(refs, owing) {
+            misfit = misfit.or(Some(owing.address));
+        }
+    }
+    misfit
+}
+
+/// Takes one reference away, and whether it was there.
+fn take(refs: &mut Extents, owing: &Owing) -> bool
+    ensures done { result ≡ true → Takes (book_of refs.old) (book_of refs.new) (owing_told owing.now ∷ []) }
+    ensures proper { CanTake (book_of refs.old) (owing_told owing.now ∷ []) → result ≡ true }
+{
+    if refs.count_one(owing.address, &owing.reference) == 0 {
+        return false;
+    }
+    refs.drop_at(owing.address, &owing.reference);
+    true
+}
