@@ -163,12 +163,7 @@ impl Extents {
     }
 
     /// One reference more at an address. What is told of it is kept where it has no reference yet.
-    pub fn add_one(
-        &mut self,
-        at: Address,
-        what: What,
-        reference: Reference,
-    ) -> Result<(), NoMemory>
+    pub fn add_one(&mut self, at: Address, what: What, reference: Reference) -> Result<(), NoMemory>
         requires { count_at (book_of self.old) at reference < greatest_count reference }
         ensures ok { OnOk result (Adds (book_of self.old) (book_of self.new) at what reference) }
         ensures err { OnErr result (self.new ≡ self.old) }
