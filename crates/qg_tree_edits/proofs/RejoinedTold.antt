@@ -162,7 +162,8 @@ module _ (tree : Tree) (root : Root) (land mid new end : Ground) (history later 
       (ways (told mid.blocks.draft history) level is.now) 1 0 0
       (tellings_owned is.owned.node is.beside.way.address is.now)
   unfolding From
-  own_told nodes same = owned-told tree root land mid history is.beside.way.expected is.beside.way.address is.now is.owned makes
+  own_told nodes same =
+      owned-told tree root land mid history is.beside.way.expected is.beside.way.address is.now is.owned makes
       level beside_branch.0 beside_branch.1 beside_free nodes same
 
   -- the child and the others are elsewhere
@@ -223,8 +224,8 @@ module _ (tree : Tree) (root : Root) (land mid new end : Ground) (history later 
       let log = tellings_owned is.owned.node is.beside.way.address is.now in
       let framed = told-apart land nodes From old_beside new_beside more 1 0 0 log else_none
       (own_told nodes same) in
-      let whole = told-within land nodes Parts land From (λ q. old_beside q + more q) (λ q. new_beside q + more q) 1 0 0 log
-      from_parts framed in
+      let whole = told-within land nodes Parts land From (λ q. old_beside q + more q) (λ q. new_beside q + more q) 1 0 0
+      log from_parts framed in
       told-same land nodes Parts (λ q. old_beside q + more q)
       (ways_parts (told land.blocks.draft history) level un.pointers place (alone child))
       (λ q. new_beside q + more q) both_ways 1 0 0 log
@@ -263,8 +264,8 @@ module _ (tree : Tree) (root : Root) (land mid new end : Ground) (history later 
       let two = λ (q : ℕ). ways (told mid.blocks.draft history) level pair.left q
       + ways (told mid.blocks.draft history) level pair.right q in
       let one_then = ways_instead (told new.blocks.draft history) level instead in
-      told-within land nodes Parts mid (λ q. ⊥) (λ q. two q + others q) (λ q. one_then q + others q) 0 1 0 tellings mid_parts
-      (told-apart mid nodes (λ q. ⊥) two one_then others 0 1 0 tellings mid_free joined)
+      told-within land nodes Parts mid (λ q. ⊥) (λ q. two q + others q) (λ q. one_then q + others q) 0 1 0 tellings
+      mid_parts (told-apart mid nodes (λ q. ⊥) two one_then others 0 1 0 tellings mid_free joined)
 
   -- ---- the pointers were set
 

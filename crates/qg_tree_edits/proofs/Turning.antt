@@ -110,7 +110,8 @@ turns-framed (telling ∷ tellings) before after more apart turns =
 -- ---- what a book was told
 
 module _ (old : Ground) (nodes : ℕ → Option Node) (Reached : ℕ → Type 0) where
-  pub told-none : (before after : ℕ → ℕ) → ((q : ℕ) → after q ≡ before q) → IsTold old nodes Reached before after 0 0 0 []
+  pub told-none : (before after : ℕ → ℕ) → ((q : ℕ) → after q ≡ before q)
+      → IsTold old nodes Reached before after 0 0 0 []
   told-none before after same = record {
     turns = same;
     new = λ q some. absurd (omega (arith, some));
@@ -137,8 +138,8 @@ module _ (old : Ground) (nodes : ℕ → Option Node) (Reached : ℕ → Type 0)
 
   pub told-more : (before after : ℕ → ℕ) (copied left made copied' left' made' : ℕ) (tellings : List Telling)
       → copied ≤ copied' → left ≤ left' → made ≤ made'
-      → IsTold old nodes Reached before after copied left made tellings → IsTold old nodes Reached before after copied' left' made'
-      tellings
+      → IsTold old nodes Reached before after copied left made tellings
+      → IsTold old nodes Reached before after copied' left' made' tellings
   told-more before after copied left made copied' left' made' tellings a b c told = record {
     turns = told.turns;
     new = told.new;
@@ -152,8 +153,8 @@ module _ (old : Ground) (nodes : ℕ → Option Node) (Reached : ℕ → Type 0)
   -- the same with more counted, where none of it is at an address where a node comes
   pub told-framed : (before after more : ℕ → ℕ) (copied left made : ℕ) (tellings : List Telling)
       → ((q : ℕ) → 0 < sum_by (λ telling. gains telling q) tellings → more q ≡ 0)
-      → IsTold old nodes Reached before after copied left made tellings → IsTold old nodes Reached (λ q. before q + more q)
-      (λ q. after q + more q) copied left made tellings
+      → IsTold old nodes Reached before after copied left made tellings
+      → IsTold old nodes Reached (λ q. before q + more q) (λ q. after q + more q) copied left made tellings
   told-framed before after more copied left made tellings apart told = record {
     turns = turns-framed tellings before after more apart told.turns;
     new = told.new;
@@ -167,8 +168,8 @@ module _ (old : Ground) (nodes : ℕ → Option Node) (Reached : ℕ → Type 0)
   -- so where none of it is at a slot that was free or at an address that was reached
   pub told-apart : (before after more : ℕ → ℕ) (copied left made : ℕ) (tellings : List Telling)
       → ((q : ℕ) → IsTrue (is_free_slot old.space q) ⊎ Reached q → more q ≡ 0)
-      → IsTold old nodes Reached before after copied left made tellings → IsTold old nodes Reached (λ q. before q + more q)
-      (λ q. after q + more q) copied left made tellings
+      → IsTold old nodes Reached before after copied left made tellings
+      → IsTold old nodes Reached (λ q. before q + more q) (λ q. after q + more q) copied left made tellings
   told-apart before after more copied left made tellings apart told = told-framed before after more copied left made
       tellings (λ q some. apart q (told.new q some)) told
 
@@ -191,8 +192,8 @@ module _ (old : Ground) (nodes : ℕ → Option Node) (Reached : ℕ → Type 0)
   -- one after the other
   pub told-append : (before between after : ℕ → ℕ) (copied left made copied' left' made' : ℕ)
       (first later : List Telling)
-      → IsTold old nodes Reached before between copied left made first → IsTold old nodes Reached between after copied' left' made'
-      later
+      → IsTold old nodes Reached before between copied left made first
+      → IsTold old nodes Reached between after copied' left' made' later
       → IsTold old nodes Reached before after (copied + copied') (left + left') (made + made') (first ++ later)
   told-append before between after copied left made copied' left' made' first later told then = record {
     turns = turns-append first later before between after told.turns then.turns;

@@ -169,8 +169,9 @@ abbrev pub IsPartTold : Ground → Ground → Option (List Event) → ℕ → �
 IsPartTold old new history level at instead tellings =
     (nodes : ℕ → Option Node)
     → TellSame (Reaches (told old.blocks.draft history) level at) nodes (told old.blocks.draft history)
-    → IsTold old nodes (Reaches (told old.blocks.draft history) level at) (ways (told old.blocks.draft history) level at)
-    (ways_instead (told new.blocks.draft history) level instead) (2 * (level + 1)) (level + 1) (level + 1) tellings
+    → IsTold old nodes (Reaches (told old.blocks.draft history) level at)
+    (ways (told old.blocks.draft history) level at) (ways_instead (told new.blocks.draft history) level instead)
+    (2 * (level + 1)) (level + 1) (level + 1) tellings
 
 -- what stands in the place of a tree's root became the tree, and this was told meanwhile
 abbrev pub IsRootTold : Root → Root → Ground → Ground → Option (List Event) → Instead → List Telling → Type 0
