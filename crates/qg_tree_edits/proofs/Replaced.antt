@@ -35,7 +35,7 @@ use Rattle.qg_tree_edits.proofs.FirstLeaf.{none-less}
 use Rattle.qg_tree_edits.proofs.Heights.{height-low}
 use Rattle.qg_tree_edits.proofs.ListEdited.{ClearsNone, leaf-whole}
 use Rattle.qg_tree_edits.proofs.PartBelow.{told-ascends}
-use Rattle.qg_tree_edits.proofs.Turning.{told-append, told-more, told-within}
+use Rattle.qg_tree_edits.proofs.Turning.{told-anew, told-append, told-more, told-within}
 
 module _ (tree : Tree) (root : Root) (land : Ground) (history : Option (List Event)) (edit : Edit) (items : List Item) (rooted : IsRooted tree root land history items) (can : CanEdit edit items)
     (expected : Expected) (at : ℕ) (expects : expected ≡ root_expected (Some root.height) None) (there : at ≡ root.address) where
@@ -109,19 +109,20 @@ module _ (tree : Tree) (root : Root) (land : Ground) (history : Option (List Eve
           → IsTreeTold root after land new history (below ++ above)
       unfolding Old
       told-root below above of_part of_root =
+          let nodes = told land.blocks.draft history in
           let start = ways (told land.blocks.draft history) root.height root.address in
           let between = ways_instead (told mid.blocks.draft history) root.height instead in
           let last = ways (told new.blocks.draft history) after.height after.address in
           let first =
-          subst (λ (a : ℕ). IsTold land (Reaches (told land.blocks.draft history) root.height a) (ways (told land.blocks.draft history) root.height a) between (2 * (root.height + 1)) (root.height + 1) (root.height + 1) below)
-          there of_part in
-          let then = told-within land Old mid (ReachesInstead (told mid.blocks.draft history) root.height instead) between last 0 1 1 above
+          subst (λ (a : ℕ). IsTold land nodes (Reaches nodes root.height a) (ways nodes root.height a) between (2 * (root.height + 1)) (root.height + 1) (root.height + 1) below)
+          there (of_part nodes (λ q reaches. refl)) in
+          let then = told-within land nodes Old mid (ReachesInstead (told mid.blocks.draft history) root.height instead) between last 0 1 1 above
           (λ q either. elim either [
             | inl free ↦ elim (free_from q free) [ inl old ↦ inr old | inr still ↦ inl still ]
             | inr low ↦ elim (from q low) [ inl old ↦ inr old | inr still ↦ inl still ]
-          ]) of_root in
-          let all = told-append land Old start between last (2 * (root.height + 1)) (root.height + 1) (root.height + 1) 0 1 1 below above first then in
-          told-more land Old start last (2 * (root.height + 1) + 0) (root.height + 1 + 1) (root.height + 1 + 1) (2 * root.height + 3) (2 * root.height + 3) (2 * root.height + 3) (below ++ above)
+          ]) (told-anew mid (told mid.blocks.draft history) nodes (ReachesInstead (told mid.blocks.draft history) root.height instead) between last 1 1 above of_root) in
+          let all = told-append land nodes Old start between last (2 * (root.height + 1)) (root.height + 1) (root.height + 1) 0 1 1 below above first then in
+          told-more land nodes Old start last (2 * (root.height + 1) + 0) (root.height + 1 + 1) (root.height + 1 + 1) (2 * root.height + 3) (2 * root.height + 3) (2 * root.height + 3) (below ++ above)
           (omega arith) (omega arith) (omega arith) all
 
 -- a root may get a node above it

@@ -61,11 +61,11 @@ module _ (tree : Tree) (root : Root) (land new : Ground) (history : Option (List
   unfolding settled
   settled-told = record {
     settled = settled;
-    told =
+    told = λ nodes same.
         let Parts = ReachesParts (told land.blocks.draft history) level un.pointers place child in
         let before = ways_parts (told land.blocks.draft history) level un.pointers place child in
         let after = ways_each (told new.blocks.draft history) level (take place un.pointers ++ (led.now ∷ led.more) ++ drop (place + 1) un.pointers) in
-        told-more land Parts before after 0 0 0 1 1 0 [] (omega arith) (omega arith) (omega arith)
-        (told-none land Parts before after
+        told-more land nodes Parts before after 0 0 0 1 1 0 [] (omega arith) (omega arith) (omega arith)
+        (told-none land nodes Parts before after
         (led-ways tree (super_of root land.blocks.draft) land new history level at place (place + 1) child un.pointers un.header items rest can led));
   }

@@ -256,10 +256,14 @@ slots_for (Some rest) = 1
 
 -- ---- a child was edited, and its node is not yet
 
+-- an address is reached from another child than the one at a place
+abbrev pub ReachesBeside : (ℕ → Option Node) → ℕ → List Pointer → ℕ → ℕ → Type 0
+ReachesBeside nodes level pointers place q =
+    (i : ℕ) × (pointer : Pointer) × (i ≢ place) × (slice_get pointers i ≡ Some pointer) × Reaches nodes level pointer.child q
+
 -- an address is reached from what stands in a child's place, or from another child
 abbrev pub ReachesParts : (ℕ → Option Node) → ℕ → List Pointer → ℕ → Instead → ℕ → Type 0
-ReachesParts nodes level pointers place child q =
-    ReachesInstead nodes level child q ⊎ ((i : ℕ) × (pointer : Pointer) × (i ≢ place) × (slice_get pointers i ≡ Some pointer) × Reaches nodes level pointer.child q)
+ReachesParts nodes level pointers place child q = ReachesInstead nodes level child q ⊎ ReachesBeside nodes level pointers place q
 
 -- an address is reached from one of these pointers
 abbrev pub ReachesEach : (ℕ → Option Node) → ℕ → List Pointer → ℕ → Type 0
