@@ -124,7 +124,7 @@ module _ (tree : Tree) (root : Root) (land mid : Ground) (history : Option (List
 
       -- and this was told
       pub descended-told : (low_log set_log : List Telling) → IsPartTold mid low history level below.address child low_log
-          → ((nodes : ℕ → Option Node) → TellSame (ReachesBeside (told low.blocks.draft history) level descended-unsettled.pointers place) nodes (told low.blocks.draft history)
+          → ((nodes : ℕ → Option Node) → TellSame (ReachesBeside (told low.blocks.draft history) level descended-unsettled.pointers place) nodes low history
           → IsTold low nodes (ReachesParts (told low.blocks.draft history) level descended-unsettled.pointers place child)
           (ways_parts (told low.blocks.draft history) level descended-unsettled.pointers place child) (ways_each (told set.blocks.draft history) level settled.pointers_new) 1 1 0 set_log)
           → IsPartTold land end history (suc level) at instead (tellings_owned owned.node at now ++ (low_log ++ (set_log ++ tellings_made instead.more)))

@@ -14,7 +14,7 @@ use Rattle.qg_super.specs.declared.superblock.Super.{Super}
 use Rattle.qg_verdict.specs.declared.expected.Expected.{Expected}
 use Rattle.qg_verdict.specs.declared.tree.Tree.{Tree}
 use Rattle.qg_verdict.specs.Walk.{is_generation, is_owner}
-use Rattle.qg_blocks.specs.Told.{told}
+use Rattle.qg_blocks.specs.Told.{fresh_at, told}
 use Rattle.qg_space.specs.Holding.{Holding, is_free_slot}
 use Rattle.qg_ground.specs.declared.ground.Ground.{Ground}
 use Rattle.qg_ground.specs.Changes.{node_at}
@@ -175,17 +175,18 @@ module _ (tree : Tree) (root : Root) (land mid set end : Ground) (history later 
     | inr free ↦ elim (free_set q free) [ inl was ↦ inr was | inr same ↦ inl same ]
   ]
 
-  others : (q : ℕ) → (IsTrue (is_free_slot land.space q) → ⊥) → (Reaches (told land.blocks.draft history) 0 at q → ⊥) → told end.blocks.draft history q ≡ told land.blocks.draft history q
+  others : (disk : Option (List Event)) (q : ℕ) → (IsTrue (is_free_slot land.space q) → ⊥) → (Reaches (told land.blocks.draft history) 0 at q → ⊥)
+      → told end.blocks.draft disk q ≡ told land.blocks.draft disk q
   unfolding Reaches
-  others q not_free not_at =
+  others disk q not_free not_at =
       let not_now : q ≢ now = λ same. elim now_was [
         | inl is ↦ not_at (same ∙ is)
         | inr free ↦ not_free (ap (is_free_slot land.space) same ∙ free)
       ] in
-      placed-told set end history mid.space.sizes.nodesize now (Leaf mine.0 (edited edit items)) instead parts q
+      placed-told set end history mid.space.sizes.nodesize now (Leaf mine.0 (edited edit items)) instead parts disk q
       (λ free. elim (free_set q free) [ inl was ↦ not_free was | inr same ↦ not_at same ])
-      ∙ rewritten-told mid set now owned.mine owned.here rewritten history q not_now
-      ∙ owned.others history q not_now
+      ∙ rewritten-told mid set now owned.mine owned.here rewritten disk q not_now
+      ∙ owned.others disk q not_now
 
   free_end : (q : ℕ) → IsTrue (is_free_slot end.space q) → IsTrue (is_free_slot set.space q)
   free_end = placed-free set end history last mid.space.sizes.nodesize now root.next (Leaf mine.0 (edited edit items)) instead drafted_set rests_end parts
@@ -248,7 +249,7 @@ module _ (tree : Tree) (root : Root) (land mid set end : Ground) (history later 
   ]
 
   -- the leaf was owned
-  own_told : (nodes : ℕ → Option Node) → nodes at ≡ told land.blocks.draft history at
+  own_told : (nodes : ℕ → Option Node) → (fresh_at land.blocks.draft at ≡ None → nodes at ≡ told land.blocks.draft history at)
       → IsTold land nodes Old (ways (told land.blocks.draft history) 0 at) (λ q. one now q) 1 0 0 (tellings_owned owned.node at now)
   unfolding Old
   own_told nodes same =

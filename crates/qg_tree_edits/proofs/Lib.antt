@@ -52,3 +52,4 @@ pub mod FitTold
 pub mod LedTold
 pub mod RejoinedTold
 pub mod Levels
+pub mod Clean

@@ -1,5 +1,5 @@
 -- A node that is owned: the ways that lead to its place then lead to its copy's.
-use Rattle.std.proofs.Common.{◌≡◌, ◌≢◌, ◌⊎◌, ℕ, zero, suc, ◌+◌, ◌<◌, true, List, [], ◌∷◌, arith, sym, ap, subst, ◌∙◌, inl, inr, Option, Some}
+use Rattle.std.proofs.Common.{◌≡◌, ◌≢◌, ◌⊎◌, ℕ, zero, suc, ◌+◌, ◌<◌, true, List, [], ◌∷◌, arith, sym, ap, subst, ◌∙◌, inl, inr, Option, Some, None}
 use Rattle.std.specs.Prelude.{IsTrue}
 use Rattle.std.specs.List.{sum_by}
 use Rattle.std.proofs.lemmas.Bool.Decides.{eqb_tells}
@@ -10,7 +10,7 @@ use Rattle.qg_node.specs.declared.node.Node.{Node}
 use Rattle.qg_node.specs.Nodes.{header_of}
 use Rattle.qg_verdict.specs.declared.expected.Expected.{Expected}
 use Rattle.qg_verdict.specs.declared.tree.Tree.{Tree}
-use Rattle.qg_blocks.specs.Told.{told}
+use Rattle.qg_blocks.specs.Told.{fresh_at, told}
 use Rattle.qg_space.specs.Holding.{is_free_slot}
 use Rattle.qg_ground.specs.declared.ground.Ground.{Ground}
 use Rattle.qg_ground.specs.Tellings.{Telling}
@@ -21,6 +21,7 @@ use Rattle.qg_tree_edits.specs.Editing.{CanMake, IsOwned}
 use Rattle.qg_tree_edits.specs.Counting.{IsAsWas, IsBare, IsTold, gains, one, tellings_owned, ways, ways_each}
 use Rattle.qg_descent.proofs.Branches.{branch-level}
 use Rattle.qg_descent.proofs.BranchFrames.{reach-top}
+use Rattle.qg_tree_edits.proofs.Clean.{none-unless}
 use Rattle.qg_tree_edits.proofs.OwnedBranch.{below-apart, mine-inner, mine-told}
 use Rattle.qg_tree_edits.proofs.ToldOwned.{tellings-copied, tellings-kept}
 use Rattle.qg_tree_edits.proofs.Turning.{told-more, told-none}
@@ -101,7 +102,8 @@ module _ (tree : Tree) (root : Root) (land new : Ground) (history : Option (List
       | inr (is, other) ↦ owned.others history q other
     ]
 
-    module _ (nodes : ℕ → Option Node) (same_there : nodes at ≡ told land.blocks.draft history at) where
+    module _ (nodes : ℕ → Option Node)
+        (same_there : fresh_at land.blocks.draft at ≡ None → nodes at ≡ told land.blocks.draft history at) where
       kept_told : owned.mine ≡ owned.node → now ≡ at
           → IsTold land nodes (Reaches (told land.blocks.draft history) level at)
           (ways (told land.blocks.draft history) level at) (ways (told new.blocks.draft history) level now) 1 0 0
@@ -137,7 +139,8 @@ module _ (tree : Tree) (root : Root) (land new : Ground) (history : Option (List
           omega (arith, a, b) in
           subst (λ (ts : List Telling). IsTold land nodes Reached before after 1 0 0 ts)
           (sym (tellings-copied owned.node at now differ))
-          (told-copied land nodes Reached before after owned.node at now owned.kept.placed (same_there ∙ there) is_free
+          (told-copied land nodes Reached before after owned.node at now owned.kept.placed (same_there (none-unless (fresh_at land.blocks.draft at) (λ some. differ (owned.stays some))) ∙ there)
+          is_free
           (ways-top (told land.blocks.draft history) level at)
           (ways-none (told land.blocks.draft history) level at now (free now is_free)) turns)
 

@@ -20,7 +20,7 @@ use Rattle.qg_ground.specs.declared.ground.Ground.{Ground}
 use Rattle.qg_ground.specs.Changes.{Makes, node_at}
 use Rattle.qg_ground.specs.Land.{Rests}
 use Rattle.qg_ground.specs.Tellings.{Telling}
-use Rattle.qg_ground.proofs.Lands.{told-fresh_at}
+use Rattle.qg_ground.proofs.Lands.{fresh_at-told, told-fresh_at}
 use Rattle.qg_ground.proofs.Slots.{free-less, taken-more}
 use Rattle.qg_edit.specs.declared.edit.Edit.{Edit}
 use Rattle.qg_tree_edits.specs.declared.instead.Instead.{Instead}
@@ -190,7 +190,7 @@ module _ (tree : Tree) (root : Root) (land mid low set end : Ground) (history ow
       → Reaches (told mid.blocks.draft history) level p.child q
   other_was i p other is =
       reach-same (told mid.blocks.draft history) (told low.blocks.draft history) level p.child
-      (λ r reaches. child_edited.others r (λ free. around.free r free i p is reaches)
+      (λ r reaches. child_edited.others history r (λ free. around.free r free i p is reaches)
       (λ also. around.apart i place p pointer other is there r reaches (subst (λ (a : ℕ). Reaches (told mid.blocks.draft history) level a r) leads also)))
 
   parts_old : (q : ℕ) → ReachesParts (told low.blocks.draft history) level pointers place child q → Old q
@@ -206,11 +206,11 @@ module _ (tree : Tree) (root : Root) (land mid low set end : Ground) (history ow
   new_old : (q : ℕ) → ReachesEach (told set.blocks.draft history) level settled.pointers_new q → Old q
   new_old q reaches = elim (settled.reach q reaches) [ inl parts ↦ parts_old q parts | inr free ↦ low_old q free ]
 
-  set_others : (q : ℕ) → (Old q → ⊥) → told set.blocks.draft history q ≡ told land.blocks.draft history q
-  set_others q not_old =
-      settled.others q (λ same. not_old (now_old q same)) (λ free. not_old (low_old q free)) (λ parts. not_old (parts_old q parts))
-      ∙ child_edited.others q (λ free. not_old (mid_old q free)) (λ reaches. not_old (child_old q reaches))
-      ∙ owned.others history q (λ same. not_old (now_old q same))
+  set_others : (disk : Option (List Event)) (q : ℕ) → (Old q → ⊥) → told set.blocks.draft disk q ≡ told land.blocks.draft disk q
+  set_others disk q not_old =
+      settled.others disk q (λ same. not_old (now_old q same)) (λ free. not_old (low_old q free)) (λ parts. not_old (parts_old q parts))
+      ∙ child_edited.others disk q (λ free. not_old (mid_old q free)) (λ reaches. not_old (child_old q reaches))
+      ∙ owned.others disk q (λ same. not_old (now_old q same))
 
   -- ---- sizes
 
@@ -242,10 +242,10 @@ module _ (tree : Tree) (root : Root) (land mid low set end : Ground) (history ow
   more_old : (two : AreInTwo low.space.sizes.nodesize set end now instead header settled.pointers_new) → (q : ℕ) → q ≡ two.more → Old q
   more_old two q same = set_old q (subst (λ (a : ℕ). IsTrue (is_free_slot set.space a)) (sym same) two.made.puts.free)
 
-  end_others : (q : ℕ) → (Old q → ⊥) → told end.blocks.draft history q ≡ told set.blocks.draft history q
-  end_others q not_old = elim ends [
-    | inl one ↦ ap (λ (g : Ground). told g.blocks.draft history q) one.same
-    | inr two ↦ two.made.puts.others history q (λ same. not_old (more_old two q same))
+  end_others : (disk : Option (List Event)) (q : ℕ) → (Old q → ⊥) → told end.blocks.draft disk q ≡ told set.blocks.draft disk q
+  end_others disk q not_old = elim ends [
+    | inl one ↦ ap (λ (g : Ground). told g.blocks.draft disk q) one.same
+    | inr two ↦ two.made.puts.others disk q (λ same. not_old (more_old two q same))
   ]
 
   -- one of the nodes that stand there
@@ -401,8 +401,8 @@ module _ (tree : Tree) (root : Root) (land mid low set end : Ground) (history ow
   unfolding Top
   reach q reaches = elim (from_instead q reaches) [ inl top ↦ top.0 | inr each ↦ new_old q each ]
 
-  others : (q : ℕ) → (Old q → ⊥) → told end.blocks.draft history q ≡ told land.blocks.draft history q
-  others q not_old = end_others q not_old ∙ set_others q not_old
+  others : (disk : Option (List Event)) (q : ℕ) → (Old q → ⊥) → told end.blocks.draft disk q ≡ told land.blocks.draft disk q
+  others disk q not_old = end_others disk q not_old ∙ set_others disk q not_old
 
   freed : (q : ℕ) → IsTrue (is_free_slot end.space q) → Old q
   freed q free = set_old q (end_free q free)
@@ -422,7 +422,7 @@ module _ (tree : Tree) (root : Root) (land mid low set end : Ground) (history ow
     first = first;
     holds = hold;
     reach = reach;
-    others = λ q not_free not_reached. others q (λ old. elim old [ inl reached ↦ not_reached reached | inr free ↦ not_free free ]);
+    others = λ disk q not_free not_reached. others disk q (λ old. elim old [ inl reached ↦ not_reached reached | inr free ↦ not_free free ]);
     freed = λ q free. elim (freed q free) [ inl reached ↦ inr reached | inr was ↦ inl was ];
     free = none_free;
   }
@@ -468,11 +468,15 @@ module _ (tree : Tree) (root : Root) (land mid low set end : Ground) (history ow
   low_now q (inr (inr (i, p, other, is, reaches))) = below_apart i p is q (other_was i p other is q reaches)
 
   -- from the other children as many ways lead on as before
+  other_same : (disk : Option (List Event)) (i : ℕ) (p : Pointer) → i ≢ place → slice_get pointers i ≡ Some p → (r : ℕ) → Reaches (told mid.blocks.draft history) level p.child r
+      → told low.blocks.draft disk r ≡ told mid.blocks.draft disk r
+  other_same disk i p other is r reaches =
+      child_edited.others disk r (λ free. around.free r free i p is reaches)
+      (λ also. around.apart i place p pointer other is there r reaches (subst (λ (a : ℕ). Reaches (told mid.blocks.draft history) level a r) leads also))
+
   other_stays : (i : ℕ) (p : Pointer) → i ≢ place → slice_get pointers i ≡ Some p → (r : ℕ) → Reaches (told mid.blocks.draft history) level p.child r
       → told low.blocks.draft history r ≡ told mid.blocks.draft history r
-  other_stays i p other is r reaches =
-      child_edited.others r (λ free. around.free r free i p is reaches)
-      (λ also. around.apart i place p pointer other is there r reaches (subst (λ (a : ℕ). Reaches (told mid.blocks.draft history) level a r) leads also))
+  other_stays = other_same history
 
   beside : ℕ → ℕ
   beside q = ways_each (told mid.blocks.draft history) level (take place pointers) q + ways_each (told mid.blocks.draft history) level (drop (place + 1) pointers) q
@@ -517,7 +521,7 @@ module _ (tree : Tree) (root : Root) (land mid low set end : Ground) (history ow
       let same = ap (λ (a : ℕ). ways (told mid.blocks.draft history) level a q) leads in
       omega (arith, top, parts, same)
 
-  own_told : (nodes : ℕ → Option Node) → nodes at ≡ told land.blocks.draft history at
+  own_told : (nodes : ℕ → Option Node) → (fresh_at land.blocks.draft at ≡ None → nodes at ≡ told land.blocks.draft history at)
       → IsTold land nodes FromTop (ways (told land.blocks.draft history) (suc level) at) first_ways 1 0 0 (tellings_owned owned.node at now)
   unfolding FromTop
   own_told nodes same =
@@ -543,27 +547,30 @@ module _ (tree : Tree) (root : Root) (land mid low set end : Ground) (history ow
   unfolding parts_ways
   parts_are q = let same = beside_low q in omega (arith, same)
 
-  -- nodes that tell the same as before tell the same of what is below
+  -- nodes that tell the same as before, where none was fresh, tell the same of what is below
   TopSame : (ℕ → Option Node) → Type 0
-  TopSame nodes = TellSame FromTop nodes (told land.blocks.draft history)
+  TopSame nodes = TellSame FromTop nodes land history
 
   below_same : (nodes : ℕ → Option Node) → TopSame nodes → (i : ℕ) (p : Pointer) → slice_get pointers i ≡ Some p
-      → (q : ℕ) → Reaches (told mid.blocks.draft history) level p.child q → nodes q ≡ told mid.blocks.draft history q
+      → (q : ℕ) → Reaches (told mid.blocks.draft history) level p.child q → fresh_at mid.blocks.draft q ≡ None → nodes q ≡ told mid.blocks.draft history q
   unfolding TopSame FromTop
-  below_same nodes same i p is q reaches =
+  below_same nodes same i p is q reaches none =
       elim (owned-reach tree root land mid history expected at now owned makes (suc level) items branch unreached q (below_now i p is q reaches)) [
         | inl here ↦ absurd (below_apart i p is q reaches here)
-        | inr below ↦ same q below.0 ∙ sym (owned.others history q (below_apart i p is q reaches))
+        | inr below ↦
+            same q below.0 (sym (fresh_at-told land.blocks.draft mid.blocks.draft q (owned.others None q (below_apart i p is q reaches))) ∙ none)
+            ∙ sym (owned.others history q (below_apart i p is q reaches))
       ]
 
-  child_same : (nodes : ℕ → Option Node) → TopSame nodes → TellSame (Reaches (told mid.blocks.draft history) level child_at) nodes (told mid.blocks.draft history)
+  child_same : (nodes : ℕ → Option Node) → TopSame nodes → TellSame (Reaches (told mid.blocks.draft history) level child_at) nodes mid history
   child_same nodes same q reaches = below_same nodes same place pointer there q (subst (λ (a : ℕ). Reaches (told mid.blocks.draft history) level a q) leads reaches)
 
   beside_same : (nodes : ℕ → Option Node) → TopSame nodes
-      → TellSame (ReachesBeside (told low.blocks.draft history) level pointers place) nodes (told low.blocks.draft history)
-  beside_same nodes same q (i, p, other, is, reaches) =
+      → TellSame (ReachesBeside (told low.blocks.draft history) level pointers place) nodes low history
+  beside_same nodes same q (i, p, other, is, reaches) none =
       let was = other_was i p other is q reaches in
-      below_same nodes same i p is q was ∙ sym (other_stays i p other is q was)
+      below_same nodes same i p is q was (sym (fresh_at-told mid.blocks.draft low.blocks.draft q (other_same None i p other is q was)) ∙ none)
+      ∙ sym (other_stays i p other is q was)
 
   child_told : (nodes : ℕ → Option Node) → TopSame nodes → (tellings : List Telling) → IsPartTold mid low history level child_at child tellings
       → IsTold land nodes FromTop first_ways parts_ways (2 * (level + 1)) (level + 1) (level + 1) tellings
@@ -639,7 +646,7 @@ module _ (tree : Tree) (root : Root) (land mid low set end : Ground) (history ow
       ])
 
   pub part-told : (below above : List Telling) → IsPartTold mid low history level child_at child below
-      → ((nodes : ℕ → Option Node) → TellSame (ReachesBeside (told low.blocks.draft history) level pointers place) nodes (told low.blocks.draft history)
+      → ((nodes : ℕ → Option Node) → TellSame (ReachesBeside (told low.blocks.draft history) level pointers place) nodes low history
       → IsTold low nodes (ReachesParts (told low.blocks.draft history) level pointers place child) (ways_parts (told low.blocks.draft history) level pointers place child)
       (ways_each (told set.blocks.draft history) level settled.pointers_new) 1 1 0 above)
       → IsPartTold land end history (suc level) at instead (tellings_owned owned.node at now ++ (below ++ (above ++ tellings_made instead.more)))
@@ -683,7 +690,7 @@ module _ (tree : Tree) (root : Root) (land mid low set end : Ground) (history ow
       (subst (λ (ps : List Pointer). IsSettled tree root low set history level now place child ps un.header items_new rest) same_pointers settled) placed own_rests child_rests set_rests end_rests
 
   pub part-told-unsettled : (below above : List Telling) → IsPartTold mid low history level child_at child below
-      → ((nodes : ℕ → Option Node) → TellSame (ReachesBeside (told low.blocks.draft history) level un.pointers place) nodes (told low.blocks.draft history)
+      → ((nodes : ℕ → Option Node) → TellSame (ReachesBeside (told low.blocks.draft history) level un.pointers place) nodes low history
       → IsTold low nodes (ReachesParts (told low.blocks.draft history) level un.pointers place child) (ways_parts (told low.blocks.draft history) level un.pointers place child)
       (ways_each (told set.blocks.draft history) level settled.pointers_new) 1 1 0 above)
       → IsPartTold land end history (suc level) at instead (tellings_owned owned.node at now ++ (below ++ (above ++ tellings_made instead.more)))

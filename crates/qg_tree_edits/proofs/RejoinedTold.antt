@@ -1,5 +1,5 @@
 -- A child was joined with its neighbour, and the pointers of their node are set: what a book is told meanwhile.
-use Rattle.std.proofs.Common.{◌≡◌, ◌≢◌, ◌⊎◌, ℕ, suc, ◌+◌, ◌<◌, ◌≤◌, List, [], ◌∷◌, ◌++◌, take, drop, arith, refl, sym, ap, subst, ◌∙◌, inl, inr, Option, Some}
+use Rattle.std.proofs.Common.{◌≡◌, ◌≢◌, ◌⊎◌, ℕ, suc, ◌+◌, ◌<◌, ◌≤◌, List, [], ◌∷◌, ◌++◌, take, drop, arith, refl, sym, ap, subst, ◌∙◌, inl, inr, Option, Some, None}
 use Rattle.std.specs.Prelude.{IsTrue, slice_get}
 use Rattle.qg_device.specs.History.{Event}
 use Rattle.qg_num.specs.declared.key.Key.{Key}
@@ -7,7 +7,7 @@ use Rattle.qg_node.specs.declared.item.Item.{Item}
 use Rattle.qg_node.specs.declared.pointer.Pointer.{Pointer}
 use Rattle.qg_node.specs.declared.node.Node.{Node}
 use Rattle.qg_verdict.specs.declared.tree.Tree.{Tree}
-use Rattle.qg_blocks.specs.Told.{told}
+use Rattle.qg_blocks.specs.Told.{fresh_at, told}
 use Rattle.qg_space.specs.Holding.{is_free_slot}
 use Rattle.qg_ground.specs.declared.ground.Ground.{Ground}
 use Rattle.qg_ground.specs.Land.{IsDrafted, Rests}
@@ -157,7 +157,8 @@ module _ (tree : Tree) (root : Root) (land mid new end : Ground) (history later 
       )
 
   own_told : (nodes : ℕ → Option Node)
-      → nodes is.beside.way.address ≡ told land.blocks.draft history is.beside.way.address
+      → (fresh_at land.blocks.draft is.beside.way.address ≡ None
+      → nodes is.beside.way.address ≡ told land.blocks.draft history is.beside.way.address)
       → IsTold land nodes From (ways (told land.blocks.draft history) level is.beside.way.address)
       (ways (told mid.blocks.draft history) level is.now) 1 0 0
       (tellings_owned is.owned.node is.beside.way.address is.now)
@@ -214,7 +215,8 @@ module _ (tree : Tree) (root : Root) (land mid new end : Ground) (history later 
       ]
 
   first_told : (nodes : ℕ → Option Node)
-      → nodes is.beside.way.address ≡ told land.blocks.draft history is.beside.way.address
+      → (fresh_at land.blocks.draft is.beside.way.address ≡ None
+      → nodes is.beside.way.address ≡ told land.blocks.draft history is.beside.way.address)
       → IsTold land nodes Parts (ways_parts (told land.blocks.draft history) level un.pointers place (alone child))
       both_ways 1 0 0 (tellings_owned is.owned.node is.beside.way.address is.now)
   first_told nodes same =
@@ -297,7 +299,8 @@ module _ (tree : Tree) (root : Root) (land mid new end : Ground) (history later 
       omega (arith, set, same)
 
   all_told : (nodes : ℕ → Option Node)
-      → nodes is.beside.way.address ≡ told land.blocks.draft history is.beside.way.address
+      → (fresh_at land.blocks.draft is.beside.way.address ≡ None
+      → nodes is.beside.way.address ≡ told land.blocks.draft history is.beside.way.address)
       → IsTold land nodes Parts (ways_parts (told land.blocks.draft history) level un.pointers place (alone child))
       (ways_each (told end.blocks.draft history) level (take pair.front un.pointers ++ (led.now ∷ led.more)
       ++ drop (pair.front + 2) un.pointers)) 1 1 0

@@ -51,7 +51,7 @@ module _ (tree : Tree) (root : Root) (land new : Ground) (history : Option (List
     branches = led.branches;
     cut = led.cut;
     reach = λ q reaches. inl (reached q reaches);
-    others = λ q differ free parts. led.others q differ;
+    others = λ disk q differ free parts. led.others disk q differ;
     freed = λ q free. inl (subst (λ (h : Holding). IsTrue (is_free_slot h q)) led.space free);
     free = λ q free reaches. un.free q (subst (λ (h : Holding). IsTrue (is_free_slot h q)) led.space free) (reached q reaches);
   }

@@ -1,6 +1,6 @@
 -- What an edit of a tree tells the book of references, by how many ways lead to each address (this project's own).
 -- Addresses are in bytes.
-use Rattle.std.specs.Prelude.{◌≡◌, ⊤, ◌⊎◌, ◌==◌, if◌then◌else◌, ℕ, zero, suc, ◌+◌, ◌-◌, ◌*◌, ◌<◌, ◌≤◌, List, [], ◌∷◌, take, drop, Option, Some, None, IsTrue}
+use Rattle.std.specs.Prelude.{◌≡◌, ⊤, ◌⊎◌, ◌==◌, if◌then◌else◌, ℕ, zero, suc, ◌+◌, ◌-◌, ◌*◌, ◌<◌, ◌≤◌, List, [], ◌∷◌, take, drop, Option, Some, None, IsTrue, is_some}
 use Rattle.std.specs.List.{All, sum_by}
 use Rattle.qg_device.specs.History.{Event}
 use Rattle.qg_node.specs.declared.item.Item.{Item}
@@ -9,7 +9,7 @@ use Rattle.qg_node.specs.declared.node.Header.{Header}
 use Rattle.qg_node.specs.declared.node.Node.{Node}
 use Rattle.qg_node.specs.Nodes.{header_of, own_items, own_pointers}
 use Rattle.qg_verdict.specs.declared.tree.Tree.{Tree}
-use Rattle.qg_blocks.specs.Told.{told}
+use Rattle.qg_blocks.specs.Told.{fresh_at, told}
 use Rattle.qg_space.specs.Holding.{is_free_slot}
 use Rattle.qg_ground.specs.declared.ground.Ground.{Ground}
 use Rattle.qg_ground.specs.Tellings.{Telling}
@@ -145,30 +145,36 @@ TellsUnited right instead tellings =
 
 -- ---- what a book is told in the course of an edit
 
--- two tell the same of some addresses
-abbrev pub TellSame : (ℕ → Type 0) → (ℕ → Option Node) → (ℕ → Option Node) → Type 0
-TellSame Among nodes others = (q : ℕ) → Among q → nodes q ≡ others q
+-- nodes tell the same as a land of some addresses, where no node is fresh
+abbrev pub TellSame : (ℕ → Type 0) → (ℕ → Option Node) → Ground → Option (List Event) → Type 0
+TellSame Among nodes land history =
+    (q : ℕ) → Among q → fresh_at land.blocks.draft q ≡ None → nodes q ≡ told land.blocks.draft history q
+
+-- what is told at an address where no node is fresh
+abbrev pub clean_at : Ground → Option (List Event) → ℕ → Option Node
+clean_at land history q =
+    if is_some (fresh_at land.blocks.draft q) then None else told land.blocks.draft history q
 
 -- the pointers of a node were set to what stands in the place of the child at an index, and this was told meanwhile:
--- a neighbour may have been copied, and left. What was copied is what stood there, and so it is for any nodes that tell
--- the same of the other children
+-- a neighbour may have been copied, and left. What was copied was not fresh and is what stood there, and so it is for
+-- any nodes that tell the same of the other children where they are not fresh
 pub record IsSettledTold (tree : Tree) (root : Root) (old new : Ground) (history : Option (List Event))
     (level at place : ℕ) (child : Instead) (pointers : List Pointer) (header : Header) (items : List Item)
     (rest : Option Node) (tellings : List Telling) : Type 0 where
   pub settled : IsSettled tree root old new history level at place child pointers header items rest
   pub told : (nodes : ℕ → Option Node)
-      → TellSame (ReachesBeside (told old.blocks.draft history) level pointers place) nodes
-      (told old.blocks.draft history)
+      → TellSame (ReachesBeside (told old.blocks.draft history) level pointers place) nodes old history
       → IsTold old nodes (ReachesParts (told old.blocks.draft history) level pointers place child)
       (ways_parts (told old.blocks.draft history) level pointers place child)
       (ways_each (told new.blocks.draft history) level settled.pointers_new) 1 1 0 tellings
 
 -- the part of a tree that the node of a level at an address is the top of was edited, and this was told meanwhile.
--- What was copied is what stood there, and so it is for any nodes that tell the same of the part
+-- What was copied was not fresh and is what stood there, and so it is for any nodes that tell the same of the part where
+-- it is not fresh
 abbrev pub IsPartTold : Ground → Ground → Option (List Event) → ℕ → ℕ → Instead → List Telling → Type 0
 IsPartTold old new history level at instead tellings =
     (nodes : ℕ → Option Node)
-    → TellSame (Reaches (told old.blocks.draft history) level at) nodes (told old.blocks.draft history)
+    → TellSame (Reaches (told old.blocks.draft history) level at) nodes old history
     → IsTold old nodes (Reaches (told old.blocks.draft history) level at)
     (ways (told old.blocks.draft history) level at) (ways_instead (told new.blocks.draft history) level instead)
     (2 * (level + 1)) (level + 1) (level + 1) tellings
@@ -180,10 +186,11 @@ IsRootTold before after old new history instead tellings =
     (ways_instead (told old.blocks.draft history) before.height instead)
     (ways (told new.blocks.draft history) after.height after.address) 0 1 1 tellings
 
--- a tree was edited, and this was told meanwhile: at most 2·height + 3 nodes were copied, and as many left and made
+-- a tree was edited, and this was told meanwhile: what was copied was not fresh before, and is what stood there. At most
+-- 2·height + 3 nodes were copied, and as many left and made
 abbrev pub IsTreeTold : Root → Root → Ground → Ground → Option (List Event) → List Telling → Type 0
 IsTreeTold before after old new history tellings =
-    IsTold old (told old.blocks.draft history) (Reaches (told old.blocks.draft history) before.height before.address)
+    IsTold old (clean_at old history) (Reaches (told old.blocks.draft history) before.height before.address)
     (ways (told old.blocks.draft history) before.height before.address)
     (ways (told new.blocks.draft history) after.height after.address) (2 * before.height + 3) (2 * before.height + 3)
     (2 * before.height + 3) tellings
