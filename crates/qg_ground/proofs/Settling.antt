@@ -15,19 +15,21 @@ use Rattle.qg_ground.specs.Changes.{Puts, PutsFresh}
 use Rattle.qg_ground.proofs.Lands.{IsSome-is, fresh_at-told}
 use Rattle.qg_ground.proofs.Slots.{free-absent}
 
-none_fresh : (land : Ground) (generation at : ℕ) → IsDrafted land generation → is_free_slot land.space at ≡ true → (o : Option Node) → fresh_at land.blocks.draft at ≡ o → o ≡ None
+none_fresh : (land : Ground) (generation at : ℕ) → IsDrafted land generation → is_free_slot land.space at ≡ true
+    → (o : Option Node) → fresh_at land.blocks.draft at ≡ o → o ≡ None
 none_fresh land generation at is free None there = refl
 none_fresh land generation at is free (Some node) there =
     let draft = is.each at node there in
     absurd (free-absent land.space at free ((Contains-has_slot land.space at).0 draft.taken))
 
 -- no node is fresh in a free slot
-pub fresh-free : (land : Ground) (generation at : ℕ) → IsDrafted land generation → is_free_slot land.space at ≡ true → fresh_at land.blocks.draft at ≡ None
+pub fresh-free : (land : Ground) (generation at : ℕ) → IsDrafted land generation → is_free_slot land.space at ≡ true
+    → fresh_at land.blocks.draft at ≡ None
 fresh-free land generation at is free = none_fresh land generation at is free (fresh_at land.blocks.draft at) refl
 
 -- a node that is put takes its slot, and nothing else changes
-pub PutsFresh-puts : (old new : Ground) (now generation : ℕ) (node : Node) → Puts old new now node → Spares old new → new.space.slots ≡ with_number now old.space.slots
-    → IsDrafted old generation → PutsFresh old new now
+pub PutsFresh-puts : (old new : Ground) (now generation : ℕ) (node : Node) → Puts old new now node → Spares old new
+    → new.space.slots ≡ with_number now old.space.slots → IsDrafted old generation → PutsFresh old new now
 PutsFresh-puts old new now generation node puts spares slots is = record {
   free = puts.free;
   none = fresh-free old generation now is puts.free;
@@ -38,15 +40,10 @@ PutsFresh-puts old new now generation node puts spares slots is = record {
 
 -- where fresh nodes are the same their levels are
 pub KeepsLevels-draft : (old new : Ground) → new.blocks.draft ≡ old.blocks.draft → KeepsLevels old new
-KeepsLevels-draft old new draft = record { each = λ at node there. (node, sym (ap (λ (d : Draft). fresh_at d at) draft) ∙ there, refl) }
+KeepsLevels-draft old new draft = record {
+  each = λ at node there. (node, sym (ap (λ (d : Draft). fresh_at d at) draft) ∙ there, refl);
+}
 
 -- a node that is left as it is
 pub Empties-same : (land : Ground) (at : ℕ) → Empties land land at
 Empties-same land at = record { space = refl; each = λ q node there. (node, there, inl refl) }
-
--- and what changes neither fresh nodes nor space besides
-pub Empties-draft : (old mid new : Ground) (at : ℕ) → new.blocks.draft ≡ mid.blocks.draft → new.space ≡ mid.space → Empties old mid at → Empties old new at
-Empties-draft old mid new at draft space empties = record {
-  space = space ∙ empties.space;
-  each = λ q node there. empties.each q node (sym (ap (λ (d : Draft). fresh_at d q) draft) ∙ there);
-}

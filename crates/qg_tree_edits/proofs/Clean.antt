@@ -27,7 +27,8 @@ pub clean-same : (land : Ground) (history : Option (List Event)) (q : ℕ) → f
     → clean_at land history q ≡ told land.blocks.draft history q
 clean-same land history q none = same_unless (fresh_at land.blocks.draft q) (told land.blocks.draft history q) none
 
-pub clean-is : (land : Ground) (history : Option (List Event)) (q : ℕ) (node : Node) → clean_at land history q ≡ Some node
+pub clean-is : (land : Ground) (history : Option (List Event)) (q : ℕ) (node : Node)
+    → clean_at land history q ≡ Some node
     → (fresh_at land.blocks.draft q ≡ None) × (told land.blocks.draft history q ≡ Some node)
 clean-is land history q node is =
     is_unless (fresh_at land.blocks.draft q) (told land.blocks.draft history q) node is

@@ -28,9 +28,11 @@ module _ (old new : Ground) (at : ℕ) (node : Node) (here : fresh_at old.blocks
   rewritten-levels stays = record {
     each = λ q other there. elim (eqb_tells q at) [
       | inl (equal, same) ↦
-          let that : Some other ≡ Some stays.node = sym there ∙ ap (λ (a : ℕ). fresh_at new.blocks.draft a) same ∙ stays.here in
+          let that : Some other ≡ Some stays.node =
+          sym there ∙ ap (λ (a : ℕ). fresh_at new.blocks.draft a) same ∙ stays.here in
           let one : other ≡ stays.node = cc in
-          let levelled : (header_of other).level ≡ (header_of node).level = ap (λ (n : Node). (header_of n).level) one ∙ stays.levelled in
+          let levelled : (header_of other).level ≡ (header_of node).level =
+          ap (λ (n : Node). (header_of n).level) one ∙ stays.levelled in
           (node, ap (λ (a : ℕ). fresh_at old.blocks.draft a) same ∙ here, sym levelled)
       | inr (unequal, differ) ↦ (other, sym (rewritten-fresh old new at node here is q differ) ∙ there, refl)
     ];
@@ -42,9 +44,11 @@ module _ (old new : Ground) (at : ℕ) (node : Node) (here : fresh_at old.blocks
     space = rewritten-space;
     each = λ q other there. elim (eqb_tells q at) [
       | inl (equal, same) ↦
-          let that : Some other ≡ Some (cleared node) = sym there ∙ ap (λ (a : ℕ). fresh_at new.blocks.draft a) same ∙ empty in
+          let that : Some other ≡ Some (cleared node) =
+          sym there ∙ ap (λ (a : ℕ). fresh_at new.blocks.draft a) same ∙ empty in
           let one : other ≡ cleared node = cc in
-          (node, ap (λ (a : ℕ). fresh_at old.blocks.draft a) same ∙ here, inr (same, subst HoldsNothing (sym one) (refl, refl)))
+          let nothing = subst HoldsNothing (sym one) (refl, refl) in
+          (node, ap (λ (a : ℕ). fresh_at old.blocks.draft a) same ∙ here, inr (same, nothing))
       | inr (unequal, differ) ↦ (other, sym (rewritten-fresh old new at node here is q differ) ∙ there, inl refl)
     ];
   }
@@ -53,7 +57,8 @@ module _ (old new : Ground) (at : ℕ) (node : Node) (here : fresh_at old.blocks
 
 left_level : (nodesize : ℕ) (c d a b : Node) (joined : Joined) → IsJoinedAs nodesize c d a b joined
     → (header_of c).level ≡ (header_of a).level
-left_level nodesize c d a b Whole is = ap (λ (h : Header). h.level) (sym (ap header_of is.0.all ∙ header_of-whole_of c d))
+left_level nodesize c d a b Whole is =
+    ap (λ (h : Header). h.level) (sym (ap header_of is.0.all ∙ header_of-whole_of c d))
 left_level nodesize c d a b Parted is = ap (λ (h : Header). h.level) (sym (header_of-parted nodesize c d a b is))
 
 right_emptied : (nodesize : ℕ) (c d a b : Node) (joined : Joined) → joined ≡ Whole → IsJoinedAs nodesize c d a b joined
@@ -73,11 +78,13 @@ module _ (old mid : Ground) (left right : ℕ) (differ : left ≢ right) (pair :
 
   pub both-space : mid.space ≡ old.space
   both-space =
-      ap (λ (g : Ground). g.space) (are.later pair.a pair.left_here).is ∙ ap (λ (g : Ground). g.space) (are.first pair.b pair.right_here).is
+      ap (λ (g : Ground). g.space) (are.later pair.a pair.left_here).is
+      ∙ ap (λ (g : Ground). g.space) (are.first pair.b pair.right_here).is
 
   others : (q : ℕ) → q ≢ left → q ≢ right → fresh_at mid.blocks.draft q ≡ fresh_at old.blocks.draft q
   others q not_left not_right =
-      fresh_at-told old.blocks.draft mid.blocks.draft q (both-told old mid left right differ pair are None q not_left not_right)
+      fresh_at-told old.blocks.draft mid.blocks.draft q
+      (both-told old mid left right differ pair are None q not_left not_right)
 
   -- what a fresh node was before, where one of the two is told by what became of it
   was : (P : ℕ → Node → Node → Type 0) → P left pair.a there.a → P right pair.b there.b → ((q : ℕ) (n : Node) → P q n n)
@@ -85,7 +92,8 @@ module _ (old mid : Ground) (left right : ℕ) (differ : left ≢ right) (pair :
       → (n : Node) × (fresh_at old.blocks.draft q ≡ Some n) × P q n node
   was P on_left on_right else_same q node here = elim (eqb_tells q left) [
     | inl (equal, same) ↦
-        let that : Some node ≡ Some there.a = sym here ∙ ap (λ (a : ℕ). fresh_at mid.blocks.draft a) same ∙ there.left_there in
+        let that : Some node ≡ Some there.a =
+        sym here ∙ ap (λ (a : ℕ). fresh_at mid.blocks.draft a) same ∙ there.left_there in
         let one : node ≡ there.a = cc in (
           pair.a,
           ap (λ (a : ℕ). fresh_at old.blocks.draft a) same ∙ pair.left_here,
@@ -93,7 +101,8 @@ module _ (old mid : Ground) (left right : ℕ) (differ : left ≢ right) (pair :
         )
     | inr (unequal, not_left) ↦ elim (eqb_tells q right) [
       | inl (equal, same) ↦
-          let that : Some node ≡ Some there.b = sym here ∙ ap (λ (a : ℕ). fresh_at mid.blocks.draft a) same ∙ there.right_there in
+          let that : Some node ≡ Some there.b =
+          sym here ∙ ap (λ (a : ℕ). fresh_at mid.blocks.draft a) same ∙ there.right_there in
           let one : node ≡ there.b = cc in (
             pair.b,
             ap (λ (a : ℕ). fresh_at old.blocks.draft a) same ∙ pair.right_here,
@@ -108,7 +117,8 @@ module _ (old mid : Ground) (left right : ℕ) (differ : left ≢ right) (pair :
   joined-levels parted = record {
     each = was (λ q n node. (header_of n).level ≡ (header_of node).level)
         (left_level old.space.sizes.nodesize pair.a pair.b there.a there.b joined became)
-        (right_level old.space.sizes.nodesize pair.a pair.b there.a there.b joined parted became) (λ q n. refl);
+        (right_level old.space.sizes.nodesize pair.a pair.b there.a there.b joined parted became)
+        (λ q n. refl);
   }
 
   -- where all is in the left one
@@ -117,5 +127,6 @@ module _ (old mid : Ground) (left right : ℕ) (differ : left ≢ right) (pair :
     space = both-space;
     each = was (λ q n node. ((header_of n).level ≡ (header_of node).level) ⊎ ((q ≡ right) × HoldsNothing node))
         (inl (left_level old.space.sizes.nodesize pair.a pair.b there.a there.b joined became))
-        (inr (refl, right_emptied old.space.sizes.nodesize pair.a pair.b there.a there.b joined whole became)) (λ q n. inl refl);
+        (inr (refl, right_emptied old.space.sizes.nodesize pair.a pair.b there.a there.b joined whole became))
+        (λ q n. inl refl);
   }

@@ -169,8 +169,8 @@ pub record IsSettledTold (tree : Tree) (root : Root) (old new : Ground) (history
       (ways_each (told new.blocks.draft history) level settled.pointers_new) 1 1 0 tellings
 
 -- the part of a tree that the node of a level at an address is the top of was edited, and this was told meanwhile.
--- What was copied was not fresh and is what stood there, and so it is for any nodes that tell the same of the part where
--- it is not fresh
+-- What was copied was not fresh and is what stood there, and so it is for any nodes that tell the same of the part
+-- where it is not fresh
 abbrev pub IsPartTold : Ground → Ground → Option (List Event) → ℕ → ℕ → Instead → List Telling → Type 0
 IsPartTold old new history level at instead tellings =
     (nodes : ℕ → Option Node)
