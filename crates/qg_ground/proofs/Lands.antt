@@ -23,7 +23,7 @@ use Rattle.qg_space.specs.Holding.{Holding, is_free_slot, without_slot}
 use Rattle.qg_space.proofs.Members.{Contains-has_slot, Contains-without_slot}
 use Rattle.qg_ground.specs.declared.ground.Ground.{Ground}
 use Rattle.qg_ground.specs.Land.{IsDraftAt, IsDrafted, IsGround, Rests}
-use Rattle.qg_ground.specs.Tellings.{GivesBack, IsCopied, LetsGo, MayLack, Spares, node_copy}
+use Rattle.qg_ground.specs.Tellings.{GivesBack, IsCopied, LetsGo, MayLack, Spares, TakesNone, node_copy}
 use Rattle.qg_ground.specs.Changes.{Copies, Makes, Puts, Takes, node_at}
 use Rattle.qg_ground.proofs.Slots.{free-apart, free-less, free-parts, free_slots-lack, free_slots-put, lack-more, taken-here, taken-more}
 
@@ -444,6 +444,10 @@ Copies-back old mid new history at now owner generation copies slots back = reco
   lent = copies.lent;
   slots = subst (λ (ns : List ℕ). MayLack at ns new.space.slots) slots back.slots;
 }
+
+-- where the book changed neither fresh nodes nor slots, it gave back none
+pub GivesBack-none : (old new : Ground) (at : ℕ) → TakesNone old new → GivesBack old new at
+GivesBack-none old new at none = record { draft = none.draft; slots = inl none.slots }
 
 -- the book may be told of it
 pub IsCopied-copies : (old mid : Ground) (history history' : Option (List Event)) (at now owner generation : ℕ) → fresh_at old.blocks.draft at ≡ None → now ≢ at

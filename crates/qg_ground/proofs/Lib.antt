@@ -1,3 +1,4 @@
 pub mod Slots
 pub mod Lands
 pub mod Editing
+pub mod Settling

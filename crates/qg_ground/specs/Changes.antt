@@ -43,6 +43,14 @@ pub record Owned (old new : Ground) (history : Option (List Event)) (at now owne
   pub kept : IsSome (fresh_at old.blocks.draft at) → (now ≡ at) × (new ≡ old)
   pub copied : fresh_at old.blocks.draft at ≡ None → Copies old new history at now owner generation
 
+-- one slot is taken, which was free, and a fresh node lies there, where none did. All else of space and fresh nodes is as it was
+pub record PutsFresh (old new : Ground) (now : ℕ) : Type 0 where
+  pub free : IsTrue (is_free_slot old.space now)
+  pub none : fresh_at old.blocks.draft now ≡ None
+  pub here : IsSome (fresh_at new.blocks.draft now)
+  pub others : (at : ℕ) → at ≢ now → fresh_at new.blocks.draft at ≡ fresh_at old.blocks.draft at
+  pub space : new.space ≡ record old.space { slots = with_number now old.space.slots }
+
 -- ---- slots in all
 
 -- at most so many slots are taken, all of which were free. `Gone` are addresses whose nodes a book was told are copied or left: these

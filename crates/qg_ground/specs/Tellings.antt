@@ -1,7 +1,8 @@
 -- What a tree tells the book of references, and what the book then does to nodes and space (this project's own). Addresses are in bytes.
-use Rattle.std.specs.Prelude.{◌≡◌, ◌≢◌, ◌⊎◌, ℕ, false, List, Option, Some, None, IsSome, IsTrue}
+use Rattle.std.specs.Prelude.{◌≡◌, ◌≢◌, ◌⊎◌, ℕ, false, List, [], Option, Some, None, IsSome, IsTrue}
 use Rattle.qg_device.specs.History.{Event}
 use Rattle.qg_node.specs.declared.node.Node.{Node}
+use Rattle.qg_node.specs.Nodes.{header_of, own_items, own_pointers}
 use Rattle.qg_cow.specs.Copying.{copy_of}
 use Rattle.qg_blocks.specs.Told.{fresh_at, told}
 use Rattle.qg_space.specs.Holding.{has_slot, is_free_slot, without_slot}
@@ -62,3 +63,19 @@ pub record Spares (old new : Ground) : Type 0 where
   pub only : (at : ℕ) → IsSome (fresh_at new.blocks.draft at) → IsSome (fresh_at old.blocks.draft at) ⊎ IsTrue (is_free_slot old.space at)
   pub taken : (at : ℕ) → IsTrue (has_slot old.space at) → IsTrue (has_slot new.space at)
   pub space : new.space ≡ record old.space { slots = new.space.slots }
+
+-- each fresh node lies where a fresh node of the same level lay
+pub record KeepsLevels (old new : Ground) : Type 0 where
+  pub each : (at : ℕ) (node : Node) → fresh_at new.blocks.draft at ≡ Some node
+      → (was : Node) × (fresh_at old.blocks.draft at ≡ Some was) × ((header_of was).level ≡ (header_of node).level)
+
+-- a node has no items and no pointers
+abbrev pub HoldsNothing : Node → Type 0
+HoldsNothing node = (own_items node ≡ []) × (own_pointers node ≡ [])
+
+-- a fresh node may be emptied before it is left, and is then of any level. Each other one lies where a fresh node of the same level lay,
+-- and space is as it was
+pub record Empties (old new : Ground) (at : ℕ) : Type 0 where
+  pub space : new.space ≡ old.space
+  pub each : (q : ℕ) (node : Node) → fresh_at new.blocks.draft q ≡ Some node
+      → (was : Node) × (fresh_at old.blocks.draft q ≡ Some was) × (((header_of was).level ≡ (header_of node).level) ⊎ ((q ≡ at) × HoldsNothing node))

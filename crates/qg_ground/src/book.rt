@@ -6,7 +6,8 @@ ghost use Rattle.qg_node.specs.declared.node.Node.{Node as NodeValue};
 ghost use Rattle.qg_blocks.specs.Told.{BreaksNone, IsBacked, fresh_at, held_at, told};
 ghost use Rattle.qg_ground.specs.declared.ground.Ground.{Ground as Land};
 ghost use Rattle.qg_ground.specs.Land.{IsDrafted, Rests};
-ghost use Rattle.qg_ground.specs.Tellings.{Telling, IsCopied, TakesNone, GivesBack, LetsGo, Spares};
+ghost use Rattle.qg_ground.specs.Changes.{PutsFresh};
+ghost use Rattle.qg_ground.specs.Tellings.{Telling, IsCopied, TakesNone, GivesBack, LetsGo, Spares, Empties, KeepsLevels};
 ghost use Rattle.qg_ground.specs.Tellings.Telling.{Copied, Made, Left};
 
 use crate::Ground;
@@ -22,6 +23,10 @@ pub trait Book<D: Disk, L: Ledger> {
 
     /// What a call asks of book, land and disk, and leaves so where it answers Ok.
     ghost stands: { Self → Land → D → Type 0 };
+
+    /// What stands of book and land between two edits, where all was told: for a book of references, that the present state has a slot
+    /// exactly where references lead to it.
+    ghost settled: { Self → Land → Type 0 };
 
     /// Whether several references lead to the node at an address.
     ghost shares: { Self → Land → D → ℕ → Bool };
@@ -44,6 +49,7 @@ pub trait Book<D: Disk, L: Ledger> {
         ensures takes { OnOk result (TakesNone land.old land.new) }
         ensures rests { (generation : ℕ) → IsDrafted land.old generation → Rests land.old land.new (D.history disk.new) generation }
         ensures stands { OnOk result (stands self.new land.new disk.new) }
+        ensures settled { settled self.old land.old → OnOk result (settled self.new land.new) }
         ensures no_image { (events : List Event) → D.history disk.old ≡ Some events → BreaksNone result }
         ensures disk { (D.history disk.new ≡ D.history disk.old) × (D.size disk.new ≡ D.size disk.old) }
         ensures cause { HasCause BlockFault.Disk (D.faults disk.old) (D.faults disk.new) result }
@@ -66,6 +72,7 @@ pub trait Book<D: Disk, L: Ledger> {
         ensures gives { OnOk result (GivesBack land.old land.new at) }
         ensures rests { (generation : ℕ) → IsDrafted land.old generation → Rests land.old land.new (D.history disk.new) generation }
         ensures stands { OnOk result (stands self.new land.new disk.new) }
+        ensures settled { (before : Land) → PutsFresh before land.old copy → settled self.old before → OnOk result (settled self.new land.new) }
         ensures no_image { (events : List Event) → D.history disk.old ≡ Some events → BreaksNone result }
         ensures disk { (D.history disk.new ≡ D.history disk.old) × (D.size disk.new ≡ D.size disk.old) }
         ensures cause { HasCause BlockFault.Disk (D.faults disk.old) (D.faults disk.new) result }
@@ -86,6 +93,7 @@ pub trait Book<D: Disk, L: Ledger> {
         ensures takes { OnOk result (TakesNone land.old land.new) }
         ensures rests { (generation : ℕ) → IsDrafted land.old generation → Rests land.old land.new (D.history disk.new) generation }
         ensures stands { OnOk result (stands self.new land.new disk.new) }
+        ensures settled { (before : Land) → PutsFresh before land.old at → settled self.old before → OnOk result (settled self.new land.new) }
         ensures no_image { (events : List Event) → D.history disk.old ≡ Some events → BreaksNone result }
         ensures disk { (D.history disk.new ≡ D.history disk.old) × (D.size disk.new ≡ D.size disk.old) }
         ensures cause { HasCause BlockFault.Disk (D.faults disk.old) (D.faults disk.new) result }
@@ -107,6 +115,7 @@ pub trait Book<D: Disk, L: Ledger> {
         ensures gone { OnOk result (LetsGo land.old land.new at) }
         ensures rests { (generation : ℕ) → IsDrafted land.old generation → Rests land.old land.new (D.history disk.new) generation }
         ensures stands { OnOk result (stands self.new land.new disk.new) }
+        ensures settled { (before : Land) → Empties before land.old at → settled self.old before → OnOk result (settled self.new land.new) }
         ensures no_image { (events : List Event) → D.history disk.old ≡ Some events → BreaksNone result }
         ensures disk { (D.history disk.new ≡ D.history disk.old) × (D.size disk.new ≡ D.size disk.old) }
         ensures cause { HasCause BlockFault.Disk (D.faults disk.old) (D.faults disk.new) result }
@@ -115,4 +124,7 @@ pub trait Book<D: Disk, L: Ledger> {
     /// What a call asks outlasts what a tree does between two calls.
     ghost lasts: { (book : Self) (old new : Land) (before after : D) → D.history after ≡ D.history before → D.size after ≡ D.size before
         → IsBacked new.blocks (D.history after) → Spares old new → stands book old before → stands book new after };
+
+    /// What stands between two edits outlasts what a tree does to fresh nodes in place.
+    ghost keeps: { (book : Self) (old new : Land) → new.space ≡ old.space → KeepsLevels old new → settled book old → settled book new };
 }

@@ -81,7 +81,8 @@ fn copy_out<D: Disk, L: Ledger>(
 }
 
 /// Where a tree may edit the node at an address, in bytes. A fresh node is edited where it lies, and nothing changes. Any other is read
-/// and copied to a free slot; the copy is fresh, has the tree `owner` as owner and the generation `next` to come, and the book is told.
+/// and copied to a free slot; the copy is fresh, has the tree `owner` as owner and the generation `next` to come, and the book is told. A
+/// node that was read from the free slot that its copy takes is told as one that is made, since nothing refers to it.
 ///
 /// `Image` comes only where a rule is broken at `at`, and `Disk` only where the disk's count rose.
 pub fn own_node<D: Disk, L: Ledger, B: Book<D, L>>(
@@ -110,6 +111,7 @@ pub fn own_node<D: Disk, L: Ledger, B: Book<D, L>>(
         → is_free_slot land.old.space at ≡ false → (before : B) (log : List Telling) → B.follows before log book.old
         → IfOk result (λ now. B.follows before (log ++ Copied node now ∷ []) book.new) }
     ensures stands { OnOk result (B.stands book.new land.new disk.new) }
+    ensures settled { B.settled book.old land.old → OnOk result (B.settled book.new land.new) }
 
     // Answers have their causes.
     ensures answers { (events : List Event) → D.history disk.old ≡ Some events → Answers result at (found land.old.blocks.draft (content events) at) }
@@ -123,6 +125,8 @@ pub fn own_node<D: Disk, L: Ledger, B: Book<D, L>>(
     let now = copy_out(alloc, land, disk, at, owner, next, reads)?;
     if now != at {
         book.copied(land, disk, at, now, reads)?;
+    } else {
+        book.made(land, disk, now, reads)?;
     }
     Ok(now)
 }

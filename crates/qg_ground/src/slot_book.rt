@@ -64,6 +64,8 @@ impl<D: Disk, L: Ledger> Book<D, L> for SlotBook {
 
     ghost stands = { λ book land disk. ⊤ };
 
+    ghost settled = { λ book land. ⊤ };
+
     ghost shares = { λ book land disk at. false };
 
     ghost to_read = { λ book at. 0 };
@@ -116,4 +118,6 @@ impl<D: Disk, L: Ledger> Book<D, L> for SlotBook {
     }
 
     ghost lasts = { λ book old new before after history size backed spares stands. tt };
+
+    ghost keeps = { λ book old new space levels settled. tt };
 }

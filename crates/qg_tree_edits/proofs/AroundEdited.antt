@@ -231,7 +231,7 @@ module _ (tree : Tree) (root : Root) (mid new : Ground) (history : Option (List 
       -- what it reaches is told as before
       stays : (i : ℕ) (pointer : Pointer) → i ≢ place → slice_get pointers i ≡ Some pointer → (q : ℕ) → Reaches (told mid.blocks.draft history) level pointer.child q
           → told new.blocks.draft history q ≡ told mid.blocks.draft history q
-      stays i pointer differ at_i q reaches = part.others q (λ free. around.free q free i pointer at_i reaches) (not_child i pointer differ at_i q reaches)
+      stays i pointer differ at_i q reaches = part.others history q (λ free. around.free q free i pointer at_i reaches) (not_child i pointer differ at_i q reaches)
 
       was : (i : ℕ) (pointer : Pointer) → i ≢ place → slice_get pointers i ≡ Some pointer → (q : ℕ) → Reaches (told new.blocks.draft history) level pointer.child q
           → Reaches (told mid.blocks.draft history) level pointer.child q

@@ -120,9 +120,10 @@ module _ (tree : Tree) (super : Super) (land : Ground) (history : Option (List E
       let upto = low.2 in
       omega (arith, level_is, upto)
 
-  pub rewritten-others : (new : Ground) → IsRewritten land new at (Inner header pointers) → (q : ℕ) → q ≢ at → told new.blocks.draft history q ≡ told land.blocks.draft history q
-  rewritten-others new is q differ =
-      ap (λ (g : Ground). told g.blocks.draft history q) is.is ∙ edited-others land at is.node history q (IsSome-is (fresh_at land.blocks.draft at) (Inner header pointers) here) differ
+  pub rewritten-others : (new : Ground) → IsRewritten land new at (Inner header pointers) → (disk : Option (List Event)) (q : ℕ) → q ≢ at
+      → told new.blocks.draft disk q ≡ told land.blocks.draft disk q
+  rewritten-others new is disk q differ =
+      ap (λ (g : Ground). told g.blocks.draft disk q) is.is ∙ edited-others land at is.node disk q (IsSome-is (fresh_at land.blocks.draft at) (Inner header pointers) here) differ
 
   pub branches-rewritten : (new : Ground) (others : List Pointer) (items : List Item) → IsRewritten land new at (Inner header pointers)
       → AreBranches tree super (told land.blocks.draft history) level others items → AreBranches tree super (told new.blocks.draft history) level others items
@@ -130,7 +131,7 @@ module _ (tree : Tree) (super : Super) (land : Ground) (history : Option (List E
       branches-same tree super (told land.blocks.draft history) (told new.blocks.draft history) level others items each
       (λ place pointer there q reaches.
       let under = each-get (λ (p : Pointer) (xs : List Item). IsPointed super (told land.blocks.draft history) p × IsBranch tree super (told land.blocks.draft history) level p.child xs) others items each place pointer there in
-      rewritten-others new is q (not-above pointer.child under.0 under.2.1 q reaches))
+      rewritten-others new is history q (not-above pointer.child under.0 under.2.1 q reaches))
 
   -- ---- what was set
 

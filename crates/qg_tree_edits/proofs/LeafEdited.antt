@@ -14,7 +14,7 @@ use Rattle.qg_super.specs.declared.superblock.Super.{Super}
 use Rattle.qg_verdict.specs.declared.expected.Expected.{Expected}
 use Rattle.qg_verdict.specs.declared.tree.Tree.{Tree}
 use Rattle.qg_verdict.specs.Walk.{is_generation, is_owner}
-use Rattle.qg_blocks.specs.Told.{told}
+use Rattle.qg_blocks.specs.Told.{fresh_at, told}
 use Rattle.qg_space.specs.Holding.{Holding, is_free_slot}
 use Rattle.qg_ground.specs.declared.ground.Ground.{Ground}
 use Rattle.qg_ground.specs.Changes.{node_at}
@@ -175,17 +175,18 @@ module _ (tree : Tree) (root : Root) (land mid set end : Ground) (history later 
     | inr free ↦ elim (free_set q free) [ inl was ↦ inr was | inr same ↦ inl same ]
   ]
 
-  others : (q : ℕ) → (IsTrue (is_free_slot land.space q) → ⊥) → (Reaches (told land.blocks.draft history) 0 at q → ⊥) → told end.blocks.draft history q ≡ told land.blocks.draft history q
+  others : (disk : Option (List Event)) (q : ℕ) → (IsTrue (is_free_slot land.space q) → ⊥) → (Reaches (told land.blocks.draft history) 0 at q → ⊥)
+      → told end.blocks.draft disk q ≡ told land.blocks.draft disk q
   unfolding Reaches
-  others q not_free not_at =
+  others disk q not_free not_at =
       let not_now : q ≢ now = λ same. elim now_was [
         | inl is ↦ not_at (same ∙ is)
         | inr free ↦ not_free (ap (is_free_slot land.space) same ∙ free)
       ] in
-      placed-told set end history mid.space.sizes.nodesize now (Leaf mine.0 (edited edit items)) instead parts q
+      placed-told set end history mid.space.sizes.nodesize now (Leaf mine.0 (edited edit items)) instead parts disk q
       (λ free. elim (free_set q free) [ inl was ↦ not_free was | inr same ↦ not_at same ])
-      ∙ rewritten-told mid set now owned.mine owned.here rewritten history q not_now
-      ∙ owned.others history q not_now
+      ∙ rewritten-told mid set now owned.mine owned.here rewritten disk q not_now
+      ∙ owned.others disk q not_now
 
   free_end : (q : ℕ) → IsTrue (is_free_slot end.space q) → IsTrue (is_free_slot set.space q)
   free_end = placed-free set end history last mid.space.sizes.nodesize now root.next (Leaf mine.0 (edited edit items)) instead drafted_set rests_end parts
@@ -232,15 +233,15 @@ module _ (tree : Tree) (root : Root) (land mid set end : Ground) (history later 
   Old q = Reaches (told land.blocks.draft history) 0 at q
 
   -- the rest was made behind the leaf
-  rest_told : IsTold set (λ q. ⊥) (λ q. one now q) (ways_instead (told end.blocks.draft history) 0 instead) 0 0 1 (tellings_made instead.more)
-  rest_told = elim parts [
+  rest_told : (nodes : ℕ → Option Node) → IsTold set nodes (λ q. ⊥) (λ q. one now q) (ways_instead (told end.blocks.draft history) 0 instead) 0 0 1 (tellings_made instead.more)
+  rest_told nodes = elim parts [
     | inl one_leaf ↦
-        subst (λ (i : Instead). IsTold set (λ q. ⊥) (λ q. one now q) (ways_instead (told end.blocks.draft history) 0 i) 0 0 1 (tellings_made i.more)) (sym one_leaf.instead_is)
-        (told-more set (λ q. ⊥) (λ q. one now q) (ways_instead (told end.blocks.draft history) 0 (alone now)) 0 0 0 0 0 1 [] (omega arith) (omega arith) (omega arith)
-        (told-none set (λ q. ⊥) (λ q. one now q) (ways_instead (told end.blocks.draft history) 0 (alone now)) (λ q. let a = ways-leaf (told end.blocks.draft history) now q in omega (arith, a))))
+        subst (λ (i : Instead). IsTold set nodes (λ q. ⊥) (λ q. one now q) (ways_instead (told end.blocks.draft history) 0 i) 0 0 1 (tellings_made i.more)) (sym one_leaf.instead_is)
+        (told-more set nodes (λ q. ⊥) (λ q. one now q) (ways_instead (told end.blocks.draft history) 0 (alone now)) 0 0 0 0 0 1 [] (omega arith) (omega arith) (omega arith)
+        (told-none set nodes (λ q. ⊥) (λ q. one now q) (ways_instead (told end.blocks.draft history) 0 (alone now)) (λ q. let a = ways-leaf (told end.blocks.draft history) now q in omega (arith, a))))
     | inr two ↦
-        subst (λ (i : Instead). IsTold set (λ q. ⊥) (λ q. one now q) (ways_instead (told end.blocks.draft history) 0 i) 0 0 1 (tellings_made i.more)) (sym two.instead_is)
-        (told-made set (λ q. ⊥) (λ q. one now q) (ways_instead (told end.blocks.draft history) 0 (record { now = now; more = Some two.more })) two.more two.makes.puts.free
+        subst (λ (i : Instead). IsTold set nodes (λ q. ⊥) (λ q. one now q) (ways_instead (told end.blocks.draft history) 0 i) 0 0 1 (tellings_made i.more)) (sym two.instead_is)
+        (told-made set nodes (λ q. ⊥) (λ q. one now q) (ways_instead (told end.blocks.draft history) 0 (record { now = now; more = Some two.more })) two.more two.makes.puts.free
         (one-other now two.more two.differ) (λ q.
         let a = ways-leaf (told end.blocks.draft history) now q in
         let b = ways-leaf (told end.blocks.draft history) two.more q in
@@ -248,12 +249,13 @@ module _ (tree : Tree) (root : Root) (land mid set end : Ground) (history later 
   ]
 
   -- the leaf was owned
-  own_told : IsTold land Old (ways (told land.blocks.draft history) 0 at) (λ q. one now q) 1 0 0 (tellings_owned owned.node at now)
+  own_told : (nodes : ℕ → Option Node) → (fresh_at land.blocks.draft at ≡ None → nodes at ≡ told land.blocks.draft history at)
+      → IsTold land nodes Old (ways (told land.blocks.draft history) 0 at) (λ q. one now q) 1 0 0 (tellings_owned owned.node at now)
   unfolding Old
-  own_told =
-      told-same land Old (ways (told land.blocks.draft history) 0 at) (ways (told land.blocks.draft history) 0 at) (ways (told mid.blocks.draft history) 0 now) (λ q. one now q) 1 0 0
+  own_told nodes same =
+      told-same land nodes Old (ways (told land.blocks.draft history) 0 at) (ways (told land.blocks.draft history) 0 at) (ways (told mid.blocks.draft history) 0 now) (λ q. one now q) 1 0 0
       (tellings_owned owned.node at now) (λ q. refl) (λ q. sym (ways-leaf (told mid.blocks.draft history) now q))
-      (owned-told tree root land mid history expected at now owned makes 0 items (top tree root land mid history expected at now edit items owned makes fit) fit.apart)
+      (owned-told tree root land mid history expected at now owned makes 0 items (top tree root land mid history expected at now edit items owned makes fit) fit.apart nodes same)
 
   set_within : (q : ℕ) → IsTrue (is_free_slot set.space q) ⊎ ⊥ → IsTrue (is_free_slot land.space q) ⊎ Old q
   unfolding Old Reaches
@@ -262,12 +264,13 @@ module _ (tree : Tree) (root : Root) (land mid set end : Ground) (history later 
 
   pub leaf-told : IsPartTold land end history 0 at instead (tellings_owned owned.node at now ++ tellings_made instead.more)
   unfolding Old
-  leaf-told =
+  leaf-told nodes same =
       let before = ways (told land.blocks.draft history) 0 at in
       let after = ways_instead (told end.blocks.draft history) 0 instead in
-      let made = told-within land Old set (λ q. ⊥) (λ q. one now q) after 0 0 1 (tellings_made instead.more) set_within rest_told in
-      told-more land Old before after 1 0 1 2 1 1 (tellings_owned owned.node at now ++ tellings_made instead.more) (omega arith) (omega arith) (omega arith)
-      (told-append land Old before (λ q. one now q) after 1 0 0 0 0 1 (tellings_owned owned.node at now) (tellings_made instead.more) own_told made)
+      let made = told-within land nodes Old set (λ q. ⊥) (λ q. one now q) after 0 0 1 (tellings_made instead.more) set_within (rest_told nodes) in
+      told-more land nodes Old before after 1 0 1 2 1 1 (tellings_owned owned.node at now ++ tellings_made instead.more) (omega arith) (omega arith) (omega arith)
+      (told-append land nodes Old before (λ q. one now q) after 1 0 0 0 0 1 (tellings_owned owned.node at now) (tellings_made instead.more)
+      (own_told nodes (same at (reach-top (told land.blocks.draft history) 0 at))) made)
 
 pub header-with_items : (node : Node) (items : List Item) → header_of (with_items node items) ≡ header_of node
 header-with_items (Leaf header old) items = refl

@@ -148,7 +148,7 @@ module _ (tree : Tree) (root : Root) (land mid : Ground) (history : Option (List
     unfolding then between
     then_same i p other is =
         leaves-same (told mid.blocks.draft history) (told low.blocks.draft history) level p.child
-        (λ q reaches. child_edited.others q (λ free. around.free q free i p is reaches)
+        (λ q reaches. child_edited.others history q (λ free. around.free q free i p is reaches)
         (λ also. around.apart i place p pointer other is there q reaches (subst (λ (a : ℕ). Reaches (told mid.blocks.draft history) level a q) leads also)))
 
     others_same : leaves_under then (drop 1 pointers) ≡ leaves_under before (drop 1 pointers)

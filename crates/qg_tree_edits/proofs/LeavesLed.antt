@@ -63,7 +63,7 @@ module _ (tree : Tree) (super : Super) (land new : Ground) (history : Option (Li
   unfolding before after
   stays address under branch =
       leaves-same (told land.blocks.draft history) (told new.blocks.draft history) level address
-      (λ q reaches. led.others q
+      (λ q reaches. led.others history q
       (not-above tree super land history level at header pointers can.here can.member.levelled address under branch q reaches))
 
   Under : Pointer → List Item → Type 0

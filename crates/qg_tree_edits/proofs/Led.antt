@@ -35,7 +35,7 @@ module _ (tree : Tree) (super : Super) (land new : Ground) (history : Option (Li
       → (q : ℕ) → Reaches (told new.blocks.draft history) level address q → Reaches (told land.blocks.draft history) level address q
   led-back address under branch =
       reach-same (told land.blocks.draft history) (told new.blocks.draft history) level address
-      (λ q reaches. led.others q (not-above tree super land history level at header pointers can.here can.member.levelled address under branch q reaches))
+      (λ q reaches. led.others history q (not-above tree super land history level at header pointers can.here can.member.levelled address under branch q reaches))
 
   -- from the new pointers what stands there is reached
   pub led-comes : (k : ℕ) (p : Pointer) → slice_get (led.now ∷ led.more) k ≡ Some p → (q : ℕ) → Reaches (told new.blocks.draft history) level p.child q

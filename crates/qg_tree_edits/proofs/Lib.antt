@@ -51,3 +51,5 @@ pub mod PlacedTold
 pub mod FitTold
 pub mod LedTold
 pub mod RejoinedTold
+pub mod Levels
+pub mod Clean

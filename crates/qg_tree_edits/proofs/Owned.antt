@@ -1,6 +1,7 @@
 -- A node of a tree that was judged, and is owned.
 use Rattle.std.proofs.Common.{◌≡◌, ℕ, List, refl, sym, ap, subst, ◌∙◌, inl, inr}
-use Rattle.std.specs.Prelude.{Option, Some, None, Result, Ok, Err, IfOk, IsSome, OnOk}
+use Rattle.std.specs.Prelude.{Option, Some, None, Result, Ok, Err, IfOk, IsSome, OnOk, is_some}
+use Rattle.std.proofs.lemmas.Bool.{true≢false}
 use Rattle.qg_device.specs.History.{Event, content}
 use Rattle.qg_num.specs.declared.fault.BlockFault.{BlockFault}
 use Rattle.qg_num.specs.declared.fault.BlockFault.TheVariants.{NoMemory, Disk, Image}
@@ -46,15 +47,16 @@ owned_kept tree root old new history expected at now held node visited drafted d
       same = inl (sym one, same, space);
       others = λ h q other. ap (λ (d : Draft). told d h q) drafts;
       keeps = λ q n there. ap (λ (d : Draft). fresh_at d q) drafts ∙ there;
+      stays = λ some. same;
       freed = λ q free. inl (sym (ap (λ (h : Holding). is_free_slot h q) space) ∙ free);
     }
 
 -- any other is copied
 owned_copied : (tree : Tree) (root : Root) (old new : Ground) (history later : Option (List Event)) (expected : Expected) (at now : ℕ) (held : Held)
     → IsVisited tree (super_of root old.blocks.draft) expected old.blocks.draft history held at → IsDrafted old root.next → IsDrafted (record old { blocks = held }) root.next
-    → held.draft ≡ old.blocks.draft → Copies (record old { blocks = held }) new later at now root.owner root.next → Takes 1 (λ q. q ≡ at) (record old { blocks = held }) new
+    → held.draft ≡ old.blocks.draft → fresh_at old.blocks.draft at ≡ None → Copies (record old { blocks = held }) new later at now root.owner root.next → Takes 1 (λ q. q ≡ at) (record old { blocks = held }) new
     → IsOwned tree root old new history expected at now
-owned_copied tree root old new history later expected at now held visited drafted after draft copies takes =
+owned_copied tree root old new history later expected at now held visited drafted after draft clean copies takes =
     let mid : Ground = record old { blocks = held } in
     record {
       node = visited.node;
@@ -66,6 +68,7 @@ owned_copied tree root old new history later expected at now held visited drafte
       same = inr (copies.lent visited.node visited.is, copies.puts.free);
       others = λ h q other. copies.puts.others h q other ∙ ap (λ (d : Draft). told d h q) draft;
       keeps = λ q n there. KeepsFresh-put mid new root.next now copies.copy after copies.puts q n (ap (λ (d : Draft). fresh_at d q) draft ∙ there);
+      stays = λ some. absurd (true≢false (sym some ∙ ap is_some clean));
       freed = takes.less;
     }
 
@@ -80,7 +83,7 @@ IsOwned-visited tree root old new history later expected at held (Ok now) visite
     (λ node here.
     let both = owned.kept (IsSome-is (fresh_at held.draft at) node here) in
     owned_kept tree root old new history expected at now held node visited drafted draft (sym (ap (λ (d : Draft). fresh_at d at) draft) ∙ here) both.0 both.1)
-    (λ none. owned_copied tree root old new history later expected at now held visited drafted after draft (owned.copied none) takes)
+    (λ none. owned_copied tree root old new history later expected at now held visited drafted after draft (sym (ap (λ (d : Draft). fresh_at d at) draft) ∙ none) (owned.copied none) takes)
 
 -- ---- what is answered
 

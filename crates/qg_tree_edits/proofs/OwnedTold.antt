@@ -1,5 +1,5 @@
 -- A node that is owned: the ways that lead to its place then lead to its copy's.
-use Rattle.std.proofs.Common.{◌≡◌, ◌≢◌, ◌⊎◌, ℕ, zero, suc, ◌+◌, ◌<◌, true, List, [], ◌∷◌, arith, sym, ap, subst, ◌∙◌, inl, inr, Option, Some}
+use Rattle.std.proofs.Common.{◌≡◌, ◌≢◌, ◌⊎◌, ℕ, zero, suc, ◌+◌, ◌<◌, true, List, [], ◌∷◌, arith, sym, ap, subst, ◌∙◌, inl, inr, Option, Some, None}
 use Rattle.std.specs.Prelude.{IsTrue}
 use Rattle.std.specs.List.{sum_by}
 use Rattle.std.proofs.lemmas.Bool.Decides.{eqb_tells}
@@ -10,7 +10,7 @@ use Rattle.qg_node.specs.declared.node.Node.{Node}
 use Rattle.qg_node.specs.Nodes.{header_of}
 use Rattle.qg_verdict.specs.declared.expected.Expected.{Expected}
 use Rattle.qg_verdict.specs.declared.tree.Tree.{Tree}
-use Rattle.qg_blocks.specs.Told.{told}
+use Rattle.qg_blocks.specs.Told.{fresh_at, told}
 use Rattle.qg_space.specs.Holding.{is_free_slot}
 use Rattle.qg_ground.specs.declared.ground.Ground.{Ground}
 use Rattle.qg_ground.specs.Tellings.{Telling}
@@ -18,16 +18,18 @@ use Rattle.qg_ground.specs.Tellings.Telling.{Copied}
 use Rattle.qg_descent.specs.Tree.{Reaches, Root, super_of}
 use Rattle.qg_descent.specs.Branch.{IsBranch}
 use Rattle.qg_tree_edits.specs.Editing.{CanMake, IsOwned}
-use Rattle.qg_tree_edits.specs.Counting.{IsBare, IsTold, gains, one, tellings_owned, ways, ways_each}
+use Rattle.qg_tree_edits.specs.Counting.{IsAsWas, IsBare, IsTold, gains, one, tellings_owned, ways, ways_each}
 use Rattle.qg_descent.proofs.Branches.{branch-level}
 use Rattle.qg_descent.proofs.BranchFrames.{reach-top}
+use Rattle.qg_tree_edits.proofs.Clean.{none-unless}
 use Rattle.qg_tree_edits.proofs.OwnedBranch.{below-apart, mine-inner, mine-told}
 use Rattle.qg_tree_edits.proofs.ToldOwned.{tellings-copied, tellings-kept}
 use Rattle.qg_tree_edits.proofs.Turning.{told-more, told-none}
 use Rattle.qg_tree_edits.proofs.Ways.{ways_each-same, one-other, ways-inner, ways-leaf, ways-none, ways-same, ways-top}
 
 -- a node is copied
-module _ (old : Ground) (Reached : ℕ → Type 0) (before after : ℕ → ℕ) (node : Node) (at now : ℕ) where
+module _ (old : Ground) (nodes : ℕ → Option Node) (Reached : ℕ → Type 0) (before after : ℕ → ℕ) (node : Node)
+    (at now : ℕ) where
   new_there : is_free_slot old.space now ≡ true → (q : ℕ) → 0 < sum_by (λ telling. gains telling q)
       (Copied node now ∷ []) → IsTrue (is_free_slot old.space q) ⊎ Reached q
   new_there free q some = elim (eqb_tells q now) [
@@ -35,16 +37,17 @@ module _ (old : Ground) (Reached : ℕ → Type 0) (before after : ℕ → ℕ) 
     | inr (is, other) ↦ absurd (let none = one-other now q other in omega (arith, none, some))
   ]
 
-  pub told-copied : (header_of node).address ≡ at → is_free_slot old.space now ≡ true → 0 < before at → before now ≡ 0
-      → ((q : ℕ) → after q + one at q ≡ before q + one now q) → IsTold old Reached before after 1 0 0
-      (Copied node now ∷ [])
-  told-copied named free some none turns = record {
+  pub told-copied : (header_of node).address ≡ at → nodes at ≡ Some node → is_free_slot old.space now ≡ true
+      → 0 < before at → before now ≡ 0 → ((q : ℕ) → after q + one at q ≡ before q + one now q)
+      → IsTold old nodes Reached before after 1 0 0 (Copied node now ∷ [])
+  told-copied named stood free some none turns = record {
     turns = (
       (let same = ap before named in omega (arith, same, some), none),
       λ q. let e = turns q in let same = ap
           (λ (a : ℕ). one a q) named in omega (arith, e, same),
     );
     new = new_there free;
+    as_was = All-from_recursion (IsAsWas nodes) (Copied node now ∷ []) (ap nodes named ∙ stood, tt);
     bare = All-from_recursion IsBare (Copied node now ∷ []) (tt, tt);
     few_copied = omega arith;
     few_left = omega arith;
@@ -99,47 +102,50 @@ module _ (tree : Tree) (root : Root) (land new : Ground) (history : Option (List
       | inr (is, other) ↦ owned.others history q other
     ]
 
-    kept_told : owned.mine ≡ owned.node → now ≡ at
-        → IsTold land (Reaches (told land.blocks.draft history) level at)
-        (ways (told land.blocks.draft history) level at) (ways (told new.blocks.draft history) level now) 1 0 0
-        (tellings_owned owned.node at now)
-    kept_told mine same =
-        let Reached = Reaches (told land.blocks.draft history) level at in
-        let before = ways (told land.blocks.draft history) level at in
-        let after = ways (told new.blocks.draft history) level now in
-        let turns : (q : ℕ) → after q ≡ before q = λ q.
-        ap (λ (a : ℕ). ways (told new.blocks.draft history) level a q) same
-        ∙ ways-same (told land.blocks.draft history) (told new.blocks.draft history) level at
-        (λ r reaches. stays mine same r) q in
-        subst (λ (ts : List Telling). IsTold land Reached before after 1 0 0 ts)
-        (sym (tellings-kept owned.node at now same))
-        (told-more land Reached before after 0 0 0 1 0 0 [] (omega arith) (omega arith) (omega arith)
-        (told-none land Reached before after turns))
+    module _ (nodes : ℕ → Option Node)
+        (same_there : fresh_at land.blocks.draft at ≡ None → nodes at ≡ told land.blocks.draft history at) where
+      kept_told : owned.mine ≡ owned.node → now ≡ at
+          → IsTold land nodes (Reaches (told land.blocks.draft history) level at)
+          (ways (told land.blocks.draft history) level at) (ways (told new.blocks.draft history) level now) 1 0 0
+          (tellings_owned owned.node at now)
+      kept_told mine same =
+          let Reached = Reaches (told land.blocks.draft history) level at in
+          let before = ways (told land.blocks.draft history) level at in
+          let after = ways (told new.blocks.draft history) level now in
+          let turns : (q : ℕ) → after q ≡ before q = λ q.
+          ap (λ (a : ℕ). ways (told new.blocks.draft history) level a q) same
+          ∙ ways-same (told land.blocks.draft history) (told new.blocks.draft history) level at
+          (λ r reaches. stays mine same r) q in
+          subst (λ (ts : List Telling). IsTold land nodes Reached before after 1 0 0 ts)
+          (sym (tellings-kept owned.node at now same))
+          (told-more land nodes Reached before after 0 0 0 1 0 0 [] (omega arith) (omega arith) (omega arith)
+          (told-none land nodes Reached before after turns))
 
-    copied_told : is_free_slot land.space now ≡ true
-        → IsTold land (Reaches (told land.blocks.draft history) level at)
-        (ways (told land.blocks.draft history) level at) (ways (told new.blocks.draft history) level now) 1 0 0
-        (tellings_owned owned.node at now)
-    copied_told is_free =
-        let Reached = Reaches (told land.blocks.draft history) level at in
-        let before = ways (told land.blocks.draft history) level at in
-        let after = ways (told new.blocks.draft history) level now in
-        let differ : now ≢ at = λ same. free now is_free
-        (subst (λ (a : ℕ). Reaches (told land.blocks.draft history) level at a) (sym same)
-        (reach-top (told land.blocks.draft history) level at)) in
-        let turns : (q : ℕ) → after q + one at q ≡ before q + one now q = λ q.
-        let both = below_ways level items branch free q in
-        let a = both.1 in
-        let b = both.2 in
-        omega (arith, a, b) in
-        subst (λ (ts : List Telling). IsTold land Reached before after 1 0 0 ts)
-        (sym (tellings-copied owned.node at now differ))
-        (told-copied land Reached before after owned.node at now owned.kept.placed is_free
-        (ways-top (told land.blocks.draft history) level at)
-        (ways-none (told land.blocks.draft history) level at now (free now is_free)) turns)
+      copied_told : is_free_slot land.space now ≡ true
+          → IsTold land nodes (Reaches (told land.blocks.draft history) level at)
+          (ways (told land.blocks.draft history) level at) (ways (told new.blocks.draft history) level now) 1 0 0
+          (tellings_owned owned.node at now)
+      copied_told is_free =
+          let Reached = Reaches (told land.blocks.draft history) level at in
+          let before = ways (told land.blocks.draft history) level at in
+          let after = ways (told new.blocks.draft history) level now in
+          let differ : now ≢ at = λ same. free now is_free
+          (subst (λ (a : ℕ). Reaches (told land.blocks.draft history) level at a) (sym same)
+          (reach-top (told land.blocks.draft history) level at)) in
+          let turns : (q : ℕ) → after q + one at q ≡ before q + one now q = λ q.
+          let both = below_ways level items branch free q in
+          let a = both.1 in
+          let b = both.2 in
+          omega (arith, a, b) in
+          subst (λ (ts : List Telling). IsTold land nodes Reached before after 1 0 0 ts)
+          (sym (tellings-copied owned.node at now differ))
+          (told-copied land nodes Reached before after owned.node at now owned.kept.placed (same_there (none-unless (fresh_at land.blocks.draft at) (λ some. differ (owned.stays some))) ∙ there)
+          is_free
+          (ways-top (told land.blocks.draft history) level at)
+          (ways-none (told land.blocks.draft history) level at now (free now is_free)) turns)
 
-    -- what is told of it
-    pub owned-told : IsTold land (Reaches (told land.blocks.draft history) level at)
-        (ways (told land.blocks.draft history) level at) (ways (told new.blocks.draft history) level now) 1 0 0
-        (tellings_owned owned.node at now)
-    owned-told = elim owned.same [ inl kept ↦ kept_told kept.0 kept.1 | inr copied ↦ copied_told copied.1 ]
+      -- what is told of it
+      pub owned-told : IsTold land nodes (Reaches (told land.blocks.draft history) level at)
+          (ways (told land.blocks.draft history) level at) (ways (told new.blocks.draft history) level now) 1 0 0
+          (tellings_owned owned.node at now)
+      owned-told = elim owned.same [ inl kept ↦ kept_told kept.0 kept.1 | inr copied ↦ copied_told copied.1 ]

@@ -102,9 +102,9 @@ module _ (tree : Tree) (root : Root) (land new : Ground) (history later : Option
   ])
 
   -- nothing else is told otherwise
-  pub pair-others : (q : ℕ) → (IsTrue (is_free_slot land.space q) → ⊥) → (ReachesParts (told land.blocks.draft history) level un.pointers place (alone child) q → ⊥)
-      → told new.blocks.draft history q ≡ told land.blocks.draft history q
-  pair-others q not_free not_parts = there.others history q (λ same. elim (now_parts q same) [ inl parts ↦ not_parts parts | inr free ↦ not_free free ])
+  pub pair-others : (disk : Option (List Event)) (q : ℕ) → (IsTrue (is_free_slot land.space q) → ⊥) → (ReachesParts (told land.blocks.draft history) level un.pointers place (alone child) q → ⊥)
+      → told new.blocks.draft disk q ≡ told land.blocks.draft disk q
+  pair-others disk q not_free not_parts = there.others disk q (λ same. elim (now_parts q same) [ inl parts ↦ not_parts parts | inr free ↦ not_free free ])
 
   -- nothing else gets free
   pub pair-freed : (q : ℕ) → IsTrue (is_free_slot new.space q) → IsTrue (is_free_slot land.space q) ⊎ ReachesParts (told land.blocks.draft history) level un.pointers place (alone child) q

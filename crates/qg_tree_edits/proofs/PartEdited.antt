@@ -20,15 +20,15 @@ use Rattle.qg_ground.specs.declared.ground.Ground.{Ground}
 use Rattle.qg_ground.specs.Changes.{Makes, node_at}
 use Rattle.qg_ground.specs.Land.{Rests}
 use Rattle.qg_ground.specs.Tellings.{Telling}
-use Rattle.qg_ground.proofs.Lands.{told-fresh_at}
+use Rattle.qg_ground.proofs.Lands.{fresh_at-told, told-fresh_at}
 use Rattle.qg_ground.proofs.Slots.{free-less, taken-more}
 use Rattle.qg_edit.specs.declared.edit.Edit.{Edit}
 use Rattle.qg_tree_edits.specs.declared.instead.Instead.{Instead}
 use Rattle.qg_descent.specs.Tree.{Reaches, Root, super_for, super_of}
 use Rattle.qg_descent.specs.Branch.{AreBranches, IsBranch, IsMember, IsPointed}
 use Rattle.qg_tree_edits.specs.First.{first_leaf, least}
-use Rattle.qg_tree_edits.specs.Editing.{CanMake, FillsThere, HoldInstead, IsCutThere, IsLeafEdited, IsOwned, IsPartEdited, IsPartFit, IsPlacedBehind, IsSettled, IsUnsettled, KeepsAbove, ReachesEach, ReachesInstead, ReachesParts}
-use Rattle.qg_tree_edits.specs.Counting.{IsPartTold, IsSettledTold, IsTold, one, tellings_made, tellings_owned, ways, ways_each, ways_instead, ways_parts}
+use Rattle.qg_tree_edits.specs.Editing.{CanMake, FillsThere, HoldInstead, IsCutThere, IsLeafEdited, IsOwned, IsPartEdited, IsPartFit, IsPlacedBehind, IsSettled, IsUnsettled, KeepsAbove, ReachesBeside, ReachesEach, ReachesInstead, ReachesParts}
+use Rattle.qg_tree_edits.specs.Counting.{IsPartTold, IsSettledTold, IsTold, TellSame, one, tellings_made, tellings_owned, ways, ways_each, ways_instead, ways_parts}
 use Rattle.qg_tree_edits.proofs.Around.{IsAround}
 use Rattle.qg_descent.proofs.Branches.{each-append, each-get}
 use Rattle.qg_descent.proofs.BranchFrames.{branches-same, reach-same, reach-top}
@@ -190,7 +190,7 @@ module _ (tree : Tree) (root : Root) (land mid low set end : Ground) (history ow
       → Reaches (told mid.blocks.draft history) level p.child q
   other_was i p other is =
       reach-same (told mid.blocks.draft history) (told low.blocks.draft history) level p.child
-      (λ r reaches. child_edited.others r (λ free. around.free r free i p is reaches)
+      (λ r reaches. child_edited.others history r (λ free. around.free r free i p is reaches)
       (λ also. around.apart i place p pointer other is there r reaches (subst (λ (a : ℕ). Reaches (told mid.blocks.draft history) level a r) leads also)))
 
   parts_old : (q : ℕ) → ReachesParts (told low.blocks.draft history) level pointers place child q → Old q
@@ -206,11 +206,11 @@ module _ (tree : Tree) (root : Root) (land mid low set end : Ground) (history ow
   new_old : (q : ℕ) → ReachesEach (told set.blocks.draft history) level settled.pointers_new q → Old q
   new_old q reaches = elim (settled.reach q reaches) [ inl parts ↦ parts_old q parts | inr free ↦ low_old q free ]
 
-  set_others : (q : ℕ) → (Old q → ⊥) → told set.blocks.draft history q ≡ told land.blocks.draft history q
-  set_others q not_old =
-      settled.others q (λ same. not_old (now_old q same)) (λ free. not_old (low_old q free)) (λ parts. not_old (parts_old q parts))
-      ∙ child_edited.others q (λ free. not_old (mid_old q free)) (λ reaches. not_old (child_old q reaches))
-      ∙ owned.others history q (λ same. not_old (now_old q same))
+  set_others : (disk : Option (List Event)) (q : ℕ) → (Old q → ⊥) → told set.blocks.draft disk q ≡ told land.blocks.draft disk q
+  set_others disk q not_old =
+      settled.others disk q (λ same. not_old (now_old q same)) (λ free. not_old (low_old q free)) (λ parts. not_old (parts_old q parts))
+      ∙ child_edited.others disk q (λ free. not_old (mid_old q free)) (λ reaches. not_old (child_old q reaches))
+      ∙ owned.others disk q (λ same. not_old (now_old q same))
 
   -- ---- sizes
 
@@ -242,10 +242,10 @@ module _ (tree : Tree) (root : Root) (land mid low set end : Ground) (history ow
   more_old : (two : AreInTwo low.space.sizes.nodesize set end now instead header settled.pointers_new) → (q : ℕ) → q ≡ two.more → Old q
   more_old two q same = set_old q (subst (λ (a : ℕ). IsTrue (is_free_slot set.space a)) (sym same) two.made.puts.free)
 
-  end_others : (q : ℕ) → (Old q → ⊥) → told end.blocks.draft history q ≡ told set.blocks.draft history q
-  end_others q not_old = elim ends [
-    | inl one ↦ ap (λ (g : Ground). told g.blocks.draft history q) one.same
-    | inr two ↦ two.made.puts.others history q (λ same. not_old (more_old two q same))
+  end_others : (disk : Option (List Event)) (q : ℕ) → (Old q → ⊥) → told end.blocks.draft disk q ≡ told set.blocks.draft disk q
+  end_others disk q not_old = elim ends [
+    | inl one ↦ ap (λ (g : Ground). told g.blocks.draft disk q) one.same
+    | inr two ↦ two.made.puts.others disk q (λ same. not_old (more_old two q same))
   ]
 
   -- one of the nodes that stand there
@@ -401,8 +401,8 @@ module _ (tree : Tree) (root : Root) (land mid low set end : Ground) (history ow
   unfolding Top
   reach q reaches = elim (from_instead q reaches) [ inl top ↦ top.0 | inr each ↦ new_old q each ]
 
-  others : (q : ℕ) → (Old q → ⊥) → told end.blocks.draft history q ≡ told land.blocks.draft history q
-  others q not_old = end_others q not_old ∙ set_others q not_old
+  others : (disk : Option (List Event)) (q : ℕ) → (Old q → ⊥) → told end.blocks.draft disk q ≡ told land.blocks.draft disk q
+  others disk q not_old = end_others disk q not_old ∙ set_others disk q not_old
 
   freed : (q : ℕ) → IsTrue (is_free_slot end.space q) → Old q
   freed q free = set_old q (end_free q free)
@@ -422,7 +422,7 @@ module _ (tree : Tree) (root : Root) (land mid low set end : Ground) (history ow
     first = first;
     holds = hold;
     reach = reach;
-    others = λ q not_free not_reached. others q (λ old. elim old [ inl reached ↦ not_reached reached | inr free ↦ not_free free ]);
+    others = λ disk q not_free not_reached. others disk q (λ old. elim old [ inl reached ↦ not_reached reached | inr free ↦ not_free free ]);
     freed = λ q free. elim (freed q free) [ inl reached ↦ inr reached | inr was ↦ inl was ];
     free = none_free;
   }
@@ -468,11 +468,15 @@ module _ (tree : Tree) (root : Root) (land mid low set end : Ground) (history ow
   low_now q (inr (inr (i, p, other, is, reaches))) = below_apart i p is q (other_was i p other is q reaches)
 
   -- from the other children as many ways lead on as before
+  other_same : (disk : Option (List Event)) (i : ℕ) (p : Pointer) → i ≢ place → slice_get pointers i ≡ Some p → (r : ℕ) → Reaches (told mid.blocks.draft history) level p.child r
+      → told low.blocks.draft disk r ≡ told mid.blocks.draft disk r
+  other_same disk i p other is r reaches =
+      child_edited.others disk r (λ free. around.free r free i p is reaches)
+      (λ also. around.apart i place p pointer other is there r reaches (subst (λ (a : ℕ). Reaches (told mid.blocks.draft history) level a r) leads also))
+
   other_stays : (i : ℕ) (p : Pointer) → i ≢ place → slice_get pointers i ≡ Some p → (r : ℕ) → Reaches (told mid.blocks.draft history) level p.child r
       → told low.blocks.draft history r ≡ told mid.blocks.draft history r
-  other_stays i p other is r reaches =
-      child_edited.others r (λ free. around.free r free i p is reaches)
-      (λ also. around.apart i place p pointer other is there r reaches (subst (λ (a : ℕ). Reaches (told mid.blocks.draft history) level a r) leads also))
+  other_stays = other_same history
 
   beside : ℕ → ℕ
   beside q = ways_each (told mid.blocks.draft history) level (take place pointers) q + ways_each (told mid.blocks.draft history) level (drop (place + 1) pointers) q
@@ -517,12 +521,13 @@ module _ (tree : Tree) (root : Root) (land mid low set end : Ground) (history ow
       let same = ap (λ (a : ℕ). ways (told mid.blocks.draft history) level a q) leads in
       omega (arith, top, parts, same)
 
-  own_told : IsTold land FromTop (ways (told land.blocks.draft history) (suc level) at) first_ways 1 0 0 (tellings_owned owned.node at now)
+  own_told : (nodes : ℕ → Option Node) → (fresh_at land.blocks.draft at ≡ None → nodes at ≡ told land.blocks.draft history at)
+      → IsTold land nodes FromTop (ways (told land.blocks.draft history) (suc level) at) first_ways 1 0 0 (tellings_owned owned.node at now)
   unfolding FromTop
-  own_told =
+  own_told nodes same =
       let before = ways (told land.blocks.draft history) (suc level) at in
-      told-same land FromTop before before (ways (told mid.blocks.draft history) (suc level) now) first_ways 1 0 0 (tellings_owned owned.node at now) (λ q. refl) first_are
-      (owned-told tree root land mid history expected at now owned makes (suc level) items branch unreached)
+      told-same land nodes FromTop before before (ways (told mid.blocks.draft history) (suc level) now) first_ways 1 0 0 (tellings_owned owned.node at now) (λ q. refl) first_are
+      (owned-told tree root land mid history expected at now owned makes (suc level) items branch unreached nodes same)
 
   from_old : (q : ℕ) → Old q → IsTrue (is_free_slot land.space q) ⊎ FromTop q
   unfolding Old FromTop
@@ -542,16 +547,41 @@ module _ (tree : Tree) (root : Root) (land mid low set end : Ground) (history ow
   unfolding parts_ways
   parts_are q = let same = beside_low q in omega (arith, same)
 
-  child_told : (tellings : List Telling) → IsPartTold mid low history level child_at child tellings
-      → IsTold land FromTop first_ways parts_ways (2 * (level + 1)) (level + 1) (level + 1) tellings
+  -- nodes that tell the same as before, where none was fresh, tell the same of what is below
+  TopSame : (ℕ → Option Node) → Type 0
+  TopSame nodes = TellSame FromTop nodes land history
+
+  below_same : (nodes : ℕ → Option Node) → TopSame nodes → (i : ℕ) (p : Pointer) → slice_get pointers i ≡ Some p
+      → (q : ℕ) → Reaches (told mid.blocks.draft history) level p.child q → fresh_at mid.blocks.draft q ≡ None → nodes q ≡ told mid.blocks.draft history q
+  unfolding TopSame FromTop
+  below_same nodes same i p is q reaches none =
+      elim (owned-reach tree root land mid history expected at now owned makes (suc level) items branch unreached q (below_now i p is q reaches)) [
+        | inl here ↦ absurd (below_apart i p is q reaches here)
+        | inr below ↦
+            same q below.0 (sym (fresh_at-told land.blocks.draft mid.blocks.draft q (owned.others None q (below_apart i p is q reaches))) ∙ none)
+            ∙ sym (owned.others history q (below_apart i p is q reaches))
+      ]
+
+  child_same : (nodes : ℕ → Option Node) → TopSame nodes → TellSame (Reaches (told mid.blocks.draft history) level child_at) nodes mid history
+  child_same nodes same q reaches = below_same nodes same place pointer there q (subst (λ (a : ℕ). Reaches (told mid.blocks.draft history) level a q) leads reaches)
+
+  beside_same : (nodes : ℕ → Option Node) → TopSame nodes
+      → TellSame (ReachesBeside (told low.blocks.draft history) level pointers place) nodes low history
+  beside_same nodes same q (i, p, other, is, reaches) none =
+      let was = other_was i p other is q reaches in
+      below_same nodes same i p is q was (sym (fresh_at-told mid.blocks.draft low.blocks.draft q (other_same None i p other is q was)) ∙ none)
+      ∙ sym (other_stays i p other is q was)
+
+  child_told : (nodes : ℕ → Option Node) → TopSame nodes → (tellings : List Telling) → IsPartTold mid low history level child_at child tellings
+      → IsTold land nodes FromTop first_ways parts_ways (2 * (level + 1)) (level + 1) (level + 1) tellings
   unfolding first_ways FromChild
-  child_told tellings is =
+  child_told nodes same tellings is =
       let before = ways (told mid.blocks.draft history) level child_at in
       let after = ways_instead (told low.blocks.draft history) level child in
       let more = λ (q : ℕ). one now q + beside q in
-      let framed = told-apart mid FromChild before after more (2 * (level + 1)) (level + 1) (level + 1) tellings else_none is in
-      told-same land FromTop first_ways first_ways (λ q. after q + more q) parts_ways (2 * (level + 1)) (level + 1) (level + 1) tellings (λ q. refl) parts_are
-      (told-within land FromTop mid FromChild first_ways (λ q. after q + more q) (2 * (level + 1)) (level + 1) (level + 1) tellings child_within framed)
+      let framed = told-apart mid nodes FromChild before after more (2 * (level + 1)) (level + 1) (level + 1) tellings else_none (is nodes (child_same nodes same)) in
+      told-same land nodes FromTop first_ways first_ways (λ q. after q + more q) parts_ways (2 * (level + 1)) (level + 1) (level + 1) tellings (λ q. refl) parts_are
+      (told-within land nodes FromTop mid FromChild first_ways (λ q. after q + more q) (2 * (level + 1)) (level + 1) (level + 1) tellings child_within framed)
 
   -- its pointers were set
   parts_within : (q : ℕ) → IsTrue (is_free_slot low.space q) ⊎ FromParts q → IsTrue (is_free_slot land.space q) ⊎ FromTop q
@@ -562,40 +592,43 @@ module _ (tree : Tree) (root : Root) (land mid low set end : Ground) (history ow
   new_ways : ℕ → ℕ
   new_ways q = ways_each (told set.blocks.draft history) level settled.pointers_new q + one now q
 
-  set_told : (tellings : List Telling) → IsTold low (ReachesParts (told low.blocks.draft history) level pointers place child) (ways_parts (told low.blocks.draft history) level pointers place child)
-      (ways_each (told set.blocks.draft history) level settled.pointers_new) 1 1 0 tellings → IsTold land FromTop parts_ways new_ways 1 1 0 tellings
-  unfolding parts_ways new_ways FromParts
-  set_told tellings is =
+  SetTold : (ℕ → Option Node) → List Telling → Type 0
+  SetTold nodes tellings = IsTold low nodes (ReachesParts (told low.blocks.draft history) level pointers place child) (ways_parts (told low.blocks.draft history) level pointers place child)
+      (ways_each (told set.blocks.draft history) level settled.pointers_new) 1 1 0 tellings
+
+  set_told : (nodes : ℕ → Option Node) (tellings : List Telling) → SetTold nodes tellings → IsTold land nodes FromTop parts_ways new_ways 1 1 0 tellings
+  unfolding parts_ways new_ways FromParts SetTold
+  set_told nodes tellings is =
       let before = ways_parts (told low.blocks.draft history) level pointers place child in
       let after = ways_each (told set.blocks.draft history) level settled.pointers_new in
-      let framed = told-apart low FromParts before after (one now) 1 1 0 tellings (λ q from. one-other now q (low_now q from)) is in
-      told-within land FromTop low FromParts (λ q. before q + one now q) (λ q. after q + one now q) 1 1 0 tellings parts_within framed
+      let framed = told-apart low nodes FromParts before after (one now) 1 1 0 tellings (λ q from. one-other now q (low_now q from)) is in
+      told-within land nodes FromTop low FromParts (λ q. before q + one now q) (λ q. after q + one now q) 1 1 0 tellings parts_within framed
 
   -- what was cut off was made a node behind it
   set_within : (q : ℕ) → IsTrue (is_free_slot set.space q) ⊎ ⊥ → IsTrue (is_free_slot land.space q) ⊎ FromTop q
   set_within q (inl free) = from_old q (set_old q free)
   set_within q (inr none) = absurd none
 
-  Ends : Instead → Type 0
-  Ends i = IsTold set (λ q. ⊥) new_ways (ways_instead (told end.blocks.draft history) (suc level) i) 0 0 1 (tellings_made i.more)
+  Ends : (ℕ → Option Node) → Instead → Type 0
+  Ends nodes i = IsTold set nodes (λ q. ⊥) new_ways (ways_instead (told end.blocks.draft history) (suc level) i) 0 0 1 (tellings_made i.more)
 
-  one_ends : IsInOne set end now instead header settled.pointers_new → Ends (record { now = now; more = None })
+  one_ends : (nodes : ℕ → Option Node) → IsInOne set end now instead header settled.pointers_new → Ends nodes (record { now = now; more = None })
   unfolding Ends new_ways
-  one_ends one_node =
+  one_ends nodes one_node =
       let after = ways_instead (told end.blocks.draft history) (suc level) (record { now = now; more = None }) in
-      told-more set (λ q. ⊥) new_ways after 0 0 0 0 0 1 [] (omega arith) (omega arith) (omega arith)
-      (told-none set (λ q. ⊥) new_ways after (λ q.
+      told-more set nodes (λ q. ⊥) new_ways after 0 0 0 0 0 1 [] (omega arith) (omega arith) (omega arith)
+      (told-none set nodes (λ q. ⊥) new_ways after (λ q.
       let top = ways-inner (told end.blocks.draft history) level now header settled.pointers_new (one_told one_node) q in
       let same = ap (λ (g : Ground). ways_each (told g.blocks.draft history) level settled.pointers_new q) one_node.same in
       omega (arith, top, same)))
 
-  two_end : (two : AreInTwo low.space.sizes.nodesize set end now instead header settled.pointers_new) → Ends (record { now = now; more = Some two.more })
+  two_end : (nodes : ℕ → Option Node) (two : AreInTwo low.space.sizes.nodesize set end now instead header settled.pointers_new) → Ends nodes (record { now = now; more = Some two.more })
   unfolding Ends new_ways
-  two_end two =
+  two_end nodes two =
       let differ : two.more ≢ now = λ same. fresh-taken set root.next now (Inner header two.first) set_rests.drafted two.here (ap (is_free_slot set.space) (sym same) ∙ two.made.puts.free) in
       let top = one-other now two.more differ in
       let below = ways_each-none (told set.blocks.draft history) level settled.pointers_new two.more (λ i p is reaches. settled.free two.more two.made.puts.free (i, p, is, reaches)) in
-      told-made set (λ q. ⊥) new_ways (ways_instead (told end.blocks.draft history) (suc level) (record { now = now; more = Some two.more })) two.more two.made.puts.free (omega (arith, top, below)) (λ q.
+      told-made set nodes (λ q. ⊥) new_ways (ways_instead (told end.blocks.draft history) (suc level) (record { now = now; more = Some two.more })) two.more two.made.puts.free (omega (arith, top, below)) (λ q.
       let a = ways-inner (told end.blocks.draft history) level now header two.first (first_told two) q in
       let b = ways-inner (told end.blocks.draft history) level two.more (record two.other { address = two.more }) two.second (second_told two) q in
       let sum = ways_each-append (told end.blocks.draft history) level two.first two.second q in
@@ -603,29 +636,30 @@ module _ (tree : Tree) (root : Root) (land mid low set end : Ground) (history ow
       let stays = ways_each-same (told set.blocks.draft history) (told end.blocks.draft history) level settled.pointers_new (new_stays two) q in
       omega (arith, a, b, sum, whole, stays))
 
-  end_told : IsTold land FromTop new_ways (ways_instead (told end.blocks.draft history) (suc level) instead) 0 0 1 (tellings_made instead.more)
+  end_told : (nodes : ℕ → Option Node) → IsTold land nodes FromTop new_ways (ways_instead (told end.blocks.draft history) (suc level) instead) 0 0 1 (tellings_made instead.more)
   unfolding Ends
-  end_told =
-      told-within land FromTop set (λ q. ⊥) new_ways (ways_instead (told end.blocks.draft history) (suc level) instead) 0 0 1 (tellings_made instead.more) set_within
+  end_told nodes =
+      told-within land nodes FromTop set (λ q. ⊥) new_ways (ways_instead (told end.blocks.draft history) (suc level) instead) 0 0 1 (tellings_made instead.more) set_within
       (elim ends [
-        | inl one_node ↦ subst (λ (i : Instead). Ends i) (sym one_node.instead_is) (one_ends one_node)
-        | inr two ↦ subst (λ (i : Instead). Ends i) (sym two.instead_is) (two_end two)
+        | inl one_node ↦ subst (λ (i : Instead). Ends nodes i) (sym one_node.instead_is) (one_ends nodes one_node)
+        | inr two ↦ subst (λ (i : Instead). Ends nodes i) (sym two.instead_is) (two_end nodes two)
       ])
 
   pub part-told : (below above : List Telling) → IsPartTold mid low history level child_at child below
-      → IsTold low (ReachesParts (told low.blocks.draft history) level pointers place child) (ways_parts (told low.blocks.draft history) level pointers place child)
-      (ways_each (told set.blocks.draft history) level settled.pointers_new) 1 1 0 above
+      → ((nodes : ℕ → Option Node) → TellSame (ReachesBeside (told low.blocks.draft history) level pointers place) nodes low history
+      → IsTold low nodes (ReachesParts (told low.blocks.draft history) level pointers place child) (ways_parts (told low.blocks.draft history) level pointers place child)
+      (ways_each (told set.blocks.draft history) level settled.pointers_new) 1 1 0 above)
       → IsPartTold land end history (suc level) at instead (tellings_owned owned.node at now ++ (below ++ (above ++ tellings_made instead.more)))
-  unfolding FromTop
-  part-told below above of_child of_set =
+  unfolding FromTop TopSame SetTold
+  part-told below above of_child of_set nodes same =
       let log = tellings_owned owned.node at now in
       let made = tellings_made instead.more in
       let start = ways (told land.blocks.draft history) (suc level) at in
       let last = ways_instead (told end.blocks.draft history) (suc level) instead in
-      let third = told-append land FromTop parts_ways new_ways last 1 1 0 0 0 1 above made (set_told above of_set) end_told in
-      let second = told-append land FromTop first_ways parts_ways last (2 * (level + 1)) (level + 1) (level + 1) (1 + 0) (1 + 0) (0 + 1) below (above ++ made) (child_told below of_child) third in
-      let all = told-append land FromTop start first_ways last 1 0 0 (2 * (level + 1) + (1 + 0)) (level + 1 + (1 + 0)) (level + 1 + (0 + 1)) log (below ++ (above ++ made)) own_told second in
-      told-more land FromTop start last (1 + (2 * (level + 1) + (1 + 0))) (0 + (level + 1 + (1 + 0))) (0 + (level + 1 + (0 + 1))) (2 * (suc level + 1)) (suc level + 1) (suc level + 1)
+      let third = told-append land nodes FromTop parts_ways new_ways last 1 1 0 0 0 1 above made (set_told nodes above (of_set nodes (beside_same nodes same))) (end_told nodes) in
+      let second = told-append land nodes FromTop first_ways parts_ways last (2 * (level + 1)) (level + 1) (level + 1) (1 + 0) (1 + 0) (0 + 1) below (above ++ made) (child_told nodes same below of_child) third in
+      let all = told-append land nodes FromTop start first_ways last 1 0 0 (2 * (level + 1) + (1 + 0)) (level + 1 + (1 + 0)) (level + 1 + (0 + 1)) log (below ++ (above ++ made)) (own_told nodes (same at (reach-top (told land.blocks.draft history) (suc level) at))) second in
+      told-more land nodes FromTop start last (1 + (2 * (level + 1) + (1 + 0))) (0 + (level + 1 + (1 + 0))) (0 + (level + 1 + (0 + 1))) (2 * (suc level + 1)) (suc level + 1) (suc level + 1)
       (log ++ (below ++ (above ++ made))) (omega arith) (omega arith) (omega arith) all
 
 -- ---- the same by what is known of the node once its child was edited
@@ -656,8 +690,9 @@ module _ (tree : Tree) (root : Root) (land mid low set end : Ground) (history ow
       (subst (λ (ps : List Pointer). IsSettled tree root low set history level now place child ps un.header items_new rest) same_pointers settled) placed own_rests child_rests set_rests end_rests
 
   pub part-told-unsettled : (below above : List Telling) → IsPartTold mid low history level child_at child below
-      → IsTold low (ReachesParts (told low.blocks.draft history) level un.pointers place child) (ways_parts (told low.blocks.draft history) level un.pointers place child)
-      (ways_each (told set.blocks.draft history) level settled.pointers_new) 1 1 0 above
+      → ((nodes : ℕ → Option Node) → TellSame (ReachesBeside (told low.blocks.draft history) level un.pointers place) nodes low history
+      → IsTold low nodes (ReachesParts (told low.blocks.draft history) level un.pointers place child) (ways_parts (told low.blocks.draft history) level un.pointers place child)
+      (ways_each (told set.blocks.draft history) level settled.pointers_new) 1 1 0 above)
       → IsPartTold land end history (suc level) at instead (tellings_owned owned.node at now ++ (below ++ (above ++ tellings_made instead.more)))
   part-told-unsettled below above of_child of_set =
       let whole : IsSettledTold tree root low set history level now place child un.pointers un.header items_new rest above = record { settled = settled; told = of_set } in

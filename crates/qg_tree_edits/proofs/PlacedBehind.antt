@@ -61,10 +61,10 @@ module _ (set end : Ground) (history : Option (List Event)) (nodesize now genera
 -- only a slot that was free is told otherwise
 pub placed-told : (set end : Ground) (history : Option (List Event)) (nodesize now : ℕ) (whole : Node) (instead : Instead)
     → IsOneThere set end history now whole instead ⊎ AreTwoThere set end history nodesize now whole instead
-    → (q : ℕ) → (IsTrue (is_free_slot set.space q) → ⊥) → told end.blocks.draft history q ≡ told set.blocks.draft history q
-placed-told set end history nodesize now whole instead (inl one) q taken = ap (λ (g : Ground). told g.blocks.draft history q) one.same
-placed-told set end history nodesize now whole instead (inr two) q taken =
-    two.makes.puts.others history q (λ same. taken (ap (is_free_slot set.space) same ∙ two.makes.puts.free))
+    → (disk : Option (List Event)) (q : ℕ) → (IsTrue (is_free_slot set.space q) → ⊥) → told end.blocks.draft disk q ≡ told set.blocks.draft disk q
+placed-told set end history nodesize now whole instead (inl one) disk q taken = ap (λ (g : Ground). told g.blocks.draft disk q) one.same
+placed-told set end history nodesize now whole instead (inr two) disk q taken =
+    two.makes.puts.others disk q (λ same. taken (ap (is_free_slot set.space) same ∙ two.makes.puts.free))
 
 -- no slot gets free
 pub placed-free : (set end : Ground) (history later : Option (List Event)) (nodesize now generation : ℕ) (whole : Node) (instead : Instead) → IsDrafted set generation → Rests set end later generation

@@ -59,7 +59,7 @@ module _ (tree : Tree) (root : Root) (land mid new end : Ground) (history later 
   end_stays i pointer aside there q reaches =
       let other = other-branch tree root land history level at to place (alone child) items un i pointer
       (aside-place tree root land mid new history later last level at to place child items un pair instead is makes drafted rests fresh thin united after i aside) there in
-      led.others q (not-above tree (super_of root land.blocks.draft) land history level at un.header un.pointers un.here un.member.levelled pointer.child other.0 other.2 q reaches)
+      led.others history q (not-above tree (super_of root land.blocks.draft) land history level at un.header un.pointers un.here un.member.levelled pointer.child other.0 other.2 q reaches)
       ∙ new-stays tree root land mid new history later last level at to place child items un pair instead is makes drafted rests fresh thin united after i pointer aside there q reaches
 
   end_was : (i : ℕ) (pointer : Pointer) → Aside i → slice_get un.pointers i ≡ Some pointer → (q : ℕ) → Reaches (told end.blocks.draft history) level pointer.child q
@@ -121,13 +121,13 @@ module _ (tree : Tree) (root : Root) (land mid new end : Ground) (history later 
   unfolding Parts
   parts_or = pair-parts tree root land mid history later level at to place child items un pair is makes drafted rests
 
-  others : (q : ℕ) → q ≢ at → (IsTrue (is_free_slot land.space q) → ⊥) → (Parts q → ⊥) → told end.blocks.draft history q ≡ told land.blocks.draft history q
+  others : (disk : Option (List Event)) (q : ℕ) → q ≢ at → (IsTrue (is_free_slot land.space q) → ⊥) → (Parts q → ⊥) → told end.blocks.draft disk q ≡ told land.blocks.draft disk q
   unfolding Parts
-  others q differ_at not_free not_parts =
+  others disk q differ_at not_free not_parts =
       let neither : (q ≡ pair.left) ⊎ (q ≡ pair.right) → ⊥ = λ one. elim (parts_or q one) [ inl parts ↦ not_parts parts | inr free ↦ not_free free ] in
-      led.others q differ_at
-      ∙ united-told mid new pair.left pair.right instead pair_differ are_both united history q (λ same. neither (inl same)) (λ same. neither (inr same))
-      ∙ pair-others tree root land mid history later level at to place child items un pair is makes drafted rests q not_free not_parts
+      led.others disk q differ_at
+      ∙ united-told mid new pair.left pair.right instead pair_differ are_both united disk q (λ same. neither (inl same)) (λ same. neither (inr same))
+      ∙ pair-others tree root land mid history later level at to place child items un pair is makes drafted rests disk q not_free not_parts
 
   freed : (q : ℕ) → IsTrue (is_free_slot new.space q) → IsTrue (is_free_slot land.space q) ⊎ Parts q
   unfolding Parts

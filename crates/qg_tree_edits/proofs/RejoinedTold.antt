@@ -1,5 +1,5 @@
 -- A child was joined with its neighbour, and the pointers of their node are set: what a book is told meanwhile.
-use Rattle.std.proofs.Common.{◌≡◌, ◌≢◌, ◌⊎◌, ℕ, suc, ◌+◌, ◌<◌, ◌≤◌, List, [], ◌∷◌, ◌++◌, take, drop, arith, refl, sym, ap, subst, ◌∙◌, inl, inr, Option, Some}
+use Rattle.std.proofs.Common.{◌≡◌, ◌≢◌, ◌⊎◌, ℕ, suc, ◌+◌, ◌<◌, ◌≤◌, List, [], ◌∷◌, ◌++◌, take, drop, arith, refl, sym, ap, subst, ◌∙◌, inl, inr, Option, Some, None}
 use Rattle.std.specs.Prelude.{IsTrue, slice_get}
 use Rattle.qg_device.specs.History.{Event}
 use Rattle.qg_num.specs.declared.key.Key.{Key}
@@ -7,7 +7,7 @@ use Rattle.qg_node.specs.declared.item.Item.{Item}
 use Rattle.qg_node.specs.declared.pointer.Pointer.{Pointer}
 use Rattle.qg_node.specs.declared.node.Node.{Node}
 use Rattle.qg_verdict.specs.declared.tree.Tree.{Tree}
-use Rattle.qg_blocks.specs.Told.{told}
+use Rattle.qg_blocks.specs.Told.{fresh_at, told}
 use Rattle.qg_space.specs.Holding.{is_free_slot}
 use Rattle.qg_ground.specs.declared.ground.Ground.{Ground}
 use Rattle.qg_ground.specs.Land.{IsDrafted, Rests}
@@ -16,10 +16,11 @@ use Rattle.qg_tree_edits.specs.declared.instead.Instead.{Instead}
 use Rattle.qg_tree_edits.specs.declared.pairing.Pair.{Pair}
 use Rattle.qg_descent.specs.Tree.{Reaches, Root, super_of}
 use Rattle.qg_descent.specs.Branch.{IsBranch}
-use Rattle.qg_tree_edits.specs.Editing.{CanMake, HasLed, IsFreshOn, IsUnsettled, ReachesParts, alone}
+use Rattle.qg_tree_edits.specs.Editing.{CanMake, HasLed, IsFreshOn, IsUnsettled, ReachesBeside, ReachesParts, alone}
 use Rattle.qg_tree_edits.specs.Uniting.{AreUnited, IsPaired}
 use Rattle.qg_tree_edits.specs.Counting.{IsSettledTold, IsTold, TellsUnited, tellings_owned, ways, ways_each, ways_instead, ways_parts}
 use Rattle.qg_tree_edits.proofs.Beside.{beside-differs, other-branch}
+use Rattle.qg_descent.proofs.BranchFrames.{reach-top}
 use Rattle.qg_tree_edits.proofs.LedTold.{led-ways}
 use Rattle.qg_tree_edits.proofs.OwnedTold.{owned-told}
 use Rattle.qg_tree_edits.proofs.Paired.{IsThinAt}
@@ -127,6 +128,10 @@ module _ (tree : Tree) (root : Root) (land mid new end : Ground) (history later 
   unfolding From
   from_beside q reaches = subst (λ (a : ℕ). Reaches (told land.blocks.draft history) level a q) is.is.way.child reaches
 
+  from_top : From is.beside.way.address
+  unfolding From
+  from_top = reach-top (told land.blocks.draft history) level is.beside.way.address
+
   from_parts : (q : ℕ) → IsTrue (is_free_slot land.space q) ⊎ From q → IsTrue (is_free_slot land.space q) ⊎ Parts q
   unfolding Parts
   from_parts q (inl free) = inl free
@@ -151,12 +156,16 @@ module _ (tree : Tree) (root : Root) (land mid new end : Ground) (history later 
             a found.0) (sym is.is.way.child) found.2,
       )
 
-  own_told : IsTold land From (ways (told land.blocks.draft history) level is.beside.way.address)
+  own_told : (nodes : ℕ → Option Node)
+      → (fresh_at land.blocks.draft is.beside.way.address ≡ None
+      → nodes is.beside.way.address ≡ told land.blocks.draft history is.beside.way.address)
+      → IsTold land nodes From (ways (told land.blocks.draft history) level is.beside.way.address)
       (ways (told mid.blocks.draft history) level is.now) 1 0 0
       (tellings_owned is.owned.node is.beside.way.address is.now)
   unfolding From
-  own_told = owned-told tree root land mid history is.beside.way.expected is.beside.way.address is.now is.owned makes
-      level beside_branch.0 beside_branch.1 beside_free
+  own_told nodes same =
+      owned-told tree root land mid history is.beside.way.expected is.beside.way.address is.now is.owned makes
+      level beside_branch.0 beside_branch.1 beside_free nodes same
 
   -- the child and the others are elsewhere
   else_none : (q : ℕ) → IsTrue (is_free_slot land.space q) ⊎ From q
@@ -205,17 +214,21 @@ module _ (tree : Tree) (root : Root) (land mid new end : Ground) (history later 
             omega (arith, mine, left, right)
       ]
 
-  first_told : IsTold land Parts (ways_parts (told land.blocks.draft history) level un.pointers place (alone child))
+  first_told : (nodes : ℕ → Option Node)
+      → (fresh_at land.blocks.draft is.beside.way.address ≡ None
+      → nodes is.beside.way.address ≡ told land.blocks.draft history is.beside.way.address)
+      → IsTold land nodes Parts (ways_parts (told land.blocks.draft history) level un.pointers place (alone child))
       both_ways 1 0 0 (tellings_owned is.owned.node is.beside.way.address is.now)
-  first_told =
+  first_told nodes same =
       let more = λ (q : ℕ). ways (told land.blocks.draft history) level child q + others q in
       let old_beside = ways (told land.blocks.draft history) level is.beside.way.address in
       let new_beside = ways (told mid.blocks.draft history) level is.now in
       let log = tellings_owned is.owned.node is.beside.way.address is.now in
-      let framed = told-apart land From old_beside new_beside more 1 0 0 log else_none own_told in
-      let whole = told-within land Parts land From (λ q. old_beside q + more q) (λ q. new_beside q + more q) 1 0 0 log
-      from_parts framed in
-      told-same land Parts (λ q. old_beside q + more q)
+      let framed = told-apart land nodes From old_beside new_beside more 1 0 0 log else_none
+      (own_told nodes same) in
+      let whole = told-within land nodes Parts land From (λ q. old_beside q + more q) (λ q. new_beside q + more q) 1 0 0
+      log from_parts framed in
+      told-same land nodes Parts (λ q. old_beside q + more q)
       (ways_parts (told land.blocks.draft history) level un.pointers place (alone child))
       (λ q. new_beside q + more q) both_ways 1 0 0 log
       before between whole
@@ -237,9 +250,9 @@ module _ (tree : Tree) (root : Root) (land mid new end : Ground) (history later 
   instead_ways : ℕ → ℕ
   instead_ways q = ways_instead (told new.blocks.draft history) level instead q + others q
 
-  later_told : IsTold land Parts both_ways instead_ways 0 1 0 tellings
+  later_told : (nodes : ℕ → Option Node) → IsTold land nodes Parts both_ways instead_ways 0 1 0 tellings
   unfolding both_ways instead_ways
-  later_told =
+  later_told nodes =
       let held = hold tree root land mid new history later last level at to place child items un pair instead is makes
       drafted rests fresh thin united after in
       let joined = united-tells mid new pair.left pair.right instead
@@ -249,12 +262,12 @@ module _ (tree : Tree) (root : Root) (land mid new end : Ground) (history later 
       rests fresh thin united after)
       united tree (super_of root land.blocks.draft) history level held.ls held.rs held.left_holds held.right_holds
       (size tree root land mid new history later last level at to place child items un pair instead is makes drafted
-      rests fresh thin united after) tellings tells in
+      rests fresh thin united after) nodes tellings tells in
       let two = λ (q : ℕ). ways (told mid.blocks.draft history) level pair.left q
       + ways (told mid.blocks.draft history) level pair.right q in
       let one_then = ways_instead (told new.blocks.draft history) level instead in
-      told-within land Parts mid (λ q. ⊥) (λ q. two q + others q) (λ q. one_then q + others q) 0 1 0 tellings mid_parts
-      (told-apart mid (λ q. ⊥) two one_then others 0 1 0 tellings mid_free joined)
+      told-within land nodes Parts mid (λ q. ⊥) (λ q. two q + others q) (λ q. one_then q + others q) 0 1 0 tellings
+      mid_parts (told-apart mid nodes (λ q. ⊥) two one_then others 0 1 0 tellings mid_free joined)
 
   -- ---- the pointers were set
 
@@ -285,18 +298,32 @@ module _ (tree : Tree) (root : Root) (land mid new end : Ground) (history later 
       let same = others_new q in
       omega (arith, set, same)
 
-  all_told : IsTold land Parts (ways_parts (told land.blocks.draft history) level un.pointers place (alone child))
+  all_told : (nodes : ℕ → Option Node)
+      → (fresh_at land.blocks.draft is.beside.way.address ≡ None
+      → nodes is.beside.way.address ≡ told land.blocks.draft history is.beside.way.address)
+      → IsTold land nodes Parts (ways_parts (told land.blocks.draft history) level un.pointers place (alone child))
       (ways_each (told end.blocks.draft history) level (take pair.front un.pointers ++ (led.now ∷ led.more)
       ++ drop (pair.front + 2) un.pointers)) 1 1 0
       (tellings_owned is.owned.node is.beside.way.address is.now ++ tellings)
-  all_told =
+  all_told nodes same =
       let start = ways_parts (told land.blocks.draft history) level un.pointers place (alone child) in
       let log = tellings_owned is.owned.node is.beside.way.address is.now ++ tellings in
-      told-same land Parts start start instead_ways (ways_each (told end.blocks.draft history) level
+      told-same land nodes Parts start start instead_ways (ways_each (told end.blocks.draft history) level
       (take pair.front un.pointers ++ (led.now ∷ led.more) ++ drop (pair.front + 2) un.pointers)) 1 1 0 log
       (λ q. refl) then
-      (told-append land Parts start both_ways instead_ways 1 0 0 0 1 0
-      (tellings_owned is.owned.node is.beside.way.address is.now) tellings first_told later_told)
+      (told-append land nodes Parts start both_ways instead_ways 1 0 0 0 1 0
+      (tellings_owned is.owned.node is.beside.way.address is.now) tellings (first_told nodes same)
+      (later_told nodes))
+
+  -- the neighbour is another child
+  beside_there : ReachesBeside (told land.blocks.draft history) level un.pointers place is.beside.way.address
+  beside_there = (
+    is.is.other,
+    is.is.way.pointer,
+    differs,
+    is.is.way.there,
+    from_beside is.beside.way.address from_top,
+  )
 
   pub rejoined-told : IsSettledTold tree root land end history level at place (alone child) un.pointers un.header items
       rest (tellings_owned is.owned.node is.beside.way.address is.now ++ tellings)
@@ -304,12 +331,13 @@ module _ (tree : Tree) (root : Root) (land mid new end : Ground) (history later 
   rejoined-told = record {
     settled = rejoined-settled tree root land mid new end history later last level at to place child items rest un pair
         instead is makes drafted rests fresh thin united after led;
-    told = subst
-        (λ (ps : List Pointer). IsTold land (ReachesParts (told land.blocks.draft history) level un.pointers place
+    told = λ nodes same. subst
+        (λ (ps : List Pointer). IsTold land nodes (ReachesParts (told land.blocks.draft history) level un.pointers place
         (alone child))
         (ways_parts (told land.blocks.draft history) level un.pointers place (alone child))
         (ways_each (told end.blocks.draft history) level ps) 1 1 0
         (tellings_owned is.owned.node is.beside.way.address is.now ++ tellings))
         (sym (rejoined-pointers tree root land mid new end history later last level at to place child items rest un pair
-        instead is makes drafted rests fresh thin united after led)) all_told;
+        instead is makes drafted rests fresh thin united after led))
+        (all_told nodes (same is.beside.way.address beside_there));
   }

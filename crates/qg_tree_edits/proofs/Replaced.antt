@@ -27,15 +27,16 @@ use Rattle.qg_tree_edits.specs.declared.instead.Instead.{Instead}
 use Rattle.qg_descent.specs.Tree.{Reaches, Root, super_for, super_of}
 use Rattle.qg_tree_edits.specs.First.{first_leaf, least}
 use Rattle.qg_tree_edits.specs.Editing.{HoldInstead, IsPartEdited, IsPartFit, ReachesInstead}
-use Rattle.qg_tree_edits.specs.Counting.{IsPartTold, IsRootTold, IsTold, IsTreeTold, ways, ways_instead}
+use Rattle.qg_tree_edits.specs.Counting.{IsPartTold, IsRootTold, IsTold, IsTreeTold, clean_at, ways, ways_instead}
 use Rattle.qg_tree_edits.specs.Rooting.{HasRoot, IsEdited, IsReplaced, IsRooted, StandsForRoot}
 use Rattle.qg_tree_edits.proofs.AroundEdited.{leaf-ascends, leaf-short}
 use Rattle.qg_descent.proofs.BranchOrder.{ascends-under, keys_of}
+use Rattle.qg_tree_edits.proofs.Clean.{clean-same}
 use Rattle.qg_tree_edits.proofs.FirstLeaf.{none-less}
 use Rattle.qg_tree_edits.proofs.Heights.{height-low}
 use Rattle.qg_tree_edits.proofs.ListEdited.{ClearsNone, leaf-whole}
 use Rattle.qg_tree_edits.proofs.PartBelow.{told-ascends}
-use Rattle.qg_tree_edits.proofs.Turning.{told-append, told-more, told-within}
+use Rattle.qg_tree_edits.proofs.Turning.{told-anew, told-append, told-more, told-within}
 
 module _ (tree : Tree) (root : Root) (land : Ground) (history : Option (List Event)) (edit : Edit) (items : List Item) (rooted : IsRooted tree root land history items) (can : CanEdit edit items)
     (expected : Expected) (at : ℕ) (expects : expected ≡ root_expected (Some root.height) None) (there : at ≡ root.address) where
@@ -96,7 +97,7 @@ module _ (tree : Tree) (root : Root) (land : Ground) (history : Option (List Eve
           others = λ q not_free not_reached.
               has.others q (λ free. elim (free_from q free) [ inl old ↦ not_reached old | inr still ↦ not_free still ])
               (λ low. elim (from q low) [ inl old ↦ not_reached old | inr still ↦ not_free still ])
-              ∙ part.others q not_free (λ reaches. not_reached (was q reaches));
+              ∙ part.others history q not_free (λ reaches. not_reached (was q reaches));
           freed = λ q free. elim (has.freed q free) [
             | inl middle ↦ elim (free_from q middle) [ inl old ↦ inr old | inr still ↦ inl still ]
             | inr low ↦ elim (from q low) [ inl old ↦ inr old | inr still ↦ inl still ]
@@ -109,19 +110,21 @@ module _ (tree : Tree) (root : Root) (land : Ground) (history : Option (List Eve
           → IsTreeTold root after land new history (below ++ above)
       unfolding Old
       told-root below above of_part of_root =
+          let nodes = told land.blocks.draft history in
+          let clean = clean_at land history in
           let start = ways (told land.blocks.draft history) root.height root.address in
           let between = ways_instead (told mid.blocks.draft history) root.height instead in
           let last = ways (told new.blocks.draft history) after.height after.address in
           let first =
-          subst (λ (a : ℕ). IsTold land (Reaches (told land.blocks.draft history) root.height a) (ways (told land.blocks.draft history) root.height a) between (2 * (root.height + 1)) (root.height + 1) (root.height + 1) below)
-          there of_part in
-          let then = told-within land Old mid (ReachesInstead (told mid.blocks.draft history) root.height instead) between last 0 1 1 above
+          subst (λ (a : ℕ). IsTold land clean (Reaches nodes root.height a) (ways nodes root.height a) between (2 * (root.height + 1)) (root.height + 1) (root.height + 1) below)
+          there (of_part clean (λ q reaches none. clean-same land history q none)) in
+          let then = told-within land clean Old mid (ReachesInstead (told mid.blocks.draft history) root.height instead) between last 0 1 1 above
           (λ q either. elim either [
             | inl free ↦ elim (free_from q free) [ inl old ↦ inr old | inr still ↦ inl still ]
             | inr low ↦ elim (from q low) [ inl old ↦ inr old | inr still ↦ inl still ]
-          ]) of_root in
-          let all = told-append land Old start between last (2 * (root.height + 1)) (root.height + 1) (root.height + 1) 0 1 1 below above first then in
-          told-more land Old start last (2 * (root.height + 1) + 0) (root.height + 1 + 1) (root.height + 1 + 1) (2 * root.height + 3) (2 * root.height + 3) (2 * root.height + 3) (below ++ above)
+          ]) (told-anew mid (told mid.blocks.draft history) clean (ReachesInstead (told mid.blocks.draft history) root.height instead) between last 1 1 above of_root) in
+          let all = told-append land clean Old start between last (2 * (root.height + 1)) (root.height + 1) (root.height + 1) 0 1 1 below above first then in
+          told-more land clean Old start last (2 * (root.height + 1) + 0) (root.height + 1 + 1) (root.height + 1 + 1) (2 * root.height + 3) (2 * root.height + 3) (2 * root.height + 3) (below ++ above)
           (omega arith) (omega arith) (omega arith) all
 
 -- a root may get a node above it

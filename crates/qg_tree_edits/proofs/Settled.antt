@@ -51,7 +51,7 @@ module _ (tree : Tree) (root : Root) (land new : Ground) (history : Option (List
     branches = led.branches;
     cut = led.cut;
     reach = λ q reaches. inl (reached q reaches);
-    others = λ q differ free parts. led.others q differ;
+    others = λ disk q differ free parts. led.others disk q differ;
     freed = λ q free. inl (subst (λ (h : Holding). IsTrue (is_free_slot h q)) led.space free);
     free = λ q free reaches. un.free q (subst (λ (h : Holding). IsTrue (is_free_slot h q)) led.space free) (reached q reaches);
   }
@@ -61,11 +61,11 @@ module _ (tree : Tree) (root : Root) (land new : Ground) (history : Option (List
   unfolding settled
   settled-told = record {
     settled = settled;
-    told =
+    told = λ nodes same.
         let Parts = ReachesParts (told land.blocks.draft history) level un.pointers place child in
         let before = ways_parts (told land.blocks.draft history) level un.pointers place child in
         let after = ways_each (told new.blocks.draft history) level (take place un.pointers ++ (led.now ∷ led.more) ++ drop (place + 1) un.pointers) in
-        told-more land Parts before after 0 0 0 1 1 0 [] (omega arith) (omega arith) (omega arith)
-        (told-none land Parts before after
+        told-more land nodes Parts before after 0 0 0 1 1 0 [] (omega arith) (omega arith) (omega arith)
+        (told-none land nodes Parts before after
         (led-ways tree (super_of root land.blocks.draft) land new history level at place (place + 1) child un.pointers un.header items rest can led));
   }

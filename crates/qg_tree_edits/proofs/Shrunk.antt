@@ -28,7 +28,7 @@ use Rattle.qg_descent.specs.Tree.{IsTree, Reaches, Root, super_of}
 use Rattle.qg_descent.specs.Branch.{AreBranches, IsBranch}
 use Rattle.qg_tree_edits.specs.First.{leaves}
 use Rattle.qg_tree_edits.specs.Editing.{IsRewritten, ReachesInstead, alone}
-use Rattle.qg_tree_edits.specs.Counting.{IsBare, IsRootTold, one, ways, ways_instead}
+use Rattle.qg_tree_edits.specs.Counting.{IsAsWas, IsBare, IsRootTold, one, ways, ways_instead}
 use Rattle.qg_tree_edits.specs.Rooting.{HasRoot, StandsForRoot, lone_child, lone_of}
 use Rattle.qg_descent.proofs.BranchFrames.{reach-same, reach-top}
 use Rattle.qg_descent.proofs.Frames.{IsTree-same}
@@ -90,9 +90,9 @@ module _ (tree : Tree) (root : Root) (land : Ground) (history : Option (List Eve
   -- and nothing is told
   pub told-stood : IsRootTold root (record root { address = now }) land land history (alone now) []
   told-stood =
-      told-more land (ReachesInstead (told land.blocks.draft history) root.height (alone now)) (ways_instead (told land.blocks.draft history) root.height (alone now)) (ways (told land.blocks.draft history) root.height now)
+      told-more land (told land.blocks.draft history) (ReachesInstead (told land.blocks.draft history) root.height (alone now)) (ways_instead (told land.blocks.draft history) root.height (alone now)) (ways (told land.blocks.draft history) root.height now)
       0 0 0 0 1 1 [] (omega arith) (omega arith) (omega arith)
-      (told-none land (ReachesInstead (told land.blocks.draft history) root.height (alone now)) (ways_instead (told land.blocks.draft history) root.height (alone now)) (ways (told land.blocks.draft history) root.height now)
+      (told-none land (told land.blocks.draft history) (ReachesInstead (told land.blocks.draft history) root.height (alone now)) (ways_instead (told land.blocks.draft history) root.height (alone now)) (ways (told land.blocks.draft history) root.height now)
       (λ q. omega arith))
 
   module _ (mid new : Ground) (later : Option (List Event)) (child low : ℕ) (header : Header) (pointer : Pointer) (lone : node ≡ Inner header (pointer ∷ [])) (is_child : pointer.child ≡ child)
@@ -191,6 +191,7 @@ module _ (tree : Tree) (root : Root) (land : Ground) (history : Option (List Eve
                 omega (arith, all, at),
           );
           new = λ q some. absurd (omega (arith, some));
+          as_was = All-from_recursion (IsAsWas (told land.blocks.draft history)) (Left (cleared node) ∷ []) (tt, tt);
           bare = All-from_recursion IsBare (Left (cleared node) ∷ []) ((refl, refl), tt);
           few_copied = omega arith;
           few_left = omega arith;

@@ -1,5 +1,5 @@
 -- What a book is told where two neighbours are joined.
-use Rattle.std.proofs.Common.{◌≡◌, ℕ, ◌+◌, ◌<◌, [], ◌∷◌, arith, refl, ap, subst, ◌∙◌}
+use Rattle.std.proofs.Common.{◌≡◌, ℕ, ◌+◌, ◌<◌, [], ◌∷◌, arith, refl, ap, subst, ◌∙◌, Option}
 use Rattle.std.proofs.lemmas.List.Elements.{All-from_recursion}
 use Rattle.qg_node.specs.declared.node.Node.{Node}
 use Rattle.qg_node.specs.declared.node.Node.TheVariants.{Leaf, Inner}
@@ -11,7 +11,7 @@ use Rattle.qg_ground.specs.Land.{IsDrafted}
 use Rattle.qg_ground.specs.Tellings.Telling.{Left}
 use Rattle.qg_edit.specs.Outcome.{cleared}
 use Rattle.qg_tree_edits.specs.Editing.{ArePair, IsJoinedAs, IsJoinedThere}
-use Rattle.qg_tree_edits.specs.Counting.{IsBare, IsTold, one}
+use Rattle.qg_tree_edits.specs.Counting.{IsAsWas, IsBare, IsTold, one}
 
 cleared_bare : (old node : Node) → node ≡ cleared old → IsBare (Left node)
 cleared_bare old (Leaf header items) is = (cc, refl)
@@ -31,15 +31,17 @@ left-cleared land mid left right generation joined is drafted pair there =
     (cleared_address pair.b there.b same.1 ∙ kept.kept.placed, cleared_bare pair.b there.b same.1)
 
 -- it is left
-pub told-left : (old : Ground) (Reached : ℕ → Type 0) (before after : ℕ → ℕ) (node : Node) (at : ℕ)
+pub told-left : (old : Ground) (nodes : ℕ → Option Node) (Reached : ℕ → Type 0) (before after : ℕ → ℕ) (node : Node)
+    (at : ℕ)
     → (header_of node).address ≡ at → IsBare (Left node) → 0 < before at
-    → ((q : ℕ) → after q + one at q ≡ before q) → IsTold old Reached before after 0 1 0 (Left node ∷ [])
-told-left old Reached before after node at named bare some turns = record {
+    → ((q : ℕ) → after q + one at q ≡ before q) → IsTold old nodes Reached before after 0 1 0 (Left node ∷ [])
+told-left old nodes Reached before after node at named bare some turns = record {
   turns = (
     let same = ap before named in omega (arith, same, some),
     λ q. let e = turns q in let same = ap (λ (a : ℕ). one a q) named in omega (arith, e, same),
   );
   new = λ q gained. absurd (omega (arith, gained));
+  as_was = All-from_recursion (IsAsWas nodes) (Left node ∷ []) (tt, tt);
   bare = All-from_recursion IsBare (Left node ∷ []) (bare, tt);
   few_copied = omega arith;
   few_left = omega arith;

@@ -1,16 +1,17 @@
 -- Tellings that turn one count of ways into another.
-use Rattle.std.proofs.Common.{◌≡◌, ℕ, zero, suc, ◌+◌, ◌-◌, ◌<◌, ◌≤◌, List, [], ◌∷◌, ◌++◌, append_assoc, arith, refl, sym, ap, ◌∙◌, inl, inr}
+use Rattle.std.proofs.Common.{◌≡◌, ℕ, zero, suc, ◌+◌, ◌-◌, ◌<◌, ◌≤◌, List, [], ◌∷◌, ◌++◌, append_assoc, arith, refl, sym, ap, ◌∙◌, inl, inr, Option}
 use Rattle.std.specs.Prelude.{◌⊎◌, IsTrue}
-use Rattle.std.specs.List.{sum_by}
+use Rattle.std.specs.List.{All, sum_by}
 use Rattle.std.proofs.lemmas.Bool.Decides.{eqb_tells}
-use Rattle.std.proofs.lemmas.List.Elements.{All-append}
+use Rattle.std.proofs.lemmas.List.Elements.{All-append, All-cons, All-nil}
 use Rattle.std.proofs.lemmas.List.Sums.{sum_by-append, sum_by-cons}
+use Rattle.qg_node.specs.declared.node.Node.{Node}
 use Rattle.qg_node.specs.Nodes.{header_of}
 use Rattle.qg_space.specs.Holding.{is_free_slot}
 use Rattle.qg_ground.specs.declared.ground.Ground.{Ground}
 use Rattle.qg_ground.specs.Tellings.{Telling}
 use Rattle.qg_ground.specs.Tellings.Telling.{Copied, Made, Left}
-use Rattle.qg_tree_edits.specs.Counting.{IsBare, IsTimely, IsTold, Turns, copied_in, gains, left_in, losses, made_in, one}
+use Rattle.qg_tree_edits.specs.Counting.{IsAsWas, IsBare, IsTimely, IsTold, Turns, copied_in, gains, left_in, losses, made_in, one}
 use Rattle.qg_tree_edits.proofs.Ways.{one-here, one-other}
 
 -- ---- one telling
@@ -108,11 +109,13 @@ turns-framed (telling ∷ tellings) before after more apart turns =
 
 -- ---- what a book was told
 
-module _ (old : Ground) (Reached : ℕ → Type 0) where
-  pub told-none : (before after : ℕ → ℕ) → ((q : ℕ) → after q ≡ before q) → IsTold old Reached before after 0 0 0 []
+module _ (old : Ground) (nodes : ℕ → Option Node) (Reached : ℕ → Type 0) where
+  pub told-none : (before after : ℕ → ℕ) → ((q : ℕ) → after q ≡ before q)
+      → IsTold old nodes Reached before after 0 0 0 []
   told-none before after same = record {
     turns = same;
     new = λ q some. absurd (omega (arith, some));
+    as_was = All-nil (IsAsWas nodes);
     bare = λ k d low. absurd (omega (arith, low));
     few_copied = omega arith;
     few_left = omega arith;
@@ -121,11 +124,12 @@ module _ (old : Ground) (Reached : ℕ → Type 0) where
 
   pub told-same : (before other after then : ℕ → ℕ) (copied left made : ℕ) (tellings : List Telling)
       → ((q : ℕ) → other q ≡ before q) → ((q : ℕ) → then q ≡ after q)
-      → IsTold old Reached before after copied left made tellings
-      → IsTold old Reached other then copied left made tellings
+      → IsTold old nodes Reached before after copied left made tellings
+      → IsTold old nodes Reached other then copied left made tellings
   told-same before other after then copied left made tellings same same_then told = record {
     turns = turns-into tellings other after then same_then (turns-same tellings before other after same told.turns);
     new = told.new;
+    as_was = told.as_was;
     bare = told.bare;
     few_copied = told.few_copied;
     few_left = told.few_left;
@@ -134,11 +138,12 @@ module _ (old : Ground) (Reached : ℕ → Type 0) where
 
   pub told-more : (before after : ℕ → ℕ) (copied left made copied' left' made' : ℕ) (tellings : List Telling)
       → copied ≤ copied' → left ≤ left' → made ≤ made'
-      → IsTold old Reached before after copied left made tellings → IsTold old Reached before after copied' left' made'
-      tellings
+      → IsTold old nodes Reached before after copied left made tellings
+      → IsTold old nodes Reached before after copied' left' made' tellings
   told-more before after copied left made copied' left' made' tellings a b c told = record {
     turns = told.turns;
     new = told.new;
+    as_was = told.as_was;
     bare = told.bare;
     few_copied = let few = told.few_copied in omega (arith, few, a);
     few_left = let few = told.few_left in omega (arith, few, b);
@@ -148,11 +153,12 @@ module _ (old : Ground) (Reached : ℕ → Type 0) where
   -- the same with more counted, where none of it is at an address where a node comes
   pub told-framed : (before after more : ℕ → ℕ) (copied left made : ℕ) (tellings : List Telling)
       → ((q : ℕ) → 0 < sum_by (λ telling. gains telling q) tellings → more q ≡ 0)
-      → IsTold old Reached before after copied left made tellings → IsTold old Reached (λ q. before q + more q)
-      (λ q. after q + more q) copied left made tellings
+      → IsTold old nodes Reached before after copied left made tellings
+      → IsTold old nodes Reached (λ q. before q + more q) (λ q. after q + more q) copied left made tellings
   told-framed before after more copied left made tellings apart told = record {
     turns = turns-framed tellings before after more apart told.turns;
     new = told.new;
+    as_was = told.as_was;
     bare = told.bare;
     few_copied = told.few_copied;
     few_left = told.few_left;
@@ -162,8 +168,8 @@ module _ (old : Ground) (Reached : ℕ → Type 0) where
   -- so where none of it is at a slot that was free or at an address that was reached
   pub told-apart : (before after more : ℕ → ℕ) (copied left made : ℕ) (tellings : List Telling)
       → ((q : ℕ) → IsTrue (is_free_slot old.space q) ⊎ Reached q → more q ≡ 0)
-      → IsTold old Reached before after copied left made tellings → IsTold old Reached (λ q. before q + more q)
-      (λ q. after q + more q) copied left made tellings
+      → IsTold old nodes Reached before after copied left made tellings
+      → IsTold old nodes Reached (λ q. before q + more q) (λ q. after q + more q) copied left made tellings
   told-apart before after more copied left made tellings apart told = told-framed before after more copied left made
       tellings (λ q some. apart q (told.new q some)) told
 
@@ -171,11 +177,12 @@ module _ (old : Ground) (Reached : ℕ → Type 0) where
   pub told-within : (part : Ground) (Part : ℕ → Type 0) (before after : ℕ → ℕ) (copied left made : ℕ)
       (tellings : List Telling)
       → ((q : ℕ) → IsTrue (is_free_slot part.space q) ⊎ Part q → IsTrue (is_free_slot old.space q) ⊎ Reached q)
-      → IsTold part Part before after copied left made tellings
-      → IsTold old Reached before after copied left made tellings
+      → IsTold part nodes Part before after copied left made tellings
+      → IsTold old nodes Reached before after copied left made tellings
   told-within part Part before after copied left made tellings within told = record {
     turns = told.turns;
     new = λ q some. within q (told.new q some);
+    as_was = told.as_was;
     bare = told.bare;
     few_copied = told.few_copied;
     few_left = told.few_left;
@@ -185,9 +192,9 @@ module _ (old : Ground) (Reached : ℕ → Type 0) where
   -- one after the other
   pub told-append : (before between after : ℕ → ℕ) (copied left made copied' left' made' : ℕ)
       (first later : List Telling)
-      → IsTold old Reached before between copied left made first → IsTold old Reached between after copied' left' made'
-      later
-      → IsTold old Reached before after (copied + copied') (left + left') (made + made') (first ++ later)
+      → IsTold old nodes Reached before between copied left made first
+      → IsTold old nodes Reached between after copied' left' made' later
+      → IsTold old nodes Reached before after (copied + copied') (left + left') (made + made') (first ++ later)
   told-append before between after copied left made copied' left' made' first later told then = record {
     turns = turns-append first later before between after told.turns then.turns;
     new = λ q some.
@@ -197,6 +204,7 @@ module _ (old : Ground) (Reached : ℕ → Type 0) where
           | inl early ↦ told.new q early
           | inr late ↦ then.new q late
         ];
+    as_was = All-append (IsAsWas nodes) first later told.as_was then.as_was;
     bare = All-append IsBare first later told.bare then.bare;
     few_copied = let a = told.few_copied in let b = then.few_copied in let sum = sum_by-append copied_in first later in
         omega (arith, a, b, sum);
@@ -208,3 +216,29 @@ module _ (old : Ground) (Reached : ℕ → Type 0) where
     either : (m n : ℕ) → 0 < m + n → (0 < m) ⊎ (0 < n)
     either zero n some = inr (omega (arith, some))
     either (suc m) n some = inl (omega arith)
+
+-- where nothing was copied, all that was is what stood there, whatever nodes are given
+none_copied : (nodes : ℕ → Option Node) (tellings : List Telling) → sum_by copied_in tellings ≤ 0
+    → All (IsAsWas nodes) tellings
+none_copied nodes [] few = All-nil (IsAsWas nodes)
+none_copied nodes (Copied node copy ∷ tellings) few = absurd
+    (let sum = sum_by-cons copied_in (Copied node copy) tellings in omega (arith, few, sum))
+none_copied nodes (Made address ∷ tellings) few =
+    let sum = sum_by-cons copied_in (Made address) tellings in
+    All-cons (IsAsWas nodes) (Made address) tellings tt (none_copied nodes tellings (omega (arith, few, sum)))
+none_copied nodes (Left node ∷ tellings) few =
+    let sum = sum_by-cons copied_in (Left node) tellings in
+    All-cons (IsAsWas nodes) (Left node) tellings tt (none_copied nodes tellings (omega (arith, few, sum)))
+
+pub told-anew : (old : Ground) (nodes others : ℕ → Option Node) (Reached : ℕ → Type 0) (before after : ℕ → ℕ)
+    (left made : ℕ) (tellings : List Telling) → IsTold old nodes Reached before after 0 left made tellings
+    → IsTold old others Reached before after 0 left made tellings
+told-anew old nodes others Reached before after left made tellings told = record {
+  turns = told.turns;
+  new = told.new;
+  as_was = none_copied others tellings told.few_copied;
+  bare = told.bare;
+  few_copied = told.few_copied;
+  few_left = told.few_left;
+  few_made = told.few_made;
+}

@@ -601,43 +601,44 @@ module _ (old new : Ground) (left right : ℕ) (instead : Instead) (differ : lef
 
       -- ---- what a book is told
 
-      Tells : Instead → List Telling → Type 0
-      Tells i tellings = IsTold old (λ q. ⊥) (λ q. ways (told old.blocks.draft history) level left q + ways (told old.blocks.draft history) level right q)
-          (ways_instead (told new.blocks.draft history) level i) 0 1 0 tellings
+      module _ (nodes : ℕ → Option Node) where
+        Tells : Instead → List Telling → Type 0
+        Tells i tellings = IsTold old nodes (λ q. ⊥) (λ q. ways (told old.blocks.draft history) level left q + ways (told old.blocks.draft history) level right q)
+            (ways_instead (told new.blocks.draft history) level i) 0 1 0 tellings
 
-      -- the right one is left
-      one_tells : IsInOne old is.mid new left right instead pair.a pair.b → (tellings : List Telling) → TellsUnited right instead tellings → Tells (alone left) tellings
-      unfolding Tells
-      one_tells one_node tellings (inl parted) = absurd (let e = one_node.instead_is in let some = parted.0 in let none : instead.more ≡ None = ap (λ (i : Instead). i.more) e in cc)
-      one_tells one_node tellings (inr (none, (node, tellings_are, named, bare))) = subst (λ (ts : List Telling). Tells (alone left) ts) (sym tellings_are) left_told where
-        left_told : Tells (alone left) (Left node ∷ [])
-        left_told =
-            told-left old (λ q. ⊥) (λ q. ways (told old.blocks.draft history) level left q + ways (told old.blocks.draft history) level right q)
-            (ways_instead (told new.blocks.draft history) level (alone left)) node right named bare
-            (let top = ways-top (told old.blocks.draft history) level right in omega (arith, top))
-            (λ q. let e = one_ways level lefts rights left_holds right_holds one_node q in omega (arith, e))
+        -- the right one is left
+        one_tells : IsInOne old is.mid new left right instead pair.a pair.b → (tellings : List Telling) → TellsUnited right instead tellings → Tells (alone left) tellings
+        unfolding Tells
+        one_tells one_node tellings (inl parted) = absurd (let e = one_node.instead_is in let some = parted.0 in let none : instead.more ≡ None = ap (λ (i : Instead). i.more) e in cc)
+        one_tells one_node tellings (inr (none, (node, tellings_are, named, bare))) = subst (λ (ts : List Telling). Tells (alone left) ts) (sym tellings_are) left_told where
+          left_told : Tells (alone left) (Left node ∷ [])
+          left_told =
+              told-left old nodes (λ q. ⊥) (λ q. ways (told old.blocks.draft history) level left q + ways (told old.blocks.draft history) level right q)
+              (ways_instead (told new.blocks.draft history) level (alone left)) node right named bare
+              (let top = ways-top (told old.blocks.draft history) level right in omega (arith, top))
+              (λ q. let e = one_ways level lefts rights left_holds right_holds one_node q in omega (arith, e))
 
-      -- or both stay
-      two_tell : AreInTwo old is.mid new left right instead pair.a pair.b → (tellings : List Telling) → TellsUnited right instead tellings → Tells (record { now = left; more = Some right }) tellings
-      unfolding Tells
-      two_tell two tellings (inr whole) =
-          absurd (let none = whole.0 in let some : instead.more ≡ Some right = ap (λ (i : Instead). i.more) two.instead_is in let both : Some right ≡ None = sym some ∙ none in cc)
-      two_tell two tellings (inl parted) = subst (λ (ts : List Telling). Tells (record { now = left; more = Some right }) ts) (sym parted.1) none_told where
-        none_told : Tells (record { now = left; more = Some right }) []
-        none_told =
-            let before = λ (q : ℕ). ways (told old.blocks.draft history) level left q + ways (told old.blocks.draft history) level right q in
-            let after = ways_instead (told new.blocks.draft history) level (record { now = left; more = Some right }) in
-            told-more old (λ q. ⊥) before after 0 0 0 0 1 0 [] (omega arith) (omega arith) (omega arith)
-            (told-none old (λ q. ⊥) before after (λ q. two_ways level lefts rights left_holds right_holds two q))
+        -- or both stay
+        two_tell : AreInTwo old is.mid new left right instead pair.a pair.b → (tellings : List Telling) → TellsUnited right instead tellings → Tells (record { now = left; more = Some right }) tellings
+        unfolding Tells
+        two_tell two tellings (inr whole) =
+            absurd (let none = whole.0 in let some : instead.more ≡ Some right = ap (λ (i : Instead). i.more) two.instead_is in let both : Some right ≡ None = sym some ∙ none in cc)
+        two_tell two tellings (inl parted) = subst (λ (ts : List Telling). Tells (record { now = left; more = Some right }) ts) (sym parted.1) none_told where
+          none_told : Tells (record { now = left; more = Some right }) []
+          none_told =
+              let before = λ (q : ℕ). ways (told old.blocks.draft history) level left q + ways (told old.blocks.draft history) level right q in
+              let after = ways_instead (told new.blocks.draft history) level (record { now = left; more = Some right }) in
+              told-more old nodes (λ q. ⊥) before after 0 0 0 0 1 0 [] (omega arith) (omega arith) (omega arith)
+              (told-none old nodes (λ q. ⊥) before after (λ q. two_ways level lefts rights left_holds right_holds two q))
 
-      pub united-tells : (tellings : List Telling) → TellsUnited right instead tellings
-          → IsTold old (λ q. ⊥) (λ q. ways (told old.blocks.draft history) level left q + ways (told old.blocks.draft history) level right q)
-          (ways_instead (told new.blocks.draft history) level instead) 0 1 0 tellings
-      unfolding Tells
-      united-tells tellings tells = elim united_ends [
-        | inl one_node ↦ subst (λ (i : Instead). Tells i tellings) (sym one_node.instead_is) (one_tells one_node tellings tells)
-        | inr two ↦ subst (λ (i : Instead). Tells i tellings) (sym two.instead_is) (two_tell two tellings tells)
-      ]
+        pub united-tells : (tellings : List Telling) → TellsUnited right instead tellings
+            → IsTold old nodes (λ q. ⊥) (λ q. ways (told old.blocks.draft history) level left q + ways (told old.blocks.draft history) level right q)
+            (ways_instead (told new.blocks.draft history) level instead) 0 1 0 tellings
+        unfolding Tells
+        united-tells tellings tells = elim united_ends [
+          | inl one_node ↦ subst (λ (i : Instead). Tells i tellings) (sym one_node.instead_is) (one_tells one_node tellings tells)
+          | inr two ↦ subst (λ (i : Instead). Tells i tellings) (sym two.instead_is) (two_tell two tellings tells)
+        ]
 
       -- ---- its leaves
 

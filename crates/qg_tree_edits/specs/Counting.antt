@@ -1,6 +1,6 @@
 -- What an edit of a tree tells the book of references, by how many ways lead to each address (this project's own).
 -- Addresses are in bytes.
-use Rattle.std.specs.Prelude.{◌≡◌, ⊤, ◌⊎◌, ◌==◌, if◌then◌else◌, ℕ, zero, suc, ◌+◌, ◌-◌, ◌*◌, ◌<◌, ◌≤◌, List, [], ◌∷◌, take, drop, Option, Some, None, IsTrue}
+use Rattle.std.specs.Prelude.{◌≡◌, ⊤, ◌⊎◌, ◌==◌, if◌then◌else◌, ℕ, zero, suc, ◌+◌, ◌-◌, ◌*◌, ◌<◌, ◌≤◌, List, [], ◌∷◌, take, drop, Option, Some, None, IsTrue, is_some}
 use Rattle.std.specs.List.{All, sum_by}
 use Rattle.qg_device.specs.History.{Event}
 use Rattle.qg_node.specs.declared.item.Item.{Item}
@@ -9,14 +9,14 @@ use Rattle.qg_node.specs.declared.node.Header.{Header}
 use Rattle.qg_node.specs.declared.node.Node.{Node}
 use Rattle.qg_node.specs.Nodes.{header_of, own_items, own_pointers}
 use Rattle.qg_verdict.specs.declared.tree.Tree.{Tree}
-use Rattle.qg_blocks.specs.Told.{told}
+use Rattle.qg_blocks.specs.Told.{fresh_at, told}
 use Rattle.qg_space.specs.Holding.{is_free_slot}
 use Rattle.qg_ground.specs.declared.ground.Ground.{Ground}
 use Rattle.qg_ground.specs.Tellings.{Telling}
 use Rattle.qg_ground.specs.Tellings.Telling.{Copied, Made, Left}
 use Rattle.qg_tree_edits.specs.declared.instead.Instead.{Instead}
 use Rattle.qg_descent.specs.Tree.{Reaches, Root}
-use Rattle.qg_tree_edits.specs.Editing.{IsSettled, ReachesInstead, ReachesParts}
+use Rattle.qg_tree_edits.specs.Editing.{IsSettled, ReachesBeside, ReachesInstead, ReachesParts}
 
 -- ---- ways
 
@@ -87,6 +87,12 @@ IsBare (Copied node copy) = ⊤
 IsBare (Made address) = ⊤
 IsBare (Left node) = (own_items node ≡ []) × (own_pointers node ≡ [])
 
+-- what is copied is what these nodes tell at its address
+abbrev pub IsAsWas : (ℕ → Option Node) → Telling → Type 0
+IsAsWas nodes (Copied node copy) = nodes (header_of node).address ≡ Some node
+IsAsWas nodes (Made address) = ⊤
+IsAsWas nodes (Left node) = ⊤
+
 -- 1 where a node was copied
 abbrev pub copied_in : Telling → ℕ
 copied_in (Copied node copy) = 1
@@ -106,12 +112,14 @@ made_in (Made address) = 1
 made_in (Left node) = 0
 
 -- What a book was told in the course of a change: it turns the ways that led to each address before into those that
--- lead there then. A node came only into a slot that was free, or that was reached. What was left has nothing under
--- it. At most so many nodes were copied, left and made
-pub record IsTold (old : Ground) (Reached : ℕ → Type 0) (before after : ℕ → ℕ) (copied left made : ℕ)
-    (tellings : List Telling) : Type 0 where
+-- lead there then. A node came only into a slot that was free, or that was reached. What was copied is what stood at
+-- its address before, among the nodes that are given. What was left has nothing under it. At most so many nodes were
+-- copied, left and made
+pub record IsTold (old : Ground) (nodes : ℕ → Option Node) (Reached : ℕ → Type 0) (before after : ℕ → ℕ)
+    (copied left made : ℕ) (tellings : List Telling) : Type 0 where
   pub turns : Turns before tellings after
   pub new : (q : ℕ) → 0 < sum_by (λ telling. gains telling q) tellings → IsTrue (is_free_slot old.space q) ⊎ Reached q
+  pub as_was : All (IsAsWas nodes) tellings
   pub bare : All IsBare tellings
   pub few_copied : sum_by copied_in tellings ≤ copied
   pub few_left : sum_by left_in tellings ≤ left
@@ -137,30 +145,52 @@ TellsUnited right instead tellings =
 
 -- ---- what a book is told in the course of an edit
 
+-- nodes tell the same as a land of some addresses, where no node is fresh
+abbrev pub TellSame : (ℕ → Type 0) → (ℕ → Option Node) → Ground → Option (List Event) → Type 0
+TellSame Among nodes land history =
+    (q : ℕ) → Among q → fresh_at land.blocks.draft q ≡ None → nodes q ≡ told land.blocks.draft history q
+
+-- what is told at an address where no node is fresh
+abbrev pub clean_at : Ground → Option (List Event) → ℕ → Option Node
+clean_at land history q =
+    if is_some (fresh_at land.blocks.draft q) then None else told land.blocks.draft history q
+
 -- the pointers of a node were set to what stands in the place of the child at an index, and this was told meanwhile:
--- a neighbour may have been copied, and left
+-- a neighbour may have been copied, and left. What was copied was not fresh and is what stood there, and so it is for
+-- any nodes that tell the same of the other children where they are not fresh
 pub record IsSettledTold (tree : Tree) (root : Root) (old new : Ground) (history : Option (List Event))
     (level at place : ℕ) (child : Instead) (pointers : List Pointer) (header : Header) (items : List Item)
     (rest : Option Node) (tellings : List Telling) : Type 0 where
   pub settled : IsSettled tree root old new history level at place child pointers header items rest
-  pub told : IsTold old (ReachesParts (told old.blocks.draft history) level pointers place child)
+  pub told : (nodes : ℕ → Option Node)
+      → TellSame (ReachesBeside (told old.blocks.draft history) level pointers place) nodes old history
+      → IsTold old nodes (ReachesParts (told old.blocks.draft history) level pointers place child)
       (ways_parts (told old.blocks.draft history) level pointers place child)
       (ways_each (told new.blocks.draft history) level settled.pointers_new) 1 1 0 tellings
 
--- the part of a tree that the node of a level at an address is the top of was edited, and this was told meanwhile
+-- the part of a tree that the node of a level at an address is the top of was edited, and this was told meanwhile.
+-- What was copied was not fresh and is what stood there, and so it is for any nodes that tell the same of the part
+-- where it is not fresh
 abbrev pub IsPartTold : Ground → Ground → Option (List Event) → ℕ → ℕ → Instead → List Telling → Type 0
-IsPartTold old new history level at instead =
-    IsTold old (Reaches (told old.blocks.draft history) level at) (ways (told old.blocks.draft history) level at) (ways_instead (told new.blocks.draft history) level instead)
-    (2 * (level + 1)) (level + 1) (level + 1)
+IsPartTold old new history level at instead tellings =
+    (nodes : ℕ → Option Node)
+    → TellSame (Reaches (told old.blocks.draft history) level at) nodes old history
+    → IsTold old nodes (Reaches (told old.blocks.draft history) level at)
+    (ways (told old.blocks.draft history) level at) (ways_instead (told new.blocks.draft history) level instead)
+    (2 * (level + 1)) (level + 1) (level + 1) tellings
 
 -- what stands in the place of a tree's root became the tree, and this was told meanwhile
 abbrev pub IsRootTold : Root → Root → Ground → Ground → Option (List Event) → Instead → List Telling → Type 0
 IsRootTold before after old new history instead tellings =
-    IsTold old (ReachesInstead (told old.blocks.draft history) before.height instead) (ways_instead (told old.blocks.draft history) before.height instead)
+    IsTold old (told old.blocks.draft history) (ReachesInstead (told old.blocks.draft history) before.height instead)
+    (ways_instead (told old.blocks.draft history) before.height instead)
     (ways (told new.blocks.draft history) after.height after.address) 0 1 1 tellings
 
--- a tree was edited, and this was told meanwhile: at most 2·height + 3 nodes were copied, and as many left and made
+-- a tree was edited, and this was told meanwhile: what was copied was not fresh before, and is what stood there. At most
+-- 2·height + 3 nodes were copied, and as many left and made
 abbrev pub IsTreeTold : Root → Root → Ground → Ground → Option (List Event) → List Telling → Type 0
 IsTreeTold before after old new history tellings =
-    IsTold old (Reaches (told old.blocks.draft history) before.height before.address) (ways (told old.blocks.draft history) before.height before.address)
-    (ways (told new.blocks.draft history) after.height after.address) (2 * before.height + 3) (2 * before.height + 3) (2 * before.height + 3) tellings
+    IsTold old (clean_at old history) (Reaches (told old.blocks.draft history) before.height before.address)
+    (ways (told old.blocks.draft history) before.height before.address)
+    (ways (told new.blocks.draft history) after.height after.address) (2 * before.height + 3) (2 * before.height + 3)
+    (2 * before.height + 3) tellings

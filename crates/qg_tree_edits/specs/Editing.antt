@@ -1,5 +1,5 @@
 -- An edit of a part of a tree by copy on write (this project's own). Addresses are in bytes.
-use Rattle.std.specs.Prelude.{◌≡◌, ◌≢◌, ⊤, ◌⊎◌, ℕ, suc, ◌+◌, ◌≤◌, ◌<◌, List, [], ◌∷◌, ◌++◌, map, take, drop, length, Option, Some, None, IsTrue, MatchOption, slice_get}
+use Rattle.std.specs.Prelude.{◌≡◌, ◌≢◌, ⊤, ◌⊎◌, ℕ, suc, ◌+◌, ◌≤◌, ◌<◌, List, [], ◌∷◌, ◌++◌, map, take, drop, length, Option, Some, None, IsSome, IsTrue, MatchOption, slice_get}
 use Rattle.std.specs.List.{All, list_all}
 use Rattle.std.specs.Ordering.{is_lt}
 use Rattle.qg_device.specs.History.{Event}
@@ -88,8 +88,8 @@ pub record IsCutThere (nodesize : ℕ) (new : Ground) (at : ℕ) (before whole :
 
 -- ---- a node that is owned
 
--- a node that the way leads to expect was judged, and is or was copied to a fresh one, which has the same items or pointers. All other
--- nodes are told as before
+-- a node that the way leads to expect was judged, and is or was copied to a fresh one, which has the same items or pointers. A fresh one
+-- stays where it is. All other nodes are told as before
 pub record IsOwned (tree : Tree) (root : Root) (old new : Ground) (history : Option (List Event)) (expected : Expected) (at now : ℕ) : Type 0 where
   pub node : Node
   pub formed : form_failure tree (super_of root old.blocks.draft) expected at node ≡ None
@@ -100,6 +100,7 @@ pub record IsOwned (tree : Tree) (root : Root) (old new : Ground) (history : Opt
   pub same : ((mine ≡ node) × (now ≡ at) × (new.space ≡ old.space)) ⊎ ((mine ≡ node_copy node now root.owner root.next) × IsTrue (is_free_slot old.space now))
   pub others : (history : Option (List Event)) (q : ℕ) → q ≢ now → told new.blocks.draft history q ≡ told old.blocks.draft history q
   pub keeps : KeepsFresh old new
+  pub stays : IsSome (fresh_at old.blocks.draft at) → now ≡ at
   pub freed : (q : ℕ) → IsTrue (is_free_slot new.space q) → IsTrue (is_free_slot old.space q) ⊎ (q ≡ at)
 
 -- ---- what stands in the place of a node
@@ -160,15 +161,16 @@ pub record IsLeafEdited (edit : Edit) (old new : List Item) : Type 0 where
   pub greater : IsTrue (list_all (λ item. is_lt (key_cmp edit.key item.key)) back)
 
 -- what an edit leaves of a part of a tree: what stands in its place holds the items once those of one leaf are edited, the first one where
--- the key is the least; it reaches what was reached before, and slots that were free; only these are told otherwise, only these get free,
--- and no free slot is reached
+-- the key is the least; it reaches what was reached before, and slots that were free; only these are told otherwise, whatever a disk tells,
+-- only these get free, and no free slot is reached
 pub record IsPartEdited (tree : Tree) (root : Root) (old new : Ground) (history : Option (List Event)) (level at : ℕ) (edit : Edit) (items : List Item) (instead : Instead) : Type 0 where
   pub items_new : List Item
   pub edits : IsLeafEdited edit items items_new
   pub first : edit.key ≡ least → edits.leaf ≡ first_leaf (told old.blocks.draft history) level at
   pub holds : HoldInstead tree (super_of root old.blocks.draft) (told new.blocks.draft history) level instead items_new
   pub reach : (q : ℕ) → ReachesInstead (told new.blocks.draft history) level instead q → Reaches (told old.blocks.draft history) level at q ⊎ IsTrue (is_free_slot old.space q)
-  pub others : (q : ℕ) → (IsTrue (is_free_slot old.space q) → ⊥) → (Reaches (told old.blocks.draft history) level at q → ⊥) → told new.blocks.draft history q ≡ told old.blocks.draft history q
+  pub others : (disk : Option (List Event)) (q : ℕ) → (IsTrue (is_free_slot old.space q) → ⊥) → (Reaches (told old.blocks.draft history) level at q → ⊥)
+      → told new.blocks.draft disk q ≡ told old.blocks.draft disk q
   pub freed : (q : ℕ) → IsTrue (is_free_slot new.space q) → IsTrue (is_free_slot old.space q) ⊎ Reaches (told old.blocks.draft history) level at q
   pub free : (q : ℕ) → IsTrue (is_free_slot new.space q) → ReachesInstead (told new.blocks.draft history) level instead q → ⊥
 
@@ -256,10 +258,14 @@ slots_for (Some rest) = 1
 
 -- ---- a child was edited, and its node is not yet
 
+-- an address is reached from another child than the one at a place
+abbrev pub ReachesBeside : (ℕ → Option Node) → ℕ → List Pointer → ℕ → ℕ → Type 0
+ReachesBeside nodes level pointers place q =
+    (i : ℕ) × (pointer : Pointer) × (i ≢ place) × (slice_get pointers i ≡ Some pointer) × Reaches nodes level pointer.child q
+
 -- an address is reached from what stands in a child's place, or from another child
 abbrev pub ReachesParts : (ℕ → Option Node) → ℕ → List Pointer → ℕ → Instead → ℕ → Type 0
-ReachesParts nodes level pointers place child q =
-    ReachesInstead nodes level child q ⊎ ((i : ℕ) × (pointer : Pointer) × (i ≢ place) × (slice_get pointers i ≡ Some pointer) × Reaches nodes level pointer.child q)
+ReachesParts nodes level pointers place child q = ReachesInstead nodes level child q ⊎ ReachesBeside nodes level pointers place q
 
 -- an address is reached from one of these pointers
 abbrev pub ReachesEach : (ℕ → Option Node) → ℕ → List Pointer → ℕ → Type 0
@@ -292,15 +298,16 @@ pub record IsUnsettled (tree : Tree) (root : Root) (land : Ground) (history : Op
   pub free : (q : ℕ) → IsTrue (is_free_slot land.space q) → ReachesParts (told land.blocks.draft history) level pointers place child q → ⊥
 
 -- Its pointers were set: they lead to the same items. Where the node has too much, it holds a front of them. What they reach was reached
--- before or is a slot that was free; only these and the node itself are told otherwise, only these get free, and no free slot is reached
+-- before or is a slot that was free; only these and the node itself are told otherwise, whatever a disk tells, only these get free, and no
+-- free slot is reached
 pub record IsSettled (tree : Tree) (root : Root) (old new : Ground) (history : Option (List Event)) (level at place : ℕ) (child : Instead) (pointers : List Pointer) (header : Header) (items : List Item) (rest : Option Node) : Type 0 where
   pub pointers_new : List Pointer
   pub branches : AreBranches tree (super_of root old.blocks.draft) (told new.blocks.draft history) level pointers_new items
   pub cut : IsCutThere old.space.sizes.nodesize new at (Inner header pointers) (Inner header pointers_new) rest
   pub reach : (q : ℕ) → ReachesEach (told new.blocks.draft history) level pointers_new q
       → ReachesParts (told old.blocks.draft history) level pointers place child q ⊎ IsTrue (is_free_slot old.space q)
-  pub others : (q : ℕ) → q ≢ at → (IsTrue (is_free_slot old.space q) → ⊥) → (ReachesParts (told old.blocks.draft history) level pointers place child q → ⊥)
-      → told new.blocks.draft history q ≡ told old.blocks.draft history q
+  pub others : (disk : Option (List Event)) (q : ℕ) → q ≢ at → (IsTrue (is_free_slot old.space q) → ⊥) → (ReachesParts (told old.blocks.draft history) level pointers place child q → ⊥)
+      → told new.blocks.draft disk q ≡ told old.blocks.draft disk q
   pub freed : (q : ℕ) → IsTrue (is_free_slot new.space q) → IsTrue (is_free_slot old.space q) ⊎ ReachesParts (told old.blocks.draft history) level pointers place child q
   pub free : (q : ℕ) → IsTrue (is_free_slot new.space q) → ReachesEach (told new.blocks.draft history) level pointers_new q → ⊥
 
@@ -321,7 +328,7 @@ pub record CanLead (tree : Tree) (super : Super) (land : Ground) (history : Opti
   pub size : IsNodeSize super.nodesize
   pub ascending : IsTrue (is_ascending (map (λ item. item.key) items))
 
--- they are set: these lead to the same items. Nothing but the node is told otherwise
+-- they are set: these lead to the same items. Nothing but the node is told otherwise, whatever a disk tells
 pub record HasLed (tree : Tree) (super : Super) (old new : Ground) (history : Option (List Event)) (level at from to : ℕ) (instead : Instead) (pointers : List Pointer) (header : Header) (items : List Item) (rest : Option Node) : Type 0 where
   pub now : Pointer
   pub more : List Pointer
@@ -329,7 +336,7 @@ pub record HasLed (tree : Tree) (super : Super) (old new : Ground) (history : Op
   pub leads_on : MatchOption instead.more (more ≡ []) (λ address. (pointer : Pointer) × (more ≡ pointer ∷ []) × (pointer.child ≡ address))
   pub branches : AreBranches tree super (told new.blocks.draft history) level (take from pointers ++ (now ∷ more) ++ drop to pointers) items
   pub cut : IsCutThere old.space.sizes.nodesize new at (Inner header pointers) (Inner header (take from pointers ++ (now ∷ more) ++ drop to pointers)) rest
-  pub others : (q : ℕ) → q ≢ at → told new.blocks.draft history q ≡ told old.blocks.draft history q
+  pub others : (disk : Option (List Event)) (q : ℕ) → q ≢ at → told new.blocks.draft disk q ≡ told old.blocks.draft disk q
   pub space : new.space ≡ old.space
 
 -- ---- the leaves of a node whose first child was edited

@@ -58,6 +58,7 @@ pub fn insert<P: TreePart, D: Disk, L: Ledger, B: Book<D, L>>(
     ensures tree { MatchResult result (λ done. Grows 1 tree.old tree.new land.old land.new) (λ fault. tree.new ≡ tree.old) }
     ensures rests { LeavesBe land.old land.new (D.history disk.old) (D.history disk.new) (D.size disk.old) (D.size disk.new) tree.old.next }
     ensures stands { OnOk result (B.stands book.new land.new disk.new) }
+    ensures settled { B.settled book.old land.old → OnOk result (B.settled book.new land.new) }
     ensures cause { HasCause BlockFault.Disk (D.faults disk.old) (D.faults disk.new) result }
     ensures reads { (most : ℕ) → ((book : B) (q : ℕ) → B.to_read book q ≤ most)
         → reads.new ≤ reads.old + (5 + 4 * most) * (tree.old.height + 2) }
@@ -93,6 +94,7 @@ pub fn replace<P: TreePart, D: Disk, L: Ledger, B: Book<D, L>>(
     ensures tree { MatchResult result (λ done. Grows 1 tree.old tree.new land.old land.new) (λ fault. tree.new ≡ tree.old) }
     ensures rests { LeavesBe land.old land.new (D.history disk.old) (D.history disk.new) (D.size disk.old) (D.size disk.new) tree.old.next }
     ensures stands { OnOk result (B.stands book.new land.new disk.new) }
+    ensures settled { B.settled book.old land.old → OnOk result (B.settled book.new land.new) }
     ensures cause { HasCause BlockFault.Disk (D.faults disk.old) (D.faults disk.new) result }
     ensures reads { (most : ℕ) → ((book : B) (q : ℕ) → B.to_read book q ≤ most)
         → reads.new ≤ reads.old + (5 + 4 * most) * (tree.old.height + 2) }
@@ -127,6 +129,7 @@ pub fn remove<P: TreePart, D: Disk, L: Ledger, B: Book<D, L>>(
     ensures tree { MatchResult result (λ done. Grows 0 tree.old tree.new land.old land.new) (λ fault. tree.new ≡ tree.old) }
     ensures rests { LeavesBe land.old land.new (D.history disk.old) (D.history disk.new) (D.size disk.old) (D.size disk.new) tree.old.next }
     ensures stands { OnOk result (B.stands book.new land.new disk.new) }
+    ensures settled { B.settled book.old land.old → OnOk result (B.settled book.new land.new) }
     ensures cause { HasCause BlockFault.Disk (D.faults disk.old) (D.faults disk.new) result }
     ensures reads { (most : ℕ) → ((book : B) (q : ℕ) → B.to_read book q ≤ most)
         → reads.new ≤ reads.old + (5 + 4 * most) * (tree.old.height + 2) }
@@ -165,6 +168,7 @@ pub fn drop_first_leaf<P: TreePart, D: Disk, L: Ledger, B: Book<D, L>>(
     ensures tree { MatchResult result (λ done. Grows 0 tree.old tree.new land.old land.new) (λ fault. tree.new ≡ tree.old) }
     ensures rests { LeavesBe land.old land.new (D.history disk.old) (D.history disk.new) (D.size disk.old) (D.size disk.new) tree.old.next }
     ensures stands { OnOk result (B.stands book.new land.new disk.new) }
+    ensures settled { B.settled book.old land.old → OnOk result (B.settled book.new land.new) }
     ensures cause { HasCause BlockFault.Disk (D.faults disk.old) (D.faults disk.new) result }
     ensures reads { (most : ℕ) → ((book : B) (q : ℕ) → B.to_read book q ≤ most)
         → reads.new ≤ reads.old + (5 + 4 * most) * (tree.old.height + 2) }
@@ -203,6 +207,7 @@ fn edit_tree<P: TreePart, D: Disk, L: Ledger, B: Book<D, L>>(
     ensures tree { MatchResult result (λ done. Grows (growth_of edit.change) tree.old tree.new land.old land.new) (λ fault. tree.new ≡ tree.old) }
     ensures rests { LeavesBe land.old land.new (D.history disk.old) (D.history disk.new) (D.size disk.old) (D.size disk.new) tree.old.next }
     ensures stands { OnOk result (B.stands book.new land.new disk.new) }
+    ensures settled { B.settled book.old land.old → OnOk result (B.settled book.new land.new) }
     ensures cause { HasCause BlockFault.Disk (D.faults disk.old) (D.faults disk.new) result }
     ensures reads { (most : ℕ) → ((book : B) (q : ℕ) → B.to_read book q ≤ most)
         → reads.new ≤ reads.old + (5 + 4 * most) * (tree.old.height + 2) }

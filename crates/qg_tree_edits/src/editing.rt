@@ -63,6 +63,7 @@ pub(crate) fn edit_under<P: TreePart, D: Disk, L: Ledger, B: Book<D, L>>(
         → IfOk result (λ instead. (tellings : List Telling) × B.follows before (log ++ tellings) book.new
         × IsPartTold land.old land.new (D.history disk.old) level way.address instead tellings) }
     ensures stands { OnOk result (B.stands book.new land.new disk.new) }
+    ensures settled { B.settled book.old land.old → OnOk result (B.settled book.new land.new) }
     ensures disk { (D.history disk.new ≡ D.history disk.old) × (D.size disk.new ≡ D.size disk.old) }
     ensures cause { HasCause BlockFault.Disk (D.faults disk.old) (D.faults disk.new) result }
     ensures reads { (most : ℕ) → ((book : B) (q : ℕ) → B.to_read book q ≤ most) → reads.new ≤ reads.old + (5 + 4 * most) * (level + 1) }
@@ -129,6 +130,7 @@ fn edit_there<P: TreePart, D: Disk, L: Ledger, B: Book<D, L>>(
         → IfOk result (λ instead. (tellings : List Telling) × B.follows before (log ++ tellings) book.new
         × IsPartTold land.old land.new (D.history disk.old) 0 way.now.address instead tellings) }
     ensures stands { OnOk result (B.stands book.new land.new disk.new) }
+    ensures settled { B.settled book.old land.old → OnOk result (B.settled book.new land.new) }
     ensures disk { (D.history disk.new ≡ D.history disk.old) × (D.size disk.new ≡ D.size disk.old) }
     ensures cause { HasCause BlockFault.Disk (D.faults disk.old) (D.faults disk.new) result }
     ensures reads { (most : ℕ) → ((book : B) (q : ℕ) → B.to_read book q ≤ most) → reads.new ≤ reads.old + (5 + 4 * most) }

@@ -40,6 +40,7 @@ pub(crate) fn own<P: TreePart, D: Disk, L: Ledger, B: Book<D, L>>(
         → is_free_slot land.old.space way.now.address ≡ false → (before : B) (log : List Telling) → B.follows before log book.old
         → IfOk result (λ now. B.follows before (log ++ tellings_owned node way.now.address now) book.new) }
     ensures stands { OnOk result (B.stands book.new land.new disk.new) }
+    ensures settled { B.settled book.old land.old → OnOk result (B.settled book.new land.new) }
     ensures sound { (node : NodeValue) → told land.old.blocks.draft (D.history disk.old) way.now.address ≡ Some node
         → form_failure P.tree (super_of tree.now land.old.blocks.draft) way.now.expected way.now.address node ≡ None → BreaksNone result }
     ensures disk { (D.history disk.new ≡ D.history disk.old) × (D.size disk.new ≡ D.size disk.old) }

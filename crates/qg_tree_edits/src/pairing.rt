@@ -62,6 +62,7 @@ pub(crate) fn own_neighbour<P: TreePart, D: Disk, L: Ledger, B: Book<D, L>>(
         → IfOk result (λ pair. (is : IsPaired P.tree tree.now land.old land.new (D.history disk.old) un.pointers to level place child pair)
         × B.follows before (log ++ tellings_owned is.owned.node is.beside.way.address is.now) book.new) }
     ensures stands { OnOk result (B.stands book.new land.new disk.new) }
+    ensures settled { B.settled book.old land.old → OnOk result (B.settled book.new land.new) }
     ensures disk { (D.history disk.new ≡ D.history disk.old) × (D.size disk.new ≡ D.size disk.old) }
     ensures cause { HasCause BlockFault.Disk (D.faults disk.old) (D.faults disk.new) result }
     ensures reads { (most : ℕ) → ((book : B) (q : ℕ) → B.to_read book q ≤ most) → reads.new ≤ reads.old + (2 + most) }

@@ -72,6 +72,7 @@ pub(crate) fn settle<P: TreePart, D: Disk, L: Ledger, B: Book<D, L>>(
         → IfOk result (λ rest. (tellings : List Telling) × B.follows before (log ++ tellings) book.new
         × IsSettledTold P.tree tree.now land.old land.new (D.history disk.old) level at place child un.pointers un.header items rest tellings) }
     ensures stands { OnOk result (B.stands book.new land.new disk.new) }
+    ensures kept { B.settled book.old land.old → OnOk result (B.settled book.new land.new) }
     ensures disk { (D.history disk.new ≡ D.history disk.old) × (D.size disk.new ≡ D.size disk.old) }
     ensures cause { HasCause BlockFault.Disk (D.faults disk.old) (D.faults disk.new) result }
     ensures reads { (most : ℕ) → ((book : B) (q : ℕ) → B.to_read book q ≤ most) → reads.new ≤ reads.old + (3 + 2 * most) }
@@ -123,6 +124,7 @@ fn join_child<P: TreePart, D: Disk, L: Ledger, B: Book<D, L>>(
         → IfOk result (λ rest. (tellings : List Telling) × B.follows before (log ++ tellings) book.new
         × IsSettledTold P.tree tree.now land.old land.new (D.history disk.old) level at place (alone child) un.pointers un.header items rest tellings) }
     ensures stands { OnOk result (B.stands book.new land.new disk.new) }
+    ensures kept { B.settled book.old land.old → OnOk result (B.settled book.new land.new) }
     ensures disk { (D.history disk.new ≡ D.history disk.old) × (D.size disk.new ≡ D.size disk.old) }
     ensures cause { HasCause BlockFault.Disk (D.faults disk.old) (D.faults disk.new) result }
     ensures reads { (most : ℕ) → ((book : B) (q : ℕ) → B.to_read book q ≤ most) → reads.new ≤ reads.old + (3 + 2 * most) }

@@ -1,6 +1,8 @@
 use Rattle.std.proofs.Common.{refl}
 use Rattle.qg_node.specs.Nodes.{header_of}
+use Rattle.qg_ground.specs.Changes.{node_at}
 use Rattle.qg_ground.proofs.Lands.{Makes-after, Rests-after, Rests-made, Rests-taken, Takes-made}
+use Rattle.qg_ground.proofs.Settling.{PutsFresh-puts}
 use Rattle.qg_ground.proofs.making.make_node.Goals as goal
 
 pub returns-in_err-now-clause-rests : goal.returns-in_err-now-clause-rests
@@ -31,3 +33,9 @@ returns-clause-takes g c =
     let takes = c.in_ok-made.ensures.takes in
     Takes-made c.args.land.now c.made.new.land c.in_ok-now.now c.args.node c.requires.drafted.sizes rests.sizes rests.held_slots
     (Makes-after c.args.land.now c.put_node.new.land c.made.new.land c.in_ok-now.now c.args.node c.in_ok-now.ensures.made takes.draft takes.slots)
+
+pub returns-clause-settled : goal.returns-clause-settled
+returns-clause-settled g c settled =
+    c.in_ok-made.ensures.settled c.args.land.now
+    (PutsFresh-puts c.args.land.now c.put_node.new.land c.in_ok-now.now (header_of c.args.node).generation (node_at c.in_ok-now.now c.args.node) c.in_ok-now.ensures.made.puts
+    c.put_node.ensures.spares c.in_ok-now.ensures.made.slots c.requires.drafted) settled

@@ -3,8 +3,9 @@ use Rattle.std.specs.Prelude.{None}
 use Rattle.std.proofs.lemmas.Bool.{eq-eqb, not-true, true≢false}
 use Rattle.qg_blocks.specs.Told.{fresh_at}
 use Rattle.qg_blocks.proofs.Telling.{none_of}
-use Rattle.qg_ground.proofs.Lands.{Copies-back, IsCopied-copies, Rests-after, Takes-copied}
-use Rattle.qg_ground.proofs.owning.own_node.Goals.{then-ne+in_ok-copied, else-ne}
+use Rattle.qg_ground.proofs.Lands.{Copies-back, GivesBack-none, IsCopied-copies, Rests-after, Takes-copied}
+use Rattle.qg_ground.proofs.Settling.{PutsFresh-puts}
+use Rattle.qg_ground.proofs.owning.own_node.Goals.{then-ne+in_ok-copied, else-ne+in_ok-made}
 use Rattle.qg_ground.proofs.owning.own_node.Goals as goal
 
 pub copied-requires-clause-copied : goal.copied-requires-clause-copied
@@ -19,6 +20,11 @@ returns-in_err-copied-clause-rests g c =
     Rests-after c.args.land.now c.copy_out.new.land c.copied.new.land (g.D.Disk.history c.copy_out.new.disk) (g.D.Disk.history c.copied.new.disk) c.args.next c.copy_out.ensures.rests
     (c.copied.ensures.rests c.args.next c.copy_out.ensures.rests.drafted)
 
+pub returns-in_err-made-clause-rests : goal.returns-in_err-made-clause-rests
+returns-in_err-made-clause-rests g c =
+    Rests-after c.args.land.now c.copy_out.new.land c.made.new.land (g.D.Disk.history c.copy_out.new.disk) (g.D.Disk.history c.made.new.disk) c.args.next c.copy_out.ensures.rests
+    (c.made.ensures.rests c.args.next c.copy_out.ensures.rests.drafted)
+
 pub returns-clause-takes : goal.returns-clause-takes
 returns-clause-takes g c = elim c.if-ne.branch [
   | then-ne+in_ok-copied w ↦
@@ -28,10 +34,13 @@ returns-clause-takes g c = elim c.if-ne.branch [
       c.in_ok-now.ensures.copied c.in_ok-now.ensures.slots w.in_ok-copied.ensures.gives in
       rw w.land-is
       (Takes-copied c.args.land.now w.copied.new.land (g.D.Disk.history c.args.disk.now) c.args.at c.in_ok-now.now c.args.owner c.args.next c.requires.drafted.sizes rests.sizes rests.held_slots copies)
-  | else-ne w ↦
+  | else-ne+in_ok-made w ↦
+      let rests = Rests-after c.args.land.now c.copy_out.new.land w.made.new.land (g.D.Disk.history c.copy_out.new.disk) (g.D.Disk.history w.made.new.disk) c.args.next c.copy_out.ensures.rests
+      (w.made.ensures.rests c.args.next c.copy_out.ensures.rests.drafted) in
+      let copies = Copies-back c.args.land.now c.copy_out.new.land w.made.new.land (g.D.Disk.history c.args.disk.now) c.args.at c.in_ok-now.now c.args.owner c.args.next
+      c.in_ok-now.ensures.copied c.in_ok-now.ensures.slots (GivesBack-none c.copy_out.new.land w.made.new.land c.args.at w.in_ok-made.ensures.takes) in
       rw w.land-is
-      (Takes-copied c.args.land.now c.copy_out.new.land (g.D.Disk.history c.args.disk.now) c.args.at c.in_ok-now.now c.args.owner c.args.next c.requires.drafted.sizes
-      c.copy_out.ensures.rests.sizes c.copy_out.ensures.rests.held_slots c.in_ok-now.ensures.copied)
+      (Takes-copied c.args.land.now w.made.new.land (g.D.Disk.history c.args.disk.now) c.args.at c.in_ok-now.now c.args.owner c.args.next c.requires.drafted.sizes rests.sizes rests.held_slots copies)
 ]
 
 pub returns-clause-rests : goal.returns-clause-rests
@@ -40,5 +49,17 @@ returns-clause-rests g c = elim c.if-ne.branch [
       rw (w.land-is, w.disk-is)
       (Rests-after c.args.land.now c.copy_out.new.land w.copied.new.land (g.D.Disk.history c.copy_out.new.disk) (g.D.Disk.history w.copied.new.disk) c.args.next c.copy_out.ensures.rests
       (w.copied.ensures.rests c.args.next c.copy_out.ensures.rests.drafted))
-  | else-ne w ↦ rw (w.land-is, w.disk-is) c.copy_out.ensures.rests
+  | else-ne+in_ok-made w ↦
+      rw (w.land-is, w.disk-is)
+      (Rests-after c.args.land.now c.copy_out.new.land w.made.new.land (g.D.Disk.history c.copy_out.new.disk) (g.D.Disk.history w.made.new.disk) c.args.next c.copy_out.ensures.rests
+      (w.made.ensures.rests c.args.next c.copy_out.ensures.rests.drafted))
 ]
+
+pub returns-clause-settled : goal.returns-clause-settled
+returns-clause-settled g c settled =
+    let put = PutsFresh-puts c.args.land.now c.copy_out.new.land c.in_ok-now.now c.args.next c.in_ok-now.ensures.copied.copy c.in_ok-now.ensures.copied.puts c.copy_out.ensures.spares
+    c.in_ok-now.ensures.slots c.requires.drafted in
+    elim c.if-ne.branch [
+      | then-ne+in_ok-copied w ↦ rw (w.land-is, w.book-is) (w.in_ok-copied.ensures.settled c.args.land.now put settled)
+      | else-ne+in_ok-made w ↦ rw (w.land-is, w.book-is) (w.in_ok-made.ensures.settled c.args.land.now put settled)
+    ]

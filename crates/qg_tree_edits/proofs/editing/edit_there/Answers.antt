@@ -18,6 +18,7 @@ use Rattle.qg_tree_edits.proofs.FitTold.{fit-told}
 use Rattle.qg_tree_edits.proofs.PlacedTold.{ok-both}
 use Rattle.qg_tree_edits.proofs.Cutting.{ready-same, rewritten-moves, rewritten-rests, rewritten-spares, stays-cut}
 use Rattle.qg_tree_edits.proofs.LeafEdited.{header-with_items, leaf-edited, leaf-told, mine-leaf_is}
+use Rattle.qg_tree_edits.proofs.Levels.{rewritten-levels, rewritten-space}
 use Rattle.qg_tree_edits.proofs.Paired.{owned-levelled}
 use Rattle.qg_tree_edits.proofs.Rejoined.{unbroken-other}
 use Rattle.qg_tree_edits.proofs.Served.{fresh-leaf, size-drafted, slots-most}
@@ -164,3 +165,14 @@ returns-clause-told g c items fit before log follows =
     ))
     c.place_rest.ensures.placed
     (c.place_rest.ensures.told before (log ++ tellings_owned owned.node c.args.way.now.address c.in_ok-now.now) log_own)
+
+-- ---- what stands between two edits
+
+pub returns-clause-settled : goal.returns-clause-settled
+returns-clause-settled g c settled =
+    let owned = c.in_ok-now.ensures.owned in
+    let rewritten = c.rewrite_leaf.ensures.rewritten owned.mine owned.here in
+    let stays = stays-cut c.own.new.land.space.sizes.nodesize owned.mine _ c.rewrite_leaf.new.land c.in_ok-now.now c.in_ok-rest.rest (header-with_items owned.mine _) (c.in_ok-rest.ensures.cut owned.mine owned.here) in
+    c.place_rest.ensures.settled
+    (g.met.B.Book.keeps c.own.new.book c.own.new.land c.rewrite_leaf.new.land (rewritten-space c.own.new.land c.rewrite_leaf.new.land c.in_ok-now.now owned.mine owned.here rewritten)
+    (rewritten-levels c.own.new.land c.rewrite_leaf.new.land c.in_ok-now.now owned.mine owned.here rewritten stays.stays) (c.in_ok-now.ensures.settled settled))

@@ -4,6 +4,7 @@ use Rattle.qg_device.specs.History.{content}
 use Rattle.qg_ground.specs.Tellings.Telling.{Left}
 use Rattle.qg_ground.proofs.Lands.{Rests-after, told-fresh_at}
 use Rattle.qg_tree_edits.specs.declared.instead.Instead.{Instead}
+use Rattle.qg_tree_edits.proofs.Levels.{both-space, joined-empties, joined-levels}
 use Rattle.qg_tree_edits.proofs.ToldUnited.{left-cleared}
 use Rattle.qg_tree_edits.proofs.United.{between-backed, both-backed, both-rests, first-spares, fresh-unbroken, later-spares}
 use Rattle.qg_tree_edits.proofs.joining.unite.Goals as goal
@@ -70,3 +71,21 @@ returns-in_ok-leave_node-in-Whole-clause-told g c generation drafted before log 
     let cleared = left-cleared c.args.land.now c.join_nodes.new.land c.args.left c.args.right generation c.in_ok-join_nodes.field-0 c.in-Whole.is drafted c.requires.pair joined in
     let there = told-fresh_at c.join_nodes.new.land.blocks.draft (g.D.Disk.history c.args.disk.now) c.args.right joined.b joined.right_there in
     (Left joined.b ∷ [], c.in_ok-leave_node-in-Whole.ensures.told joined.b there before log follows, inr (refl, (joined.b, refl, cleared.0, cleared.1)))
+
+pub returns-in-Parted-clause-settled : goal.returns-in-Parted-clause-settled
+returns-in-Parted-clause-settled g c settled =
+    let old = c.args.land.now in
+    let new = c.join_nodes.new.land in
+    let are = c.join_nodes.ensures.rewritten in
+    let joined = c.in_ok-join_nodes.ensures.joined in
+    g.met.B.Book.keeps c.args.book.now old new
+    (both-space old new c.args.left c.args.right c.requires.apart c.requires.pair are c.in_ok-join_nodes.field-0 joined)
+    (joined-levels old new c.args.left c.args.right c.requires.apart c.requires.pair are c.in_ok-join_nodes.field-0 joined c.in-Parted.is) settled
+
+pub returns-in_ok-leave_node-in-Whole-clause-settled : goal.returns-in_ok-leave_node-in-Whole-clause-settled
+returns-in_ok-leave_node-in-Whole-clause-settled g c settled =
+    let old = c.args.land.now in
+    let new = c.join_nodes.new.land in
+    let are = c.join_nodes.ensures.rewritten in
+    c.in_ok-leave_node-in-Whole.ensures.settled old
+    (joined-empties old new c.args.left c.args.right c.requires.apart c.requires.pair are c.in_ok-join_nodes.field-0 c.in_ok-join_nodes.ensures.joined c.in-Whole.is) settled

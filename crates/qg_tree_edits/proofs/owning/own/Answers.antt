@@ -6,6 +6,7 @@ use Rattle.qg_blocks.specs.Told.{fresh_at, told}
 use Rattle.qg_ground.specs.declared.ground.Ground.{Ground}
 use Rattle.qg_ground.proofs.Editing.{ArePlaced-drafted}
 use Rattle.qg_ground.proofs.Lands.{Rests-draft}
+use Rattle.qg_ground.proofs.Settling.{KeepsLevels-draft}
 use Rattle.qg_tree_edits.proofs.Owned.{IsOwned-visited, owned-unbroken}
 use Rattle.qg_tree_edits.proofs.ToldOwned.{tells-owned}
 use Rattle.qg_tree_edits.proofs.owning.own.Goals as goal
@@ -52,3 +53,9 @@ returns-clause-told g c node there taken before log follows =
     (fresh_at c.visit.new.blocks.draft c.args.way.now.address) c.own_node.result c.own_node.ensures.same
     (λ none. c.own_node.ensures.told node told_then none taken before log follows)
     (λ none. IfOk-weaker c.own_node.result _ _ (λ now owned. (owned.copied none).puts.free) c.own_node.ensures.owned)
+
+pub returns-clause-settled : goal.returns-clause-settled
+returns-clause-settled g c settled =
+    let mid : Ground = record c.args.land.now { blocks = c.visit.new.blocks } in
+    c.own_node.ensures.settled
+    (g.met.B.Book.keeps c.args.book.now c.args.land.now mid refl (KeepsLevels-draft c.args.land.now mid c.visit.ensures.read.draft) settled)

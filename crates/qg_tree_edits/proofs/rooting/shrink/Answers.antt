@@ -13,6 +13,7 @@ use Rattle.qg_tree_edits.specs.First.{leaves}
 use Rattle.qg_tree_edits.specs.Editing.{alone}
 use Rattle.qg_tree_edits.specs.Rooting.{HasRoot, lone_child}
 use Rattle.qg_tree_edits.proofs.Cutting.{rewritten-moves, rewritten-rests, rewritten-spares}
+use Rattle.qg_tree_edits.proofs.Levels.{rewritten-empties}
 use Rattle.qg_tree_edits.proofs.Served.{node-drafted, size-drafted}
 use Rattle.qg_tree_edits.specs.Counting.{IsRootTold}
 use Rattle.qg_tree_edits.proofs.Shrunk.{lone-high, lone-is, stood, sunk, sunk-leaves, told-sunk}
@@ -154,3 +155,11 @@ returns-in_ok-leave_node-in-Some-clause-leaves g c items stands =
     ap (λ (r : Root). leaves (told c.leave_node.new.land.blocks.draft history) r.height r.address) c.sink_to.ensures
     ∙ sunk-leaves tree root land history c.args.now items fresh.node stands drafted fresh.here fresh.levelled c.clear_at.new.land c.leave_node.new.land later c.in-Some.child (root.height - 1)
     is.0 is.1 is.2 is.3 height rewritten (ap (λ (l : Ground). l.space) rewritten.is) c.in_ok-leave_node-in-Some.ensures.gone rests
+
+-- ---- what stands between two edits
+
+pub returns-in_ok-leave_node-in-Some-clause-settled : goal.returns-in_ok-leave_node-in-Some-clause-settled
+returns-in_ok-leave_node-in-Some-clause-settled g c settled =
+    let fresh = c.requires.fresh in
+    c.in_ok-leave_node-in-Some.ensures.settled c.args.land.now
+    (rewritten-empties c.args.land.now c.clear_at.new.land c.args.now fresh.node fresh.here (c.clear_at.ensures.cleared fresh.node fresh.here) (c.clear_at.ensures.here fresh.node fresh.here)) settled

@@ -13,6 +13,7 @@ use Rattle.qg_tree_edits.specs.Editing.{RestIsReady}
 use Rattle.qg_tree_edits.specs.Counting.{tellings_owned}
 use Rattle.qg_edit.proofs.Leaves.{ok-known}
 use Rattle.qg_tree_edits.proofs.Cutting.{ready-same, rewritten-moves, rewritten-rests, rewritten-spares}
+use Rattle.qg_tree_edits.proofs.Levels.{rewritten-levels, rewritten-space}
 use Rattle.qg_tree_edits.proofs.LeavesSettled.{ok-both, rejoined-leaves}
 use Rattle.qg_tree_edits.proofs.Paired.{are-pair, pair-differ, pair-inside}
 use Rattle.qg_tree_edits.proofs.PairedHolds.{pair-front}
@@ -239,3 +240,20 @@ returns-clause-leaves g c items un first empty =
     pair instead paired c.requires.makes c.requires.editable.drafted rests c.requires.child c.requires.thin c.in_ok-instead.ensures.united after led first none empty)
     (c.lead_to.ensures.led tree (super_of root land.blocks.draft) history c.args.level un.pointers un.header items can)
     (c.lead_to.ensures.fits refl)
+
+-- ---- what stands between two edits
+
+pub returns-clause-kept : goal.returns-clause-kept
+returns-clause-kept g c settled =
+    let node = c.requires.parent.node in
+    let after = c.unite.ensures.rests c.args.tree.now.next c.own_neighbour.ensures.rests.drafted in
+    let high = c.requires.parent.levelled in
+    let here = rejoined-above g.P.TreePart.tree c.args.tree.now c.args.land.now c.own_neighbour.new.land c.unite.new.land (g.D.Disk.history c.args.disk.now) (g.D.Disk.history c.own_neighbour.new.disk)
+    (g.D.Disk.history c.unite.new.disk) (own_pointers node) c.args.to c.args.level c.args.place c.args.child c.in_ok-pair.pair c.in_ok-instead.instead (c.in_ok-pair.ensures.paired node c.requires.parent.here)
+    c.own_neighbour.ensures.rests c.requires.child c.requires.thin c.in_ok-instead.ensures.united after c.args.at node c.requires.parent.here (omega (arith, high)) in
+    let rewritten = c.lead_to.ensures.rewritten node here in
+    let united = c.in_ok-instead.ensures.settled (c.in_ok-pair.ensures.settled settled) in
+    IfOk-weaker c.lead_to.result _ _
+    (λ rest cut. g.met.B.Book.keeps c.unite.new.book c.unite.new.land c.lead_to.new.land (rewritten-space c.unite.new.land c.lead_to.new.land c.args.at node here rewritten)
+    (rewritten-levels c.unite.new.land c.lead_to.new.land c.args.at node here rewritten cut.stays) united)
+    (c.lead_to.ensures.rest node here)

@@ -11,6 +11,7 @@ use Rattle.qg_tree_edits.specs.Counting.{IsSettledTold}
 use Rattle.qg_descent.specs.Tree.{super_of}
 use Rattle.qg_edit.proofs.Leaves.{ok-known}
 use Rattle.qg_tree_edits.proofs.Cutting.{ready-same, rewritten-moves, rewritten-rests, rewritten-spares}
+use Rattle.qg_tree_edits.proofs.Levels.{rewritten-levels, rewritten-space}
 use Rattle.qg_tree_edits.proofs.LeavesSettled.{ok-both, settled-high, settled-leaves}
 use Rattle.qg_tree_edits.proofs.Served.{fresh-inner, instead-named, node-drafted, places-few, size-blocks, size-drafted}
 use Rattle.qg_tree_edits.proofs.Settled.{settled, settled-told}
@@ -157,3 +158,15 @@ returns-clause-leaves g c items un first single empty =
     root.next c.requires.child.now (size-blocks land root.next drafted) (full single) empty))
     (c.lead_to.ensures.led tree (super_of root land.blocks.draft) history c.args.level un.pointers un.header items can)
     (c.lead_to.ensures.whole single)
+
+-- ---- what stands between two edits
+
+pub returns-clause-kept : goal.returns-clause-kept
+returns-clause-kept g c stood =
+    let node = c.requires.parent.node in
+    let here = c.requires.parent.here in
+    let rewritten = c.lead_to.ensures.rewritten node here in
+    IfOk-weaker c.lead_to.result _ _
+    (λ rest cut. g.met.B.Book.keeps c.args.book.now c.args.land.now c.lead_to.new.land (rewritten-space c.args.land.now c.lead_to.new.land c.args.at node here rewritten)
+    (rewritten-levels c.args.land.now c.lead_to.new.land c.args.at node here rewritten cut.stays) stood)
+    (c.lead_to.ensures.rest node here)

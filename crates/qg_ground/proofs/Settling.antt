@@ -1,0 +1,49 @@
+-- How what stands of a book and of land between two edits is kept.
+use Rattle.std.proofs.Common.{◌≡◌, ◌≢◌, ◌⊎◌, ℕ, true, List, refl, sym, ap, ◌∙◌, inl, inr}
+use Rattle.std.specs.Prelude.{Option, Some, None}
+use Rattle.qg_node.specs.declared.node.Node.{Node}
+use Rattle.qg_node.specs.Nodes.{header_of}
+use Rattle.qg_image.specs.Table.{with_number}
+use Rattle.qg_blocks.specs.Held.{Draft}
+use Rattle.qg_blocks.specs.Told.{fresh_at}
+use Rattle.qg_space.specs.Holding.{is_free_slot}
+use Rattle.qg_space.proofs.Members.{Contains-has_slot}
+use Rattle.qg_ground.specs.declared.ground.Ground.{Ground}
+use Rattle.qg_ground.specs.Land.{IsDrafted}
+use Rattle.qg_ground.specs.Tellings.{Empties, HoldsNothing, KeepsLevels, Spares}
+use Rattle.qg_ground.specs.Changes.{Puts, PutsFresh}
+use Rattle.qg_ground.proofs.Lands.{IsSome-is, fresh_at-told}
+use Rattle.qg_ground.proofs.Slots.{free-absent}
+
+none_fresh : (land : Ground) (generation at : ℕ) → IsDrafted land generation → is_free_slot land.space at ≡ true
+    → (o : Option Node) → fresh_at land.blocks.draft at ≡ o → o ≡ None
+none_fresh land generation at is free None there = refl
+none_fresh land generation at is free (Some node) there =
+    let draft = is.each at node there in
+    absurd (free-absent land.space at free ((Contains-has_slot land.space at).0 draft.taken))
+
+-- no node is fresh in a free slot
+pub fresh-free : (land : Ground) (generation at : ℕ) → IsDrafted land generation → is_free_slot land.space at ≡ true
+    → fresh_at land.blocks.draft at ≡ None
+fresh-free land generation at is free = none_fresh land generation at is free (fresh_at land.blocks.draft at) refl
+
+-- a node that is put takes its slot, and nothing else changes
+pub PutsFresh-puts : (old new : Ground) (now generation : ℕ) (node : Node) → Puts old new now node → Spares old new
+    → new.space.slots ≡ with_number now old.space.slots → IsDrafted old generation → PutsFresh old new now
+PutsFresh-puts old new now generation node puts spares slots is = record {
+  free = puts.free;
+  none = fresh-free old generation now is puts.free;
+  here = IsSome-is (fresh_at new.blocks.draft now) node puts.here;
+  others = λ at other. fresh_at-told old.blocks.draft new.blocks.draft at (puts.others None at other);
+  space = spares.space ∙ ap (λ (ns : List ℕ). record old.space { slots = ns }) slots;
+}
+
+-- where fresh nodes are the same their levels are
+pub KeepsLevels-draft : (old new : Ground) → new.blocks.draft ≡ old.blocks.draft → KeepsLevels old new
+KeepsLevels-draft old new draft = record {
+  each = λ at node there. (node, sym (ap (λ (d : Draft). fresh_at d at) draft) ∙ there, refl);
+}
+
+-- a node that is left as it is
+pub Empties-same : (land : Ground) (at : ℕ) → Empties land land at
+Empties-same land at = record { space = refl; each = λ q node there. (node, there, inl refl) }
