@@ -83,6 +83,8 @@ impl<D: Disk, L: Ledger> Book<D, L> for TreeRefs {
 
     ghost stands = { λ book land disk. ⊤ };
 
+    ghost settled = { λ book land. ⊤ };
+
     ghost shares = { λ book land disk at. nat_lt 1 (length (references_at (book_of book.refs) at)) };
 
     ghost to_read = { λ book at. 1 };
@@ -139,4 +141,6 @@ impl<D: Disk, L: Ledger> Book<D, L> for TreeRefs {
     }
 
     ghost lasts = { λ book old new before after history size backed spares stands. tt };
+
+    ghost keeps = { λ book old new space levels settled. tt };
 }
