@@ -1,0 +1,31 @@
+// A subvolume's tree with what it lies in and what it owes.
+ghost use Rattle.std.specs.Prelude.{◌≡◌, Some, None, Ok, Err};
+ghost use Rattle.qg_num.specs.declared.block_fault.BlockFault.TheVariants.{Image};
+ghost use Rattle.qg_num.specs.declared.rule.Rule.TheVariants.{Refs};
+
+use qg_descent::Tree;
+use qg_ground::Ground;
+use qg_num::{BlockFault, Rule};
+use qg_tree_refs::TreeRefs;
+
+/// A subvolume's tree with all that its edits change (on-disk format, "B-tree" and "backreferences"): the nodes and the space that it lies
+/// in, and the references that it owes.
+#[derive(Drop)]
+pub struct FsTree {
+    pub tree: Tree,
+    pub land: Ground,
+    pub refs: TreeRefs,
+}
+
+impl FsTree {
+    /// `Image` with `refs` where a reference was not there that should be, or was there already, and with its address.
+    pub(crate) fn fitting(&self) -> Result<(), BlockFault> {
+        match self.refs.misfit() {
+            None => Ok(()),
+            Some(address) => Err(BlockFault::Image {
+                rule: Rule::Refs,
+                address,
+            }),
+        }
+    }
+}
