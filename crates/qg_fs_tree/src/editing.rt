@@ -23,8 +23,9 @@ use std::sync::ledger::Ledger;
 impl FsTree {
     /// Puts an item in its place. Its key must not be there, and its body has at most 1024 bytes.
     ///
-    /// It takes at most 2·height + 3 slots, and asks for 3·(height + 2) free ones. `Image` comes where a node is not what leads to it
-    /// expects, or with `refs` where the key is there, or a reference is not what the tree owes. After an `Err` nothing of it is of use.
+    /// It takes at most 2·height + 3 slots. `Image` comes where a node is not what leads to it expects, or with `refs` where the key is
+    /// there, or a reference is not what the tree owes; and with `shape` and the root's address where not 3·(height + 2) slots are free. After
+    /// an `Err` nothing of it is of use.
     pub fn insert<D: Disk, L: Ledger>(
         &mut self,
         alloc: Global,
@@ -35,12 +36,12 @@ impl FsTree {
     ) -> Result<(), BlockFault>
         requires subvolume { IsSubvolume self.old (D.history disk.old) (D.size disk.old) }
         requires short { length body ≤ 1024 }
-        requires slots { 3 * (self.old.tree.height + 2) ≤ free_slots self.old.land.space }
         ensures inserted { (items : List ItemValue) (names : List (ℕ × PieceValue)) → Stands self.old (D.history disk.old) items names
             → IsTrue (not (has_key key items))
             → OnOk result (IsEditedTo self.old self.new (D.history disk.old) (with_item (record { key = key; body = body }) items) names (self.old.tree.height + 2)) }
         ensures sound { (events : List Event) → D.history disk.old ≡ Some events → (items : List ItemValue) (names : List (ℕ × PieceValue))
-            → Stands self.old (D.history disk.old) items names → IsTrue (not (has_key key items)) → BreaksNone result }
+            → Stands self.old (D.history disk.old) items names → IsTrue (not (has_key key items))
+            → 3 * (self.old.tree.height + 2) ≤ free_slots self.old.land.space → BreaksNone result }
         ensures grows { OnOk result (Grows 1 self.old.tree self.new.tree self.old.land self.new.land) }
         ensures subvolume { IsSubvolume self.new (D.history disk.new) (D.size disk.new) }
         ensures rests { LeavesBe self.old.land self.new.land (D.history disk.old) (D.history disk.new) (D.size disk.old) (D.size disk.new)
@@ -48,6 +49,7 @@ impl FsTree {
         ensures cause { HasCause BlockFault.Disk (D.faults disk.old) (D.faults disk.new) result }
         ensures reads { reads.new ≤ reads.old + 9 * (self.old.tree.height + 2) }
     {
+        self.roomy()?;
         insert::<FilePart, D, L, TreeRefs>(
             &mut self.tree,
             alloc,
@@ -72,12 +74,12 @@ impl FsTree {
     ) -> Result<(), BlockFault>
         requires subvolume { IsSubvolume self.old (D.history disk.old) (D.size disk.old) }
         requires short { length body ≤ 1024 }
-        requires slots { 3 * (self.old.tree.height + 2) ≤ free_slots self.old.land.space }
         ensures replaced { (items : List ItemValue) (names : List (ℕ × PieceValue)) → Stands self.old (D.history disk.old) items names
             → IsTrue (has_key key items)
             → OnOk result (IsEditedTo self.old self.new (D.history disk.old) (with_item (record { key = key; body = body }) items) names (self.old.tree.height + 2)) }
         ensures sound { (events : List Event) → D.history disk.old ≡ Some events → (items : List ItemValue) (names : List (ℕ × PieceValue))
-            → Stands self.old (D.history disk.old) items names → IsTrue (has_key key items) → BreaksNone result }
+            → Stands self.old (D.history disk.old) items names → IsTrue (has_key key items)
+            → 3 * (self.old.tree.height + 2) ≤ free_slots self.old.land.space → BreaksNone result }
         ensures grows { OnOk result (Grows 1 self.old.tree self.new.tree self.old.land self.new.land) }
         ensures subvolume { IsSubvolume self.new (D.history disk.new) (D.size disk.new) }
         ensures rests { LeavesBe self.old.land self.new.land (D.history disk.old) (D.history disk.new) (D.size disk.old) (D.size disk.new)
@@ -85,6 +87,7 @@ impl FsTree {
         ensures cause { HasCause BlockFault.Disk (D.faults disk.old) (D.faults disk.new) result }
         ensures reads { reads.new ≤ reads.old + 9 * (self.old.tree.height + 2) }
     {
+        self.roomy()?;
         replace::<FilePart, D, L, TreeRefs>(
             &mut self.tree,
             alloc,
@@ -107,12 +110,12 @@ impl FsTree {
         reads: &mut Steps<L>,
     ) -> Result<(), BlockFault>
         requires subvolume { IsSubvolume self.old (D.history disk.old) (D.size disk.old) }
-        requires slots { 3 * (self.old.tree.height + 2) ≤ free_slots self.old.land.space }
         ensures removed { (items : List ItemValue) (names : List (ℕ × PieceValue)) → Stands self.old (D.history disk.old) items names
             → IsTrue (has_key key items)
             → OnOk result (IsEditedTo self.old self.new (D.history disk.old) (without_key key items) names (self.old.tree.height + 2)) }
         ensures sound { (events : List Event) → D.history disk.old ≡ Some events → (items : List ItemValue) (names : List (ℕ × PieceValue))
-            → Stands self.old (D.history disk.old) items names → IsTrue (has_key key items) → BreaksNone result }
+            → Stands self.old (D.history disk.old) items names → IsTrue (has_key key items)
+            → 3 * (self.old.tree.height + 2) ≤ free_slots self.old.land.space → BreaksNone result }
         ensures grows { OnOk result (Grows 0 self.old.tree self.new.tree self.old.land self.new.land) }
         ensures subvolume { IsSubvolume self.new (D.history disk.new) (D.size disk.new) }
         ensures rests { LeavesBe self.old.land self.new.land (D.history disk.old) (D.history disk.new) (D.size disk.old) (D.size disk.new)
@@ -120,6 +123,7 @@ impl FsTree {
         ensures cause { HasCause BlockFault.Disk (D.faults disk.old) (D.faults disk.new) result }
         ensures reads { reads.new ≤ reads.old + 9 * (self.old.tree.height + 2) }
     {
+        self.roomy()?;
         remove::<FilePart, D, L, TreeRefs>(
             &mut self.tree,
             alloc,

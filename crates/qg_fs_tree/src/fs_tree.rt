@@ -28,4 +28,15 @@ impl FsTree {
             }),
         }
     }
+
+    /// `Image` with `shape` and the root's address where an edit may want more slots than are free.
+    pub(crate) fn roomy(&self) -> Result<(), BlockFault> {
+        if 3 * (self.tree.height() as u64 + 2) > self.land.space.free_slots() {
+            return Err(BlockFault::Image {
+                rule: Rule::Shape,
+                address: self.tree.root(),
+            });
+        }
+        Ok(())
+    }
 }
