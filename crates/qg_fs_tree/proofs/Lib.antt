@@ -1,3 +1,15 @@
+pub mod Counted
 pub mod Single
+pub mod SlotSums
+pub mod Keyed
+pub mod Owings
 pub mod Turned
+pub mod Exchanged
+pub mod Identity
+pub mod Places
 pub mod Few
+pub mod Layouts
+pub mod Reached
+pub mod Counts
+pub mod Before
+pub mod After

@@ -1,7 +1,7 @@
 -- A subvolume's tree and the references that it owes (on-disk format, "B-tree" and "backreferences"; how they stand together is this
 -- project's own). Addresses are in bytes.
-use Rattle.std.specs.Prelude.{◌≡◌, ◌⊎◌, ◌↔◌, ⊥, ℕ, ◌+◌, ◌≤◌, false, List, [], ◌∷◌, length, map, Option, Some, None, IsTrue, Contains, nat_lt, if◌then◌else◌}
-use Rattle.std.specs.List.{All, filter_map, range_with_len}
+use Rattle.std.specs.Prelude.{◌≡◌, ◌⊎◌, ◌↔◌, ℕ, ◌+◌, ◌≤◌, false, List, [], ◌∷◌, map, Option, Some, None, IsSome, IsTrue, Contains, nat_lt, if◌then◌else◌}
+use Rattle.std.specs.List.{All, count_by, filter_map, range_with_len}
 use Rattle.std.specs.Option.{option_map}
 use Rattle.qg_device.specs.History.{Event}
 use Rattle.qg_num.specs.declared.piece.Piece.{Piece}
@@ -10,7 +10,8 @@ use Rattle.qg_node.specs.declared.node.Node.{Node}
 use Rattle.qg_node.specs.Nodes.{header_of}
 use Rattle.qg_items.specs.declared.extent.Reference.{Reference}
 use Rattle.qg_items.specs.declared.extent.Reference.TheVariants.{KeyedData}
-use Rattle.qg_super.specs.Places.{is_slot, slot_at}
+use Rattle.qg_super.specs.declared.sizes.Sizes.{Sizes}
+use Rattle.qg_super.specs.Places.{is_run, is_slot, slot_at}
 use Rattle.qg_image.specs.declared.part.FilePart.{FilePart}
 use Rattle.qg_image.specs.declared.part.FilePart.TheVariants.{Inode, PieceOf}
 use Rattle.qg_image.specs.ItemMeaning.{file_part}
@@ -19,7 +20,7 @@ use Rattle.qg_state.specs.State.{Layout, Placed}
 use Rattle.qg_state.specs.Owed.{Owing, owed_count, reference_offset}
 use Rattle.qg_state.specs.Reach.{extent_of}
 use Rattle.qg_verdict.specs.declared.tree.Tree.TheVariants.{Files}
-use Rattle.qg_blocks.specs.Told.{told}
+use Rattle.qg_blocks.specs.Told.{fresh_at, told}
 use Rattle.qg_space.specs.Holding.{Holding, has_slot, is_free_slot}
 use Rattle.qg_refs.specs.Book.{Book, count_at, full_in, what_in}
 use Rattle.qg_extents.specs.Table.{book_of}
@@ -49,6 +50,10 @@ nodes_of fs history = told fs.land.blocks.draft history
 abbrev pub IsReached : FsTree → Option (List Event) → ℕ → Type 0
 IsReached fs history q = Reaches (nodes_of fs history) fs.tree.height fs.tree.address q
 
+-- the slots of an image
+abbrev pub every_slot : Sizes → List ℕ
+every_slot sizes = map (slot_at sizes) (range_with_len 0 sizes.slots)
+
 -- a slot's node, if the tree reaches it, with the mark that is kept of it
 abbrev pub placed_at : FsTree → Option (List Event) → ℕ → Option (ℕ × Placed)
 placed_at fs history at =
@@ -60,7 +65,7 @@ unfoldable pub layout_in : FsTree → Option (List Event) → Layout
 layout_in fs history = record {
   nodesize = fs.land.space.sizes.nodesize;
   roots = (fs.tree.owner, fs.tree.address) ∷ [];
-  nodes = filter_map (placed_at fs history) (map (slot_at fs.land.space.sizes) (range_with_len 0 fs.land.space.sizes.slots));
+  nodes = filter_map (placed_at fs history) (every_slot fs.land.space.sizes);
 }
 
 -- a keyed reference by a piece of a file of a number, to the extent that the piece names
@@ -71,12 +76,13 @@ name_of owner name = record {
 }
 
 -- the piece that an item tells, with the number of its file
+abbrev pub piece_in : Option FilePart → Option (ℕ × Piece)
+piece_in None = None
+piece_in (Some (Inode ino inode)) = None
+piece_in (Some (PieceOf ino piece)) = Some (ino, piece)
+
 abbrev pub name_told : Item → Option (ℕ × Piece)
-name_told item = told_by (file_part item) where
-  told_by : Option FilePart → Option (ℕ × Piece)
-  told_by None = None
-  told_by (Some (Inode ino inode)) = None
-  told_by (Some (PieceOf ino piece)) = Some (ino, piece)
+name_told item = piece_in (file_part item)
 
 -- how often a keyed reference is there by some pieces
 abbrev pub names_times : ℕ → List (ℕ × Piece) → ℕ → Reference → ℕ
@@ -94,9 +100,10 @@ pub record IsBookOf (fs : FsTree) : Type 0 where
   pub next : fs.refs.next ≡ fs.tree.next
   pub nodesize : fs.refs.nodesize ≡ fs.land.space.sizes.nodesize
 
--- The tree has these items. No node is shared: one reference is kept to each, and one that is not full was made by the subvolume. What is
--- kept is what the tree owes, but that these pieces stand for those of the items: in the midst of a command some are named still, or not
--- yet. Each node lies in a slot, and the runs that are taken are the extents of these pieces
+-- The tree has these items. No node is shared: one reference is kept to each, and one that is not full was made by the subvolume. A fresh
+-- node is not full. What is kept is what the tree owes, but that these pieces stand for those of the items: in the midst of a command some
+-- are named still, or not yet. None is named more often than a reference is counted. Each node lies in a slot, and the runs that are taken
+-- are the extents of these pieces
 pub record Stands (fs : FsTree) (history : Option (List Event)) (items : List Item) (names : List (ℕ × Piece)) : Type 0 where
   pub book : IsBookOf fs
   pub rooted : IsRooted Files fs.tree fs.land history items
@@ -104,10 +111,12 @@ pub record Stands (fs : FsTree) (history : Option (List Event)) (items : List It
   pub alone : (q : ℕ) → IsReached fs history q → references_to (book_of fs.refs.refs) q ≡ 1
   pub home : (q : ℕ) (node : Node) → IsReached fs history q → nodes_of fs history q ≡ Some node
       → full_in (book_of fs.refs.refs q) ≡ false → (header_of node).owner ≡ fs.tree.owner
+  pub young : (q : ℕ) → IsReached fs history q → IsSome (fresh_at fs.land.blocks.draft q) → full_in (book_of fs.refs.refs q) ≡ false
   pub fits : fs.refs.misfit ≡ None
   pub counts : (at : ℕ) (reference : Reference)
       → count_at (book_of fs.refs.refs) at reference + names_times fs.tree.owner (filter_map name_told items) at reference
       ≡ owed_count (layout_in fs history) at reference + names_times fs.tree.owner names at reference
+  pub few : (at : ℕ) (reference : Reference) → names_times fs.tree.owner names at reference ≤ 4294967295
   pub settled : IsSettled fs.refs fs.land history
   pub known : All (λ name. IsKnownExtent fs.land.space.sizes (book_of fs.refs.refs) name.1) names
   pub runs : (run : Element) → Contains fs.land.space.runs run ↔ Contains (map (λ name. extent_of name.1) names) run
@@ -123,7 +132,7 @@ pub record Moves (old new : FsTree) (history : Option (List Event)) : Type 0 whe
 
 -- how many slots the present state has
 unfoldable pub taken_slots : Holding → ℕ
-taken_slots holding = count_by (has_slot holding) (map (slot_at holding.sizes) (range_with_len 0 holding.sizes.slots))
+taken_slots holding = count_by (has_slot holding) (every_slot holding.sizes)
 
 -- an edit left the tree with these items, and the same names; of slots it took at most so many more than it gave back
 pub record IsEditedTo (old new : FsTree) (history : Option (List Event)) (items : List Item) (names : List (ℕ × Piece)) (most : ℕ) : Type 0 where

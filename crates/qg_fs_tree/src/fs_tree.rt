@@ -1,7 +1,8 @@
 // A subvolume's tree with what it lies in and what it owes.
-ghost use Rattle.std.specs.Prelude.{◌≡◌, Some, None, Ok, Err};
-ghost use Rattle.qg_num.specs.declared.block_fault.BlockFault.TheVariants.{Image};
-ghost use Rattle.qg_num.specs.declared.rule.Rule.TheVariants.{Refs};
+ghost use Rattle.std.specs.Prelude.{◌≡◌, ◌+◌, ◌*◌, ◌<◌, ◌≤◌, Err, IsOk, MatchOption};
+ghost use Rattle.qg_num.specs.declared.fault.BlockFault.TheVariants.{Image};
+ghost use Rattle.qg_num.specs.declared.rule.Rule.TheVariants.{Refs, Shape};
+ghost use Rattle.qg_space.specs.Holding.{free_slots};
 
 use qg_descent::Tree;
 use qg_ground::Ground;
@@ -19,7 +20,9 @@ pub struct FsTree {
 
 impl FsTree {
     /// `Image` with `refs` where a reference was not there that should be, or was there already, and with its address.
-    pub(crate) fn fitting(&self) -> Result<(), BlockFault> {
+    pub(crate) fn fitting(&self) -> Result<(), BlockFault>
+        ensures { MatchOption self.now.refs.misfit (IsOk result) (λ address. result ≡ Err (Image Refs address)) }
+    {
         match self.refs.misfit() {
             None => Ok(()),
             Some(address) => Err(BlockFault::Image {
@@ -30,7 +33,10 @@ impl FsTree {
     }
 
     /// `Image` with `shape` and the root's address where an edit may want more slots than are free.
-    pub(crate) fn roomy(&self) -> Result<(), BlockFault> {
+    pub(crate) fn roomy(&self) -> Result<(), BlockFault>
+        ensures enough { 3 * (self.now.tree.height + 2) ≤ free_slots self.now.land.space → IsOk result }
+        ensures few { free_slots self.now.land.space < 3 * (self.now.tree.height + 2) → result ≡ Err (Image Shape self.now.tree.address) }
+    {
         if 3 * (self.tree.height() as u64 + 2) > self.land.space.free_slots() {
             return Err(BlockFault::Image {
                 rule: Rule::Shape,

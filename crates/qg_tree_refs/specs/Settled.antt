@@ -18,8 +18,8 @@ abbrev pub what_of : ℕ → ℕ → Node → What
 what_of bytes generation node = record { bytes = bytes; level = Some (header_of node).level; generation = generation }
 
 -- The present state has a slot exactly where references lead to it, and what lies there is fresh, or the last commit holds it. Of a
--- fresh node the book knows the level, and the generation to come; of one that references lead to and that a disk tells, level and
--- generation
+-- fresh node the book knows the level, and the generation to come, and of no other node this generation; of one that references lead to
+-- and that a disk tells, level and generation
 pub record IsSettled (book : TreeRefs) (land : Ground) (history : Option (List Event)) : Type 0 where
   pub slots : (at : ℕ) → IsTrue (is_slot land.space.sizes at)
       → has_slot land.space at ≡ nat_lt 0 (references_to (book_of book.refs) at)
@@ -27,6 +27,8 @@ pub record IsSettled (book : TreeRefs) (land : Ground) (history : Option (List E
       → IsSome (fresh_at land.blocks.draft at) ⊎ Contains land.space.held_slots at
   pub fresh : (at : ℕ) (node : Node) → fresh_at land.blocks.draft at ≡ Some node
       → what_in (book_of book.refs at) ≡ Some (what_of book.nodesize book.next node)
+  pub newer : (at level : ℕ) → what_in (book_of book.refs at) ≡ Some (record { bytes = book.nodesize; level = Some level; generation = book.next })
+      → IsSome (fresh_at land.blocks.draft at)
   pub clean : (at : ℕ) (node : Node) → fresh_at land.blocks.draft at ≡ None → told land.blocks.draft history at ≡ Some node
       → 0 < references_to (book_of book.refs) at
       → what_in (book_of book.refs at) ≡ Some (what_of book.nodesize (header_of node).generation node)
