@@ -1,5 +1,6 @@
 -- References that are given, one by one.
-use Rattle.std.proofs.Common.{◌≡◌, ◌≢◌, ℕ, get_or, take, drop, ◌+◌, ◌<◌, ◌≤◌, Bool, true, false, List, [], ◌∷◌, ◌++◌, length, Option, Some, None, refl, sym, ap, subst, ◌∙◌, arith, inl, inr}
+use Rattle.std.proofs.Common.{◌≡◌, ◌≢◌, ℕ, get_or, take, drop, ◌+◌, ◌<◌, ◌≤◌, Bool, true, false, List, [], ◌∷◌, ◌++◌}
+use Rattle.std.proofs.Common.{length, Option, Some, None, refl, sym, ap, subst, ◌∙◌, arith, inl, inr}
 use Rattle.std.specs.Prelude.{unwrap_or}
 use Rattle.std.specs.List.{All}
 use Rattle.std.proofs.lemmas.List.Elements.{All-cons, All-nil}
@@ -16,13 +17,15 @@ use Rattle.qg_refs.proofs.Counting.{count-nil}
 use Rattle.qg_tree_refs.specs.Exchange.{CanGive, Gives, IsKnown, times}
 use Rattle.qg_owed.specs.declared.owing.Owing.{Owing as Listed}
 use Rattle.qg_owed.specs.Told.{owing_told, owings_told}
-use Rattle.qg_tree_refs.proofs.Times.{told-each, told-more, told-parts, times-append, times-nil, times-own, times_here, times_there}
+use Rattle.qg_tree_refs.proofs.Times.{told-each, told-more, told-parts, times-append, times-nil, times-own, times_here}
+use Rattle.qg_tree_refs.proofs.Times.{times_there}
 
 -- ---- one address
 
 -- where nothing is kept no reference is there
 pub count-none : (book : Book) (at : ℕ) (reference : Reference) → book at ≡ None → count_at book at reference ≡ 0
-count-none book at reference none = ap (λ (kept : Option Kept). count_of (references_in kept) reference) none ∙ count-nil reference
+count-none book at reference none =
+    ap (λ (kept : Option Kept). count_of (references_in kept) reference) none ∙ count-nil reference
 
 pub nothing_known : (kept : Option Kept) → what_in kept ≡ None → kept ≡ None
 nothing_known None none = refl
@@ -47,17 +50,21 @@ module _ (book : Book) (owing : Owing) (can : CanGive book (owing ∷ [])) where
       let one = times-own owing in
       omega (arith, room, one)
 
-module _ (old new : Book) (owing : Owing) (what : What) (there : what_in (old owing.address) ≡ Some what) (adds : Adds old new owing.address what owing.reference) where
-  counts_given : (at : ℕ) (reference : Reference) → count_at new at reference ≡ count_at old at reference + times (owing ∷ []) at reference
+module _ (old new : Book) (owing : Owing) (what : What) (there : what_in (old owing.address) ≡ Some what)
+    (adds : Adds old new owing.address what owing.reference) where
+  counts_given : (at : ℕ) (reference : Reference)
+      → count_at new at reference ≡ count_at old at reference + times (owing ∷ []) at reference
   counts_given at reference = elim (eqb_tells owing.address at) [
     | inl (equal, same) ↦
         let more = adds.count reference in
         let here = times_here owing at reference same in
-        subst (λ (q : ℕ). count_at new q reference ≡ count_at old q reference + times (owing ∷ []) at reference) same (more ∙ ap (λ (n : ℕ). count_at old owing.address reference + n) (sym here))
+        subst (λ (q : ℕ). count_at new q reference ≡ count_at old q reference + times (owing ∷ []) at reference) same
+        (more ∙ ap (λ (n : ℕ). count_at old owing.address reference + n) (sym here))
     | inr (unequal, differ) ↦
         let same = adds.elsewhere at (λ is. differ (sym is)) in
         let none = times_there owing at reference differ in
-        let count : count_at new at reference ≡ count_at old at reference = ap (λ (kept : Option Kept). count_of (references_in kept) reference) same in
+        let count : count_at new at reference ≡ count_at old at reference =
+        ap (λ (kept : Option Kept). count_of (references_in kept) reference) same in
         omega (arith, none, count)
   ]
 
@@ -89,7 +96,8 @@ Gives-none book = record {
   full = λ at. refl;
 }
 
-pub Gives-append : (old mid new : Book) (xs ys : List Owing) → Gives old mid xs → Gives mid new ys → Gives old new (xs ++ ys)
+pub Gives-append : (old mid new : Book) (xs ys : List Owing) → Gives old mid xs → Gives mid new ys
+    → Gives old new (xs ++ ys)
 Gives-append old mid new xs ys first second = record {
   counts = λ at reference.
       let before = first.counts at reference in
@@ -108,7 +116,8 @@ known-given old mid xs at gives known =
     (known.0, omega (arith, more, some))
 
 -- what can be given in all can be given one by one
-pub CanGive-next : (old mid : Book) (xs ys : List Owing) (owing : Owing) → CanGive old (xs ++ (owing ∷ []) ++ ys) → IsKnown old owing.address → Gives old mid xs → CanGive mid (owing ∷ [])
+pub CanGive-next : (old mid : Book) (xs ys : List Owing) (owing : Owing) → CanGive old (xs ++ (owing ∷ []) ++ ys)
+    → IsKnown old owing.address → Gives old mid xs → CanGive mid (owing ∷ [])
 CanGive-next old mid xs ys owing can known gives = record {
   room = λ at reference.
       let room = can.room at reference in
@@ -116,7 +125,9 @@ CanGive-next old mid xs ys owing can known gives = record {
       let all = times-append (xs ++ (owing ∷ [])) ys at reference in
       let front = times-append xs (owing ∷ []) at reference in
       omega (arith, room, given, all, front);
-  known = All-cons (λ (o : Owing). IsKnown mid o.address) owing [] (known-given old mid xs owing.address gives known) (All-nil (λ (o : Owing). IsKnown mid o.address));
+  known =
+      All-cons (λ (o : Owing). IsKnown mid o.address) owing [] (known-given old mid xs owing.address gives known)
+      (All-nil (λ (o : Owing). IsKnown mid o.address));
 }
 
 -- ---- the one at an index of a list
@@ -126,13 +137,16 @@ pub none_or : (misfit : Option ℕ) (at : ℕ) → option_or misfit (Some at) �
 none_or None at none = cc
 none_or (Some first) at none = cc
 
-module _ (old mid new : Book) (owings : List Listed) (i : ℕ) (owing : Listed) (inside : i < length owings) (is : owing ≡ get_or owings i owing) where
-  pub Gives-more : Gives old mid (owings_told (take i owings)) → Gives mid new (owing_told owing ∷ []) → Gives old new (owings_told (take (i + 1) owings))
+module _ (old mid new : Book) (owings : List Listed) (i : ℕ) (owing : Listed) (inside : i < length owings)
+    (is : owing ≡ get_or owings i owing) where
+  pub Gives-more : Gives old mid (owings_told (take i owings)) → Gives mid new (owing_told owing ∷ [])
+      → Gives old new (owings_told (take (i + 1) owings))
   Gives-more front one =
       subst (λ (list : List Owing). Gives old new list) (sym (told-more owings i owing inside is))
       (Gives-append old mid new (owings_told (take i owings)) (owing_told owing ∷ []) front one)
 
-  pub CanGive-one : CanGive old (owings_told owings) → Gives old mid (owings_told (take i owings)) → CanGive mid (owing_told owing ∷ [])
+  pub CanGive-one : CanGive old (owings_told owings) → Gives old mid (owings_told (take i owings))
+      → CanGive mid (owing_told owing ∷ [])
   CanGive-one can front =
       let known = told-each owings i owing inside is (λ (o : Owing). IsKnown old o.address) can.known in
       CanGive-next old mid (owings_told (take i owings)) (owings_told (drop (i + 1) owings)) (owing_told owing)

@@ -16,31 +16,42 @@ use Rattle.qg_ground.proofs.Lands.{Rests-given, fresh_at-told, none_first}
 
 -- ---- an entry that is not there
 
-absent_here : (here : Bool) (entry : ℕ × Node) (entries rest : List (ℕ × Node)) (found : Option Node) → cond here (Some entry.1) found ≡ None → (found ≡ None → rest ≡ entries)
+absent_here : (here : Bool) (entry : ℕ × Node) (entries rest : List (ℕ × Node)) (found : Option Node)
+    → cond here (Some entry.1) found ≡ None → (found ≡ None → rest ≡ entries)
     → cond here entries (entry ∷ rest) ≡ entry ∷ entries
 absent_here true entry entries rest found none same = cc
 absent_here false entry entries rest found none same = ap (λ (es : List (ℕ × Node)). entry ∷ es) (same none)
 
 -- nothing changes where it is to go
-pub remove-absent : (test : ℕ → Bool) (entries : List (ℕ × Node)) → lookup test entries ≡ None → remove_entry test entries ≡ entries
+pub remove-absent : (test : ℕ → Bool) (entries : List (ℕ × Node)) → lookup test entries ≡ None
+    → remove_entry test entries ≡ entries
 remove-absent test [] none = refl
-remove-absent test (entry ∷ entries) none = absent_here (test entry.0) entry entries (remove_entry test entries) (lookup test entries) none (remove-absent test entries)
+remove-absent test (entry ∷ entries) none =
+    absent_here (test entry.0) entry entries (remove_entry test entries) (lookup test entries) none
+    (remove-absent test entries)
 
 -- ---- a node that is forgotten, with its slot given back
 
-module _ (old new : Ground) (at : ℕ) (draft : new.blocks.draft ≡ record old.blocks.draft { fresh = remove_entry (is_at (nat_cmp at)) old.blocks.draft.fresh })
+module _ (old new : Ground) (at : ℕ)
+    (draft : new.blocks.draft
+    ≡ record old.blocks.draft { fresh = remove_entry (is_at (nat_cmp at)) old.blocks.draft.fresh })
     (space : new.space ≡ record old.space { slots = without_slot at old.space.slots }) where
   -- no fresh node changes where it was none
   pub GivesBack-gone : fresh_at old.blocks.draft at ≡ None → GivesBack old new at
   GivesBack-gone none = record {
-    draft = draft ∙ ap (λ (fresh : List (ℕ × Node)). record old.blocks.draft { fresh = fresh }) (remove-absent (is_at (nat_cmp at)) old.blocks.draft.fresh none);
+    draft =
+        draft
+        ∙ ap (λ (fresh : List (ℕ × Node)). record old.blocks.draft { fresh = fresh })
+        (remove-absent (is_at (nat_cmp at)) old.blocks.draft.fresh none);
     slots = inr (ap (λ (h : Holding). h.slots) space);
   }
 
   -- and what stands between calls stands
   pub Rests-gone : (history : Option (List Event)) (generation : ℕ) → held_at new.blocks at ≡ None
       → ((other : ℕ) → other ≢ at → told new.blocks.draft None other ≡ told old.blocks.draft None other)
-      → new.blocks.bound ≡ old.blocks.bound → IsBacked new.blocks history → IsDrafted old generation → Rests old new history generation
+      → new.blocks.bound ≡ old.blocks.bound → IsBacked new.blocks history → IsDrafted old generation
+      → Rests old new history generation
   Rests-gone history generation gone others bound backed drafted =
-      Rests-given old new history at generation (ap (λ (d : Draft). d.sizes) draft) bound space (none_first (fresh_at new.blocks.draft at) _ gone)
+      Rests-given old new history at generation (ap (λ (d : Draft). d.sizes) draft) bound space
+      (none_first (fresh_at new.blocks.draft at) _ gone)
       (λ other differ. fresh_at-told old.blocks.draft new.blocks.draft other (others other differ)) backed drafted

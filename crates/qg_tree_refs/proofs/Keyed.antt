@@ -12,13 +12,16 @@ use Rattle.qg_cow.specs.Children.{keyed_children}
 -- what a node would owe under its header with another owner
 keyed_own : (node : Node) (tree : ℕ)
     → map (λ pointer. owed_to_child (record (header_of node) { owner = tree }) false pointer.child) (own_pointers node)
-    ++ flat_map (λ item. owed_by_part (record (header_of node) { owner = tree }) false (file_part item)) (own_items node) ≡ keyed_children node tree
+    ++ flat_map (λ item. owed_by_part (record (header_of node) { owner = tree }) false (file_part item))
+    (own_items node) ≡ keyed_children node tree
 unfolding owed_by_node
 keyed_own (Leaf header items) tree = refl
 keyed_own (Inner header pointers) tree = refl
 
 pub keyed-under : (header : Header) (node : Node) (tree : ℕ) → header ≡ record (header_of node) { owner = tree }
-    → map (λ pointer. owed_to_child header false pointer.child) (own_pointers node) ++ flat_map (λ item. owed_by_part header false (file_part item)) (own_items node) ≡ keyed_children node tree
+    → map (λ pointer. owed_to_child header false pointer.child) (own_pointers node)
+    ++ flat_map (λ item. owed_by_part header false (file_part item)) (own_items node) ≡ keyed_children node tree
 keyed-under header node tree is =
-    ap (λ (h : Header). map (λ pointer. owed_to_child h false pointer.child) (own_pointers node) ++ flat_map (λ item. owed_by_part h false (file_part item)) (own_items node)) is
+    ap (λ (h : Header). map (λ pointer. owed_to_child h false pointer.child) (own_pointers node)
+    ++ flat_map (λ item. owed_by_part h false (file_part item)) (own_items node)) is
     ∙ keyed_own node tree

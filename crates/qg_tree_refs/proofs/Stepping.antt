@@ -23,9 +23,11 @@ proper-level before (Copied node copy) level can = can
 proper-level before (Made address) level can = record { there = can.there; room = can.room; first = can.first }
 proper-level before (Left node) level can = can
 
-pub Step-exchanged : (before after : TreeRefs) (telling : Telling) (refs : List (ℕ × Kept)) (level : ℕ) (misfit : Option ℕ) (exchange : Exchange) (coming : Option Coming)
+pub Step-exchanged : (before after : TreeRefs) (telling : Telling) (refs : List (ℕ × Kept)) (level : ℕ)
+    (misfit : Option ℕ) (exchange : Exchange) (coming : Option Coming)
     → exchange ≡ exchange_of before telling → coming ≡ coming_of before level telling
-    → (misfit ≡ None → Exchanges (book_of before.refs) (book_of refs) exchange coming) → (CanExchange (book_of before.refs) exchange coming → misfit ≡ None)
+    → (misfit ≡ None → Exchanges (book_of before.refs) (book_of refs) exchange coming)
+    → (CanExchange (book_of before.refs) exchange coming → misfit ≡ None)
     → after ≡ record before { refs = refs; misfit = option_or before.misfit misfit } → Step before telling after
 Step-exchanged before after telling refs level misfit exchange coming is comes done can noted =
     let now : after.refs ≡ refs = ap (λ (book : TreeRefs). book.refs) noted in
@@ -33,13 +35,19 @@ Step-exchanged before after telling refs level misfit exchange coming is comes d
       level = level;
       misfit = misfit;
       done = λ none.
-          subst (λ (table : List (ℕ × Kept)). Exchanges (book_of before.refs) (book_of table) (exchange_of before telling) (coming_of before level telling)) (sym now)
-          (subst (λ (change : Exchange). Exchanges (book_of before.refs) (book_of refs) change (coming_of before level telling)) is
-          (subst (λ (some : Option Coming). Exchanges (book_of before.refs) (book_of refs) exchange some) comes (done none)));
+          subst (λ (table : List (ℕ × Kept)). Exchanges (book_of before.refs) (book_of table)
+          (exchange_of before telling) (coming_of before level telling)) (sym now)
+          (subst (λ (change : Exchange). Exchanges (book_of before.refs) (book_of refs) change
+          (coming_of before level telling)) is
+          (subst (λ (some : Option Coming). Exchanges (book_of before.refs) (book_of refs) exchange some) comes
+          (done none)));
       proper = λ may.
           can (subst (λ (change : Exchange). CanExchange (book_of before.refs) change coming) (sym is)
-          (subst (λ (some : Option Coming). CanExchange (book_of before.refs) (exchange_of before telling) some) (sym comes) (proper-level before telling level may)));
-      noted = noted ∙ ap (λ (table : List (ℕ × Kept)). record before { refs = table; misfit = option_or before.misfit misfit }) (sym now);
+          (subst (λ (some : Option Coming). CanExchange (book_of before.refs) (exchange_of before telling) some)
+          (sym comes) (proper-level before telling level may)));
+      noted =
+          let first = option_or before.misfit misfit in
+          noted ∙ ap (λ (table : List (ℕ × Kept)). record before { refs = table; misfit = first }) (sym now);
     }
 
 -- no node becomes full
@@ -47,9 +55,11 @@ abbrev pub exchange_with : List Owing → List Owing → Exchange
 exchange_with gains losses = record { full = None; gains = gains; losses = losses }
 
 -- lists in which nothing stands
-pub nothing-told : (gains losses : List Listed) → gains ≡ [] → losses ≡ [] → exchange_with (owings_told gains) (owings_told losses) ≡ exchange_with [] []
+pub nothing-told : (gains losses : List Listed) → gains ≡ [] → losses ≡ []
+    → exchange_with (owings_told gains) (owings_told losses) ≡ exchange_with [] []
 nothing-told gains losses first last =
-    ap (λ (xs : List Listed). exchange_with (owings_told xs) (owings_told losses)) first ∙ ap (λ (ys : List Listed). exchange_with [] (owings_told ys)) last
+    ap (λ (xs : List Listed). exchange_with (owings_told xs) (owings_told losses)) first
+    ∙ ap (λ (ys : List Listed). exchange_with [] (owings_told ys)) last
 
 -- ---- a list of tellings
 
@@ -58,20 +68,26 @@ unfolding Follows
 Follows-none book = refl
 
 -- one more
-pub Follows-more : (before mid after : TreeRefs) (log : List Telling) (telling : Telling) → Follows before log mid → Step mid telling after → Follows before (log ++ telling ∷ []) after
+pub Follows-more : (before mid after : TreeRefs) (log : List Telling) (telling : Telling) → Follows before log mid
+    → Step mid telling after → Follows before (log ++ telling ∷ []) after
 unfolding Follows
-Follows-more before mid after [] telling same step = (after, subst (λ (book : TreeRefs). Step book telling after) same step, refl)
-Follows-more before mid after (first ∷ log) telling follows step = (follows.0, follows.1, Follows-more follows.0 mid after log telling follows.2 step)
+Follows-more before mid after [] telling same step =
+    (after, subst (λ (book : TreeRefs). Step book telling after) same step, refl)
+Follows-more before mid after (first ∷ log) telling follows step =
+    (follows.0, follows.1, Follows-more follows.0 mid after log telling follows.2 step)
 
 -- one more of the node that was in memory
-pub Follows-left : (before mid after : TreeRefs) (log : List Telling) (node held : Node) (place : Option Node) → place ≡ Some held → place ≡ Some node → Follows before log mid
+pub Follows-left : (before mid after : TreeRefs) (log : List Telling) (node held : Node) (place : Option Node)
+    → place ≡ Some held → place ≡ Some node → Follows before log mid
     → Step mid (Left held) after → Follows before (log ++ Left node ∷ []) after
 Follows-left before mid after log node held place is was follows step =
     let same : held ≡ node = cc in
     Follows-more before mid after log (Left node) follows (subst (λ (n : Node). Step mid (Left n) after) same step)
 
-pub Follows-copied : (before mid after : TreeRefs) (log : List Telling) (node held : Node) (copy : ℕ) (place : Option Node) → place ≡ Some held → place ≡ Some node → Follows before log mid
+pub Follows-copied : (before mid after : TreeRefs) (log : List Telling) (node held : Node) (copy : ℕ)
+    (place : Option Node) → place ≡ Some held → place ≡ Some node → Follows before log mid
     → Step mid (Copied held copy) after → Follows before (log ++ Copied node copy ∷ []) after
 Follows-copied before mid after log node held copy place is was follows step =
     let same : held ≡ node = cc in
-    Follows-more before mid after log (Copied node copy) follows (subst (λ (n : Node). Step mid (Copied n copy) after) same step)
+    Follows-more before mid after log (Copied node copy) follows
+    (subst (λ (n : Node). Step mid (Copied n copy) after) same step)

@@ -1,5 +1,6 @@
 -- References that are given and taken, and what that makes of a book (this project's own). Addresses are in bytes.
-use Rattle.std.specs.Prelude.{◌≡◌, ⊤, ℕ, ◌+◌, ◌<◌, ◌≤◌, Bool, false, ◌||◌, List, [], ◌∷◌, ◌++◌, Option, Some, None, ◌==◌, if◌then◌else◌}
+use Rattle.std.specs.Prelude.{◌≡◌, ⊤, ℕ, ◌+◌, ◌<◌, ◌≤◌, Bool, false, ◌||◌, List, [], ◌∷◌, ◌++◌, Option, Some, None}
+use Rattle.std.specs.Prelude.{◌==◌, if◌then◌else◌}
 use Rattle.std.specs.List.{All, count_by, filter_map}
 use Rattle.qg_items.specs.declared.extent.Reference.{Reference}
 use Rattle.std.specs.Option.{option_or}
@@ -32,12 +33,14 @@ IsKnown book at = (reference : Reference) × (0 < count_at book at reference)
 
 -- a book may have each reference of a list besides, and what each leads to is known
 pub record CanGive (book : Book) (gains : List Owing) : Type 0 where
-  pub room : (at : ℕ) (reference : Reference) → count_at book at reference + times gains at reference ≤ greatest_count reference
+  pub room : (at : ℕ) (reference : Reference)
+      → count_at book at reference + times gains at reference ≤ greatest_count reference
   pub known : All (λ owing. IsKnown book owing.address) gains
 
 -- a book has each reference of a list besides, and nothing else changes
 pub record Gives (old new : Book) (gains : List Owing) : Type 0 where
-  pub counts : (at : ℕ) (reference : Reference) → count_at new at reference ≡ count_at old at reference + times gains at reference
+  pub counts : (at : ℕ) (reference : Reference)
+      → count_at new at reference ≡ count_at old at reference + times gains at reference
   pub known : (at : ℕ) → what_in (new at) ≡ what_in (old at)
   pub full : (at : ℕ) → full_in (new at) ≡ full_in (old at)
 
@@ -49,7 +52,8 @@ pub record CanTake (book : Book) (losses : List Owing) : Type 0 where
 
 -- a book has each reference of a list no more. What is still kept is known as before, and full as before
 pub record Takes (old new : Book) (losses : List Owing) : Type 0 where
-  pub counts : (at : ℕ) (reference : Reference) → count_at new at reference + times losses at reference ≡ count_at old at reference
+  pub counts : (at : ℕ) (reference : Reference)
+      → count_at new at reference + times losses at reference ≡ count_at old at reference
   pub known : (at : ℕ) (kept : Kept) → new at ≡ Some kept → what_in (old at) ≡ Some kept.what
   pub full : (at : ℕ) (kept : Kept) → new at ≡ Some kept → full_in (old at) ≡ kept.full
 
@@ -63,7 +67,8 @@ pub record Exchange : Type 0 where
 
 -- what lists tell
 abbrev pub exchange_told : Lists → Exchange
-exchange_told lists = record { full = lists.full; gains = owings_told lists.gains.items; losses = owings_told lists.losses.items }
+exchange_told lists =
+    record { full = lists.full; gains = owings_told lists.gains.items; losses = owings_told lists.losses.items }
 
 -- the first reference to a node that comes, if one does
 abbrev pub ways_to : Option Coming → List Owing
@@ -94,7 +99,8 @@ pub record IsMarked (old new : Book) (full : Option ℕ) : Type 0 where
 -- the node that comes had no reference and has its first one, and nothing else changes
 pub record Begins (old new : Book) (coming : Option Coming) : Type 0 where
   pub first : IsNew old coming
-  pub counts : (at : ℕ) (reference : Reference) → count_at new at reference ≡ count_at old at reference + times (ways_to coming) at reference
+  pub counts : (at : ℕ) (reference : Reference)
+      → count_at new at reference ≡ count_at old at reference + times (ways_to coming) at reference
   pub known : (at : ℕ) → what_in (new at) ≡ option_or (what_in (old at)) (what_comes coming at)
   pub full : (at : ℕ) → full_in (new at) ≡ full_in (old at)
 
@@ -104,13 +110,15 @@ pub record CanExchange (book : Book) (exchange : Exchange) (coming : Option Comi
   pub room : CanGive book exchange.gains
   pub first : IsNew book coming
 
--- what is left is a book: all is gained and lost, no reference else changes, and what has none is not kept. Of the node that comes there was none before. What is
--- kept of another is known as before; it is full where it was or becomes so
+-- what is left is a book: all is gained and lost, no reference else changes, and what has none is not kept. Of the node
+-- that comes there was none before. What is kept of another is known as before; it is full where it was or becomes so
 pub record Exchanges (old new : Book) (exchange : Exchange) (coming : Option Coming) : Type 0 where
   pub book : IsBook new
   pub counts : (at : ℕ) (reference : Reference)
-      → count_at new at reference + times exchange.losses at reference ≡ count_at old at reference + times (ways_to coming ++ exchange.gains) at reference
+      → count_at new at reference + times exchange.losses at reference
+      ≡ count_at old at reference + times (ways_to coming ++ exchange.gains) at reference
   pub first : IsNew old coming
-  pub known : (at : ℕ) (kept : Kept) → new at ≡ Some kept → option_or (what_in (old at)) (what_comes coming at) ≡ Some kept.what
+  pub known : (at : ℕ) (kept : Kept) → new at ≡ Some kept
+      → option_or (what_in (old at)) (what_comes coming at) ≡ Some kept.what
   pub full : (at : ℕ) (kept : Kept) → new at ≡ Some kept → kept.full ≡ (full_in (old at) || turns_full exchange.full at)
   pub gone : (at : ℕ) → ((reference : Reference) → count_at new at reference ≡ 0) → new at ≡ None

@@ -9,7 +9,7 @@ use Rattle.qg_cow.specs.declared.cases.Leaving.{Leaving}
 use Rattle.qg_cow.specs.declared.cases.Leaving.TheVariants.{Goes, TurnsFull, Stays}
 use Rattle.qg_cow.specs.Children.{way_to}
 use Rattle.qg_cow.specs.Copying.{case_of, children_gain, copy_losses}
-use Rattle.qg_cow.specs.Left.{leaving_gains, leaving_losses} 
+use Rattle.qg_cow.specs.Left.{leaving_gains, leaving_losses}
 use Rattle.qg_cow.specs.Left.{case_of as leaving_case}
 use Rattle.std.specs.Option.{option_or}
 use Rattle.qg_ground.specs.Tellings.{Telling}
@@ -86,16 +86,19 @@ coming_of book level (Copied node copy) = Some (comes book copy (header_of node)
 coming_of book level (Made address) = Some (comes book address level)
 coming_of book level (Left node) = None
 
--- a book can do what it is told: the references that go are there, those that come may be there besides, and to a copy or a node that was
--- made there is none yet
+-- a book can do what it is told: the references that go are there, those that come may be there besides, and to a copy
+-- or a node that was made there is none yet
 abbrev pub IsProper : Telling → TreeRefs → Type 0
 IsProper telling book = CanExchange (book_of book.refs) (exchange_of book telling) (coming_of book 0 telling)
 
--- what a telling makes of a book: where no misfit is met it is done, and where it is proper none is met. The first misfit ever met is noted
+-- what a telling makes of a book: where no misfit is met it is done, and where it is proper none is met. The first
+-- misfit ever met is noted
 pub record Step (before : TreeRefs) (telling : Telling) (after : TreeRefs) : Type 0 where
   pub level : ℕ
   pub misfit : Option ℕ
-  pub done : misfit ≡ None → Exchanges (book_of before.refs) (book_of after.refs) (exchange_of before telling) (coming_of before level telling)
+  pub done : misfit ≡ None
+      → Exchanges (book_of before.refs) (book_of after.refs) (exchange_of before telling)
+      (coming_of before level telling)
   pub proper : IsProper telling before → misfit ≡ None
   pub noted : after ≡ record before { refs = after.refs; misfit = option_or before.misfit misfit }
 

@@ -18,7 +18,8 @@ use std::alloc::Global;
 
 /// The lists of a tree that no more has its reference to an address; nothing else changes.
 fn way_lost(alloc: Global, at: Address, tree: RootId) -> Result<Lists, NoMemory>
-    ensures { IfOk result (λ lists. exchange_told lists ≡ record { full = None; gains = []; losses = way_to at tree ∷ [] }) }
+    ensures { IfOk result (λ lists. exchange_told lists
+        ≡ record { full = None; gains = []; losses = way_to at tree ∷ [] }) }
 {
     let mut losses = Vec::new(alloc);
     losses.push(Owing {
@@ -34,7 +35,8 @@ fn way_lost(alloc: Global, at: Address, tree: RootId) -> Result<Lists, NoMemory>
 
 /// Puts a keyed reference of a tree to each child of a node at the end (on-disk format, "backreferences").
 fn put_keyed(node: &Node, tree: RootId, owings: &mut Vec<Owing>) -> Result<(), NoMemory>
-    ensures { OnOk result (owings_told owings.new.items ≡ owings_told owings.old.items ++ keyed_children node.now tree) }
+    ensures { OnOk result (owings_told owings.new.items
+        ≡ owings_told owings.old.items ++ keyed_children node.now tree) }
 {
     let keyed = Header {
         owner: tree,
@@ -44,11 +46,7 @@ fn put_keyed(node: &Node, tree: RootId, owings: &mut Vec<Owing>) -> Result<(), N
 }
 
 /// What changes where a subvolume copies a node, beside the reference to the copy.
-pub(crate) fn lists_of_copy(
-    refs: &Extents,
-    node: &Node,
-    tree: RootId,
-) -> Result<Lists, NoMemory>
+pub(crate) fn lists_of_copy(refs: &Extents, node: &Node, tree: RootId) -> Result<Lists, NoMemory>
     ensures exact { IfOk result (λ lists. exchange_told lists ≡ exchange_by_copy (book_of refs.now) tree node.now) }
     ensures some { IfOk result (λ lists. IfSome lists.full (λ at. 0 < length (references_at (book_of refs.now) at))) }
 {
@@ -72,11 +70,7 @@ pub(crate) fn lists_of_copy(
 }
 
 /// What changes where a subvolume no longer reaches a node.
-pub(crate) fn lists_of_leaving(
-    refs: &Extents,
-    node: &Node,
-    tree: RootId,
-) -> Result<Lists, NoMemory>
+pub(crate) fn lists_of_leaving(refs: &Extents, node: &Node, tree: RootId) -> Result<Lists, NoMemory>
     ensures exact { IfOk result (λ lists. exchange_told lists ≡ exchange_by_leaving (book_of refs.now) tree node.now) }
     ensures some { IfOk result (λ lists. IfSome lists.full (λ at. 0 < length (references_at (book_of refs.now) at))) }
 {

@@ -15,7 +15,8 @@ pub(crate) struct Coming {
     pub(crate) tree: RootId,
 }
 
-/// Gives a node that comes its first reference. Where it has one already nothing changes, and the answer is its address.
+/// Gives a node that comes its first reference. Where it has one already nothing changes, and the answer is the address
+/// of the node.
 pub(crate) fn give_first(
     refs: &mut Extents,
     coming: &Option<Coming>,

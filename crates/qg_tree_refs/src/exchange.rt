@@ -32,7 +32,8 @@ pub(crate) fn exchange(
     requires { IfSome lists.now.full (λ at. 0 < length (references_at (book_of refs.old) at)) }
     ensures done { IfOk result (λ misfit. misfit ≡ None
         → Exchanges (book_of refs.old) (book_of refs.new) (exchange_told lists.now) coming) }
-    ensures proper { CanExchange (book_of refs.old) (exchange_told lists.now) coming → IfOk result (λ misfit. misfit ≡ None) }
+    ensures proper { CanExchange (book_of refs.old) (exchange_told lists.now) coming
+        → IfOk result (λ misfit. misfit ≡ None) }
 {
     let _before = refs.len();
     mark_full(refs, lists.full);

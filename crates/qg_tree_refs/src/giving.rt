@@ -10,13 +10,11 @@ use qg_num::{Address, NoMemory};
 use qg_owed::Owing;
 use qg_refs::Reference;
 
-/// Gives references to what is known, in this order. One that is there as often as it may be, or that leads to what is not known, is left
-/// alone; the answer is the address of the first such, in bytes.
-pub(crate) fn give_all(
-    refs: &mut Extents,
-    owings: &[Owing],
-) -> Result<Option<Address>, NoMemory>
-    ensures done { IfOk result (λ misfit. misfit ≡ None → Gives (book_of refs.old) (book_of refs.new) (owings_told owings.now)) }
+/// Gives references to what is known, in this order. One that is there as often as it may be, or that leads to what is
+/// not known, is left alone; the answer is the address of the first such, in bytes.
+pub(crate) fn give_all(refs: &mut Extents, owings: &[Owing]) -> Result<Option<Address>, NoMemory>
+    ensures done { IfOk result (λ misfit. misfit ≡ None
+        → Gives (book_of refs.old) (book_of refs.new) (owings_told owings.now)) }
     ensures proper { CanGive (book_of refs.old) (owings_told owings.now) → IfOk result (λ misfit. misfit ≡ None) }
 {
     let mut misfit = None;
@@ -30,7 +28,8 @@ pub(crate) fn give_all(
 
 /// Gives one reference, and whether it could.
 fn give(refs: &mut Extents, owing: &Owing) -> Result<bool, NoMemory>
-    ensures done { IfOk result (λ given. given ≡ true → Gives (book_of refs.old) (book_of refs.new) (owing_told owing.now ∷ [])) }
+    ensures done { IfOk result (λ given. given ≡ true
+        → Gives (book_of refs.old) (book_of refs.new) (owing_told owing.now ∷ [])) }
     ensures proper { CanGive (book_of refs.old) (owing_told owing.now ∷ []) → IfOk result (λ given. given ≡ true) }
 {
     let Some(what) = refs.known(owing.address) else {

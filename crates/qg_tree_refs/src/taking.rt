@@ -8,7 +8,8 @@ use qg_extents::Extents;
 use qg_num::Address;
 use qg_owed::Owing;
 
-/// Takes references away, in this order. One that is not there is left alone; the answer is the address of the first such, in bytes.
+/// Takes references away, in this order. One that is not there is left alone; the answer is the address of the first
+/// such, in bytes.
 pub(crate) fn take_all(refs: &mut Extents, owings: &[Owing]) -> Option<Address>
     ensures done { result ≡ None → Takes (book_of refs.old) (book_of refs.new) (owings_told owings.now) }
     ensures proper { CanTake (book_of refs.old) (owings_told owings.now) → result ≡ None }

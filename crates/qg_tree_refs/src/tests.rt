@@ -1,4 +1,5 @@
-// Tables of what copies do, and leaving a node, by hand (docs/MACHINE.md), and that calls succeed with ample memory. Addresses are in bytes.
+// Tables of what copies do, and leaving a node, by hand (docs/MACHINE.md), and that calls succeed with ample memory.
+// Addresses are in bytes.
 ghost use Rattle.std.specs.Prelude.{◌≡◌, ◌<◌, ℕ, List, Option, IfOk};
 ghost use Rattle.qg_device.specs.History.{Event};
 ghost use Rattle.qg_blocks.specs.Told.{IsBacked};
@@ -113,12 +114,7 @@ fn from_root() -> Reference {
 }
 
 // One reference more, to a leaf or to an extent.
-fn put(
-    refs: &mut Extents,
-    at: u64,
-    level: Option<u8>,
-    reference: Reference,
-) -> Result<(), Fail> {
+fn put(refs: &mut Extents, at: u64, level: Option<u8>, reference: Reference) -> Result<(), Fail> {
     let what = What {
         bytes: 4096,
         level,
@@ -190,8 +186,8 @@ fn a_node_of_one_subvolume_is_taken_over(rt: HostRuntime) -> Result<(), Fail> {
     take_over::<Brand>(&rt, rt.alloc(), Blank::new(1))
 }
 
-// Subvolume 256 has the root too: the root becomes full, and its extent has a shared reference from it. Once 256 leaves the root, it
-// goes, and so does that reference.
+// Subvolume 256 has the root too: the root becomes full, and its extent has a shared reference from it. Once 256 leaves
+// the root, it goes, and so does that reference.
 fn share_and_leave<L: Ledger>(rt: &impl Abort, alloc: Global, blank: Blank) -> Result<(), Fail>
     requires name { blank.name ≡ L.name }
     requires parts { blank.parts ≡ L.parts }

@@ -25,7 +25,8 @@ pub struct TreeRefs {
 impl TreeRefs {
     ghost use Rattle.qg_tree_refs.specs.Following.{Step, comes};
 
-    /// The book of the subvolume `tree`, whose nodes have so many bytes. Those that come are of the generation `next`. No misfit is noted.
+    /// The book of the subvolume `tree`, whose nodes have so many bytes. Those that come are of the generation `next`.
+    /// No misfit is noted.
     pub fn new(refs: Extents, tree: RootId, nodesize: u64, next: Generation) -> TreeRefs
         ensures { result ≡ record { refs = refs; tree = tree; nodesize = nodesize; next = next; misfit = None } }
     {

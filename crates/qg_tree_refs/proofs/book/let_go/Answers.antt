@@ -11,5 +11,6 @@ returns-clause-gives c clean =
 pub returns-clause-rests : goal.returns-clause-rests
 returns-clause-rests c history generation backed drafted =
     let new : Ground = record { blocks = c.forget.new.self; space = c.give_back.new.space } in
-    Rests-gone c.args.land.now new c.args.at c.forget.ensures.draft c.give_back.ensures history generation c.forget.ensures.gone (c.forget.ensures.told None) c.forget.ensures.bound
+    Rests-gone c.args.land.now new c.args.at c.forget.ensures.draft c.give_back.ensures history generation
+    c.forget.ensures.gone (c.forget.ensures.told None) c.forget.ensures.bound
     (c.forget.ensures.backed history backed) drafted

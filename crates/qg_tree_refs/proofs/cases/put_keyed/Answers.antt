@@ -9,5 +9,8 @@ use Rattle.qg_tree_refs.proofs.cases.put_keyed.Goals as goal
 pub returns : goal.returns
 returns c =
     on_ok_weaker c.owings_under.result
-    (λ put. put ∙ ap (λ (more : List Owing). owings_told c.args.owings.now.items ++ more) (keyed-under (record c.header.result { owner = c.args.tree }) c.args.node.now c.args.tree (ap (λ (h : Header). record h { owner = c.args.tree }) c.header.ensures)))
+    (λ put. put
+    ∙ ap (λ (more : List Owing). owings_told c.args.owings.now.items ++ more)
+    (keyed-under (record c.header.result { owner = c.args.tree }) c.args.node.now c.args.tree
+    (ap (λ (h : Header). record h { owner = c.args.tree }) c.header.ensures)))
     c.owings_under.ensures

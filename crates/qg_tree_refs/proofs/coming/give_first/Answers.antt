@@ -21,7 +21,9 @@ pub returns-then-is_some-clause-proper : goal.returns-then-is_some-clause-proper
 returns-then-is_some-clause-proper c first =
     let book = book_of c.args.refs.now in
     let coming = c.in-Some.coming in
-    let none : book coming.address ≡ None = nothing-kept book coming.address c.len-count.ensures.table.book (subst (λ (some : Option Coming). IsNew book some) c.in-Some.is first) in
+    let none : book coming.address ≡ None =
+    nothing-kept book coming.address c.len-count.ensures.table.book
+    (subst (λ (some : Option Coming). IsNew book some) c.in-Some.is first) in
     let absent : c.known.result ≡ None = c.known.ensures ∙ ap what_in none in
     absurd (true≢false (sym c.if-is_some.true ∙ c.is_some.ensures ∙ ap is_some absent))
 
@@ -30,7 +32,9 @@ add_one-requires c =
     let book = book_of c.args.refs.now in
     let coming = c.in-Some.coming in
     let absent = none_of c.known.result (sym c.is_some.ensures ∙ c.if-is_some.false) in
-    let zero = count-none book coming.address (KeyedBlock coming.tree) (nothing_known (book coming.address) (sym c.known.ensures ∙ absent)) in
+    let zero =
+    count-none book coming.address (KeyedBlock coming.tree)
+    (nothing_known (book coming.address) (sym c.known.ensures ∙ absent)) in
     omega (arith, zero)
 
 pub returns-clause-done : goal.returns-clause-done
@@ -40,4 +44,5 @@ returns-clause-done c same =
     let coming = c.in-Some.coming in
     let absent = none_of c.known.result (sym c.is_some.ensures ∙ c.if-is_some.false) in
     let none = nothing_known (book coming.address) (sym c.known.ensures ∙ absent) in
-    subst (λ (some : Option Coming). Begins book after some) (sym c.in-Some.is) (Begins-some book after coming none c.in_ok-add_one.ensures.ok)
+    subst (λ (some : Option Coming). Begins book after some) (sym c.in-Some.is)
+    (Begins-some book after coming none c.in_ok-add_one.ensures.ok)

@@ -19,15 +19,20 @@ loop-owing-preserved c =
       | then-not-branch w ↦
           let failed = w.if-not-branch.true in
           record {
-            done = λ none. absurd (none_or c.loop-owing.misfit c.owing-item.result.address (sym w.or-misfit.ensures ∙ sym w.misfit-is ∙ none));
+            done = λ none.
+                let noted = sym w.or-misfit.ensures ∙ sym w.misfit-is ∙ none in
+                absurd (none_or c.loop-owing.misfit c.owing-item.result.address noted);
             proper = λ can.
-                let one = CanGive-one old mid new c.args.owings.now c.loop-owing.owing-index c.owing-item.result c.loop-owing-test.true c.owing-item.is can (met.done (met.proper can)) in
+                let one =
+                CanGive-one old mid new c.args.owings.now c.loop-owing.owing-index c.owing-item.result
+                c.loop-owing-test.true c.owing-item.is can (met.done (met.proper can)) in
                 absurd (true≢false (sym (c.in_ok-give.ensures.proper one) ∙ failed));
           }
       | else-not-branch w ↦
           record {
             done = λ none.
-                Gives-more old mid new c.args.owings.now c.loop-owing.owing-index c.owing-item.result c.loop-owing-test.true c.owing-item.is
+                Gives-more old mid new c.args.owings.now c.loop-owing.owing-index c.owing-item.result
+                c.loop-owing-test.true c.owing-item.is
                 (met.done (sym w.misfit-is ∙ none)) (c.in_ok-give.ensures.done w.if-not-branch.false);
             proper = λ can. w.misfit-is ∙ met.proper can;
           }

@@ -20,15 +20,20 @@ loop-owing-preserved c =
       | then-not-take w ↦
           let failed = w.if-not-take.true in
           record {
-            done = λ none. absurd (none_or c.loop-owing.misfit c.owing-item.result.address (sym w.or-misfit.ensures ∙ sym w.misfit-is ∙ none));
+            done = λ none.
+                let noted = sym w.or-misfit.ensures ∙ sym w.misfit-is ∙ none in
+                absurd (none_or c.loop-owing.misfit c.owing-item.result.address noted);
             proper = λ can.
-                let one = CanTake-one old mid new c.args.owings.now c.loop-owing.owing-index c.owing-item.result c.loop-owing-test.true c.owing-item.is can (met.done (met.proper can)) in
+                let one =
+                CanTake-one old mid new c.args.owings.now c.loop-owing.owing-index c.owing-item.result
+                c.loop-owing-test.true c.owing-item.is can (met.done (met.proper can)) in
                 absurd (true≢false (sym (c.take.ensures.proper one) ∙ failed));
           }
       | else-not-take w ↦
           record {
             done = λ none.
-                Takes-more old mid new c.args.owings.now c.loop-owing.owing-index c.owing-item.result c.loop-owing-test.true c.owing-item.is
+                Takes-more old mid new c.args.owings.now c.loop-owing.owing-index c.owing-item.result
+                c.loop-owing-test.true c.owing-item.is
                 (met.done (sym w.misfit-is ∙ none)) (c.take.ensures.done w.if-not-take.false);
             proper = λ can. w.misfit-is ∙ met.proper can;
           }

@@ -11,23 +11,27 @@ pub returns-in_err-try_load-clause-rests : goal.returns-in_err-try_load-clause-r
 returns-in_err-try_load-clause-rests g c generation drafted =
     let mid : Ground = record { blocks = c.try_load.new.blocks; space = c.args.land.now.space } in
     let met = c.try_load.ensures in
-    Rests-draft c.args.land.now mid (g.D.Disk.history c.try_load.new.disk) generation met.draft met.bound refl met.backed drafted
+    Rests-draft c.args.land.now mid (g.D.Disk.history c.try_load.new.disk) generation met.draft met.bound refl
+    met.backed drafted
 
 pub returns-then-not-branch-clause-rests : goal.returns-then-not-branch-clause-rests
 returns-then-not-branch-clause-rests g c generation drafted =
     let mid : Ground = record { blocks = c.try_load.new.blocks; space = c.args.land.now.space } in
     let met = c.try_load.ensures in
-    Rests-draft c.args.land.now mid (g.D.Disk.history c.try_load.new.disk) generation met.draft met.bound refl met.backed drafted
+    Rests-draft c.args.land.now mid (g.D.Disk.history c.try_load.new.disk) generation met.draft met.bound refl
+    met.backed drafted
 
 pub returns-in_err-copy-clause-rests : goal.returns-in_err-copy-clause-rests
 returns-in_err-copy-clause-rests g c generation drafted =
     let mid : Ground = record { blocks = c.try_load.new.blocks; space = c.args.land.now.space } in
     let met = c.try_load.ensures in
-    Rests-draft c.args.land.now mid (g.D.Disk.history c.try_load.new.disk) generation met.draft met.bound refl met.backed drafted
+    Rests-draft c.args.land.now mid (g.D.Disk.history c.try_load.new.disk) generation met.draft met.bound refl
+    met.backed drafted
 
 pub returns-clause-told : goal.returns-clause-told
 returns-clause-told g c node there before log follows =
-    Follows-copied before c.args.self.now c.copy.new.self log node c.peek.result.now c.args.copy (held_at c.try_load.new.blocks c.args.at) c.peek.ensures
+    Follows-copied before c.args.self.now c.copy.new.self log node c.peek.result.now c.args.copy
+    (held_at c.try_load.new.blocks c.args.at) c.peek.ensures
     (c.in_ok-try_load.ensures.told node there).1 follows c.in_ok-copy.ensures
 
 pub returns-clause-rests : goal.returns-clause-rests
@@ -36,10 +40,12 @@ returns-clause-rests g c generation drafted =
     let met = c.try_load.ensures in
     let history = g.D.Disk.history c.try_load.new.disk in
     let first = Rests-draft c.args.land.now mid history generation met.draft met.bound refl met.backed drafted in
-    Rests-after c.args.land.now mid c.let_go.new.land history history generation first (c.let_go.ensures.rests history generation met.backed first.drafted)
+    Rests-after c.args.land.now mid c.let_go.new.land history history generation first
+    (c.let_go.ensures.rests history generation met.backed first.drafted)
 
 pub returns-clause-gives : goal.returns-clause-gives
 returns-clause-gives g c =
-    let clean : fresh_at c.try_load.new.blocks.draft c.args.at ≡ None = ap (λ (d : Draft). fresh_at d c.args.at) c.try_load.ensures.draft ∙ c.requires.copied.clean in
+    let clean : fresh_at c.try_load.new.blocks.draft c.args.at ≡ None =
+    ap (λ (d : Draft). fresh_at d c.args.at) c.try_load.ensures.draft ∙ c.requires.copied.clean in
     let gives = c.let_go.ensures.gives clean in
     record { draft = gives.draft ∙ c.try_load.ensures.draft; slots = gives.slots }

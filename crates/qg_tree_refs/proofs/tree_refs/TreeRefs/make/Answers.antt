@@ -10,5 +10,6 @@ returns c =
     let self = c.args.self.now in
     Step-exchanged self c.note.new.self (Made c.args.at) c.exchange.new.refs c.args.level c.in_ok-misfit.misfit
     (exchange_with (owings_told c.new.result.items) (owings_told c.new-2.result.items)) (Some c.comes-coming.result)
-    (nothing-told c.new.result.items c.new-2.result.items c.new.ensures.items c.new-2.ensures.items) (ap (λ (some : Coming). Some some) c.comes-coming.ensures)
+    (nothing-told c.new.result.items c.new-2.result.items c.new.ensures.items c.new-2.ensures.items)
+    (ap (λ (some : Coming). Some some) c.comes-coming.ensures)
     c.in_ok-misfit.ensures.done c.in_ok-misfit.ensures.proper c.note.ensures
