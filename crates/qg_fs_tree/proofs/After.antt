@@ -73,16 +73,16 @@ bare_full node mine false is none = refl
 
 -- ---- names
 
-named_there : (owner : ℕ) (names : List (ℕ × Piece)) (i : ℕ) (d : ℕ × Piece) → i < length names
+pub named-there : (owner : ℕ) (names : List (ℕ × Piece)) (i : ℕ) (d : ℕ × Piece) → i < length names
     → 0 < many (names_of owner names) (get_or names i d).1.extent
-named_there owner [] i d inside = absurd (omega (arith, inside))
-named_there owner (name ∷ names) zero d inside =
+named-there owner [] i d inside = absurd (omega (arith, inside))
+named-there owner (name ∷ names) zero d inside =
     let first = many-cons (name_of owner name) (names_of owner names) name.1.extent in
     let here = ap (λ (b : Bool). if b then 1 else 0) (eq-eqb name.1.extent name.1.extent refl) in
     omega (arith, first, here)
-named_there owner (name ∷ names) (suc i) d inside =
+named-there owner (name ∷ names) (suc i) d inside =
     let first = many-cons (name_of owner name) (names_of owner names) (get_or names i d).1.extent in
-    let later = named_there owner names i d (omega (arith, inside)) in
+    let later = named-there owner names i d (omega (arith, inside)) in
     omega (arith, first, later)
 
 module _ (old new : FsTree) (history : Option (List Event)) (items left_items : List Item) (names : List (ℕ × Piece))
@@ -91,7 +91,7 @@ module _ (old new : FsTree) (history : Option (List Event)) (items left_items : 
     (rests : Rests old.land new.land history old.tree.next) (same_owner : new.tree.owner ≡ old.tree.owner) (same_next : new.tree.next ≡ old.tree.next)
     (owned : AreOwned old.tree.owner old.land new.land) (settled : IsSettled new.refs new.land history) (book : StaysBook old.refs new.refs)
     (table : IsTable old.refs.refs) (full : ℕ → Option Node)
-    (for : StandsFor old.tree.owner names (slots_of old) (λ at. IsTrue (is_slot old.land.space.sizes at)) old.refs (ways_in old history) (full_in_tree old history)
+    (counted : StandsFor old.tree.owner names (slots_of old) (λ at. IsTrue (is_slot old.land.space.sizes at)) old.refs (ways_in old history) (full_in_tree old history)
     new.refs (ways_in new history) full) where
   drafted_new : IsDrafted new.land new.tree.next
   drafted_new = subst (λ (n : ℕ). IsDrafted new.land n) (sym same_next) rests.drafted
@@ -100,7 +100,7 @@ module _ (old new : FsTree) (history : Option (List Event)) (items left_items : 
   way_new q reaches = ways-some (nodes_of new history) new.tree.height new.tree.address q reaches
 
   placed_new : (q : ℕ) → IsReached new history q → IsTrue (is_slot new.land.space.sizes q)
-  placed_new q reaches = subst (λ (s : Sizes). IsTrue (is_slot s q)) (sym rests.sizes) (for.placed q (way_new q reaches))
+  placed_new q reaches = subst (λ (s : Sizes). IsTrue (is_slot s q)) (sym rests.sizes) (counted.placed q (way_new q reaches))
 
   -- what the last commit holds is not fresh
   not_fresh : (q : ℕ) → Contains old.land.space.held_slots q → fresh_at new.land.blocks.draft q ≡ None
@@ -189,8 +189,8 @@ module _ (old new : FsTree) (history : Option (List Event)) (items left_items : 
   home_new : (q : ℕ) (node : Node) → IsReached new history q → nodes_of new history q ≡ Some node → mark_of new q ≡ false → (header_of node).owner ≡ new.tree.owner
   home_new q node reaches is bare =
       let way = way_new q reaches in
-      let none : full q ≡ None = none_marked (mark_of new q) (full q) (for.marks q way) bare in
-      sym (same_owner ∙ sym (elim (for.stays q way) [
+      let none : full q ≡ None = none_marked (mark_of new q) (full q) (counted.marks q way) bare in
+      sym (same_owner ∙ sym (elim (counted.stays q way) [
         | inl (young, gone) ↦ fresh_home q node way is (new_fresh q young)
         | inr (was, same, known) ↦ old_home q node way is was (sym same ∙ none) known
       ]))
@@ -198,7 +198,7 @@ module _ (old new : FsTree) (history : Option (List Event)) (items left_items : 
   -- one that is full was full, and is clean
   full_before : (q : ℕ) (node : Node) → 0 < ways_in new history q → full q ≡ Some node
       → (nodes_of new history q ≡ Some node) × (fresh_at new.land.blocks.draft q ≡ None)
-  full_before q node way is = elim (for.stays q way) [
+  full_before q node way is = elim (counted.stays q way) [
     | inl (young, gone) ↦ let wrong : Some node ≡ None = sym is ∙ gone in absurd cc
     | inr (was, same, known) ↦
         let there : full_in_tree old history q ≡ Some node = sym same ∙ is in
@@ -212,16 +212,16 @@ module _ (old new : FsTree) (history : Option (List Event)) (items left_items : 
   full_is q way = from (full q) refl where
     from : (o : Option Node) → full q ≡ o → full q ≡ full_of (nodes_of new history q) (mark_of new q)
     from None none =
-        let bare : mark_of new q ≡ false = for.marks q way ∙ ap (λ (o : Option Node). is_some o) none in
+        let bare : mark_of new q ≡ false = counted.marks q way ∙ ap (λ (o : Option Node). is_some o) none in
         none ∙ sym (ap (λ (b : Bool). full_of (nodes_of new history q) b) bare)
     from (Some node) is =
-        let marked : mark_of new q ≡ true = for.marks q way ∙ ap (λ (o : Option Node). is_some o) is in
+        let marked : mark_of new q ≡ true = counted.marks q way ∙ ap (λ (o : Option Node). is_some o) is in
         is ∙ sym (full_before q node way is).0 ∙ sym (ap (λ (b : Bool). full_of (nodes_of new history q) b) marked)
 
   young_new : (q : ℕ) → IsReached new history q → IsSome (fresh_at new.land.blocks.draft q) → mark_of new q ≡ false
   young_new q reaches some =
       let way = way_new q reaches in
-      for.marks q way ∙ ap (λ (o : Option Node). is_some o) (from (full q) refl) where
+      counted.marks q way ∙ ap (λ (o : Option Node). is_some o) (from (full q) refl) where
     from : (o : Option Node) → full q ≡ o → full q ≡ None
     from None none = none
     from (Some node) is =
@@ -237,7 +237,7 @@ module _ (old new : FsTree) (history : Option (List Event)) (items left_items : 
   counts_new at reference =
       let count = subst (λ (owner : ℕ). count_at (book_of new.refs.refs) at reference + keyed_sum (slots_of old) owner full (ways_in new history) at reference
       ≡ keyed_ways owner (ways_in new history) at reference + times (names_of owner names) at reference + shared_sum (slots_of old) full (ways_in new history) at reference)
-      (sym same_owner) (for.counts at reference) in
+      (sym same_owner) (counted.counts at reference) in
       let owed = subst (λ (sizes : Sizes). owed_count (layout_in new history) at reference + keyed_sum (every_slot sizes) new.tree.owner full (ways_in new history) at reference
       ≡ keyed_ways new.tree.owner (ways_in new history) at reference + times (named_by new.tree.owner left_items) at reference
       + shared_sum (every_slot sizes) full (ways_in new history) at reference) rests.sizes
@@ -248,7 +248,7 @@ module _ (old new : FsTree) (history : Option (List Event)) (items left_items : 
   alone_new q reaches =
       references-one old.tree.owner names (slots_of old) (λ (at : ℕ). IsTrue (is_slot old.land.space.sizes at))
       (once old history items names stands drafted) (unnamed old history items names stands drafted) stands.few
-      old.refs (ways_in old history) (full_in_tree old history) new.refs (ways_in new history) full for q (way_new q reaches)
+      old.refs (ways_in old history) (full_in_tree old history) new.refs (ways_in new history) full counted q (way_new q reaches)
 
   known_new : (i : ℕ) (d : ℕ × Piece) → i < length names
       → IsKnownExtent new.land.space.sizes (book_of new.refs.refs) (get_or names i d).1
@@ -257,7 +257,7 @@ module _ (old new : FsTree) (history : Option (List Event)) (items left_items : 
       record {
         lies = subst (λ (sizes : Sizes). IsTrue (is_run sizes (get_or names i d).1.extent (get_or names i d).1.extent_bytes)) (sym rests.sizes) known.lies;
         generation = known.generation;
-        known = for.named (get_or names i d).1.extent (named_there old.tree.owner names i d inside) ∙ known.known;
+        known = counted.named (get_or names i d).1.extent (named-there old.tree.owner names i d inside) ∙ known.known;
       }
 
   pub Stands-after : (runs : new.land.space.runs ≡ old.land.space.runs) → Stands new history left_items names
@@ -272,7 +272,7 @@ module _ (old new : FsTree) (history : Option (List Event)) (items left_items : 
     alone = alone_new;
     home = home_new;
     young = young_new;
-    fits = for.fits;
+    fits = counted.fits;
     counts = counts_new;
     few = subst (λ (owner : ℕ). (at : ℕ) (reference : Reference) → names_times owner names at reference ≤ 4294967295) (sym same_owner) stands.few;
     settled = settled;

@@ -13,3 +13,6 @@ pub mod Reached
 pub mod Counts
 pub mod Before
 pub mod After
+pub mod Renamed
+pub mod Named
+pub mod Ordered

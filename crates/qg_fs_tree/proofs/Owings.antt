@@ -38,7 +38,7 @@ pub times-cons : (x : Owing) (xs : List Owing) (at : ℕ) (reference : Reference
 times-cons x xs at reference = times-append (x ∷ []) xs at reference
 
 -- one has no reference but its own
-times_few : (x : Owing) (at : ℕ) (reference : Reference) → times (x ∷ []) at reference ≤ one_of reference x.reference
+pub times_few : (x : Owing) (at : ℕ) (reference : Reference) → times (x ∷ []) at reference ≤ one_of reference x.reference
 times_few x at reference = elim (eqb_tells x.address at) [
   | inl (equal, same) ↦ let here = times_here x at reference same in omega (arith, here)
   | inr (unequal, differ) ↦ let none = times_there x at reference differ in omega (arith, none)

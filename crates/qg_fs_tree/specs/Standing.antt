@@ -1,10 +1,13 @@
 -- A subvolume's tree and the references that it owes (on-disk format, "B-tree" and "backreferences"; how they stand together is this
 -- project's own). Addresses are in bytes.
-use Rattle.std.specs.Prelude.{◌≡◌, ◌⊎◌, ◌↔◌, ℕ, ◌+◌, ◌≤◌, false, List, [], ◌∷◌, map, Option, Some, None, IsSome, IsTrue, Contains, nat_lt, if◌then◌else◌}
+use Rattle.std.specs.Prelude.{◌≡◌, ◌⊎◌, ◌↔◌, ⊤, ℕ, ◌+◌, ◌≤◌, false, List, [], ◌∷◌, map, Option, Some, None, IsSome, IsTrue, Contains, nat_lt, if◌then◌else◌}
 use Rattle.std.specs.List.{All, count_by, filter_map, range_with_len}
 use Rattle.std.specs.Option.{option_map}
 use Rattle.qg_device.specs.History.{Event}
 use Rattle.qg_num.specs.declared.piece.Piece.{Piece}
+use Rattle.qg_num.specs.declared.fault.BlockFault.{BlockFault}
+use Rattle.qg_num.specs.declared.fault.BlockFault.TheVariants.{NoMemory, Disk, Image}
+use Rattle.qg_num.specs.declared.rule.Rule.TheVariants.{Refs}
 use Rattle.qg_node.specs.declared.item.Item.{Item}
 use Rattle.qg_node.specs.declared.node.Node.{Node}
 use Rattle.qg_node.specs.Nodes.{header_of}
@@ -129,6 +132,17 @@ pub record Moves (old new : FsTree) (history : Option (List Event)) : Type 0 whe
       → nodes_of new history q ≡ nodes_of old history q
   pub freed : (q : ℕ) → IsTrue (is_free_slot new.land.space q)
       → IsTrue (is_free_slot old.land.space q) ⊎ IsReached old history q
+
+-- What is named changes references, and which runs are taken, alone
+pub record KeepsTree (old new : FsTree) : Type 0 where
+  pub tree : new.tree ≡ old.tree
+  pub land : new.land ≡ record old.land { space = record old.land.space { runs = new.land.space.runs } }
+
+-- memory was refused, or references or runs are not what they should be at an address
+abbrev pub IsMisfitAt : ℕ → BlockFault → Type 0
+IsMisfitAt at NoMemory = ⊤
+IsMisfitAt at Disk = ⊥
+IsMisfitAt at (Image rule address) = (rule ≡ Refs) × (address ≡ at)
 
 -- how many slots the present state has
 unfoldable pub taken_slots : Holding → ℕ

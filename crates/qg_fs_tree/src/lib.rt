@@ -3,5 +3,8 @@
 
 mod editing;
 mod fs_tree;
+mod laws;
+mod naming;
 
 pub use fs_tree::FsTree;
+pub use laws::names_in_another_order;

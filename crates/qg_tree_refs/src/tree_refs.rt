@@ -15,10 +15,10 @@ use qg_refs::What;
 /// A subvolume's book: what its tree tells becomes references in the book in memory (on-disk format, "backreferences").
 #[derive(Drop)]
 pub struct TreeRefs {
-    refs: Extents,
+    pub(crate) refs: Extents,
     tree: RootId,
     nodesize: u64,
-    next: Generation,
+    pub(crate) next: Generation,
     misfit: Option<Address>,
 }
 
