@@ -67,6 +67,10 @@ none_marked : (full : Bool) (f : Option Node) → full ≡ is_some f → full �
 none_marked full None mark bare = refl
 none_marked full (Some node) mark bare = let wrong : true ≡ false = sym mark ∙ bare in cc
 
+no_some : (o : Option Node) → o ≡ None → IsSome o → ⊥
+no_some None none some = absurd cc
+no_some (Some node) none some = cc
+
 bare_full : (node : Option Node) (mine : Node) (full : Bool) → node ≡ Some mine → full_of node full ≡ None → full ≡ false
 bare_full node mine true is none = let wrong : Some mine ≡ None = sym is ∙ none in cc
 bare_full node mine false is none = refl
@@ -78,7 +82,7 @@ pub named-there : (owner : ℕ) (names : List (ℕ × Piece)) (i : ℕ) (d : ℕ
 named-there owner [] i d inside = absurd (omega (arith, inside))
 named-there owner (name ∷ names) zero d inside =
     let first = many-cons (name_of owner name) (names_of owner names) name.1.extent in
-    let here = ap (λ (b : Bool). if b then 1 else 0) (eq-eqb name.1.extent name.1.extent refl) in
+    let here = ap {B = ℕ} (λ (b : Bool). if b then 1 else 0) (eq-eqb name.1.extent name.1.extent refl) in
     omega (arith, first, here)
 named-there owner (name ∷ names) (suc i) d inside =
     let first = many-cons (name_of owner name) (names_of owner names) (get_or names i d).1.extent in
@@ -226,8 +230,7 @@ module _ (old new : FsTree) (history : Option (List Event)) (items left_items : 
     from None none = none
     from (Some node) is =
         let clean = (full_before q node (way_new q reaches) is).1 in
-        let wrong : IsSome None = subst (λ (o : Option Node). IsSome o) clean some in
-        absurd cc
+        absurd (no_some (fresh_at new.land.blocks.draft q) clean some)
 
   -- ---- all of it
 

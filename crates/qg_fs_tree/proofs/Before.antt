@@ -2,7 +2,7 @@
 use Rattle.std.proofs.Common.{◌≡◌, ◌≢◌, ℕ, zero, suc, ◌+◌, ◌<◌, ◌≤◌, Bool, true, false, List, length, get_or, map, Option, Some, None, arith, refl, sym, ap, subst, ◌∙◌, inl, inr}
 use Rattle.std.specs.Prelude.{◌⊎◌, IsSome, IsTrue, Contains, if◌then◌else◌, is_some, nat_lt}
 use Rattle.std.specs.List.{All}
-use Rattle.std.proofs.lemmas.Bool.{and_parts, leb-true}
+use Rattle.std.proofs.lemmas.Bool.{and_parts, leb-true, lt-ltb, ltb-true}
 use Rattle.qg_device.specs.History.{Event}
 use Rattle.qg_num.specs.declared.piece.Piece.{Piece}
 use Rattle.qg_node.specs.declared.item.Item.{Item}
@@ -38,14 +38,19 @@ abbrev pub full_in_tree : FsTree → Option (List Event) → ℕ → Option Node
 full_in_tree fs history q = full_if (ways_in fs history q) (nodes_of fs history q) (mark_of fs q)
 
 pub full-some : (way : ℕ) (node : Option Node) (full : Bool) → 0 < way → full_if way node full ≡ full_of node full
-full-some zero node full some = absurd (omega (arith, some))
-full-some (suc way) node full some = refl
+full-some way node full some = ap (λ (b : Bool). if b then full_of node full else None) (lt-ltb 0 way some)
 
 pub full-parts : (way : ℕ) (node : Option Node) (full : Bool) (other : Node) → full_if way node full ≡ Some other
     → (0 < way) × (node ≡ Some other) × (full ≡ true)
-full-parts zero node full other is = absurd cc
-full-parts (suc way) node true other is = (omega arith, is, refl)
-full-parts (suc way) node false other is = absurd cc
+full-parts way node full other is = from (nat_lt 0 way) refl is where
+  marked : (mark : Bool) → full ≡ mark → full_of node mark ≡ Some other → (node ≡ Some other) × (full ≡ true)
+  marked true same there = (there, same)
+  marked false same there = let wrong : None ≡ Some other = there in cc
+
+  from : (led : Bool) → nat_lt 0 way ≡ led → (if led then full_of node full else None) ≡ Some other
+      → (0 < way) × (node ≡ Some other) × (full ≡ true)
+  from true led there = let parts = marked full refl there in (ltb-true 0 way led, parts.0, parts.1)
+  from false led there = let wrong : None ≡ Some other = there in cc
 
 pub full-marks : (node : Node) (told : Option Node) (full : Bool) → told ≡ Some node → full ≡ is_some (full_of told full)
 full-marks node told true is = sym (ap (λ (o : Option Node). is_some o) is)

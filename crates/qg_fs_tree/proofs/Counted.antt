@@ -55,9 +55,9 @@ without x (y ∷ ys) some = elim (cases_Bool (same_reference x y)) [
         shorter = ap (λ (n : ℕ). suc n) others.shorter;
         counts = λ reference.
             let now = among-cons reference y ys in
-            let then = others.counts reference in
+            let before = others.counts reference in
             let left = among-cons reference y others.rest in
-            omega (arith, now, then, left);
+            omega (arith, now, before, left);
       }
 ]
 
@@ -123,16 +123,16 @@ IsCounted-plus f g m n first last = record {
 -- the same counts
 pub IsCounted-as : (f g : Reference → ℕ) (m n : ℕ) → ((reference : Reference) → g reference ≡ f reference) → n ≡ m
     → IsCounted f m → IsCounted g n
-IsCounted-as f g m n same equal counted = record {
-  listed = counted.listed;
-  counts = λ reference. counted.counts reference ∙ sym (same reference);
-  many = counted.many ∙ sym equal;
+IsCounted-as f g m n same equal whole = record {
+  listed = whole.listed;
+  counts = λ reference. whole.counts reference ∙ sym (same reference);
+  many = whole.many ∙ sym equal;
 }
 
 -- one reference, so often
-either_none : (b : Bool) → (if b then 0 else 0) ≡ 0
-either_none true = refl
-either_none false = refl
+either_same : (b : Bool) (n : ℕ) → (if b then n else n) ≡ n
+either_same true n = refl
+either_same false n = refl
 
 either_more : (b : Bool) (n : ℕ) → (if b then 1 else 0) + (if b then n else 0) ≡ (if b then suc n else 0)
 either_more true n = omega arith
@@ -140,7 +140,7 @@ either_more false n = refl
 
 pub IsCounted-one : (n : ℕ) (x : Reference) → IsCounted (λ reference. if same_reference reference x then n else 0) n
 IsCounted-one zero x = IsCounted-none (λ (reference : Reference). if same_reference reference x then 0 else 0)
-    (λ reference. either_none (same_reference reference x))
+    (λ reference. either_same (same_reference reference x) 0)
 IsCounted-one (suc n) x =
     let rest = IsCounted-one n x in
     record {
@@ -204,8 +204,10 @@ IsCounted-sum {A} f n (x ∷ xs) each =
 
 -- so many times over
 pub IsCounted-over : (k : ℕ) (f : Reference → ℕ) (n : ℕ) → IsCounted f n → IsCounted (λ reference. k * f reference) (k * n)
-IsCounted-over zero f n counted = IsCounted-none (λ (reference : Reference). 0 * f reference) (λ reference. omega arith)
-IsCounted-over (suc k) f n counted =
+IsCounted-over zero f n whole =
+    IsCounted-as (λ (reference : Reference). 0) (λ (reference : Reference). 0 * f reference) 0 (0 * n) (λ reference. omega arith) (omega arith)
+    (IsCounted-none (λ (reference : Reference). 0) (λ reference. refl))
+IsCounted-over (suc k) f n whole =
     IsCounted-as (λ (reference : Reference). f reference + k * f reference) (λ (reference : Reference). suc k * f reference)
     (n + k * n) (suc k * n) (λ reference. omega arith) (omega arith)
-    (IsCounted-plus f (λ (reference : Reference). k * f reference) n (k * n) counted (IsCounted-over k f n counted))
+    (IsCounted-plus f (λ (reference : Reference). k * f reference) n (k * n) whole (IsCounted-over k f n whole))

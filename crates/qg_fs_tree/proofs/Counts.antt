@@ -64,7 +64,7 @@ names-apart owner (name ∷ names) at differ =
     elim (eqb_tells name.1.extent at) [
       | inl (equal, same) ↦ absurd (other same)
       | inr (unequal, apart) ↦
-          let none = ap (λ (b : Bool). if b then 1 else 0) unequal in
+          let none = ap {B = ℕ} (λ (b : Bool). if b then 1 else 0) unequal in
           omega (arith, first, rest, none)
     ]
 module _ (fs : FsTree) (history : Option (List Event)) (items : List Item) (rooted : IsRooted Files fs.tree fs.land history items)

@@ -86,18 +86,18 @@ module _ (owner : ℕ) (names : List (ℕ × Piece)) (slots : List ℕ) (IsPlace
 
     -- none leads to a place where no way does
     none_in_all : (at : ℕ) → IsPlace at → w at ≡ 0 → total (references_at (book_of book.refs) at) ≡ 0
-    none_in_all at place zero =
+    none_in_all at place no_way =
         let all = total-is owner names slots (book_of book.refs) w full stands.counts at in
         let unnamed = apart at place in
-        omega (arith, all, unnamed, zero)
+        omega (arith, all, unnamed, no_way)
 
     pub references-none : (at : ℕ) → IsPlace at → w at ≡ 0 → references_to (book_of book.refs) at ≡ 0
-    references-none at place zero =
-        length-none (references_at (book_of book.refs) at) (stands.sound.sound at) (none_in_all at place zero)
+    references-none at place no_way =
+        length-none (references_at (book_of book.refs) at) (stands.sound.sound at) (none_in_all at place no_way)
 
     none_there : (at : ℕ) → IsPlace at → w at ≡ 0 → (reference : Reference) → count_at (book_of book.refs) at reference ≡ 0
-    none_there at place zero reference =
-        let none = none_in_all at place zero in
+    none_there at place no_way reference =
+        let none = none_in_all at place no_way in
         let most = count-total (references_at (book_of book.refs) at) reference in
         omega (arith, none, most)
 
@@ -404,9 +404,9 @@ module _ (owner : ℕ) (names : List (ℕ × Piece)) (slots : List ℕ) (IsPlace
     named_then : (at : ℕ) → 0 < many (names_of owner names) at → what_in (book_of after.refs at) ≡ what_in (book_of first.refs at)
     named_then at some =
         let now = total_then at in
-        let then = total_before at in
+        let before_all = total_before at in
         kept_same (book_of before.refs at) (book_of after.refs at) (what_comes (coming_of before level telling) at)
-        (omega (arith, then, some)) (omega (arith, now, some)) (done.known at)
+        (omega (arith, before_all, some)) (omega (arith, now, some)) (done.known at)
         ∙ stands.named at some
 
     pub StandsFor-exchanged : after.tree ≡ before.tree → after.next ≡ before.next → after.nodesize ≡ before.nodesize → after.misfit ≡ None

@@ -16,3 +16,4 @@ pub mod After
 pub mod Renamed
 pub mod Named
 pub mod Ordered
+pub mod Edited

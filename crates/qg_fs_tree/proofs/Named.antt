@@ -72,12 +72,25 @@ dropped old new owing drops q reference = elim (eqb_tells owing.address q) [
       omega (arith, none, same)
 ]
 
+-- how long it is
+abbrev bytes_in : Option What → ℕ
+bytes_in None = 0
+bytes_in (Some known) = known.bytes
+
 -- an extent is no node
 no_level : (what : Option What) (bytes generation : ℕ) → what ≡ Some (record { bytes = bytes; level = None; generation = generation }) → IsNoNode what
-no_level what bytes generation is other level date wrong = let same = sym is ∙ wrong in cc
+no_level what bytes generation is other level date wrong =
+    let same : None ≡ Some level = ap level_in (sym is ∙ wrong) in
+    cc
+  where
+    level_in : Option What → Option ℕ
+    level_in None = None
+    level_in (Some known) = known.level
 
 nothing_known : (what : Option What) → what ≡ None → IsNoNode what
-nothing_known what is other level date wrong = let same = sym is ∙ wrong in cc
+nothing_known what is other level date wrong =
+    let same : None ≡ Some (record { bytes = other; level = Some level; generation = date }) = sym is ∙ wrong in
+    cc
 
 -- ---- names
 
@@ -94,7 +107,7 @@ some_named owner (name ∷ names) at some = elim (eqb_tells name.1.extent at) [
   | inl (equal, same) ↦ record { i = 0; d = name; inside = omega arith; here = same }
   | inr (unequal, differ) ↦
       let first = many-cons (name_of owner name) (names_of owner names) at in
-      let none = ap (λ (b : Bool). if b then 1 else 0) unequal in
+      let none = ap {B = ℕ} (λ (b : Bool). if b then 1 else 0) unequal in
       let later = some_named owner names at (omega (arith, first, none, some)) in
       record { i = suc later.i; d = later.d; inside = (let short = later.inside in omega (arith, short)); here = later.here }
 ]
@@ -238,7 +251,7 @@ one_more owner names name room few q reference =
             omega (arith, all, one, most, less)
         | inr differ ↦
             let one = times_few (name_of owner name) q reference in
-            let none = cond-false (same_reference reference (name_of owner name).reference) 1 0 differ in
+            let none = cond-false {A = ℕ} (same_reference reference (name_of owner name).reference) 1 0 differ in
             omega (arith, all, rest, one, none)
       ]
       | inr (unequal, differ) ↦
@@ -248,14 +261,14 @@ one_more owner names name room few q reference =
   where
     one_of_few : (a b : Reference) → one_of a b ≤ 1
     one_of_few a b = elim (cases_Bool (same_reference a b)) [
-      | inl same ↦ let is = cond-true (same_reference a b) 1 0 same in omega (arith, is)
-      | inr differ ↦ let is = cond-false (same_reference a b) 1 0 differ in omega (arith, is)
+      | inl same ↦ let is = cond-true {A = ℕ} (same_reference a b) 1 0 same in omega (arith, is)
+      | inr differ ↦ let is = cond-false {A = ℕ} (same_reference a b) 1 0 differ in omega (arith, is)
     ]
 
 -- ---- what is asked
 
 -- the tree and the nodes are as they were
-record IsRenamed (old new : FsTree) : Type 0 where
+pub record IsRenamed (old new : FsTree) : Type 0 where
   pub tree : new.tree ≡ old.tree
   pub land : new.land ≡ record old.land { space = record old.land.space { runs = new.land.space.runs } }
   pub refs : new.refs ≡ record old.refs { refs = new.refs.refs }
@@ -487,7 +500,7 @@ module _ (old new : FsTree) (history : Option (List Event)) (items : List Item) 
         same_run =
             let other = stands.known (suc left_named.i) left_named.d (let short = left_named.inside in omega (arith, short)) in
             let both = sym other.known ∙ ap (λ (a : ℕ). what_in (book_of old.refs.refs a)) left_named.here ∙ own_known.known in
-            let bytes : (get_or names left_named.i left_named.d).1.extent_bytes ≡ piece.extent_bytes = cc in
+            let bytes : (get_or names left_named.i left_named.d).1.extent_bytes ≡ piece.extent_bytes = ap bytes_in both in
             ap (λ (a : ℕ). record { address = a; bytes = (get_or names left_named.i left_named.d).1.extent_bytes }) left_named.here
             ∙ ap (λ (n : ℕ). record { address = piece.extent; bytes = n }) bytes
 

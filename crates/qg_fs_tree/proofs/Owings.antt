@@ -91,7 +91,7 @@ many-alike (x ∷ xs) (y ∷ ys) same at =
     let first : x.address ≡ y.address = cc in
     let later : addresses xs ≡ addresses ys = cc in
     let rest = many-alike xs ys later at in
-    let here = ap (λ (a : ℕ). if a == at then 1 else 0) first in
+    let here = ap {B = ℕ} (λ (a : ℕ). if a == at then 1 else 0) first in
     let a = many-cons x xs at in
     let b = many-cons y ys at in
     omega (arith, rest, here, a, b)

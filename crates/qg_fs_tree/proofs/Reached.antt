@@ -18,16 +18,17 @@ record IsTerm {A : Type 0} (f : A → ℕ) (xs : List A) : Type 0 where
   there : slice_get xs place ≡ Some x
   some : 0 < f x
 
+first_or_later : {A : Type 0} (f : A → ℕ) (x : A) (xs : List A) (n : ℕ) → f x ≡ n → (0 < sum_by f xs → IsTerm f xs)
+    → 0 < n + sum_by f xs → IsTerm f (x ∷ xs)
+first_or_later f x xs zero none rest some =
+    let later = rest (omega (arith, some)) in
+    record { place = suc later.place; x = later.x; there = later.there; some = later.some }
+first_or_later f x xs (suc n) here rest some = record { place = 0; x = x; there = refl; some = omega (arith, here) }
+
 some_term : {A : Type 0} (f : A → ℕ) (xs : List A) → 0 < sum_by f xs → IsTerm f xs
 some_term f [] some = absurd (omega (arith, some))
-some_term {A} f (x ∷ xs) some =
-    let both = sum_by-cons f x xs in
-    either (f x) refl both where
-  either : (n : ℕ) → f x ≡ n → sum_by f (x ∷ xs) ≡ f x + sum_by f xs → IsTerm f (x ∷ xs)
-  either zero none both =
-      let later = some_term f xs (omega (arith, none, both, some)) in
-      record { place = suc later.place; x = later.x; there = later.there; some = later.some }
-  either (suc n) here both = record { place = 0; x = x; there = refl; some = omega (arith, here) }
+some_term f (x ∷ xs) some =
+    first_or_later f x xs (f x) refl (λ later. some_term f xs later) (let both = sum_by-cons f x xs in omega (arith, both, some))
 
 reached_below : (nodes : ℕ → Option Node) (level at : ℕ) (o : Option Node) (q : ℕ)
     → ((from : ℕ) → 0 < ways nodes level from q → Reaches nodes level from q) → nodes at ≡ o

@@ -81,6 +81,11 @@ told-slot land history generation drafted at node is = elim (cases_Bool (is_slot
       absurd cc
   from (Some mine) there outside none = (drafted.each at mine there).slot
 
+-- which runs are taken changes no slot
+pub free-runs : (holding : Holding) (runs : List Element) (q : ℕ) → is_free_slot (record holding { runs = runs }) q ≡ is_free_slot holding q
+unfolding is_free_slot
+free-runs holding runs q = refl
+
 -- ---- one address of a book
 
 -- nothing is known of a node there
@@ -211,10 +216,6 @@ module _ (old new : FsTree) (history : Option (List Event)) (items : List Item) 
         subst (λ (r : Root). IsRooted Files r new.land history items) (sym tree)
         (subst (λ (l : Ground). IsRooted Files old.tree l history items) (sym land) (record {
           tells = stands.rooted.tells;
-          apart = λ q free. stands.rooted.apart q (free_same q free);
+          apart = λ q free. stands.rooted.apart q (sym (free-runs old.land.space new.land.space.runs q) ∙ free);
           short = stands.rooted.short;
         }))
-      where
-        free_same : (q : ℕ) → IsTrue (is_free_slot (record old.land.space { runs = new.land.space.runs }) q) → IsTrue (is_free_slot old.land.space q)
-        unfolding is_free_slot
-        free_same q free = free

@@ -1,5 +1,5 @@
 -- A book that stands for a count of ways and for names, and what tellings make of it.
-use Rattle.std.proofs.Common.{◌≡◌, ◌≢◌, ℕ, zero, suc, ◌+◌, ◌-◌, ◌<◌, ◌≤◌, Bool, true, false, List, [], ◌∷◌, ◌++◌, length, map, Option, Some, None, arith, refl, sym, ap, subst, ◌∙◌, inl, inr}
+use Rattle.std.proofs.Common.{◌≡◌, ◌≢◌, ℕ, zero, suc, ◌+◌, ◌-◌, ◌*◌, ◌<◌, ◌≤◌, Bool, true, false, List, [], ◌∷◌, ◌++◌, length, map, Option, Some, None, arith, refl, sym, ap, subst, ◌∙◌, inl, inr}
 use Rattle.std.specs.Prelude.{◌⊎◌, ⊤, ◌||◌, ◌==◌, if◌then◌else◌, is_some}
 use Rattle.std.specs.List.{All, Contains, sum_by}
 use Rattle.std.specs.Option.{option_or}
@@ -30,7 +30,6 @@ use Rattle.qg_refs.specs.Counts.{count_of, greatest_count}
 use Rattle.qg_extents.specs.Table.{book_of}
 use Rattle.qg_tree_edits.specs.Counting.{IsBare, IsTimely, Turns, gains, losses, one}
 use Rattle.qg_tree_edits.proofs.Ways.{one-here, one-other}
-use Rattle.qg_tree_refs.specs.declared.coming.Coming.{Coming}
 use Rattle.qg_tree_refs.specs.declared.tree_refs.TreeRefs.{TreeRefs}
 use Rattle.qg_tree_refs.specs.Exchange.{CanExchange, Exchange, Exchanges, IsNew, times, what_comes, ways_to}
 use Rattle.qg_tree_refs.specs.Following.{Follows, IsProper, Step, coming_of, copying_in, exchange_of, full_by_copy, full_by_leaving, leaving_in, placed_by, references_to}
