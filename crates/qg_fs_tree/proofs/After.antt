@@ -72,8 +72,8 @@ no_some None none some = absurd cc
 no_some (Some node) none some = cc
 
 bare_full : (node : Option Node) (mine : Node) (full : Bool) → node ≡ Some mine → full_of node full ≡ None → full ≡ false
-bare_full node mine true is none = let wrong : Some mine ≡ None = sym is ∙ none in cc
-bare_full node mine false is none = refl
+bare_full told mine true is none = let wrong : Some mine ≡ None = sym is ∙ none in cc
+bare_full told mine false is none = refl
 
 -- ---- names
 

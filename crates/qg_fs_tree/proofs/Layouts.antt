@@ -66,10 +66,10 @@ owed_marked (Some node) full = owed_by_node (record { node = node; full = full }
 placed_once : (w s : ℕ) (node : Option Node) (full : Bool) (at : ℕ) (reference : Reference) → w ≤ 1
     → times (owed_if (if nat_lt 0 w then option_map (λ (n : Node). (s, record { node = n; full = full })) node else None)) at reference
     ≡ w * times (owed_marked node full) at reference
-placed_once zero s node full at reference most = times-nil at reference ∙ omega arith
+placed_once zero s told full at reference most = times-nil at reference ∙ omega arith
 placed_once (suc zero) s None full at reference most = omega arith
 placed_once (suc zero) s (Some node) full at reference most = omega arith
-placed_once (suc (suc w)) s node full at reference most = absurd (omega (arith, most))
+placed_once (suc (suc w)) s told full at reference most = absurd (omega (arith, most))
 
 -- the root's way, and what each node owes that is reached
 pub owed-is : (fs : FsTree) (history : Option (List Event)) (at : ℕ) (reference : Reference)

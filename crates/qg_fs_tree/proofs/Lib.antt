@@ -17,3 +17,4 @@ pub mod Renamed
 pub mod Named
 pub mod Ordered
 pub mod Edited
+pub mod Kept

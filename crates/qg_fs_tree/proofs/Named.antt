@@ -14,20 +14,20 @@ use Rattle.qg_items.specs.declared.extent.Reference.TheVariants.{KeyedData}
 use Rattle.qg_super.specs.declared.sizes.Sizes.{Sizes}
 use Rattle.qg_super.specs.Places.{data_begin, is_run, is_slot, sector, total_bytes}
 use Rattle.qg_state.specs.declared.element.Element.{Element}
-use Rattle.qg_state.specs.Owed.{Owing}
+use Rattle.qg_state.specs.Owed.{Owing, reference_offset}
 use Rattle.qg_state.specs.Reach.{extent_of}
 use Rattle.qg_state.specs.Space.{overlaps}
 use Rattle.qg_state.proofs.Contained.{contains_cases, contains_here, contains_later}
 use Rattle.qg_reach.proofs.SlotRule.{slot_below}
-use Rattle.qg_space.specs.Holding.{is_clear, is_free_run, with_run, without_run}
-use Rattle.qg_space.proofs.Members.{Contains-with_run, Contains-without_run, passes_one}
+use Rattle.qg_space.specs.Holding.{Holding, has_run, is_clear, is_free_run, with_run, without_run}
+use Rattle.qg_space.proofs.Members.{Contains-has_run, Contains-with_run, Contains-without_run, passes_one}
 use Rattle.qg_ground.specs.declared.ground.Ground.{Ground}
 use Rattle.qg_ground.specs.Land.{IsDrafted}
 use Rattle.qg_refs.specs.declared.counted.Counted.{Counted}
 use Rattle.qg_refs.specs.declared.kept.What.{What}
 use Rattle.qg_refs.specs.declared.kept.Kept.{Kept}
 use Rattle.qg_refs.specs.Book.{Adds, Book, Drops, count_at, references_at, references_in, what_in}
-use Rattle.qg_refs.specs.Counts.{IsRefList, count_of}
+use Rattle.qg_refs.specs.Counts.{IsRefList, count_of, greatest_count}
 use Rattle.qg_refs.proofs.RankOrder.{same_reference_is}
 use Rattle.qg_state.specs.Record.{same_reference}
 use Rattle.qg_extents.specs.Table.{IsTable, book_of}
@@ -44,7 +44,7 @@ use Rattle.qg_fs_tree.proofs.Counts.{slots_of, ways_in}
 use Rattle.qg_fs_tree.proofs.Owings.{many-cons, names_of, times-cons, times_few}
 use Rattle.qg_fs_tree.proofs.Renamed.{IsNoNode, Stands-renamed}
 use Rattle.qg_fs_tree.proofs.Single.{length-none, length-total}
-use Rattle.qg_fs_tree.proofs.Turned.{sum_no_data, total-is}
+use Rattle.qg_fs_tree.proofs.Turned.{kept_nothing, sum_no_data, total-is}
 
 -- ---- one reference at one address
 
@@ -147,6 +147,21 @@ run_behind sizes address bytes is =
     let c = and_parts _ _ b.0 in
     let d = and_parts _ _ c.0 in
     (leb-true data_begin address d.0, ltb-true 0 bytes b.1, eqb-true (bytes % sector) 0 c.1)
+
+-- a run of whole sectors that is taken
+pub whole-bytes : (sizes : Sizes) (address bytes : ℕ) → is_run sizes address bytes ≡ true → bytes / sector * sector ≡ bytes
+whole-bytes sizes address bytes is = let whole = (run_behind sizes address bytes is).2 in omega (arith, whole)
+
+whole_run : (holding : Holding) (piece : Piece) → is_run holding.sizes piece.extent piece.extent_bytes ≡ true
+    → Contains holding.runs (extent_of piece) → has_run holding piece.extent (piece.extent_bytes / sector * sector) ≡ true
+whole_run holding piece is has =
+    ap (λ (n : ℕ). has_run holding piece.extent n) (whole-bytes holding.sizes piece.extent piece.extent_bytes is)
+    ∙ (Contains-has_run holding piece.extent piece.extent_bytes).1 has
+
+pub free-run : (sizes : Sizes) (extents : List Element) (address bytes : ℕ) → is_clear sizes extents address bytes ≡ true
+    → is_run sizes address bytes ≡ true
+unfolding is_clear
+free-run sizes extents address bytes is = (and_parts _ _ is).0
 
 free_parts : (sizes : Sizes) (extents : List Element) (address bytes : ℕ) → is_clear sizes extents address bytes ≡ true
     → (is_run sizes address bytes ≡ true) × (not (list_any (overlaps address bytes) extents) ≡ true)
@@ -273,8 +288,7 @@ pub record IsRenamed (old new : FsTree) : Type 0 where
   pub land : new.land ≡ record old.land { space = record old.land.space { runs = new.land.space.runs } }
   pub refs : new.refs ≡ record old.refs { refs = new.refs.refs }
 
-module _ (old new : FsTree) (history : Option (List Event)) (items : List Item) (drafted : IsDrafted old.land old.tree.next) (renamed : IsRenamed old new)
-    (ino : ℕ) (piece : Piece) where
+module _ (old : FsTree) (history : Option (List Event)) (items : List Item) (drafted : IsDrafted old.land old.tree.next) (ino : ℕ) (piece : Piece) where
   -- ---- a piece of an extent that others name
   module _ (names : List (ℕ × Piece)) (stands : Stands old history items names)
       (among : Contains (map (λ name. extent_of name.1) names) (extent_of piece)) where
@@ -285,8 +299,11 @@ module _ (old new : FsTree) (history : Option (List Event)) (items : List Item) 
     beside_known = known_as old.land.space.sizes (book_of old.refs.refs) (get_or names beside.i beside.d).1 piece beside.same (stands.known beside.i beside.d beside.inside)
 
     -- its run is taken
-    pub taken-named : Contains old.land.space.runs (extent_of piece)
-    taken-named = (stands.runs (extent_of piece)).1 among
+    taken_named : Contains old.land.space.runs (extent_of piece)
+    taken_named = (stands.runs (extent_of piece)).1 among
+
+    pub taken-named : has_run old.land.space piece.extent (piece.extent_bytes / sector * sector) ≡ true
+    taken-named = whole_run old.land.space piece beside_known.lies taken_named
 
     -- and it has a reference
     pub some-named : IsTable old.refs.refs → 0 < references_to (book_of old.refs.refs) piece.extent
@@ -302,7 +319,16 @@ module _ (old new : FsTree) (history : Option (List Event)) (items : List Item) 
       some_long [] some = absurd (omega (arith, some))
       some_long (x ∷ xs) some = omega arith
 
-    module _ (what : What) (adds : Adds (book_of old.refs.refs) (book_of new.refs.refs) piece.extent what (name_of old.tree.owner (ino, piece)).reference)
+    -- and may have this one once more
+    pub room-named : IsTable old.refs.refs → names_times old.tree.owner names piece.extent (name_of old.tree.owner (ino, piece)).reference < 4294967295
+        → (reference : Reference) → reference ≡ (name_of old.tree.owner (ino, piece)).reference
+        → nat_lt (count_at (book_of old.refs.refs) piece.extent reference) (greatest_count reference) ≡ true
+    room-named table room reference is =
+        subst (λ (r : Reference). nat_lt (count_at (book_of old.refs.refs) piece.extent r) (greatest_count r) ≡ true) (sym is)
+        (let count = count_named old history items names stands drafted table piece.extent old.tree.owner ino (reference_offset piece.position piece.offset) in
+        lt-ltb (count_at (book_of old.refs.refs) piece.extent (name_of old.tree.owner (ino, piece)).reference) 4294967295 (omega (arith, count, room)))
+
+    module _ (new : FsTree) (renamed : IsRenamed old new) (what : What) (adds : Adds (book_of old.refs.refs) (book_of new.refs.refs) piece.extent what (name_of old.tree.owner (ino, piece)).reference)
         (runs : new.land.space.runs ≡ old.land.space.runs)
         (room : names_times old.tree.owner names piece.extent (name_of old.tree.owner (ino, piece)).reference < 4294967295) where
       known_same : (q : Piece) → IsKnownExtent old.land.space.sizes (book_of old.refs.refs) q
@@ -334,7 +360,7 @@ module _ (old new : FsTree) (history : Option (List Event)) (items : List Item) 
                 ((stands.runs run).0 (subst (λ (list : List Element). Contains list run) runs has)),
             λ has. subst (λ (list : List Element). Contains list run) (sym runs)
                 (elim (contains_cases (extent_of piece) (map (λ (name : ℕ × Piece). extent_of name.1) names) run has) [
-                  | inl is ↦ subst (λ (e : Element). Contains old.land.space.runs e) is taken-named
+                  | inl is ↦ subst (λ (e : Element). Contains old.land.space.runs e) is taken_named
                   | inr later ↦ (stands.runs run).1 later
                 ]),
           ))
@@ -357,7 +383,22 @@ module _ (old new : FsTree) (history : Option (List Event)) (items : List Item) 
         length-none (references_at (book_of old.refs.refs) piece.extent) (table.book.sound piece.extent)
         (total_named old history items names stands drafted table piece.extent free_outside ∙ no_name)
 
-    module _ (what : What) (adds : Adds (book_of old.refs.refs) (book_of new.refs.refs) piece.extent what (name_of old.tree.owner (ino, piece)).reference)
+    -- and it may be named
+    pub room-new : IsTable old.refs.refs → (reference : Reference) → reference ≡ (name_of old.tree.owner (ino, piece)).reference
+        → nat_lt (count_at (book_of old.refs.refs) piece.extent reference) (greatest_count reference) ≡ true
+    room-new table reference is =
+        subst (λ (r : Reference). nat_lt (count_at (book_of old.refs.refs) piece.extent r) (greatest_count r) ≡ true) (sym is)
+        (let count = count_named old history items names stands drafted table piece.extent old.tree.owner ino (reference_offset piece.position piece.offset) in
+        let most = times_many (names_of old.tree.owner names) piece.extent (name_of old.tree.owner (ino, piece)).reference in
+        let none = no_name in
+        lt-ltb (count_at (book_of old.refs.refs) piece.extent (name_of old.tree.owner (ino, piece)).reference) 4294967295 (omega (arith, count, most, none)))
+
+    -- nothing is known of it
+    pub unknown-new : IsTable old.refs.refs → what_in (book_of old.refs.refs piece.extent) ≡ None
+    unknown-new table =
+        ap what_in (kept_nothing (book_of old.refs.refs piece.extent) (λ kept there. table.book.some piece.extent kept there) (none-named table))
+
+    module _ (new : FsTree) (renamed : IsRenamed old new) (what : What) (adds : Adds (book_of old.refs.refs) (book_of new.refs.refs) piece.extent what (name_of old.tree.owner (ino, piece)).reference)
         (generation : ℕ) (what_is : what ≡ record { bytes = piece.extent_bytes; level = None; generation = generation })
         (none : what_in (book_of old.refs.refs piece.extent) ≡ None)
         (runs : new.land.space.runs ≡ with_run (extent_of piece) old.land.space.runs) where
@@ -409,8 +450,12 @@ module _ (old new : FsTree) (history : Option (List Event)) (items : List Item) 
     own_outside = outside_run old history items ((ino, piece) ∷ names) stands drafted piece.extent piece.extent_bytes own_known.lies
 
     -- its run is taken
-    pub taken-own : Contains old.land.space.runs (extent_of piece)
-    taken-own = (stands.runs (extent_of piece)).1 (contains_here (extent_of piece) (map (λ (name : ℕ × Piece). extent_of name.1) names))
+    pub taken-own : has_run old.land.space piece.extent (piece.extent_bytes / sector * sector) ≡ true
+    taken-own = whole_run old.land.space piece own_known.lies
+        ((stands.runs (extent_of piece)).1 (contains_here (extent_of piece) (map (λ (name : ℕ × Piece). extent_of name.1) names)))
+
+    pub whole-own : piece.extent_bytes / sector * sector ≡ piece.extent_bytes
+    whole-own = whole-bytes old.land.space.sizes piece.extent piece.extent_bytes own_known.lies
 
     -- its reference is there, where the names that are left cover the items
     pub there-own : names_times old.tree.owner (filter_map name_told items) piece.extent (name_of old.tree.owner (ino, piece)).reference
@@ -422,7 +467,7 @@ module _ (old new : FsTree) (history : Option (List Event)) (items : List Item) 
         let one = times-own (name_of old.tree.owner (ino, piece)) in
         omega (arith, count, all, one, covered)
 
-    module _ (table : IsTable old.refs.refs) (drops : Drops (book_of old.refs.refs) (book_of new.refs.refs) piece.extent (name_of old.tree.owner (ino, piece)).reference) where
+    module _ (new : FsTree) (renamed : IsRenamed old new) (table : IsTable old.refs.refs) (drops : Drops (book_of old.refs.refs) (book_of new.refs.refs) piece.extent (name_of old.tree.owner (ino, piece)).reference) where
       -- as many references are left as names
       total_left : total (references_at (book_of new.refs.refs) piece.extent) ≡ many (names_of old.tree.owner names) piece.extent
       total_left =

@@ -1,5 +1,5 @@
 // Pieces of files name extents, and name them no more.
-ghost use Rattle.std.specs.Prelude.{◌≡◌, ◌∷◌, ◌<◌, ◌≤◌, ℕ, ⊤, List, Option, Err, MatchResult, OnOk, IsTrue, map, true};
+ghost use Rattle.std.specs.Prelude.{◌≡◌, ◌∷◌, ◌<◌, ◌≤◌, ◌*◌, ◌/◌, ℕ, ⊤, List, Option, Err, MatchResult, OnOk, IsTrue, map, true};
 ghost use Rattle.std.specs.List.{Contains, filter_map};
 ghost use Rattle.qg_device.specs.History.{Event};
 ghost use Rattle.qg_num.specs.declared.piece.Piece.{Piece as PieceValue};
@@ -53,11 +53,13 @@ impl FsTree {
     /// `Image` with `refs` comes where the extent has no reference or its run is not taken, and where this reference is there as often as one
     /// may be.
     pub fn name(&mut self, ino: Ino, piece: &Piece) -> Result<(), BlockFault>
-        ensures named { (history : Option (List Event)) (items : List ItemValue) (names : List (ℕ × PieceValue)) → Stands self.old history items names
+        ensures named { (history : Option (List Event)) (bytes : ℕ) (items : List ItemValue) (names : List (ℕ × PieceValue))
+            → IsSubvolume self.old history bytes → Stands self.old history items names
             → Contains (map (λ name. extent_of name.1) names) (extent_of piece.now)
             → names_times self.old.tree.owner names piece.now.extent (name_of self.old.tree.owner (ino, piece.now)).reference < 4294967295
             → OnOk result (Stands self.new history items ((ino, piece.now) ∷ names)) }
-        ensures sound { (history : Option (List Event)) (items : List ItemValue) (names : List (ℕ × PieceValue)) → Stands self.old history items names
+        ensures sound { (history : Option (List Event)) (bytes : ℕ) (items : List ItemValue) (names : List (ℕ × PieceValue))
+            → IsSubvolume self.old history bytes → Stands self.old history items names
             → Contains (map (λ name. extent_of name.1) names) (extent_of piece.now)
             → names_times self.old.tree.owner names piece.now.extent (name_of self.old.tree.owner (ino, piece.now)).reference < 4294967295
             → BreaksNone result }
@@ -66,6 +68,7 @@ impl FsTree {
         ensures slots { free_slots self.new.land.space ≡ free_slots self.old.land.space }
         ensures fault { MatchResult result (λ done. ⊤) (IsMisfitAt piece.now.extent) }
     {
+        let _ascending = self.refs.refs().len();
         let at = piece.extent;
         if self.refs.refs().how_many(at) == 0 || !self.is_taken(piece) {
             return Err(misfit_at(at));
@@ -82,15 +85,18 @@ impl FsTree {
     /// `Image` with `refs` comes where something at its address has a reference already.
     pub fn name_new(&mut self, ino: Ino, piece: &Piece) -> Result<(), BlockFault>
         requires free { IsTrue (is_free_run self.old.land.space piece.now.extent piece.now.extent_bytes) }
-        ensures named { (history : Option (List Event)) (items : List ItemValue) (names : List (ℕ × PieceValue)) → Stands self.old history items names
+        ensures named { (history : Option (List Event)) (bytes : ℕ) (items : List ItemValue) (names : List (ℕ × PieceValue))
+            → IsSubvolume self.old history bytes → Stands self.old history items names
             → OnOk result (Stands self.new history items ((ino, piece.now) ∷ names)) }
-        ensures sound { (history : Option (List Event)) (items : List ItemValue) (names : List (ℕ × PieceValue)) → Stands self.old history items names
+        ensures sound { (history : Option (List Event)) (bytes : ℕ) (items : List ItemValue) (names : List (ℕ × PieceValue))
+            → IsSubvolume self.old history bytes → Stands self.old history items names
             → BreaksNone result }
         ensures tree { KeepsTree self.old self.new }
         ensures subvolume { (history : Option (List Event)) (bytes : ℕ) → IsSubvolume self.old history bytes → IsSubvolume self.new history bytes }
         ensures slots { free_slots self.new.land.space ≡ free_slots self.old.land.space }
         ensures fault { MatchResult result (λ done. ⊤) (IsMisfitAt piece.now.extent) }
     {
+        let _ascending = self.refs.refs().len();
         let at = piece.extent;
         if self.refs.refs().how_many(at) > 0 {
             return Err(misfit_at(at));
@@ -109,13 +115,13 @@ impl FsTree {
     ///
     /// `Image` with `refs` comes where the reference is not there, or the run that is to be given back is not taken.
     pub fn unname(&mut self, ino: Ino, piece: &Piece) -> Result<(), BlockFault>
-        ensures unnamed { (history : Option (List Event)) (items : List ItemValue) (names : List (ℕ × PieceValue))
-            → Stands self.old history items ((ino, piece.now) ∷ names)
+        ensures unnamed { (history : Option (List Event)) (bytes : ℕ) (items : List ItemValue) (names : List (ℕ × PieceValue))
+            → IsSubvolume self.old history bytes → Stands self.old history items ((ino, piece.now) ∷ names)
             → names_times self.old.tree.owner (filter_map name_told items) piece.now.extent (name_of self.old.tree.owner (ino, piece.now)).reference
             ≤ names_times self.old.tree.owner names piece.now.extent (name_of self.old.tree.owner (ino, piece.now)).reference
             → OnOk result (Stands self.new history items names) }
-        ensures sound { (history : Option (List Event)) (items : List ItemValue) (names : List (ℕ × PieceValue))
-            → Stands self.old history items ((ino, piece.now) ∷ names)
+        ensures sound { (history : Option (List Event)) (bytes : ℕ) (items : List ItemValue) (names : List (ℕ × PieceValue))
+            → IsSubvolume self.old history bytes → Stands self.old history items ((ino, piece.now) ∷ names)
             → names_times self.old.tree.owner (filter_map name_told items) piece.now.extent (name_of self.old.tree.owner (ino, piece.now)).reference
             ≤ names_times self.old.tree.owner names piece.now.extent (name_of self.old.tree.owner (ino, piece.now)).reference
             → BreaksNone result }
@@ -124,11 +130,13 @@ impl FsTree {
         ensures slots { free_slots self.new.land.space ≡ free_slots self.old.land.space }
         ensures fault { MatchResult result (λ done. ⊤) (IsMisfitAt piece.now.extent) }
     {
+        let _ascending = self.refs.refs().len();
         let at = piece.extent;
         let reference = self.reference_of(ino, piece);
         if !self.refs.unname(at, &reference) {
             return Err(misfit_at(at));
         }
+        let _ascending_still = self.refs.refs().len();
         if self.refs.refs().how_many(at) > 0 {
             return Ok(());
         }
