@@ -98,7 +98,7 @@ impl FsTree {
     {
         let _ascending = self.refs.refs().len();
         let at = piece.extent;
-        if self.refs.refs().how_many(at) > 0 {
+        if self.refs.refs().how_many(at) != 0 {
             return Err(misfit_at(at));
         }
         self.land
