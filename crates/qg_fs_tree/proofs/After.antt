@@ -146,11 +146,11 @@ module _ (old new : FsTree) (history : Option (List Event)) (items left_items : 
     way_old q was there slot taken_is =
         let referred : nat_lt 0 (references_to (book_of old.refs.refs) q) ≡ true = sym (stands.settled.slots q slot) ∙ taken_is in
         some_way (ways_in old history q) refl (ltb-true 0 (references_to (book_of old.refs.refs) q) referred) where
-      some_way : (n : ℕ) → ways_in old history q ≡ n → 0 < references_to (book_of old.refs.refs) q → 0 < ways_in old history q
-      some_way zero none some =
-          let no_reference = none-before old history items names stands drafted table q slot none in
-          absurd (omega (arith, no_reference, some))
-      some_way (suc n) is some = omega (arith, is)
+          some_way : (n : ℕ) → ways_in old history q ≡ n → 0 < references_to (book_of old.refs.refs) q → 0 < ways_in old history q
+          some_way zero none some =
+              let no_reference = none-before old history items names stands drafted table q slot none in
+              absurd (omega (arith, no_reference, some))
+          some_way (suc n) is some = omega (arith, is)
 
   -- ---- a node that is reached
 
@@ -226,11 +226,11 @@ module _ (old new : FsTree) (history : Option (List Event)) (items left_items : 
   young_new q reaches some =
       let way = way_new q reaches in
       counted.marks q way ∙ ap (λ (o : Option Node). is_some o) (from (full q) refl) where
-    from : (o : Option Node) → full q ≡ o → full q ≡ None
-    from None none = none
-    from (Some node) is =
-        let clean = (full_before q node (way_new q reaches) is).1 in
-        absurd (no_some (fresh_at new.land.blocks.draft q) clean some)
+        from : (o : Option Node) → full q ≡ o → full q ≡ None
+        from None none = none
+        from (Some node) is =
+            let clean = (full_before q node (way_new q reaches) is).1 in
+            absurd (no_some (fresh_at new.land.blocks.draft q) clean some)
 
   -- ---- all of it
 

@@ -73,9 +73,9 @@ module _ (fs : FsTree) (history : Option (List Event)) (items : List Item) (name
   unnamed at is =
       let low = slot_below fs.land.space.sizes at drafted.sizes.served is in
       names-apart fs.tree.owner names at (λ i d inside same.
-          let known = stands.known i d inside in
-          let high = run_behind fs.land.space.sizes (get_or names i d).1.extent (get_or names i d).1.extent_bytes known.lies in
-          absurd (omega (arith, low, high, same)))
+      let known = stands.known i d inside in
+      let high = run_behind fs.land.space.sizes (get_or names i d).1.extent (get_or names i d).1.extent_bytes known.lies in
+      absurd (omega (arith, low, high, same)))
 
   pub single : (q : ℕ) → ways_in fs history q ≤ 1
   single = single-way fs history items stands.rooted drafted

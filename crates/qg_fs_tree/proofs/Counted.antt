@@ -76,10 +76,10 @@ same-length (x ∷ xs) ys same =
     let equal = same x in
     let others = without x ys (omega (arith, first, one, equal)) in
     let rest = same-length xs others.rest (λ reference.
-        let all = same reference in
-        let here = among-cons reference x xs in
-        let there = others.counts reference in
-        omega (arith, all, here, there)) in
+    let all = same reference in
+    let here = among-cons reference x xs in
+    let there = others.counts reference in
+    omega (arith, all, here, there)) in
     let shorter = others.shorter in
     omega (arith, rest, shorter)
 
@@ -96,7 +96,7 @@ pub IsCounted-same : (f g : Reference → ℕ) (m n : ℕ) → IsCounted f m →
     → ((reference : Reference) → f reference ≡ g reference) → m ≡ n
 IsCounted-same f g m n first last same =
     let lengths = same-length first.listed last.listed (λ reference.
-        first.counts reference ∙ same reference ∙ sym (last.counts reference)) in
+    first.counts reference ∙ same reference ∙ sym (last.counts reference)) in
     let a = first.many in
     let b = last.many in
     omega (arith, lengths, a, b)
@@ -176,8 +176,8 @@ IsCounted-list (entry ∷ references) =
     (λ reference. count-cons entry references reference) (total-cons entry references)
     (IsCounted-plus (counted_by entry) (count_of references) entry.count (total references)
     (IsCounted-one entry.count entry.reference) (IsCounted-list references)) where
-  counted_by : Counted → Reference → ℕ
-  counted_by e x = if same_reference x e.reference then e.count else 0
+      counted_by : Counted → Reference → ℕ
+      counted_by e x = if same_reference x e.reference then e.count else 0
 
 -- ---- references of a list
 

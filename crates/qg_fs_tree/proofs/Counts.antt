@@ -67,6 +67,7 @@ names-apart owner (name ∷ names) at differ =
           let none = ap {B = ℕ} (λ (b : Bool). if b then 1 else 0) unequal in
           omega (arith, first, rest, none)
     ]
+
 module _ (fs : FsTree) (history : Option (List Event)) (items : List Item) (rooted : IsRooted Files fs.tree fs.land history items)
     (drafted : IsDrafted fs.land fs.tree.next) where
   whole : IsUnder Files (super_of fs.tree fs.land.blocks.draft) (nodes_of fs history) fs.tree.height (root_expected (Some fs.tree.height) None) fs.tree.address items
@@ -120,12 +121,12 @@ module _ (fs : FsTree) (history : Option (List Event)) (items : List Item) (root
         let left = over-plus (slots_of fs) w owed_s keyed_s in
         let right = over-plus (slots_of fs) w all_s shared_s in
         omega (arith, owed, tree, under, each, left, right) where
-      marked : (s : ℕ) → 0 < ways_in fs history s
-          → times (owed_marked (nodes_of fs history s) (mark_of fs s)) at reference + times (keyed_in fs.tree.owner (full s)) at reference
-          ≡ times (keyed_in fs.tree.owner (nodes_of fs history s)) at reference + times (shared_in (full s)) at reference
-      marked s some =
-          let both = owed-marked fs.tree.owner (nodes_of fs history s) (mark_of fs s) at reference
-          (λ node there bare. home s node (reached-some (nodes_of fs history) fs.tree.height fs.tree.address s some) there bare) in
-          let keyed = ap (λ (f : Option Node). times (keyed_in fs.tree.owner f) at reference) (is s some) in
-          let shared = ap (λ (f : Option Node). times (shared_in f) at reference) (is s some) in
-          omega (arith, both, keyed, shared)
+          marked : (s : ℕ) → 0 < ways_in fs history s
+              → times (owed_marked (nodes_of fs history s) (mark_of fs s)) at reference + times (keyed_in fs.tree.owner (full s)) at reference
+              ≡ times (keyed_in fs.tree.owner (nodes_of fs history s)) at reference + times (shared_in (full s)) at reference
+          marked s some =
+              let both = owed-marked fs.tree.owner (nodes_of fs history s) (mark_of fs s) at reference
+              (λ node there bare. home s node (reached-some (nodes_of fs history) fs.tree.height fs.tree.address s some) there bare) in
+              let keyed = ap (λ (f : Option Node). times (keyed_in fs.tree.owner f) at reference) (is s some) in
+              let shared = ap (λ (f : Option Node). times (shared_in f) at reference) (is s some) in
+              omega (arith, both, keyed, shared)

@@ -43,7 +43,6 @@ module _ (owner : ℕ) (names : List (ℕ × Piece)) (slots : List ℕ) (IsPlace
     (once : (at : ℕ) → IsPlace at → IsOnce slots at) (apart : (at : ℕ) → IsPlace at → many (names_of owner names) at ≡ 0)
     (few : (at : ℕ) (reference : Reference) → times (names_of owner names) at reference ≤ 4294967295)
     (first : TreeRefs) (ways : ℕ → ℕ) (full_first : ℕ → Option Node) where
-
   -- the same ways and full nodes
   pub StandsFor-same : (book : TreeRefs) (w v : ℕ → ℕ) (full : ℕ → Option Node) → ((q : ℕ) → v q ≡ w q)
       → StandsFor owner names slots IsPlace first ways full_first book w full
@@ -65,13 +64,13 @@ module _ (owner : ℕ) (names : List (ℕ × Piece)) (slots : List ℕ) (IsPlace
         stays = λ q some. stands.stays q (let e = same q in omega (arith, e, some));
         named = stands.named;
       } where
-    same_counts : AreCounted owner names slots (book_of book.refs) v full
-    same_counts at reference =
-        let count = stands.counts at reference in
-        let keyed = over-alike slots v w (λ (s : ℕ). times (keyed_in owner (full s)) at reference) same in
-        let shared = over-alike slots v w (λ (s : ℕ). times (shared_in (full s)) at reference) same in
-        let own = keyed-same owner v w at reference (same at) in
-        omega (arith, count, keyed, shared, own)
+        same_counts : AreCounted owner names slots (book_of book.refs) v full
+        same_counts at reference =
+            let count = stands.counts at reference in
+            let keyed = over-alike slots v w (λ (s : ℕ). times (keyed_in owner (full s)) at reference) same in
+            let shared = over-alike slots v w (λ (s : ℕ). times (shared_in (full s)) at reference) same in
+            let own = keyed-same owner v w at reference (same at) in
+            omega (arith, count, keyed, shared, own)
 
   module _ (book : TreeRefs) (w : ℕ → ℕ) (full : ℕ → Option Node)
       (stands : StandsFor owner names slots IsPlace first ways full_first book w full) where
@@ -448,9 +447,11 @@ module _ (owner : ℕ) (names : List (ℕ × Piece)) (slots : List ℕ) (IsPlace
       → Follows before tellings after
       → (left : ℕ → Option Node) × StandsFor owner names slots IsPlace first ways full_first after v left
   unfolding Follows
-  StandsFor-followed [] before after w v full stands turns bare truth new follows =
-      (full, StandsFor-same after w v full turns
-      (subst (λ (book : TreeRefs). StandsFor owner names slots IsPlace first ways full_first book w full) (sym follows) stands))
+  StandsFor-followed [] before after w v full stands turns bare truth new follows = (
+    full,
+    StandsFor-same after w v full turns
+        (subst (λ (book : TreeRefs). StandsFor owner names slots IsPlace first ways full_first book w full) (sym follows) stands),
+  )
   StandsFor-followed (telling ∷ tellings) before after w v full stands turns bare truth new follows =
       let sum = λ (q : ℕ). sum_by-cons (λ (t : Telling). gains t q) telling tellings in
       let one_bare : IsBare telling = bare 0 telling (omega arith) in

@@ -152,13 +152,13 @@ module _ (tree : Tree) (super : Super) (nodes : ℕ → Option Node) where
         | inl none ↦ omega (arith, none, others, both)
         | inr rest ↦ omega (arith, rest, one, both)
       ] where
-    -- a way from the first leaves none from the others
-    either : (n : ℕ) → ways nodes level pointer.child q ≡ n → (ways nodes level pointer.child q ≡ 0) ⊎ (ways_each nodes level pointers q ≡ 0)
-    either zero none = inl none
-    either (suc n) some = inr (ways_each-none nodes level pointers q (λ place other there reaches.
-        let none = ways-none nodes level pointer.child q (λ here.
-        branches-apart tree super nodes level (pointer ∷ pointers) items each ascending 0 (suc place) pointer other refl there (λ same. absurd (omega (arith, same))) q here reaches) in
-        absurd (omega (arith, none, some))))
+        -- a way from the first leaves none from the others
+        either : (n : ℕ) → ways nodes level pointer.child q ≡ n → (ways nodes level pointer.child q ≡ 0) ⊎ (ways_each nodes level pointers q ≡ 0)
+        either zero none = inl none
+        either (suc n) some = inr (ways_each-none nodes level pointers q (λ place other there reaches.
+            let none = ways-none nodes level pointer.child q (λ here.
+            branches-apart tree super nodes level (pointer ∷ pointers) items each ascending 0 (suc place) pointer other refl there (λ same. absurd (omega (arith, same))) q here reaches) in
+            absurd (omega (arith, none, some))))
 
   pub ways-single : (level from : ℕ) (items : List Item) → IsBranch tree super nodes level from items → is_ascending (keys_of items) ≡ true
       → (q : ℕ) → ways nodes level from q ≤ 1
@@ -178,16 +178,16 @@ module _ (tree : Tree) (super : Super) (nodes : ℕ → Option Node) where
             omega (arith, way, here, none)
         | inr (unequal, differ) ↦ let none = one-other from q differ in omega (arith, way, none, below)
       ] where
-    -- a node is not reached below itself
-    not_below : (level : ℕ) (header : Header) (pointers : List Pointer) (items : List Item) (from : ℕ)
-        → nodes from ≡ Some (Inner header pointers) → header.level ≡ suc level → AreBranches tree super nodes level pointers items
-        → (place : ℕ) (pointer : Pointer) → slice_get pointers place ≡ Some pointer → (q : ℕ) → Reaches nodes level pointer.child q → q ≢ from
-    not_below level header pointers items from here high each place pointer there q reaches same =
-        let found = each-get (λ (p : Pointer) (xs : List Item). IsPointed super nodes p × IsBranch tree super nodes level p.child xs)
-        pointers items each place pointer there in
-        let low = branch-level tree super nodes level pointer.child found.0 found.2.1 q reaches in
-        let is : Some low.0 ≡ Some (Inner header pointers) = sym low.1 ∙ ap nodes same ∙ here in
-        let one_node : low.0 ≡ Inner header pointers = cc in
-        let level_is : (header_of low.0).level ≡ suc level = ap (λ (n : Node). (header_of n).level) one_node ∙ high in
-        let upto = low.2 in
-        omega (arith, level_is, upto)
+        -- a node is not reached below itself
+        not_below : (level : ℕ) (header : Header) (pointers : List Pointer) (items : List Item) (from : ℕ)
+            → nodes from ≡ Some (Inner header pointers) → header.level ≡ suc level → AreBranches tree super nodes level pointers items
+            → (place : ℕ) (pointer : Pointer) → slice_get pointers place ≡ Some pointer → (q : ℕ) → Reaches nodes level pointer.child q → q ≢ from
+        not_below level header pointers items from here high each place pointer there q reaches same =
+            let found = each-get (λ (p : Pointer) (xs : List Item). IsPointed super nodes p × IsBranch tree super nodes level p.child xs)
+            pointers items each place pointer there in
+            let low = branch-level tree super nodes level pointer.child found.0 found.2.1 q reaches in
+            let is : Some low.0 ≡ Some (Inner header pointers) = sym low.1 ∙ ap nodes same ∙ here in
+            let one_node : low.0 ≡ Inner header pointers = cc in
+            let level_is : (header_of low.0).level ≡ suc level = ap (λ (n : Node). (header_of n).level) one_node ∙ high in
+            let upto = low.2 in
+            omega (arith, level_is, upto)

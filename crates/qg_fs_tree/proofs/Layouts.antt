@@ -106,6 +106,6 @@ owed-marked owner None false at reference home = refl
 owed-marked owner (Some node) true at reference home = omega arith
 owed-marked owner (Some node) false at reference home =
     let keyed : owed_by_node (record { node = node; full = false }) ≡ keyed_children node owner =
-        owed-keyed (record { node = node; full = false }) refl ∙ ap (λ (tree : ℕ). keyed_children node tree) (home node refl refl) in
+    owed-keyed (record { node = node; full = false }) refl ∙ ap (λ (tree : ℕ). keyed_children node tree) (home node refl refl) in
     let same = ap (λ (xs : List Owing). times xs at reference) keyed in
     omega (arith, same)

@@ -190,9 +190,9 @@ module _ (fs : FsTree) (history : Option (List Event)) (items : List Item) (name
       let all = total-is fs.tree.owner names (slots_of fs) (book_of fs.refs.refs) (ways_in fs history) _ counted.counts at in
       let none = no_way (ways_in fs history at) refl in
       omega (arith, all, none) where
-    no_way : (n : ℕ) → ways_in fs history at ≡ n → ways_in fs history at ≡ 0
-    no_way zero none = none
-    no_way (suc n) some = absurd (outside (placed fs history items names stands drafted at (omega (arith, some))))
+        no_way : (n : ℕ) → ways_in fs history at ≡ n → ways_in fs history at ≡ 0
+        no_way zero none = none
+        no_way (suc n) some = absurd (outside (placed fs history items names stands drafted at (omega (arith, some))))
 
   -- no piece names an extent that begins with a free run
   free_unnamed : (at bytes : ℕ) → is_free_run fs.land.space at bytes ≡ true → many (names_of fs.tree.owner names) at ≡ 0
@@ -261,8 +261,8 @@ one_more owner names name room few q reference =
             let one = times_few (name_of owner name) q reference in
             let most = one_of_few reference (name_of owner name).reference in
             let less : times (names_of owner names) q reference < 4294967295 =
-                subst (λ (r : Reference). times (names_of owner names) q r < 4294967295) (sym is)
-                (subst (λ (a : ℕ). times (names_of owner names) a (name_of owner name).reference < 4294967295) same room) in
+            subst (λ (r : Reference). times (names_of owner names) q r < 4294967295) (sym is)
+            (subst (λ (a : ℕ). times (names_of owner names) a (name_of owner name).reference < 4294967295) same room) in
             omega (arith, all, one, most, less)
         | inr differ ↦
             let one = times_few (name_of owner name) q reference in
@@ -313,11 +313,11 @@ module _ (old : FsTree) (history : Option (List Event)) (items : List Item) (dra
         let one = named-there old.tree.owner names beside.i beside.d beside.inside in
         let same : (get_or names beside.i beside.d).1.extent ≡ piece.extent = ap (λ (e : Element). e.address) beside.same in
         let some : 0 < many (names_of old.tree.owner names) piece.extent =
-            subst (λ (a : ℕ). 0 < many (names_of old.tree.owner names) a) same one in
+        subst (λ (a : ℕ). 0 < many (names_of old.tree.owner names) a) same one in
         some_long (references_at (book_of old.refs.refs) piece.extent) (omega (arith, all, some)) where
-      some_long : (xs : List Counted) → 0 < total xs → 0 < length xs
-      some_long [] some = absurd (omega (arith, some))
-      some_long (x ∷ xs) some = omega arith
+          some_long : (xs : List Counted) → 0 < total xs → 0 < length xs
+          some_long [] some = absurd (omega (arith, some))
+          some_long (x ∷ xs) some = omega arith
 
     -- and may have this one once more
     pub room-named : IsTable old.refs.refs → names_times old.tree.owner names piece.extent (name_of old.tree.owner (ino, piece)).reference < 4294967295
@@ -347,9 +347,9 @@ module _ (old : FsTree) (history : Option (List Event)) (items : List Item) (dra
           adds.elsewhere (outside_run old history items names stands drafted piece.extent piece.extent_bytes beside_known.lies)
           (no_level (what_in (book_of new.refs.refs piece.extent)) piece.extent_bytes beside_known.generation (known_same piece beside_known ∙ beside_known.known))
           (λ q reference.
-              let more = added (book_of old.refs.refs) (book_of new.refs.refs) (name_of old.tree.owner (ino, piece)) what adds q reference in
-              let all = times-cons (name_of old.tree.owner (ino, piece)) (names_of old.tree.owner names) q reference in
-              omega (arith, more, all))
+          let more = added (book_of old.refs.refs) (book_of new.refs.refs) (name_of old.tree.owner (ino, piece)) what adds q reference in
+          let all = times-cons (name_of old.tree.owner (ino, piece)) (names_of old.tree.owner names) q reference in
+          omega (arith, more, all))
           (one_more old.tree.owner names (ino, piece) room stands.few)
           (All-cons (λ (name : ℕ × Piece). IsKnownExtent old.land.space.sizes (book_of new.refs.refs) name.1) (ino, piece) names
           (known_in old.land.space.sizes (book_of old.refs.refs) (book_of new.refs.refs) piece (known_same piece beside_known) beside_known)
@@ -417,9 +417,9 @@ module _ (old : FsTree) (history : Option (List Event)) (items : List Item) (dra
           Stands-renamed old new history items names ((ino, piece) ∷ names) piece.extent stands drafted renamed.tree renamed.land renamed.refs
           adds.elsewhere free_outside (no_level (what_in (book_of new.refs.refs piece.extent)) piece.extent_bytes generation known_new)
           (λ q reference.
-              let more = added (book_of old.refs.refs) (book_of new.refs.refs) (name_of old.tree.owner (ino, piece)) what adds q reference in
-              let all = times-cons (name_of old.tree.owner (ino, piece)) (names_of old.tree.owner names) q reference in
-              omega (arith, more, all))
+          let more = added (book_of old.refs.refs) (book_of new.refs.refs) (name_of old.tree.owner (ino, piece)) what adds q reference in
+          let all = times-cons (name_of old.tree.owner (ino, piece)) (names_of old.tree.owner names) q reference in
+          omega (arith, more, all))
           (one_more old.tree.owner names (ino, piece)
           (let most = times_many (names_of old.tree.owner names) piece.extent (name_of old.tree.owner (ino, piece)).reference in let no = no_name in omega (arith, most, no))
           stands.few)
@@ -514,13 +514,13 @@ module _ (old : FsTree) (history : Option (List Event)) (items : List Item) (dra
           Stands-renamed old new history items ((ino, piece) ∷ names) names piece.extent stands drafted renamed.tree renamed.land renamed.refs
           drops.elsewhere own_outside no_node_left
           (λ q reference.
-              let less = dropped (book_of old.refs.refs) (book_of new.refs.refs) (name_of old.tree.owner (ino, piece)) drops q reference in
-              let all = times-cons (name_of old.tree.owner (ino, piece)) (names_of old.tree.owner names) q reference in
-              omega (arith, less, all))
+          let less = dropped (book_of old.refs.refs) (book_of new.refs.refs) (name_of old.tree.owner (ino, piece)) drops q reference in
+          let all = times-cons (name_of old.tree.owner (ino, piece)) (names_of old.tree.owner names) q reference in
+          omega (arith, less, all))
           (λ q reference.
-              let all = times-cons (name_of old.tree.owner (ino, piece)) (names_of old.tree.owner names) q reference in
-              let most = stands.few q reference in
-              omega (arith, all, most))
+          let all = times-cons (name_of old.tree.owner (ino, piece)) (names_of old.tree.owner names) q reference in
+          let most = stands.few q reference in
+          omega (arith, all, most))
           (λ i d inside. known_in old.land.space.sizes (book_of old.refs.refs) (book_of new.refs.refs) (get_or names i d).1 (known_left i d inside)
           (stands.known (suc i) d (omega (arith, inside))))
           runs

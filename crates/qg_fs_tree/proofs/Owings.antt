@@ -111,9 +111,9 @@ known-alike book (x ∷ xs) (y ∷ ys) same there =
     let most = there y.address y.reference in
     let known : IsKnown book y.address = (y.reference, omega (arith, own, all, most)) in
     let rest = known-alike book xs ys later (λ at reference.
-        let more = times-cons y ys at reference in
-        let few = there at reference in
-        omega (arith, more, few)) in
+    let more = times-cons y ys at reference in
+    let few = there at reference in
+    omega (arith, more, few)) in
     All-cons (λ (owing : Owing). IsKnown book owing.address) x xs (subst (λ (a : ℕ). IsKnown book a) first known) rest
 
 -- ---- names

@@ -70,7 +70,7 @@ told-slot land history generation drafted at node is = elim (cases_Bool (is_slot
   | inl slot ↦ slot
   | inr none ↦
       let outside : is_slot land.blocks.draft.sizes at ≡ false =
-          slot_alike land.blocks.draft.sizes land.space.sizes at drafted.sizes.nodesize drafted.sizes.slots ∙ none in
+      slot_alike land.blocks.draft.sizes land.space.sizes at drafted.sizes.nodesize drafted.sizes.slots ∙ none in
       from (fresh_at land.blocks.draft at) refl outside none
 ] where
   from : (o : Option Node) → fresh_at land.blocks.draft at ≡ o → is_slot land.blocks.draft.sizes at ≡ false → is_slot land.space.sizes at ≡ false

@@ -145,10 +145,10 @@ module _ (slots : List ℕ) (at : ℕ) (once : IsOnce slots at) where
       let term = over-one (λ (s : ℕ). w s * f s) in
       let less = sums-less (λ (s : ℕ). one at s * (w s * f s)) (λ (s : ℕ). w s * f s) slots (λ s. few (one at s) (w s * f s) (one-most at s)) in
       omega (arith, term, less) where
-    few : (k n : ℕ) → k ≤ 1 → k * n ≤ n
-    few zero n most = omega arith
-    few (suc zero) n most = omega arith
-    few (suc (suc k)) n most = absurd (omega (arith, most))
+        few : (k n : ℕ) → k ≤ 1 → k * n ≤ n
+        few zero n most = omega arith
+        few (suc zero) n most = omega arith
+        few (suc (suc k)) n most = absurd (omega (arith, most))
 
   -- of one way at least
   pub over-some : (w f : ℕ → ℕ) → 0 < w at → f at ≤ over slots w f
@@ -156,6 +156,6 @@ module _ (slots : List ℕ) (at : ℕ) (once : IsOnce slots at) where
       let part = over-part w f in
       let least = once_least (w at) (f at) some in
       omega (arith, part, least) where
-    once_least : (k n : ℕ) → 0 < k → n ≤ k * n
-    once_least zero n some = absurd (omega (arith, some))
-    once_least (suc k) n some = let e = add-mul k 1 n in let f : suc k ≡ k + 1 = omega arith in let g = ap (λ (m : ℕ). m * n) f in omega (arith, e, g)
+        once_least : (k n : ℕ) → 0 < k → n ≤ k * n
+        once_least zero n some = absurd (omega (arith, some))
+        once_least (suc k) n some = let e = add-mul k 1 n in let f : suc k ≡ k + 1 = omega arith in let g = ap (λ (m : ℕ). m * n) f in omega (arith, e, g)

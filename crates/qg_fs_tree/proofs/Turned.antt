@@ -140,9 +140,10 @@ pub true-within : (telling : Telling) (few all : ℕ → Option Node) (w : ℕ �
 true-within (Copied node copy) few all w within is =
     (λ other same. is.0 other (within (header_of node).address other same), λ q parent full some. is.1 q parent (within q parent full) some)
 true-within (Made address) few all w within is = tt
-true-within (Left node) few all w within is =
-    (none_within (few (header_of node).address) (all (header_of node).address) (within (header_of node).address) is.0,
-    λ q parent full some. is.1 q parent (within q parent full) some)
+true-within (Left node) few all w within is = (
+  none_within (few (header_of node).address) (all (header_of node).address) (within (header_of node).address) is.0,
+  λ q parent full some. is.1 q parent (within q parent full) some,
+)
 
 -- ---- what is owed by full nodes
 
@@ -287,14 +288,14 @@ module _ (book : TreeRefs) where
   unfolding by_copy
   copies owner node copy None mine alone mark same =
       let case : copying_in (book_of book.refs) book.tree node ≡ TakeOver =
-          copy_unmarked (references_to (book_of book.refs) (header_of node).address) (full_in (book_of book.refs (header_of node).address))
-          (owner_of (placed_by (book_of book.refs) node)) book.tree alone mark in
+      copy_unmarked (references_to (book_of book.refs) (header_of node).address) (full_in (book_of book.refs (header_of node).address))
+      (owner_of (placed_by (book_of book.refs) node)) book.tree alone mark in
       ap (by_copy node) case
       ∙ ap (λ (tree : ℕ). record { full = None; gains = []; losses = way_to (header_of node).address tree ∷ [] }) mine
   copies owner node copy (Some other) mine alone mark same =
       let case : copying_in (book_of book.refs) book.tree node ≡ TurnKeyed =
-          copy_marked (references_to (book_of book.refs) (header_of node).address) (full_in (book_of book.refs (header_of node).address))
-          (owner_of (placed_by (book_of book.refs) node)) book.tree alone mark in
+      copy_marked (references_to (book_of book.refs) (header_of node).address) (full_in (book_of book.refs (header_of node).address))
+      (owner_of (placed_by (book_of book.refs) node)) book.tree alone mark in
       ap (by_copy node) case
       ∙ ap (λ (tree : ℕ). record { full = None; gains = keyed_children node tree; losses = way_to (header_of node).address tree ∷ shared_children node }) mine
       ∙ ap (λ (n : Node). record { full = None; gains = keyed_children n owner; losses = way_to (header_of node).address owner ∷ shared_children n }) (sym (same other refl))
@@ -305,8 +306,8 @@ module _ (book : TreeRefs) where
   unfolding by_leaving
   leaves owner node mine alone bare =
       let case : leaving_in (book_of book.refs) book.tree node ≡ Goes =
-          left_alone (references_to (book_of book.refs) (header_of node).address) (full_in (book_of book.refs (header_of node).address))
-          (owner_of (placed_by (book_of book.refs) node)) book.tree alone in
+      left_alone (references_to (book_of book.refs) (header_of node).address) (full_in (book_of book.refs (header_of node).address))
+      (owner_of (placed_by (book_of book.refs) node)) book.tree alone in
       let nothing = owes_nothing (placed_by (book_of book.refs) node) bare.0 bare.1 in
       ap (by_leaving node) case
       ∙ ap (λ (owed : List Owing). record { full = None; gains = []; losses = way_to (header_of node).address book.tree ∷ owed }) nothing

@@ -101,9 +101,7 @@ impl FsTree {
         if self.refs.refs().how_many(at) != 0 {
             return Err(misfit_at(at));
         }
-        self.land
-            .space
-            .take_run(at, piece.extent_bytes / SECTOR)?;
+        self.land.space.take_run(at, piece.extent_bytes / SECTOR)?;
         let reference = self.reference_of(ino, piece);
         if !self.refs.name(at, piece.extent_bytes, reference)? {
             return Err(misfit_at(at));
@@ -143,9 +141,7 @@ impl FsTree {
         if !self.is_taken(piece) {
             return Err(misfit_at(at));
         }
-        self.land
-            .space
-            .give_run(at, piece.extent_bytes / SECTOR);
+        self.land.space.give_run(at, piece.extent_bytes / SECTOR);
         Ok(())
     }
 }

@@ -17,15 +17,15 @@ use Rattle.qg_fs_tree.proofs.fs_tree.FsTree.name_new.Goals as goal
 whole : (space : Holding) (at bytes : ℕ) → is_free_run space at bytes ≡ true → bytes / sector * sector ≡ bytes
 whole space at bytes free = whole-bytes space.sizes at bytes (free-run space.sizes (space.runs ++ space.held_runs) at bytes free)
 
-pub returns-then-how_many-gt0-clause-sound : goal.returns-then-how_many-gt0-clause-sound
-returns-then-how_many-gt0-clause-sound c history bytes items names subvolume stands =
+pub returns-then-how_many-ne0-clause-sound : goal.returns-then-how_many-ne0-clause-sound
+returns-then-how_many-ne0-clause-sound c history bytes items names subvolume stands =
     let fs = c.args.self.now in
     let piece = c.args.piece.now in
     let table = subst (λ (refs : List (ℕ × Kept)). IsTable refs) c.refs.ensures c.len-ascending.ensures.table in
     let none = none-named fs history items subvolume.editable.drafted c.args.ino piece names stands c.requires.free table in
     let many = c.how_many.ensures ∙ ap (λ (refs : List (ℕ × Kept)). length (references_at (book_of refs) piece.extent)) c.refs-2.ensures in
-    let some = c.if-how_many-gt0.true in
-    absurd (omega (arith, none, many, some))
+    let some = c.if-how_many-ne0.true in
+    absurd (some (omega (arith, none, many)))
 
 pub take_run-requires : goal.take_run-requires
 take_run-requires c =
