@@ -34,12 +34,13 @@ use Rattle.qg_tree_refs.specs.declared.tree_refs.TreeRefs.{TreeRefs}
 use Rattle.qg_fs_tree.specs.declared.fs_tree.FsTree.{FsTree}
 use Rattle.qg_fs_tree.specs.Standing.{IsKnownExtent, IsReached, Stands, every_slot, layout_in, name_of, name_told, names_times, nodes_of, taken_slots}
 use Rattle.qg_fs_tree.proofs.Before.{full-clean, full-held, full-parts, full-some, full_if, full_in_tree, held, none-before, once, reached, single, taken, unnamed}
-use Rattle.qg_fs_tree.proofs.Counted.{many}
+use Rattle.qg_tree_refs.proofs.Counted.{many}
 use Rattle.qg_fs_tree.proofs.Counts.{mark_of, owed-ways, slots_of, ways_in}
 use Rattle.qg_fs_tree.proofs.Exchanged.{StaysBook, references-one}
 use Rattle.qg_fs_tree.proofs.Keyed.{keyed_ways}
 use Rattle.qg_fs_tree.proofs.Layouts.{full_of}
-use Rattle.qg_fs_tree.proofs.Owings.{many-cons, named_by, names_of}
+use Rattle.qg_tree_refs.proofs.Owings.{many-cons}
+use Rattle.qg_fs_tree.proofs.Owings.{named_by, names_of}
 use Rattle.qg_fs_tree.proofs.Reached.{reached-some}
 use Rattle.qg_fs_tree.proofs.SlotSums.{IsOnce}
 use Rattle.qg_fs_tree.proofs.Turned.{IsNewNode, StandsFor, Stays, keyed_sum, shared_sum}

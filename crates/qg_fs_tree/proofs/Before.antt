@@ -21,7 +21,7 @@ use Rattle.qg_tree_refs.specs.Following.{references_to}
 use Rattle.qg_tree_refs.specs.declared.tree_refs.TreeRefs.{TreeRefs}
 use Rattle.qg_fs_tree.specs.declared.fs_tree.FsTree.{FsTree}
 use Rattle.qg_fs_tree.specs.Standing.{IsKnownExtent, IsReached, Stands, nodes_of}
-use Rattle.qg_fs_tree.proofs.Counted.{many}
+use Rattle.qg_tree_refs.proofs.Counted.{many}
 use Rattle.qg_fs_tree.proofs.Counts.{mark_of, names-apart, node-there, once-there, owed-ways, placed-way, single-way, slots_of, ways_in}
 use Rattle.qg_fs_tree.proofs.Exchanged.{references-none}
 use Rattle.qg_fs_tree.proofs.Layouts.{full_of}

@@ -32,11 +32,12 @@ use Rattle.qg_tree_edits.proofs.PartBelow.{told-ascends}
 use Rattle.qg_tree_refs.specs.Exchange.{times}
 use Rattle.qg_fs_tree.specs.declared.fs_tree.FsTree.{FsTree}
 use Rattle.qg_fs_tree.specs.Standing.{IsReached, every_slot, layout_in, name_of, nodes_of}
-use Rattle.qg_fs_tree.proofs.Counted.{many}
+use Rattle.qg_tree_refs.proofs.Counted.{many}
 use Rattle.qg_fs_tree.proofs.Identity.{branch-keyed, over-ways, ways-single}
 use Rattle.qg_fs_tree.proofs.Keyed.{keyed_ways}
 use Rattle.qg_fs_tree.proofs.Layouts.{full_of, owed-is, owed-marked, owed_marked}
-use Rattle.qg_fs_tree.proofs.Owings.{many-cons, named_by, names_of}
+use Rattle.qg_tree_refs.proofs.Owings.{many-cons}
+use Rattle.qg_fs_tree.proofs.Owings.{named_by, names_of}
 use Rattle.qg_fs_tree.proofs.Places.{slot-once}
 use Rattle.qg_fs_tree.proofs.Reached.{reached-some}
 use Rattle.qg_fs_tree.proofs.SlotSums.{IsOnce, over, over-plus, over-same}

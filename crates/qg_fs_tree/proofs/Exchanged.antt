@@ -23,10 +23,11 @@ use Rattle.qg_tree_refs.specs.declared.tree_refs.TreeRefs.{TreeRefs}
 use Rattle.qg_tree_refs.specs.Exchange.{CanExchange, Exchange, Exchanges, IsKnown, IsNew, times, what_comes, ways_to}
 use Rattle.qg_tree_refs.specs.Following.{Follows, IsProper, Step, coming_of, exchange_of, references_to}
 use Rattle.qg_tree_refs.proofs.Times.{times-append, times-nil}
-use Rattle.qg_fs_tree.proofs.Counted.{many, total}
+use Rattle.qg_tree_refs.proofs.Counted.{many, total}
 use Rattle.qg_fs_tree.proofs.Keyed.{keyed-less, keyed-most, keyed-moved, keyed-none, keyed-same, keyed_ways}
-use Rattle.qg_fs_tree.proofs.Owings.{known-alike, names-no_block, names-no_shared_block, names-no_shared_data, names_of}
-use Rattle.qg_fs_tree.proofs.Single.{count-total, length-none, length-one}
+use Rattle.qg_tree_refs.proofs.Owings.{known-alike}
+use Rattle.qg_fs_tree.proofs.Owings.{names-no_block, names-no_shared_block, names-no_shared_data, names_of}
+use Rattle.qg_tree_refs.proofs.Single.{count-total, length-none, length-one}
 use Rattle.qg_fs_tree.proofs.SlotSums.{IsOnce, over, over-alike, over-moved, over-none, over-one, over-same, over-some}
 use Rattle.qg_fs_tree.proofs.Turned.{AreCounted, AreTrueTo, IsNewNode, IsTrueTo, LeadsNone, StandsFor, Stays, copies, full-come, full-stays, full-within, full_then, gains-new, in_alike, keyed_in, keyed_no_child, keyed_no_shared_block, keyed_no_shared_data, keyed_sum, kept_come, kept_mark, kept_nothing, kept_same, leaves, losses-few, moving, none_or_none, shared_in, shared_no_block, shared_no_data, shared_sum, sum_no_block, sum_no_data, sum_no_shared_block, sum_no_shared_data, times_come, times_lost, total-is, true-within, turned_by, turning, way_lost, what_come}
 

@@ -12,7 +12,7 @@ use Rattle.qg_tree_edits.specs.Counting.{one}
 use Rattle.qg_tree_edits.proofs.Ways.{one-here, one-other}
 use Rattle.qg_tree_refs.specs.Exchange.{times}
 use Rattle.qg_tree_refs.proofs.Times.{one_of, times_here, times_there}
-use Rattle.qg_fs_tree.proofs.Counted.{IsCounted, IsCounted-as, IsCounted-one}
+use Rattle.qg_tree_refs.proofs.Counted.{IsCounted, IsCounted-as, IsCounted-one}
 
 -- the references of a tree to a node, by how many ways lead to it: a keyed one for each
 abbrev pub keyed_ways : ℕ → (ℕ → ℕ) → ℕ → Reference → ℕ

@@ -21,7 +21,7 @@ use Rattle.qg_tree_refs.proofs.Times.{times-append, times-nil}
 use Rattle.qg_fs_tree.specs.declared.fs_tree.FsTree.{FsTree}
 use Rattle.qg_fs_tree.specs.Standing.{every_slot, layout_in, nodes_of, placed_at}
 use Rattle.qg_fs_tree.proofs.Keyed.{keyed_ways, times-way}
-use Rattle.qg_fs_tree.proofs.Owings.{times-cons}
+use Rattle.qg_tree_refs.proofs.Owings.{times-cons}
 use Rattle.qg_fs_tree.proofs.SlotSums.{over, sums-same}
 use Rattle.qg_fs_tree.proofs.Turned.{keyed_in, shared_in}
 

@@ -1,5 +1,3 @@
-pub mod Counted
-pub mod Single
 pub mod SlotSums
 pub mod Keyed
 pub mod Owings

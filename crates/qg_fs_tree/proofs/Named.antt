@@ -39,11 +39,12 @@ use Rattle.qg_fs_tree.specs.declared.fs_tree.FsTree.{FsTree}
 use Rattle.qg_fs_tree.specs.Standing.{IsKnownExtent, Stands, name_of, name_told, names_times}
 use Rattle.qg_fs_tree.proofs.After.{named-there}
 use Rattle.qg_fs_tree.proofs.Before.{StandsFor-before, full_in_tree, placed}
-use Rattle.qg_fs_tree.proofs.Counted.{IsCounted-list, IsCounted-plus, IsCounted-same, IsCounted-times, many, total, total-cons}
+use Rattle.qg_tree_refs.proofs.Counted.{IsCounted-list, IsCounted-plus, IsCounted-same, IsCounted-times, many, total, total-cons}
 use Rattle.qg_fs_tree.proofs.Counts.{slots_of, ways_in}
-use Rattle.qg_fs_tree.proofs.Owings.{many-cons, names_of, times-cons, times_few}
+use Rattle.qg_tree_refs.proofs.Owings.{many-cons, times-cons, times-few}
+use Rattle.qg_fs_tree.proofs.Owings.{names_of}
 use Rattle.qg_fs_tree.proofs.Renamed.{IsNoNode, Stands-renamed}
-use Rattle.qg_fs_tree.proofs.Single.{length-none, length-total}
+use Rattle.qg_tree_refs.proofs.Single.{length-none, length-total}
 use Rattle.qg_fs_tree.proofs.Turned.{kept_nothing, sum_no_data, total-is}
 
 -- ---- one reference at one address
@@ -258,14 +259,14 @@ one_more owner names name room few q reference =
       | inl (equal, same) ↦ elim (cases_Bool (same_reference reference (name_of owner name).reference)) [
         | inl alike ↦
             let is = same_reference_is reference (name_of owner name).reference alike in
-            let one = times_few (name_of owner name) q reference in
+            let one = times-few (name_of owner name) q reference in
             let most = one_of_few reference (name_of owner name).reference in
             let less : times (names_of owner names) q reference < 4294967295 =
             subst (λ (r : Reference). times (names_of owner names) q r < 4294967295) (sym is)
             (subst (λ (a : ℕ). times (names_of owner names) a (name_of owner name).reference < 4294967295) same room) in
             omega (arith, all, one, most, less)
         | inr differ ↦
-            let one = times_few (name_of owner name) q reference in
+            let one = times-few (name_of owner name) q reference in
             let none = cond-false {A = ℕ} (same_reference reference (name_of owner name).reference) 1 0 differ in
             omega (arith, all, rest, one, none)
       ]

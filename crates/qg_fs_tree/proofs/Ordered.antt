@@ -19,7 +19,7 @@ use Rattle.qg_tree_refs.proofs.Times.{times-nil}
 use Rattle.qg_fs_tree.specs.declared.fs_tree.FsTree.{FsTree}
 use Rattle.qg_fs_tree.specs.Standing.{IsKnownExtent, Stands, name_of, names_times}
 use Rattle.qg_fs_tree.specs.Laws.{StandsInAnotherOrder}
-use Rattle.qg_fs_tree.proofs.Owings.{times-cons}
+use Rattle.qg_tree_refs.proofs.Owings.{times-cons}
 
 -- how often a list has a reference, one by one
 times_each : (xs : List Owing) (at : ℕ) (reference : Reference) → times xs at reference ≡ sum_by (λ x. times (x ∷ []) at reference) xs

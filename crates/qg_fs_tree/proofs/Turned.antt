@@ -34,10 +34,11 @@ use Rattle.qg_tree_refs.specs.declared.tree_refs.TreeRefs.{TreeRefs}
 use Rattle.qg_tree_refs.specs.Exchange.{CanExchange, Exchange, Exchanges, IsNew, times, what_comes, ways_to}
 use Rattle.qg_tree_refs.specs.Following.{Follows, IsProper, Step, coming_of, copying_in, exchange_of, full_by_copy, full_by_leaving, leaving_in, placed_by, references_to}
 use Rattle.qg_tree_refs.proofs.Times.{times-append, times-nil}
-use Rattle.qg_fs_tree.proofs.Counted.{IsCounted, IsCounted-as, IsCounted-list, IsCounted-over, IsCounted-plus, IsCounted-same, IsCounted-sum, IsCounted-times, many, total}
+use Rattle.qg_tree_refs.proofs.Counted.{IsCounted, IsCounted-as, IsCounted-list, IsCounted-over, IsCounted-plus, IsCounted-same, IsCounted-sum, IsCounted-times, many, total}
 use Rattle.qg_fs_tree.proofs.Keyed.{IsCounted-keyed, keyed-less, keyed-most, keyed-moved, keyed-none, keyed_ways, times-way}
-use Rattle.qg_fs_tree.proofs.Owings.{addresses, children-alike, keyed-no_child, keyed-no_shared_block, keyed-no_shared_data, known-alike, many-alike, names-no_block, names-no_shared_block, names-no_shared_data, names_of, shared-no_block, shared-no_data}
-use Rattle.qg_fs_tree.proofs.Single.{count-total, length-none, length-one}
+use Rattle.qg_tree_refs.proofs.Owings.{addresses, children-alike, known-alike, many-alike, shared-no_block, shared-no_data}
+use Rattle.qg_fs_tree.proofs.Owings.{keyed-no_child, keyed-no_shared_block, keyed-no_shared_data, names-no_block, names-no_shared_block, names-no_shared_data, names_of}
+use Rattle.qg_tree_refs.proofs.Single.{count-total, length-none, length-one}
 use Rattle.qg_fs_tree.proofs.SlotSums.{IsOnce, over, over-moved, over-none, over-one, over-same, over-some}
 
 -- ---- one telling, by ways

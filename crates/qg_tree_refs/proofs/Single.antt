@@ -4,7 +4,7 @@ use Rattle.qg_items.specs.declared.extent.Reference.{Reference}
 use Rattle.qg_refs.specs.declared.counted.Counted.{Counted}
 use Rattle.qg_refs.specs.Counts.{IsRefList, count_of}
 use Rattle.qg_refs.proofs.Counting.{count-cons, count-nil}
-use Rattle.qg_fs_tree.proofs.Counted.{counted-most, total, total-cons}
+use Rattle.qg_tree_refs.proofs.Counted.{counted-most, total, total-cons}
 
 -- each has a count
 pub length-total : (references : List Counted) → IsRefList references → length references ≤ total references
