@@ -52,7 +52,8 @@ full-parts way node full other is = from (nat_lt 0 way) refl is where
   from true led there = let parts = marked full refl there in (ltb-true 0 way led, parts.0, parts.1)
   from false led there = let wrong : None ≡ Some other = there in cc
 
-pub full-marks : (node : Node) (told : Option Node) (full : Bool) → told ≡ Some node → full ≡ is_some (full_of told full)
+pub full-marks : (node : Node) (told : Option Node) (full : Bool) → told ≡ Some node → full
+    ≡ is_some (full_of told full)
 full-marks node told true is = sym (ap (λ (o : Option Node). is_some o) is)
 full-marks node told false is = refl
 
@@ -66,7 +67,8 @@ run_behind sizes address bytes is =
     let d = and_parts _ _ c.0 in
     leb-true data_begin address d.0
 
-module _ (fs : FsTree) (history : Option (List Event)) (items : List Item) (names : List (ℕ × Piece)) (stands : Stands fs history items names)
+module _ (fs : FsTree) (history : Option (List Event)) (items : List Item) (names : List (ℕ × Piece))
+    (stands : Stands fs history items names)
     (drafted : IsDrafted fs.land fs.tree.next) where
   -- no piece names an extent at a slot
   pub unnamed : (at : ℕ) → IsTrue (is_slot fs.land.space.sizes at) → many (names_of fs.tree.owner names) at ≡ 0
@@ -74,7 +76,8 @@ module _ (fs : FsTree) (history : Option (List Event)) (items : List Item) (name
       let low = slot_below fs.land.space.sizes at drafted.sizes.served is in
       names-apart fs.tree.owner names at (λ i d inside same.
       let known = stands.known i d inside in
-      let high = run_behind fs.land.space.sizes (get_or names i d).1.extent (get_or names i d).1.extent_bytes known.lies in
+      let high = run_behind fs.land.space.sizes (get_or names i d).1.extent (get_or names i d).1.extent_bytes
+      known.lies in
       absurd (omega (arith, low, high, same)))
 
   pub single : (q : ℕ) → ways_in fs history q ≤ 1
@@ -89,14 +92,17 @@ module _ (fs : FsTree) (history : Option (List Event)) (items : List Item) (name
   pub reached : (q : ℕ) → 0 < ways_in fs history q → IsReached fs history q
   reached q some = reached-some (nodes_of fs history) fs.tree.height fs.tree.address q some
 
-  counted : AreCounted fs.tree.owner names (slots_of fs) (book_of fs.refs.refs) (ways_in fs history) (full_in_tree fs history)
+  counted : AreCounted fs.tree.owner names (slots_of fs) (book_of fs.refs.refs) (ways_in fs history)
+      (full_in_tree fs history)
   counted at reference =
       let count = stands.counts at reference in
       let owed = owed-ways fs history items stands.rooted drafted stands.placed (full_in_tree fs history)
-      (λ q some. full-some (ways_in fs history q) (nodes_of fs history q) (mark_of fs q) some) stands.home at reference in
+      (λ q some. full-some (ways_in fs history q) (nodes_of fs history q) (mark_of fs q) some) stands.home at
+      reference in
       omega (arith, count, owed)
 
-  pub StandsFor-before : IsTable fs.refs.refs → StandsFor fs.tree.owner names (slots_of fs) (λ at. IsTrue (is_slot fs.land.space.sizes at))
+  pub StandsFor-before : IsTable fs.refs.refs → StandsFor fs.tree.owner names (slots_of fs)
+      (λ at. IsTrue (is_slot fs.land.space.sizes at))
       fs.refs (ways_in fs history) (full_in_tree fs history) fs.refs (ways_in fs history) (full_in_tree fs history)
   StandsFor-before table = record {
     mine = stands.book.owner;
@@ -111,7 +117,8 @@ module _ (fs : FsTree) (history : Option (List Event)) (items : List Item) (name
     marks = λ q some.
         let node = node-there fs history items stands.rooted drafted q some in
         full-marks node.0 (nodes_of fs history q) (mark_of fs q) node.1
-        ∙ ap (λ (o : Option Node). is_some o) (sym (full-some (ways_in fs history q) (nodes_of fs history q) (mark_of fs q) some));
+        ∙ ap (λ (o : Option Node). is_some o)
+        (sym (full-some (ways_in fs history q) (nodes_of fs history q) (mark_of fs q) some));
     within = λ q node is. is;
     stays = λ q some. inr (some, refl, refl);
     named = λ at some. refl;
@@ -121,8 +128,10 @@ module _ (fs : FsTree) (history : Option (List Event)) (items : List Item) (name
   pub none-before : IsTable fs.refs.refs → (q : ℕ) → IsTrue (is_slot fs.land.space.sizes q) → ways_in fs history q ≡ 0
       → references_to (book_of fs.refs.refs) q ≡ 0
   none-before table q slot none =
-      references-none fs.tree.owner names (slots_of fs) (λ (at : ℕ). IsTrue (is_slot fs.land.space.sizes at)) once unnamed stands.few
-      fs.refs (ways_in fs history) (full_in_tree fs history) fs.refs (ways_in fs history) (full_in_tree fs history) (StandsFor-before table) q slot none
+      references-none fs.tree.owner names (slots_of fs) (λ (at : ℕ). IsTrue (is_slot fs.land.space.sizes at)) once
+      unnamed stands.few
+      fs.refs (ways_in fs history) (full_in_tree fs history) fs.refs (ways_in fs history) (full_in_tree fs history)
+      (StandsFor-before table) q slot none
 
   -- ---- where nodes lie
 
@@ -133,7 +142,8 @@ module _ (fs : FsTree) (history : Option (List Event)) (items : List Item) (name
       ∙ ap (λ (n : ℕ). nat_lt 0 n) (stands.alone q (reached q some))
 
   -- what is reached and not fresh the last commit holds
-  pub held : (q : ℕ) → 0 < ways_in fs history q → fresh_at fs.land.blocks.draft q ≡ None → Contains fs.land.space.held_slots q
+  pub held : (q : ℕ) → 0 < ways_in fs history q → fresh_at fs.land.blocks.draft q ≡ None
+      → Contains fs.land.space.held_slots q
   held q some none = elim (stands.settled.written q (taken q some)) [
     | inl fresh ↦ absurd (not_both (fresh_at fs.land.blocks.draft q) none fresh)
     | inr here ↦ here
@@ -143,7 +153,8 @@ module _ (fs : FsTree) (history : Option (List Event)) (items : List Item) (name
     not_both (Some node) none some = cc
 
   -- a full node is not fresh, so the last commit holds it
-  pub full-clean : (q : ℕ) (node : Node) → full_in_tree fs history q ≡ Some node → fresh_at fs.land.blocks.draft q ≡ None
+  pub full-clean : (q : ℕ) (node : Node) → full_in_tree fs history q ≡ Some node → fresh_at fs.land.blocks.draft q
+      ≡ None
   full-clean q node is = from (fresh_at fs.land.blocks.draft q) refl where
     from : (o : Option Node) → fresh_at fs.land.blocks.draft q ≡ o → fresh_at fs.land.blocks.draft q ≡ None
     from None none = none

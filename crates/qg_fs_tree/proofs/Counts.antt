@@ -56,7 +56,8 @@ mark_of fs q = full_in (book_of fs.refs.refs q)
 
 -- a slot is in front of the data area, where pieces name extents
 pub names-apart : (owner : ℕ) (names : List (ℕ × Piece)) (at : ℕ)
-    → ((i : ℕ) (d : ℕ × Piece) → i < length names → (get_or names i d).1.extent ≢ at) → many (names_of owner names) at ≡ 0
+    → ((i : ℕ) (d : ℕ × Piece) → i < length names → (get_or names i d).1.extent ≢ at) → many (names_of owner names) at
+    ≡ 0
 names-apart owner [] at differ = refl
 names-apart owner (name ∷ names) at differ =
     let first = many-cons (name_of owner name) (names_of owner names) at in
@@ -69,27 +70,33 @@ names-apart owner (name ∷ names) at differ =
           omega (arith, first, rest, none)
     ]
 
-module _ (fs : FsTree) (history : Option (List Event)) (items : List Item) (rooted : IsRooted Files fs.tree fs.land history items)
+module _ (fs : FsTree) (history : Option (List Event)) (items : List Item)
+    (rooted : IsRooted Files fs.tree fs.land history items)
     (drafted : IsDrafted fs.land fs.tree.next) where
-  whole : IsUnder Files (super_of fs.tree fs.land.blocks.draft) (nodes_of fs history) fs.tree.height (root_expected (Some fs.tree.height) None) fs.tree.address items
+  whole : IsUnder Files (super_of fs.tree fs.land.blocks.draft) (nodes_of fs history) fs.tree.height
+      (root_expected (Some fs.tree.height) None) fs.tree.address items
   whole = record { levelled = refl; walked = rooted.tells.walked; items_are = rooted.tells.items_are }
 
-  branch : IsBranch Files (super_of fs.tree fs.land.blocks.draft) (nodes_of fs history) fs.tree.height fs.tree.address items
+  branch : IsBranch Files (super_of fs.tree fs.land.blocks.draft) (nodes_of fs history) fs.tree.height fs.tree.address
+      items
   branch = branch-under Files (super_of fs.tree fs.land.blocks.draft) (nodes_of fs history) fs.tree.height
       (root_expected (Some fs.tree.height) None) fs.tree.address items whole
 
   ascending : is_ascending (keys_of items) ≡ true
   ascending = ascends-under Files (super_of fs.tree fs.land.blocks.draft) (nodes_of fs history)
-      (told-ascends fs.land history fs.tree.next drafted) fs.tree.height (root_expected (Some fs.tree.height) None) fs.tree.address items whole
+      (told-ascends fs.land history fs.tree.next drafted) fs.tree.height (root_expected (Some fs.tree.height) None)
+      fs.tree.address items whole
 
   -- at most one way leads to an address
   pub single-way : (q : ℕ) → ways_in fs history q ≤ 1
-  single-way q = ways-single Files (super_of fs.tree fs.land.blocks.draft) (nodes_of fs history) fs.tree.height fs.tree.address items branch ascending q
+  single-way q = ways-single Files (super_of fs.tree fs.land.blocks.draft) (nodes_of fs history) fs.tree.height
+      fs.tree.address items branch ascending q
 
   -- and there a node is told
   pub node-there : (q : ℕ) → 0 < ways_in fs history q → (node : Node) × (nodes_of fs history q ≡ Some node)
   node-there q some =
-      let found = branch-level Files (super_of fs.tree fs.land.blocks.draft) (nodes_of fs history) fs.tree.height fs.tree.address items branch q
+      let found = branch-level Files (super_of fs.tree fs.land.blocks.draft) (nodes_of fs history) fs.tree.height
+      fs.tree.address items branch q
       (reached-some (nodes_of fs history) fs.tree.height fs.tree.address q some) in
       (found.0, found.1)
 
@@ -98,14 +105,17 @@ module _ (fs : FsTree) (history : Option (List Event)) (items : List Item) (root
     placed-way q some = placed q (reached-some (nodes_of fs history) fs.tree.height fs.tree.address q some)
 
     pub once-there : (q : ℕ) → IsTrue (is_slot fs.land.space.sizes q) → IsOnce (slots_of fs) q
-    once-there q is = slot-once fs.land.space.sizes q (SlotsFit-is_served fs.land.space.sizes drafted.sizes.served).some is
+    once-there q is = slot-once fs.land.space.sizes q
+        (SlotsFit-is_served fs.land.space.sizes drafted.sizes.served).some is
 
     -- what the layout owes, by ways and full nodes
     pub owed-ways : (full : ℕ → Option Node)
         → ((q : ℕ) → 0 < ways_in fs history q → full q ≡ full_of (nodes_of fs history q) (mark_of fs q))
-        → ((q : ℕ) (node : Node) → IsReached fs history q → nodes_of fs history q ≡ Some node → mark_of fs q ≡ false → (header_of node).owner ≡ fs.tree.owner)
+        → ((q : ℕ) (node : Node) → IsReached fs history q → nodes_of fs history q ≡ Some node → mark_of fs q ≡ false
+        → (header_of node).owner ≡ fs.tree.owner)
         → (at : ℕ) (reference : Reference)
-        → owed_count (layout_in fs history) at reference + keyed_sum (slots_of fs) fs.tree.owner full (ways_in fs history) at reference
+        → owed_count (layout_in fs history) at reference + keyed_sum (slots_of fs) fs.tree.owner full
+        (ways_in fs history) at reference
         ≡ keyed_ways fs.tree.owner (ways_in fs history) at reference + times (named_by fs.tree.owner items) at reference
         + shared_sum (slots_of fs) full (ways_in fs history) at reference
     owed-ways full is home at reference =
@@ -115,19 +125,24 @@ module _ (fs : FsTree) (history : Option (List Event)) (items : List Item) (root
         let shared_s = λ (s : ℕ). times (shared_in (full s)) at reference in
         let all_s = λ (s : ℕ). times (keyed_in fs.tree.owner (nodes_of fs history s)) at reference in
         let owed = owed-is fs history at reference single-way in
-        let tree = branch-keyed Files (super_of fs.tree fs.land.blocks.draft) (nodes_of fs history) fs.tree.owner at reference fs.tree.height fs.tree.address items branch in
-        let under = over-ways (nodes_of fs history) (slots_of fs) all_s fs.tree.height fs.tree.address (λ q reaches. once-there q (placed q reaches)) in
+        let tree = branch-keyed Files (super_of fs.tree fs.land.blocks.draft) (nodes_of fs history) fs.tree.owner at
+        reference fs.tree.height fs.tree.address items branch in
+        let under = over-ways (nodes_of fs history) (slots_of fs) all_s fs.tree.height fs.tree.address
+        (λ q reaches. once-there q (placed q reaches)) in
         let each = over-same (slots_of fs) w (λ (s : ℕ). owed_s s + keyed_s s) (λ (s : ℕ). all_s s + shared_s s)
         (λ s some. marked s some) in
         let left = over-plus (slots_of fs) w owed_s keyed_s in
         let right = over-plus (slots_of fs) w all_s shared_s in
         omega (arith, owed, tree, under, each, left, right) where
           marked : (s : ℕ) → 0 < ways_in fs history s
-              → times (owed_marked (nodes_of fs history s) (mark_of fs s)) at reference + times (keyed_in fs.tree.owner (full s)) at reference
-              ≡ times (keyed_in fs.tree.owner (nodes_of fs history s)) at reference + times (shared_in (full s)) at reference
+              → times (owed_marked (nodes_of fs history s) (mark_of fs s)) at reference + times
+              (keyed_in fs.tree.owner (full s)) at reference
+              ≡ times (keyed_in fs.tree.owner (nodes_of fs history s)) at reference + times (shared_in (full s)) at
+              reference
           marked s some =
               let both = owed-marked fs.tree.owner (nodes_of fs history s) (mark_of fs s) at reference
-              (λ node there bare. home s node (reached-some (nodes_of fs history) fs.tree.height fs.tree.address s some) there bare) in
+              (λ node there bare. home s node (reached-some (nodes_of fs history) fs.tree.height fs.tree.address s
+              some) there bare) in
               let keyed = ap (λ (f : Option Node). times (keyed_in fs.tree.owner f) at reference) (is s some) in
               let shared = ap (λ (f : Option Node). times (shared_in f) at reference) (is s some) in
               omega (arith, both, keyed, shared)

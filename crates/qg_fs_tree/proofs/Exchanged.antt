@@ -41,7 +41,8 @@ lost_only w at q n is = elim (eqb_tells q at) [
 ]
 
 module _ (owner : ℕ) (names : List (ℕ × Piece)) (slots : List ℕ) (IsPlace : ℕ → Type 0)
-    (once : (at : ℕ) → IsPlace at → IsOnce slots at) (apart : (at : ℕ) → IsPlace at → many (names_of owner names) at ≡ 0)
+    (once : (at : ℕ) → IsPlace at → IsOnce slots at) (apart : (at : ℕ) → IsPlace at → many (names_of owner names) at
+    ≡ 0)
     (few : (at : ℕ) (reference : Reference) → times (names_of owner names) at reference ≤ 4294967295)
     (first : TreeRefs) (ways : ℕ → ℕ) (full_first : ℕ → Option Node) where
   -- the same ways and full nodes
@@ -95,7 +96,8 @@ module _ (owner : ℕ) (names : List (ℕ × Piece)) (slots : List ℕ) (IsPlace
     references-none at place no_way =
         length-none (references_at (book_of book.refs) at) (stands.sound.sound at) (none_in_all at place no_way)
 
-    none_there : (at : ℕ) → IsPlace at → w at ≡ 0 → (reference : Reference) → count_at (book_of book.refs) at reference ≡ 0
+    none_there : (at : ℕ) → IsPlace at → w at ≡ 0 → (reference : Reference) → count_at (book_of book.refs) at reference
+        ≡ 0
     none_there at place no_way reference =
         let none = none_in_all at place no_way in
         let most = count-total (references_at (book_of book.refs) at) reference in
@@ -111,13 +113,15 @@ module _ (owner : ℕ) (names : List (ℕ × Piece)) (slots : List ℕ) (IsPlace
     exchange-is (Made address) timely bare is = refl
     exchange-is (Left node) timely bare is =
         leaves book owner node stands.mine (references-one (header_of node).address timely) bare
-        ∙ ap (λ (f : Option Node). record { full = None; gains = []; losses = (way_to (header_of node).address owner ∷ []) ++ [] }) (sym is.0)
+        ∙ ap (λ (f : Option Node). record
+        { full = None; gains = []; losses = (way_to (header_of node).address owner ∷ []) ++ [] }) (sym is.0)
 
     -- a part of a sum
     turning_few : (telling : Telling) (f : Option Node → ℕ) → f None ≡ 0 → IsTimely telling w
         → f (turning full telling) ≤ over slots w (λ s. f (full s))
     turning_few (Copied node copy) f none timely =
-        over-some slots (header_of node).address (once (header_of node).address (stands.placed (header_of node).address timely.0))
+        over-some slots (header_of node).address
+        (once (header_of node).address (stands.placed (header_of node).address timely.0))
         w (λ (s : ℕ). f (full s)) timely.0
     turning_few (Made address) f none timely = omega (arith, none)
     turning_few (Left node) f none timely = omega (arith, none)
@@ -128,7 +132,8 @@ module _ (owner : ℕ) (names : List (ℕ × Piece)) (slots : List ℕ) (IsPlace
       no_keyed tree = over-none slots w (λ (s : ℕ). times (keyed_in owner (full s)) at (KeyedBlock tree))
           (λ s some. keyed_no_child owner (full s) tree at (λ node is. alone s node is some))
 
-      own_there : (l : ℕ → ℕ) (tree : ℕ) → l at ≤ w at → keyed_ways owner l at (KeyedBlock tree) ≤ count_at (book_of book.refs) at (KeyedBlock tree)
+      own_there : (l : ℕ → ℕ) (tree : ℕ) → l at ≤ w at → keyed_ways owner l at (KeyedBlock tree)
+          ≤ count_at (book_of book.refs) at (KeyedBlock tree)
       own_there l tree less =
           let count = stands.counts at (KeyedBlock tree) in
           let keyed = no_keyed tree in
@@ -166,12 +171,14 @@ module _ (owner : ℕ) (names : List (ℕ × Piece)) (slots : List ℕ) (IsPlace
     shared_there telling timely at (SharedBlock parent) =
         let count = stands.counts at (SharedBlock parent) in
         let keyed = sum_no_shared_block slots full w owner parent at in
-        let part = turning_few telling (λ (f : Option Node). times (shared_in f) at (SharedBlock parent)) (times-nil at (SharedBlock parent)) timely in
+        let part = turning_few telling (λ (f : Option Node). times (shared_in f) at (SharedBlock parent))
+        (times-nil at (SharedBlock parent)) timely in
         omega (arith, count, keyed, part)
     shared_there telling timely at (SharedData parent) =
         let count = stands.counts at (SharedData parent) in
         let keyed = sum_no_shared_data slots full w owner parent at in
-        let part = turning_few telling (λ (f : Option Node). times (shared_in f) at (SharedData parent)) (times-nil at (SharedData parent)) timely in
+        let part = turning_few telling (λ (f : Option Node). times (shared_in f) at (SharedData parent))
+        (times-nil at (SharedData parent)) timely in
         omega (arith, count, keyed, part)
 
     lost_there : (telling : Telling) → IsTimely telling w → IsTrueTo full w telling → (at : ℕ) (reference : Reference)
@@ -196,7 +203,8 @@ module _ (owner : ℕ) (names : List (ℕ × Piece)) (slots : List ℕ) (IsPlace
         let count = stands.counts at (KeyedBlock tree) in
         let unnamed = names-no_block owner names tree at in
         let shared = sum_no_block slots full w tree at in
-        let part = turning_few telling (λ (f : Option Node). times (keyed_in owner f) at (KeyedBlock tree)) (times-nil at (KeyedBlock tree)) timely in
+        let part = turning_few telling (λ (f : Option Node). times (keyed_in owner f) at (KeyedBlock tree))
+        (times-nil at (KeyedBlock tree)) timely in
         let own = keyed-most owner w at (KeyedBlock tree) in
         let most = stands.single at in
         omega (arith, count, unnamed, shared, part, own, most)
@@ -204,7 +212,8 @@ module _ (owner : ℕ) (names : List (ℕ × Piece)) (slots : List ℕ) (IsPlace
         let count = stands.counts at (KeyedData tree ino offset) in
         let named = few at (KeyedData tree ino offset) in
         let shared = sum_no_data slots full w tree ino offset at in
-        let part = turning_few telling (λ (f : Option Node). times (keyed_in owner f) at (KeyedData tree ino offset)) (times-nil at (KeyedData tree ino offset)) timely in
+        let part = turning_few telling (λ (f : Option Node). times (keyed_in owner f) at (KeyedData tree ino offset))
+        (times-nil at (KeyedData tree ino offset)) timely in
         omega (arith, count, named, shared, part)
     room_there telling timely at (SharedBlock parent) =
         let none = keyed_no_shared_block owner (turning full telling) parent at in
@@ -239,7 +248,8 @@ module _ (owner : ℕ) (names : List (ℕ × Piece)) (slots : List ℕ) (IsPlace
           };
           room = record {
             room = room_there telling timely;
-            known = known-alike (book_of book.refs) (keyed_in owner (turning full telling)) (shared_in (turning full telling))
+            known = known-alike (book_of book.refs) (keyed_in owner (turning full telling))
+                (shared_in (turning full telling))
                 (in_alike owner (turning full telling)) (shared_there telling timely);
           };
           first = is_new telling timely new;
@@ -249,8 +259,10 @@ module _ (owner : ℕ) (names : List (ℕ × Piece)) (slots : List ℕ) (IsPlace
 
   module _ (before after : TreeRefs) (w : ℕ → ℕ) (full : ℕ → Option Node)
       (stands : StandsFor owner names slots IsPlace first ways full_first before w full) (telling : Telling)
-      (timely : IsTimely telling w) (is : IsTrueTo full w telling) (new : (q : ℕ) → 0 < gains telling q → IsPlace q) (level : ℕ)
-      (done : Exchanges (book_of before.refs) (book_of after.refs) (moving owner full telling) (coming_of before level telling)) where
+      (timely : IsTimely telling w) (is : IsTrueTo full w telling) (new : (q : ℕ) → 0 < gains telling q → IsPlace q)
+      (level : ℕ)
+      (done : Exchanges (book_of before.refs) (book_of after.refs) (moving owner full telling)
+      (coming_of before level telling)) where
     ways_moved : (at : ℕ) → turned_by telling w at + losses telling at ≡ w at + gains telling at
     ways_moved at = let few = losses-few telling w at timely in omega (arith, few)
 
@@ -258,22 +270,28 @@ module _ (owner : ℕ) (names : List (ℕ × Piece)) (slots : List ℕ) (IsPlace
     lost_sum : (t : Telling) (f : Option Node → ℕ) → f None ≡ 0 → IsTimely t w → IsTrueTo full w t
         → over slots (losses t) (λ s. f (full_then t full s)) ≡ f (turning full t)
     lost_sum (Copied node copy) f none now truth =
-        over-one slots (header_of node).address (once (header_of node).address (stands.placed (header_of node).address now.0))
+        over-one slots (header_of node).address
+        (once (header_of node).address (stands.placed (header_of node).address now.0))
         (λ (s : ℕ). f (full_then (Copied node copy) full s))
         ∙ ap f (full-stays (Copied node copy) full w (header_of node).address now now.0)
     lost_sum (Made address) f none now truth =
-        over-none slots (losses (Made address)) (λ (s : ℕ). f (full_then (Made address) full s)) (λ s some. absurd (omega (arith, some)))
+        over-none slots (losses (Made address)) (λ (s : ℕ). f (full_then (Made address) full s))
+        (λ s some. absurd (omega (arith, some)))
         ∙ sym none
     lost_sum (Left node) f none now truth =
-        over-one slots (header_of node).address (once (header_of node).address (stands.placed (header_of node).address now))
+        over-one slots (header_of node).address
+        (once (header_of node).address (stands.placed (header_of node).address now))
         (λ (s : ℕ). f (full s)) ∙ ap f truth.0
 
     sum_moved : (f : Option Node → ℕ) → f None ≡ 0
-        → over slots (turned_by telling w) (λ s. f (full_then telling full s)) + f (turning full telling) ≡ over slots w (λ s. f (full s))
+        → over slots (turned_by telling w) (λ s. f (full_then telling full s)) + f (turning full telling)
+        ≡ over slots w (λ s. f (full s))
     sum_moved f none =
-        let moved = over-moved slots (turned_by telling w) (losses telling) w (gains telling) (λ (s : ℕ). f (full_then telling full s)) ways_moved in
+        let moved = over-moved slots (turned_by telling w) (losses telling) w (gains telling)
+        (λ (s : ℕ). f (full_then telling full s)) ways_moved in
         let lost = lost_sum telling f none timely is in
-        let gained = over-none slots (gains telling) (λ (s : ℕ). f (full_then telling full s)) (λ s some. ap f (full-come telling full s some) ∙ none) in
+        let gained = over-none slots (gains telling) (λ (s : ℕ). f (full_then telling full s))
+        (λ s some. ap f (full-come telling full s some) ∙ none) in
         let same = over-same slots w (λ (s : ℕ). f (full_then telling full s)) (λ (s : ℕ). f (full s))
         (λ s some. ap f (full-stays telling full w s timely some)) in
         omega (arith, moved, lost, gained, same)
@@ -285,14 +303,18 @@ module _ (owner : ℕ) (names : List (ℕ × Piece)) (slots : List ℕ) (IsPlace
         let lost = times_lost owner telling at reference in
         let losing = times-append (way_lost owner telling) (shared_in (turning full telling)) at reference in
         let come = times_come before owner level telling at reference stands.mine in
-        let gaining = times-append (ways_to (coming_of before level telling)) (keyed_in owner (turning full telling)) at reference in
-        let moved = keyed-moved owner (turned_by telling w) w (losses telling) (gains telling) at reference (ways_moved at) in
+        let gaining = times-append (ways_to (coming_of before level telling)) (keyed_in owner (turning full telling))
+        at reference in
+        let moved = keyed-moved owner (turned_by telling w) w (losses telling) (gains telling) at reference
+        (ways_moved at) in
         let count = stands.counts at reference in
         let now = done.counts at reference in
         omega (arith, keyed, shared, lost, losing, come, gaining, moved, count, now)
 
-    total_then : (at : ℕ) → total (references_at (book_of after.refs) at) ≡ turned_by telling w at + many (names_of owner names) at
-    total_then at = total-is owner names slots (book_of after.refs) (turned_by telling w) (full_then telling full) counts_then at
+    total_then : (at : ℕ) → total (references_at (book_of after.refs) at) ≡ turned_by telling w at + many
+        (names_of owner names) at
+    total_then at = total-is owner names slots (book_of after.refs) (turned_by telling w) (full_then telling full)
+        counts_then at
 
     total_before : (at : ℕ) → total (references_at (book_of before.refs) at) ≡ w at + many (names_of owner names) at
     total_before at = total-is owner names slots (book_of before.refs) w full stands.counts at
@@ -313,7 +335,8 @@ module _ (owner : ℕ) (names : List (ℕ × Piece)) (slots : List ℕ) (IsPlace
       | inr less ↦ let most = stands.single at in omega (arith, less, most)
     ]
 
-    fitting_then : (at : ℕ) (reference : Reference) → count_at (book_of after.refs) at reference ≤ greatest_count reference
+    fitting_then : (at : ℕ) (reference : Reference) → count_at (book_of after.refs) at reference
+        ≤ greatest_count reference
     fitting_then at (KeyedBlock tree) =
         let count = counts_then at (KeyedBlock tree) in
         let unnamed = names-no_block owner names tree at in
@@ -328,14 +351,16 @@ module _ (owner : ℕ) (names : List (ℕ × Piece)) (slots : List ℕ) (IsPlace
         omega (arith, count, named, shared)
     fitting_then at (SharedBlock parent) =
         let gained = keyed_no_shared_block owner (turning full telling) parent at in
-        let gaining = times-append (ways_to (coming_of before level telling)) (keyed_in owner (turning full telling)) at (SharedBlock parent) in
+        let gaining = times-append (ways_to (coming_of before level telling)) (keyed_in owner (turning full telling))
+        at (SharedBlock parent) in
         let come = times_come before owner level telling at (SharedBlock parent) stands.mine in
         let now = done.counts at (SharedBlock parent) in
         let fits = stands.fitting at (SharedBlock parent) in
         omega (arith, gained, gaining, come, now, fits)
     fitting_then at (SharedData parent) =
         let gained = keyed_no_shared_data owner (turning full telling) parent at in
-        let gaining = times-append (ways_to (coming_of before level telling)) (keyed_in owner (turning full telling)) at (SharedData parent) in
+        let gaining = times-append (ways_to (coming_of before level telling)) (keyed_in owner (turning full telling))
+        at (SharedData parent) in
         let come = times_come before owner level telling at (SharedData parent) stands.mine in
         let now = done.counts at (SharedData parent) in
         let fits = stands.fitting at (SharedData parent) in
@@ -359,7 +384,8 @@ module _ (owner : ℕ) (names : List (ℕ × Piece)) (slots : List ℕ) (IsPlace
     some_before : (at : ℕ) → 0 < w at → 0 < total (references_in (book_of before.refs at))
     some_before at some = let all = total_before at in omega (arith, all, some)
 
-    marks_then : (q : ℕ) → 0 < turned_by telling w q → full_in (book_of after.refs q) ≡ is_some (full_then telling full q)
+    marks_then : (q : ℕ) → 0 < turned_by telling w q → full_in (book_of after.refs q)
+        ≡ is_some (full_then telling full q)
     marks_then q some = elim (came_or_less q (gains telling q) refl) [
       | inl (came, none, most) ↦
           kept_mark (book_of before.refs q) (book_of after.refs q) (some_then q some) (done.full q)
@@ -372,20 +398,26 @@ module _ (owner : ℕ) (names : List (ℕ × Piece)) (slots : List ℕ) (IsPlace
           ∙ sym (ap (λ (f : Option Node). is_some f) (full-stays telling full w q timely was))
     ]
 
-    what_then : (q : ℕ) → 0 < w q → 0 < turned_by telling w q → what_in (book_of after.refs q) ≡ what_in (book_of before.refs q)
+    what_then : (q : ℕ) → 0 < w q → 0 < turned_by telling w q → what_in (book_of after.refs q)
+        ≡ what_in (book_of before.refs q)
     what_then q was some =
-        kept_same (book_of before.refs q) (book_of after.refs q) (what_comes (coming_of before level telling) q) (some_before q was) (some_then q some) (done.known q)
+        kept_same (book_of before.refs q) (book_of after.refs q) (what_comes (coming_of before level telling) q)
+        (some_before q was) (some_then q some) (done.known q)
 
-    new_node : (q : ℕ) → 0 < gains telling q → w q ≡ 0 → 0 < turned_by telling w q → IsNewNode first (what_in (book_of after.refs q))
+    new_node : (q : ℕ) → 0 < gains telling q → w q ≡ 0 → 0 < turned_by telling w q
+        → IsNewNode first (what_in (book_of after.refs q))
     new_node q came none some =
         let come = what_come before level telling q came in
         record {
           level = come.level;
           known =
-              kept_come (book_of before.refs q) (book_of after.refs q) (what_comes (coming_of before level telling) q) (nothing_before q came none) (some_then q some) (done.known q)
+              kept_come (book_of before.refs q) (book_of after.refs q) (what_comes (coming_of before level telling) q)
+              (nothing_before q came none) (some_then q some) (done.known q)
               ∙ come.known
-              ∙ ap (λ (n : ℕ). Some (record { bytes = n; level = Some come.level; generation = before.next })) stands.nodesize
-              ∙ ap (λ (n : ℕ). Some (record { bytes = first.nodesize; level = Some come.level; generation = n })) stands.next;
+              ∙ ap (λ (n : ℕ). Some (record { bytes = n; level = Some come.level; generation = before.next }))
+              stands.nodesize
+              ∙ ap (λ (n : ℕ). Some (record { bytes = first.nodesize; level = Some come.level; generation = n }))
+              stands.next;
         }
 
     stays_then : (q : ℕ) → 0 < turned_by telling w q → Stays first ways full_first after (full_then telling full) q
@@ -401,7 +433,8 @@ module _ (owner : ℕ) (names : List (ℕ × Piece)) (slots : List ℕ) (IsPlace
           ]
     ]
 
-    named_then : (at : ℕ) → 0 < many (names_of owner names) at → what_in (book_of after.refs at) ≡ what_in (book_of first.refs at)
+    named_then : (at : ℕ) → 0 < many (names_of owner names) at → what_in (book_of after.refs at)
+        ≡ what_in (book_of first.refs at)
     named_then at some =
         let now = total_then at in
         let before_all = total_before at in
@@ -409,7 +442,8 @@ module _ (owner : ℕ) (names : List (ℕ × Piece)) (slots : List ℕ) (IsPlace
         (omega (arith, before_all, some)) (omega (arith, now, some)) (done.known at)
         ∙ stands.named at some
 
-    pub StandsFor-exchanged : after.tree ≡ before.tree → after.next ≡ before.next → after.nodesize ≡ before.nodesize → after.misfit ≡ None
+    pub StandsFor-exchanged : after.tree ≡ before.tree → after.next ≡ before.next → after.nodesize ≡ before.nodesize
+        → after.misfit ≡ None
         → StandsFor owner names slots IsPlace first ways full_first after (turned_by telling w) (full_then telling full)
     StandsFor-exchanged tree next nodesize fits = record {
       mine = tree ∙ stands.mine;
@@ -435,15 +469,19 @@ module _ (owner : ℕ) (names : List (ℕ × Piece)) (slots : List ℕ) (IsPlace
       let is = true-within telling full full_first w stands.within truth in
       let none : step.misfit ≡ None = step.proper (proper before w full stands telling timely bare is new) in
       let done = subst (λ (exchange : Exchange). Exchanges (book_of before.refs) (book_of after.refs) exchange
-      (coming_of before step.level telling)) (exchange-is before w full stands telling timely bare is) (step.done none) in
-      let noted : after.misfit ≡ option_or before.misfit step.misfit = ap (λ (book : TreeRefs). book.misfit) step.noted in
+      (coming_of before step.level telling)) (exchange-is before w full stands telling timely bare is)
+      (step.done none) in
+      let noted : after.misfit ≡ option_or before.misfit step.misfit = ap (λ (book : TreeRefs). book.misfit)
+      step.noted in
       StandsFor-exchanged before after w full stands telling timely is new step.level done
       (ap (λ (book : TreeRefs). book.tree) step.noted) (ap (λ (book : TreeRefs). book.next) step.noted)
-      (ap (λ (book : TreeRefs). book.nodesize) step.noted) (noted ∙ none_or_none before.misfit step.misfit stands.fits none)
+      (ap (λ (book : TreeRefs). book.nodesize) step.noted) (noted ∙ none_or_none before.misfit step.misfit stands.fits
+      none)
 
   -- what a list of tellings makes of it
   pub StandsFor-followed : (tellings : List Telling) (before after : TreeRefs) (w v : ℕ → ℕ) (full : ℕ → Option Node)
-      → StandsFor owner names slots IsPlace first ways full_first before w full → Turns w tellings v → All IsBare tellings
+      → StandsFor owner names slots IsPlace first ways full_first before w full → Turns w tellings v
+      → All IsBare tellings
       → AreTrueTo full_first w tellings → ((q : ℕ) → 0 < sum_by (λ telling. gains telling q) tellings → IsPlace q)
       → Follows before tellings after
       → (left : ℕ → Option Node) × StandsFor owner names slots IsPlace first ways full_first after v left
@@ -451,7 +489,8 @@ module _ (owner : ℕ) (names : List (ℕ × Piece)) (slots : List ℕ) (IsPlace
   StandsFor-followed [] before after w v full stands turns bare truth new follows = (
     full,
     StandsFor-same after w v full turns
-        (subst (λ (book : TreeRefs). StandsFor owner names slots IsPlace first ways full_first book w full) (sym follows) stands),
+        (subst (λ (book : TreeRefs). StandsFor owner names slots IsPlace first ways full_first book w full)
+        (sym follows) stands),
   )
   StandsFor-followed (telling ∷ tellings) before after w v full stands turns bare truth new follows =
       let sum = λ (q : ℕ). sum_by-cons (λ (t : Telling). gains t q) telling tellings in
@@ -469,7 +508,8 @@ pub record StaysBook (before after : TreeRefs) : Type 0 where
   pub next : after.next ≡ before.next
   pub nodesize : after.nodesize ≡ before.nodesize
 
-pub StaysBook-followed : (tellings : List Telling) (before after : TreeRefs) → Follows before tellings after → StaysBook before after
+pub StaysBook-followed : (tellings : List Telling) (before after : TreeRefs) → Follows before tellings after
+    → StaysBook before after
 unfolding Follows
 StaysBook-followed [] before after follows = record {
   tree = ap (λ (book : TreeRefs). book.tree) follows;

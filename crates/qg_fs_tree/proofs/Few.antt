@@ -38,20 +38,24 @@ module _ (slots : List ℕ) (IsPlace : ℕ → Type 0) (once : (at : ℕ) → Is
   one_way at place = over-one slots at (once at place) (λ (s : ℕ). 1)
 
   no_way : (w : ℕ → ℕ) → ((q : ℕ) → w q ≡ 0) → ways_all w ≡ 0
-  no_way w none = over-none slots w (λ (s : ℕ). 1) (λ s some. let zero_is = none s in absurd (omega (arith, some, zero_is)))
+  no_way w none = over-none slots w (λ (s : ℕ). 1)
+      (λ s some. let zero_is = none s in absurd (omega (arith, some, zero_is)))
 
   -- a telling adds one way at most, where a node is made
-  one_few : (telling : Telling) (w : ℕ → ℕ) → ((q : ℕ) → 0 < w q → IsPlace q) → ((q : ℕ) → 0 < gains telling q → IsPlace q)
+  one_few : (telling : Telling) (w : ℕ → ℕ) → ((q : ℕ) → 0 < w q → IsPlace q)
+      → ((q : ℕ) → 0 < gains telling q → IsPlace q)
       → IsTimely telling w → ways_all (turned_by telling w) ≤ ways_all w + made_in telling
   one_few (Copied node copy) w placed new timely =
-      let moved = over-moved slots (turned_by (Copied node copy) w) (losses (Copied node copy)) w (gains (Copied node copy)) (λ (s : ℕ). 1)
+      let moved = over-moved slots (turned_by (Copied node copy) w) (losses (Copied node copy)) w
+      (gains (Copied node copy)) (λ (s : ℕ). 1)
       (λ q. let less = losses-few (Copied node copy) w q timely in omega (arith, less)) in
       let lost = one_way (header_of node).address (placed (header_of node).address timely.0) in
       let here = one-here copy copy refl in
       let gained = one_way copy (new copy (omega (arith, here))) in
       omega (arith, moved, lost, gained)
   one_few (Made address) w placed new timely =
-      let moved = over-moved slots (turned_by (Made address) w) (losses (Made address)) w (gains (Made address)) (λ (s : ℕ). 1)
+      let moved = over-moved slots (turned_by (Made address) w) (losses (Made address)) w (gains (Made address))
+      (λ (s : ℕ). 1)
       (λ q. let less = losses-few (Made address) w q timely in omega (arith, less)) in
       let here = one-here address address refl in
       let gained = one_way address (new address (omega (arith, here))) in

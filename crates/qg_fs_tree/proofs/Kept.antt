@@ -10,7 +10,8 @@ use Rattle.qg_tree_refs.specs.declared.tree_refs.TreeRefs.{TreeRefs}
 use Rattle.qg_fs_tree.specs.declared.fs_tree.FsTree.{FsTree}
 use Rattle.qg_fs_tree.specs.Standing.{IsSubvolume}
 
-pub slots-runs : (holding : Holding) (runs : List Element) → free_slots (record holding { runs = runs }) ≡ free_slots holding
+pub slots-runs : (holding : Holding) (runs : List Element) → free_slots (record holding { runs = runs })
+    ≡ free_slots holding
 unfolding free_slots is_free_slot
 slots-runs holding runs = refl
 
@@ -23,7 +24,8 @@ drafted_runs land runs generation drafted = record {
       record { kept = draft.kept; dated = draft.dated; slot = draft.slot; taken = draft.taken; apart = draft.apart };
 }
 
-pub subvolume-space : (fs : FsTree) (space : Holding) (runs : List Element) (refs : TreeRefs) (history : Option (List Event)) (bytes : ℕ)
+pub subvolume-space : (fs : FsTree) (space : Holding) (runs : List Element) (refs : TreeRefs)
+    (history : Option (List Event)) (bytes : ℕ)
     → space ≡ record fs.land.space { runs = runs } → IsSubvolume fs history bytes
     → IsSubvolume (record fs { land = record fs.land { space = space }; refs = refs }) history bytes
 subvolume-space fs space runs refs history bytes is subvolume = record {

@@ -48,7 +48,8 @@ module _ (owner : ℕ) where
   keyed-moved v w l g at (SharedData parent) same = refl
 
   pub keyed-plus : (v w : ℕ → ℕ) (at : ℕ) (reference : Reference)
-      → keyed_ways owner (λ q. v q + w q) at reference ≡ keyed_ways owner v at reference + keyed_ways owner w at reference
+      → keyed_ways owner (λ q. v q + w q) at reference ≡ keyed_ways owner v at reference + keyed_ways owner w at
+      reference
   keyed-plus v w at (KeyedBlock tree) = either_plus (tree == owner) (v at) (w at)
   keyed-plus v w at (SharedBlock parent) = refl
   keyed-plus v w at (KeyedData tree ino offset) = refl

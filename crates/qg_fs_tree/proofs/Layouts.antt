@@ -25,12 +25,14 @@ use Rattle.qg_tree_refs.proofs.Owings.{times-cons}
 use Rattle.qg_fs_tree.proofs.SlotSums.{over, sums-same}
 use Rattle.qg_fs_tree.proofs.Turned.{keyed_in, shared_in}
 
-owed_times : (layout : Layout) (at : ℕ) (reference : Reference) → owed_count layout at reference ≡ times (owed layout) at reference
+owed_times : (layout : Layout) (at : ℕ) (reference : Reference) → owed_count layout at reference
+    ≡ times (owed layout) at reference
 unfolding owed_count times
 owed_times layout at reference = refl
 
 owed_parts : (fs : FsTree) (history : Option (List Event)) → owed (layout_in fs history)
-    ≡ way_to fs.tree.address fs.tree.owner ∷ flat_map (λ entry. owed_by_node entry.1) (filter_map (placed_at fs history) (every_slot fs.land.space.sizes))
+    ≡ way_to fs.tree.address fs.tree.owner ∷ flat_map (λ entry. owed_by_node entry.1)
+    (filter_map (placed_at fs history) (every_slot fs.land.space.sizes))
 unfolding owed layout_in
 owed_parts fs history = refl
 
@@ -64,7 +66,8 @@ owed_marked None full = []
 owed_marked (Some node) full = owed_by_node (record { node = node; full = full })
 
 placed_once : (w s : ℕ) (node : Option Node) (full : Bool) (at : ℕ) (reference : Reference) → w ≤ 1
-    → times (owed_if (if nat_lt 0 w then option_map (λ (n : Node). (s, record { node = n; full = full })) node else None)) at reference
+    → times (owed_if (if nat_lt 0 w then option_map (λ (n : Node). (s, record { node = n; full = full })) node else
+    None)) at reference
     ≡ w * times (owed_marked node full) at reference
 placed_once zero s told full at reference most = times-nil at reference ∙ omega arith
 placed_once (suc zero) s None full at reference most = omega arith
@@ -79,15 +82,19 @@ pub owed-is : (fs : FsTree) (history : Option (List Event)) (at : ℕ) (referenc
     + over (every_slot fs.land.space.sizes) (ways (nodes_of fs history) fs.tree.height fs.tree.address)
     (λ s. times (owed_marked (nodes_of fs history s) (full_in (book_of fs.refs.refs s))) at reference)
 owed-is fs history at reference single =
-    let nodes = flat_map (λ (entry : ℕ × Placed). owed_by_node entry.1) (filter_map (placed_at fs history) (every_slot fs.land.space.sizes)) in
-    let all = owed_times (layout_in fs history) at reference ∙ ap (λ (xs : List Owing). times xs at reference) (owed_parts fs history) in
+    let nodes = flat_map (λ (entry : ℕ × Placed). owed_by_node entry.1)
+    (filter_map (placed_at fs history) (every_slot fs.land.space.sizes)) in
+    let all = owed_times (layout_in fs history) at reference ∙ ap (λ (xs : List Owing). times xs at reference)
+    (owed_parts fs history) in
     let first = times-cons (way_to fs.tree.address fs.tree.owner) nodes at reference in
     let way = times-way fs.tree.owner fs.tree.address at reference in
     let sum = owed_sum (placed_at fs history) (every_slot fs.land.space.sizes) at reference in
     let terms = sums-same (λ (s : ℕ). times (owed_if (placed_at fs history s)) at reference)
-    (λ (s : ℕ). ways (nodes_of fs history) fs.tree.height fs.tree.address s * times (owed_marked (nodes_of fs history s) (full_in (book_of fs.refs.refs s))) at reference)
+    (λ (s : ℕ). ways (nodes_of fs history) fs.tree.height fs.tree.address s * times
+    (owed_marked (nodes_of fs history s) (full_in (book_of fs.refs.refs s))) at reference)
     (every_slot fs.land.space.sizes)
-    (λ s. placed_once (ways (nodes_of fs history) fs.tree.height fs.tree.address s) s (nodes_of fs history s) (full_in (book_of fs.refs.refs s)) at reference (single s)) in
+    (λ s. placed_once (ways (nodes_of fs history) fs.tree.height fs.tree.address s) s (nodes_of fs history s)
+    (full_in (book_of fs.refs.refs s)) at reference (single s)) in
     omega (arith, all, first, way, sum, terms)
 
 -- ---- marks
@@ -106,6 +113,7 @@ owed-marked owner None false at reference home = refl
 owed-marked owner (Some node) true at reference home = omega arith
 owed-marked owner (Some node) false at reference home =
     let keyed : owed_by_node (record { node = node; full = false }) ≡ keyed_children node owner =
-    owed-keyed (record { node = node; full = false }) refl ∙ ap (λ (tree : ℕ). keyed_children node tree) (home node refl refl) in
+    owed-keyed (record { node = node; full = false }) refl ∙ ap (λ (tree : ℕ). keyed_children node tree)
+    (home node refl refl) in
     let same = ap (λ (xs : List Owing). times xs at reference) keyed in
     omega (arith, same)

@@ -49,27 +49,33 @@ use Rattle.qg_fs_tree.proofs.Turned.{kept_nothing, sum_no_data, total-is}
 
 -- ---- one reference at one address
 
-added : (old new : Book) (owing : Owing) (what : What) → Adds old new owing.address what owing.reference → (q : ℕ) (reference : Reference)
+added : (old new : Book) (owing : Owing) (what : What) → Adds old new owing.address what owing.reference
+    → (q : ℕ) (reference : Reference)
     → count_at new q reference ≡ count_at old q reference + times (owing ∷ []) q reference
 added old new owing what adds q reference = elim (eqb_tells owing.address q) [
   | inl (equal, same) ↦
       subst (λ (a : ℕ). count_at new a reference ≡ count_at old a reference + times (owing ∷ []) a reference) same
-      (adds.count reference ∙ ap (λ (n : ℕ). count_at old owing.address reference + n) (sym (times_here owing owing.address reference refl)))
+      (adds.count reference ∙ ap (λ (n : ℕ). count_at old owing.address reference + n)
+      (sym (times_here owing owing.address reference refl)))
   | inr (unequal, differ) ↦
       let none = times_there owing q reference differ in
-      let same = ap (λ (kept : Option Kept). count_of (references_in kept) reference) (adds.elsewhere q (λ is. differ (sym is))) in
+      let same = ap (λ (kept : Option Kept). count_of (references_in kept) reference)
+      (adds.elsewhere q (λ is. differ (sym is))) in
       omega (arith, none, same)
 ]
 
-dropped : (old new : Book) (owing : Owing) → Drops old new owing.address owing.reference → (q : ℕ) (reference : Reference)
+dropped : (old new : Book) (owing : Owing) → Drops old new owing.address owing.reference
+    → (q : ℕ) (reference : Reference)
     → count_at old q reference ≡ count_at new q reference + times (owing ∷ []) q reference
 dropped old new owing drops q reference = elim (eqb_tells owing.address q) [
   | inl (equal, same) ↦
       subst (λ (a : ℕ). count_at old a reference ≡ count_at new a reference + times (owing ∷ []) a reference) same
-      (drops.count reference ∙ ap (λ (n : ℕ). count_at new owing.address reference + n) (sym (times_here owing owing.address reference refl)))
+      (drops.count reference ∙ ap (λ (n : ℕ). count_at new owing.address reference + n)
+      (sym (times_here owing owing.address reference refl)))
   | inr (unequal, differ) ↦
       let none = times_there owing q reference differ in
-      let same = ap (λ (kept : Option Kept). count_of (references_in kept) reference) (drops.elsewhere q (λ is. differ (sym is))) in
+      let same = ap (λ (kept : Option Kept). count_of (references_in kept) reference)
+      (drops.elsewhere q (λ is. differ (sym is))) in
       omega (arith, none, same)
 ]
 
@@ -79,7 +85,8 @@ bytes_in None = 0
 bytes_in (Some known) = known.bytes
 
 -- an extent is no node
-no_level : (what : Option What) (bytes generation : ℕ) → what ≡ Some (record { bytes = bytes; level = None; generation = generation }) → IsNoNode what
+no_level : (what : Option What) (bytes generation : ℕ) → what
+    ≡ Some (record { bytes = bytes; level = None; generation = generation }) → IsNoNode what
 no_level what bytes generation is other level date wrong =
     let same : None ≡ Some level = ap level_in (sym is ∙ wrong) in
     cc
@@ -110,14 +117,21 @@ some_named owner (name ∷ names) at some = elim (eqb_tells name.1.extent at) [
       let first = many-cons (name_of owner name) (names_of owner names) at in
       let none = ap {B = ℕ} (λ (b : Bool). if b then 1 else 0) unequal in
       let later = some_named owner names at (omega (arith, first, none, some)) in
-      record { i = suc later.i; d = later.d; inside = (let short = later.inside in omega (arith, short)); here = later.here }
+      record {
+        i = suc later.i;
+        d = later.d;
+        inside = (let short = later.inside in omega (arith, short));
+        here =
+            later.here;
+      }
 ]
 
 -- a name's extent is among the extents
 extent_named : (names : List (ℕ × Piece)) (i : ℕ) (d : ℕ × Piece) → i < length names
     → Contains (map (λ name. extent_of name.1) names) (extent_of (get_or names i d).1)
 extent_named [] i d inside = absurd (omega (arith, inside))
-extent_named (name ∷ names) zero d inside = contains_here (extent_of name.1) (map (λ (n : ℕ × Piece). extent_of n.1) names)
+extent_named (name ∷ names) zero d inside = contains_here (extent_of name.1)
+    (map (λ (n : ℕ × Piece). extent_of n.1) names)
 extent_named (name ∷ names) (suc i) d inside =
     contains_later (extent_of name.1) (map (λ (n : ℕ × Piece). extent_of n.1) names) (extent_of (get_or names i d).1)
     (extent_named names i d (omega (arith, inside)))
@@ -129,18 +143,27 @@ record IsExtent (names : List (ℕ × Piece)) (extent : Element) : Type 0 where
   inside : i < length names
   same : extent_of (get_or names i d).1 ≡ extent
 
-name_there : (names : List (ℕ × Piece)) (extent : Element) → Contains (map (λ name. extent_of name.1) names) extent → IsExtent names extent
+name_there : (names : List (ℕ × Piece)) (extent : Element) → Contains (map (λ name. extent_of name.1) names) extent
+    → IsExtent names extent
 name_there [] extent has = let inside = has.1 in absurd (omega (arith, inside))
-name_there (name ∷ names) extent has = elim (contains_cases (extent_of name.1) (map (λ (n : ℕ × Piece). extent_of n.1) names) extent has) [
-  | inl is ↦ record { i = 0; d = name; inside = omega arith; same = is }
-  | inr later ↦
-      let rest = name_there names extent later in
-      record { i = suc rest.i; d = rest.d; inside = (let short = rest.inside in omega (arith, short)); same = rest.same }
-]
+name_there (name ∷ names) extent has =
+    elim (contains_cases (extent_of name.1) (map (λ (n : ℕ × Piece). extent_of n.1) names) extent has) [
+      | inl is ↦ record { i = 0; d = name; inside = omega arith; same = is }
+      | inr later ↦
+          let rest = name_there names extent later in
+          record {
+            i = suc rest.i;
+            d = rest.d;
+            inside = (let short = rest.inside in omega (arith, short));
+            same =
+                rest.same;
+          }
+    ]
 
 -- ---- runs
 
-run_behind : (sizes : Sizes) (address bytes : ℕ) → is_run sizes address bytes ≡ true → (data_begin ≤ address) × (0 < bytes) × (bytes % sector ≡ 0)
+run_behind : (sizes : Sizes) (address bytes : ℕ) → is_run sizes address bytes ≡ true → (data_begin ≤ address)
+    × (0 < bytes) × (bytes % sector ≡ 0)
 unfolding is_run
 run_behind sizes address bytes is =
     let a = and_parts _ _ is in
@@ -150,16 +173,19 @@ run_behind sizes address bytes is =
     (leb-true data_begin address d.0, ltb-true 0 bytes b.1, eqb-true (bytes % sector) 0 c.1)
 
 -- a run of whole sectors that is taken
-pub whole-bytes : (sizes : Sizes) (address bytes : ℕ) → is_run sizes address bytes ≡ true → bytes / sector * sector ≡ bytes
+pub whole-bytes : (sizes : Sizes) (address bytes : ℕ) → is_run sizes address bytes ≡ true → bytes / sector * sector
+    ≡ bytes
 whole-bytes sizes address bytes is = let whole = (run_behind sizes address bytes is).2 in omega (arith, whole)
 
 whole_run : (holding : Holding) (piece : Piece) → is_run holding.sizes piece.extent piece.extent_bytes ≡ true
-    → Contains holding.runs (extent_of piece) → has_run holding piece.extent (piece.extent_bytes / sector * sector) ≡ true
+    → Contains holding.runs (extent_of piece) → has_run holding piece.extent (piece.extent_bytes / sector * sector)
+    ≡ true
 whole_run holding piece is has =
     ap (λ (n : ℕ). has_run holding piece.extent n) (whole-bytes holding.sizes piece.extent piece.extent_bytes is)
     ∙ (Contains-has_run holding piece.extent piece.extent_bytes).1 has
 
-pub free-run : (sizes : Sizes) (extents : List Element) (address bytes : ℕ) → is_clear sizes extents address bytes ≡ true
+pub free-run : (sizes : Sizes) (extents : List Element) (address bytes : ℕ) → is_clear sizes extents address bytes
+    ≡ true
     → is_run sizes address bytes ≡ true
 unfolding is_clear
 free-run sizes extents address bytes is = (and_parts _ _ is).0
@@ -169,15 +195,18 @@ free_parts : (sizes : Sizes) (extents : List Element) (address bytes : ℕ) → 
 unfolding is_clear
 free_parts sizes extents address bytes is = and_parts _ _ is
 
-overlap_here : (address bytes : ℕ) (element : Element) → element.address ≡ address → 0 < bytes → 0 < element.bytes → overlaps address bytes element ≡ true
+overlap_here : (address bytes : ℕ) (element : Element) → element.address ≡ address → 0 < bytes → 0 < element.bytes
+    → overlaps address bytes element ≡ true
 overlap_here address bytes element same some other =
     and_from _ _ (lt-ltb address (element.address + element.bytes) (omega (arith, same, other)))
     (lt-ltb element.address (address + bytes) (omega (arith, same, some)))
 
-module _ (fs : FsTree) (history : Option (List Event)) (items : List Item) (names : List (ℕ × Piece)) (stands : Stands fs history items names)
+module _ (fs : FsTree) (history : Option (List Event)) (items : List Item) (names : List (ℕ × Piece))
+    (stands : Stands fs history items names)
     (drafted : IsDrafted fs.land fs.tree.next) where
   -- the data area has no slot
-  outside_run : (address bytes : ℕ) → is_run fs.land.space.sizes address bytes ≡ true → IsTrue (is_slot fs.land.space.sizes address) → ⊥
+  outside_run : (address bytes : ℕ) → is_run fs.land.space.sizes address bytes ≡ true
+      → IsTrue (is_slot fs.land.space.sizes address) → ⊥
   outside_run address bytes is slot =
       let high = (run_behind fs.land.space.sizes address bytes is).0 in
       let low = slot_below fs.land.space.sizes address drafted.sizes.served slot in
@@ -188,7 +217,8 @@ module _ (fs : FsTree) (history : Option (List Event)) (items : List Item) (name
       → total (references_at (book_of fs.refs.refs) at) ≡ many (names_of fs.tree.owner names) at
   total_named table at outside =
       let counted = StandsFor-before fs history items names stands drafted table in
-      let all = total-is fs.tree.owner names (slots_of fs) (book_of fs.refs.refs) (ways_in fs history) _ counted.counts at in
+      let all = total-is fs.tree.owner names (slots_of fs) (book_of fs.refs.refs) (ways_in fs history) _ counted.counts
+      at in
       let none = no_way (ways_in fs history at) refl in
       omega (arith, all, none) where
         no_way : (n : ℕ) → ways_in fs history at ≡ n → ways_in fs history at ≡ 0
@@ -214,7 +244,8 @@ module _ (fs : FsTree) (history : Option (List Event)) (items : List Item) (name
 
   -- a reference by a piece is there no more often than it is named
   pub count_named : IsTable fs.refs.refs → (at tree ino offset : ℕ)
-      → count_at (book_of fs.refs.refs) at (KeyedData tree ino offset) ≤ names_times fs.tree.owner names at (KeyedData tree ino offset)
+      → count_at (book_of fs.refs.refs) at (KeyedData tree ino offset) ≤ names_times fs.tree.owner names at
+      (KeyedData tree ino offset)
   count_named table at tree ino offset =
       let counted = StandsFor-before fs history items names stands drafted table in
       let count = counted.counts at (KeyedData tree ino offset) in
@@ -227,7 +258,8 @@ unfolding times
 times_many xs at reference = count_by-le-length (same_reference reference) (those_at xs at)
 
 -- what is known of an extent hangs on its run alone
-known_as : (sizes : Sizes) (book : Book) (piece other : Piece) → extent_of piece ≡ extent_of other → IsKnownExtent sizes book piece
+known_as : (sizes : Sizes) (book : Book) (piece other : Piece) → extent_of piece ≡ extent_of other
+    → IsKnownExtent sizes book piece
     → IsKnownExtent sizes book other
 known_as sizes book piece other same known =
     let address : piece.extent ≡ other.extent = ap (λ (e : Element). e.address) same in
@@ -240,9 +272,15 @@ known_as sizes book piece other same known =
     }
 
 -- and on what a book knows there
-known_in : (sizes : Sizes) (old new : Book) (piece : Piece) → what_in (new piece.extent) ≡ what_in (old piece.extent) → IsKnownExtent sizes old piece
+known_in : (sizes : Sizes) (old new : Book) (piece : Piece) → what_in (new piece.extent) ≡ what_in (old piece.extent)
+    → IsKnownExtent sizes old piece
     → IsKnownExtent sizes new piece
-known_in sizes old new piece same known = record { lies = known.lies; generation = known.generation; known = same ∙ known.known }
+known_in sizes old new piece same known = record {
+  lies = known.lies;
+  generation = known.generation;
+  known = same
+      ∙ known.known;
+}
 
 unwrapped : (known : Option What) (what some : What) → known ≡ Some some → Some (unwrap_or known what) ≡ known
 unwrapped known what some is = ap (λ (k : Option What). Some (unwrap_or k what)) is ∙ sym is
@@ -289,7 +327,8 @@ pub record IsRenamed (old new : FsTree) : Type 0 where
   pub land : new.land ≡ record old.land { space = record old.land.space { runs = new.land.space.runs } }
   pub refs : new.refs ≡ record old.refs { refs = new.refs.refs }
 
-module _ (old : FsTree) (history : Option (List Event)) (items : List Item) (drafted : IsDrafted old.land old.tree.next) (ino : ℕ) (piece : Piece) where
+module _ (old : FsTree) (history : Option (List Event)) (items : List Item)
+    (drafted : IsDrafted old.land old.tree.next) (ino : ℕ) (piece : Piece) where
   -- ---- a piece of an extent that others name
   module _ (names : List (ℕ × Piece)) (stands : Stands old history items names)
       (among : Contains (map (λ name. extent_of name.1) names) (extent_of piece)) where
@@ -297,7 +336,8 @@ module _ (old : FsTree) (history : Option (List Event)) (items : List Item) (dra
     beside = name_there names (extent_of piece) among
 
     beside_known : IsKnownExtent old.land.space.sizes (book_of old.refs.refs) piece
-    beside_known = known_as old.land.space.sizes (book_of old.refs.refs) (get_or names beside.i beside.d).1 piece beside.same (stands.known beside.i beside.d beside.inside)
+    beside_known = known_as old.land.space.sizes (book_of old.refs.refs) (get_or names beside.i beside.d).1 piece
+        beside.same (stands.known beside.i beside.d beside.inside)
 
     -- its run is taken
     taken_named : Contains old.land.space.runs (extent_of piece)
@@ -309,10 +349,12 @@ module _ (old : FsTree) (history : Option (List Event)) (items : List Item) (dra
     -- and it has a reference
     pub some-named : IsTable old.refs.refs → 0 < references_to (book_of old.refs.refs) piece.extent
     some-named table =
-        let outside = outside_run old history items names stands drafted piece.extent piece.extent_bytes beside_known.lies in
+        let outside = outside_run old history items names stands drafted piece.extent piece.extent_bytes
+        beside_known.lies in
         let all = total_named old history items names stands drafted table piece.extent outside in
         let one = named-there old.tree.owner names beside.i beside.d beside.inside in
-        let same : (get_or names beside.i beside.d).1.extent ≡ piece.extent = ap (λ (e : Element). e.address) beside.same in
+        let same : (get_or names beside.i beside.d).1.extent ≡ piece.extent = ap (λ (e : Element). e.address)
+        beside.same in
         let some : 0 < many (names_of old.tree.owner names) piece.extent =
         subst (λ (a : ℕ). 0 < many (names_of old.tree.owner names) a) same one in
         some_long (references_at (book_of old.refs.refs) piece.extent) (omega (arith, all, some)) where
@@ -321,40 +363,55 @@ module _ (old : FsTree) (history : Option (List Event)) (items : List Item) (dra
           some_long (x ∷ xs) some = omega arith
 
     -- and may have this one once more
-    pub room-named : IsTable old.refs.refs → names_times old.tree.owner names piece.extent (name_of old.tree.owner (ino, piece)).reference < 4294967295
+    pub room-named : IsTable old.refs.refs → names_times old.tree.owner names piece.extent
+        (name_of old.tree.owner (ino, piece)).reference < 4294967295
         → (reference : Reference) → reference ≡ (name_of old.tree.owner (ino, piece)).reference
         → nat_lt (count_at (book_of old.refs.refs) piece.extent reference) (greatest_count reference) ≡ true
     room-named table room reference is =
-        subst (λ (r : Reference). nat_lt (count_at (book_of old.refs.refs) piece.extent r) (greatest_count r) ≡ true) (sym is)
-        (let count = count_named old history items names stands drafted table piece.extent old.tree.owner ino (reference_offset piece.position piece.offset) in
-        lt-ltb (count_at (book_of old.refs.refs) piece.extent (name_of old.tree.owner (ino, piece)).reference) 4294967295 (omega (arith, count, room)))
+        subst (λ (r : Reference). nat_lt (count_at (book_of old.refs.refs) piece.extent r) (greatest_count r) ≡ true)
+        (sym is)
+        (let count = count_named old history items names stands drafted table piece.extent old.tree.owner ino
+        (reference_offset piece.position piece.offset) in
+        lt-ltb (count_at (book_of old.refs.refs) piece.extent (name_of old.tree.owner (ino, piece)).reference)
+        4294967295 (omega (arith, count, room)))
 
-    module _ (new : FsTree) (renamed : IsRenamed old new) (what : What) (adds : Adds (book_of old.refs.refs) (book_of new.refs.refs) piece.extent what (name_of old.tree.owner (ino, piece)).reference)
+    module _ (new : FsTree) (renamed : IsRenamed old new) (what : What)
+        (adds : Adds (book_of old.refs.refs) (book_of new.refs.refs) piece.extent what
+        (name_of old.tree.owner (ino, piece)).reference)
         (runs : new.land.space.runs ≡ old.land.space.runs)
-        (room : names_times old.tree.owner names piece.extent (name_of old.tree.owner (ino, piece)).reference < 4294967295) where
+        (room : names_times old.tree.owner names piece.extent (name_of old.tree.owner (ino, piece)).reference <
+        4294967295) where
       known_same : (q : Piece) → IsKnownExtent old.land.space.sizes (book_of old.refs.refs) q
           → what_in (book_of new.refs.refs q.extent) ≡ what_in (book_of old.refs.refs q.extent)
       known_same q known = elim (eqb_tells q.extent piece.extent) [
         | inl (equal, same) ↦
             ap (λ (a : ℕ). what_in (book_of new.refs.refs a)) same ∙ adds.known
-            ∙ unwrapped (what_in (book_of old.refs.refs piece.extent)) what _ (ap (λ (a : ℕ). what_in (book_of old.refs.refs a)) (sym same) ∙ known.known)
+            ∙ unwrapped (what_in (book_of old.refs.refs piece.extent)) what _
+            (ap (λ (a : ℕ). what_in (book_of old.refs.refs a)) (sym same) ∙ known.known)
             ∙ ap (λ (a : ℕ). what_in (book_of old.refs.refs a)) (sym same)
         | inr (unequal, differ) ↦ ap what_in (adds.elsewhere q.extent differ)
       ]
 
       pub Stands-named : Stands new history items ((ino, piece) ∷ names)
       Stands-named =
-          Stands-renamed old new history items names ((ino, piece) ∷ names) piece.extent stands drafted renamed.tree renamed.land renamed.refs
-          adds.elsewhere (outside_run old history items names stands drafted piece.extent piece.extent_bytes beside_known.lies)
-          (no_level (what_in (book_of new.refs.refs piece.extent)) piece.extent_bytes beside_known.generation (known_same piece beside_known ∙ beside_known.known))
+          Stands-renamed old new history items names ((ino, piece) ∷ names) piece.extent stands drafted renamed.tree
+          renamed.land renamed.refs
+          adds.elsewhere (outside_run old history items names stands drafted piece.extent piece.extent_bytes
+          beside_known.lies)
+          (no_level (what_in (book_of new.refs.refs piece.extent)) piece.extent_bytes beside_known.generation
+          (known_same piece beside_known ∙ beside_known.known))
           (λ q reference.
-          let more = added (book_of old.refs.refs) (book_of new.refs.refs) (name_of old.tree.owner (ino, piece)) what adds q reference in
+          let more = added (book_of old.refs.refs) (book_of new.refs.refs) (name_of old.tree.owner (ino, piece)) what
+          adds q reference in
           let all = times-cons (name_of old.tree.owner (ino, piece)) (names_of old.tree.owner names) q reference in
           omega (arith, more, all))
           (one_more old.tree.owner names (ino, piece) room stands.few)
-          (All-cons (λ (name : ℕ × Piece). IsKnownExtent old.land.space.sizes (book_of new.refs.refs) name.1) (ino, piece) names
-          (known_in old.land.space.sizes (book_of old.refs.refs) (book_of new.refs.refs) piece (known_same piece beside_known) beside_known)
-          (λ i d inside. known_in old.land.space.sizes (book_of old.refs.refs) (book_of new.refs.refs) (get_or names i d).1
+          (All-cons (λ (name : ℕ × Piece). IsKnownExtent old.land.space.sizes (book_of new.refs.refs) name.1)
+          (ino, piece) names
+          (known_in old.land.space.sizes (book_of old.refs.refs) (book_of new.refs.refs) piece
+          (known_same piece beside_known) beside_known)
+          (λ i d inside. known_in old.land.space.sizes (book_of old.refs.refs) (book_of new.refs.refs)
+          (get_or names i d).1
           (known_same (get_or names i d).1 (stands.known i d inside)) (stands.known i d inside)))
           (λ run. (
             λ has. contains_later (extent_of piece) (map (λ (name : ℕ × Piece). extent_of name.1) names) run
@@ -370,7 +427,8 @@ module _ (old : FsTree) (history : Option (List Event)) (items : List Item) (dra
   module _ (names : List (ℕ × Piece)) (stands : Stands old history items names)
       (free : is_free_run old.land.space piece.extent piece.extent_bytes ≡ true) where
     free_run : is_run old.land.space.sizes piece.extent piece.extent_bytes ≡ true
-    free_run = (free_parts old.land.space.sizes (old.land.space.runs ++ old.land.space.held_runs) piece.extent piece.extent_bytes free).0
+    free_run = (free_parts old.land.space.sizes (old.land.space.runs ++ old.land.space.held_runs) piece.extent
+        piece.extent_bytes free).0
 
     free_outside : IsTrue (is_slot old.land.space.sizes piece.extent) → ⊥
     free_outside = outside_run old history items names stands drafted piece.extent piece.extent_bytes free_run
@@ -385,55 +443,78 @@ module _ (old : FsTree) (history : Option (List Event)) (items : List Item) (dra
         (total_named old history items names stands drafted table piece.extent free_outside ∙ no_name)
 
     -- and it may be named
-    pub room-new : IsTable old.refs.refs → (reference : Reference) → reference ≡ (name_of old.tree.owner (ino, piece)).reference
+    pub room-new : IsTable old.refs.refs → (reference : Reference) → reference
+        ≡ (name_of old.tree.owner (ino, piece)).reference
         → nat_lt (count_at (book_of old.refs.refs) piece.extent reference) (greatest_count reference) ≡ true
     room-new table reference is =
-        subst (λ (r : Reference). nat_lt (count_at (book_of old.refs.refs) piece.extent r) (greatest_count r) ≡ true) (sym is)
-        (let count = count_named old history items names stands drafted table piece.extent old.tree.owner ino (reference_offset piece.position piece.offset) in
-        let most = times_many (names_of old.tree.owner names) piece.extent (name_of old.tree.owner (ino, piece)).reference in
+        subst (λ (r : Reference). nat_lt (count_at (book_of old.refs.refs) piece.extent r) (greatest_count r) ≡ true)
+        (sym is)
+        (let count = count_named old history items names stands drafted table piece.extent old.tree.owner ino
+        (reference_offset piece.position piece.offset) in
+        let most = times_many (names_of old.tree.owner names) piece.extent
+        (name_of old.tree.owner (ino, piece)).reference in
         let none = no_name in
-        lt-ltb (count_at (book_of old.refs.refs) piece.extent (name_of old.tree.owner (ino, piece)).reference) 4294967295 (omega (arith, count, most, none)))
+        lt-ltb (count_at (book_of old.refs.refs) piece.extent (name_of old.tree.owner (ino, piece)).reference)
+        4294967295 (omega (arith, count, most, none)))
 
     -- nothing is known of it
     pub unknown-new : IsTable old.refs.refs → what_in (book_of old.refs.refs piece.extent) ≡ None
     unknown-new table =
-        ap what_in (kept_nothing (book_of old.refs.refs piece.extent) (λ kept there. table.book.some piece.extent kept there) (none-named table))
+        ap what_in
+        (kept_nothing (book_of old.refs.refs piece.extent) (λ kept there. table.book.some piece.extent kept there)
+        (none-named table))
 
-    module _ (new : FsTree) (renamed : IsRenamed old new) (what : What) (adds : Adds (book_of old.refs.refs) (book_of new.refs.refs) piece.extent what (name_of old.tree.owner (ino, piece)).reference)
+    module _ (new : FsTree) (renamed : IsRenamed old new) (what : What)
+        (adds : Adds (book_of old.refs.refs) (book_of new.refs.refs) piece.extent what
+        (name_of old.tree.owner (ino, piece)).reference)
         (generation : ℕ) (what_is : what ≡ record { bytes = piece.extent_bytes; level = None; generation = generation })
         (none : what_in (book_of old.refs.refs piece.extent) ≡ None)
         (runs : new.land.space.runs ≡ with_run (extent_of piece) old.land.space.runs) where
-      known_new : what_in (book_of new.refs.refs piece.extent) ≡ Some (record { bytes = piece.extent_bytes; level = None; generation = generation })
-      known_new = adds.known ∙ ap (λ (k : Option What). Some (unwrap_or k what)) none ∙ ap (λ (w : What). Some w) what_is
+      known_new : what_in (book_of new.refs.refs piece.extent)
+          ≡ Some (record { bytes = piece.extent_bytes; level = None; generation = generation })
+      known_new = adds.known ∙ ap (λ (k : Option What). Some (unwrap_or k what)) none
+          ∙ ap (λ (w : What). Some w) what_is
 
       other_extent : (i : ℕ) (d : ℕ × Piece) → i < length names → (get_or names i d).1.extent ≢ piece.extent
       other_extent i d inside same =
           let one = named-there old.tree.owner names i d inside in
-          let some : 0 < many (names_of old.tree.owner names) piece.extent = subst (λ (a : ℕ). 0 < many (names_of old.tree.owner names) a) same one in
+          let some : 0 < many (names_of old.tree.owner names) piece.extent =
+          subst (λ (a : ℕ). 0 < many (names_of old.tree.owner names) a) same one in
           let no = no_name in
           omega (arith, some, no)
 
       pub Stands-new : Stands new history items ((ino, piece) ∷ names)
       Stands-new =
-          Stands-renamed old new history items names ((ino, piece) ∷ names) piece.extent stands drafted renamed.tree renamed.land renamed.refs
-          adds.elsewhere free_outside (no_level (what_in (book_of new.refs.refs piece.extent)) piece.extent_bytes generation known_new)
+          Stands-renamed old new history items names ((ino, piece) ∷ names) piece.extent stands drafted renamed.tree
+          renamed.land renamed.refs
+          adds.elsewhere free_outside (no_level (what_in (book_of new.refs.refs piece.extent)) piece.extent_bytes
+          generation known_new)
           (λ q reference.
-          let more = added (book_of old.refs.refs) (book_of new.refs.refs) (name_of old.tree.owner (ino, piece)) what adds q reference in
+          let more = added (book_of old.refs.refs) (book_of new.refs.refs) (name_of old.tree.owner (ino, piece)) what
+          adds q reference in
           let all = times-cons (name_of old.tree.owner (ino, piece)) (names_of old.tree.owner names) q reference in
           omega (arith, more, all))
           (one_more old.tree.owner names (ino, piece)
-          (let most = times_many (names_of old.tree.owner names) piece.extent (name_of old.tree.owner (ino, piece)).reference in let no = no_name in omega (arith, most, no))
+          (let most = times_many (names_of old.tree.owner names) piece.extent
+          (name_of old.tree.owner (ino, piece)).reference in let no = no_name in omega (arith, most, no))
           stands.few)
-          (All-cons (λ (name : ℕ × Piece). IsKnownExtent old.land.space.sizes (book_of new.refs.refs) name.1) (ino, piece) names
+          (All-cons (λ (name : ℕ × Piece). IsKnownExtent old.land.space.sizes (book_of new.refs.refs) name.1)
+          (ino, piece) names
           (record { lies = free_run; generation = generation; known = known_new })
-          (λ i d inside. known_in old.land.space.sizes (book_of old.refs.refs) (book_of new.refs.refs) (get_or names i d).1
-          (ap what_in (adds.elsewhere (get_or names i d).1.extent (other_extent i d inside))) (stands.known i d inside)))
+          (λ i d inside. known_in old.land.space.sizes (book_of old.refs.refs) (book_of new.refs.refs)
+          (get_or names i d).1
+          (ap what_in (adds.elsewhere (get_or names i d).1.extent (other_extent i d inside)))
+          (stands.known i d inside)))
           (λ run. (
-            λ has. elim ((Contains-with_run (extent_of piece) old.land.space.runs run).0 (subst (λ (list : List Element). Contains list run) runs has)) [
-              | inl is ↦ subst (λ (e : Element). Contains (map (λ (name : ℕ × Piece). extent_of name.1) ((ino, piece) ∷ names)) e) (sym is)
-                  (contains_here (extent_of piece) (map (λ (name : ℕ × Piece). extent_of name.1) names))
-              | inr was ↦ contains_later (extent_of piece) (map (λ (name : ℕ × Piece). extent_of name.1) names) run ((stands.runs run).0 was)
-            ],
+            λ has. elim ((Contains-with_run (extent_of piece) old.land.space.runs run).0
+                (subst (λ (list : List Element). Contains list run) runs has)) [
+                  | inl is ↦ subst
+                      (λ (e : Element). Contains (map (λ (name : ℕ × Piece). extent_of name.1) ((ino, piece) ∷ names)) e)
+                      (sym is)
+                      (contains_here (extent_of piece) (map (λ (name : ℕ × Piece). extent_of name.1) names))
+                  | inr was ↦ contains_later (extent_of piece) (map (λ (name : ℕ × Piece). extent_of name.1) names) run
+                      ((stands.runs run).0 was)
+                ],
             λ has. subst (λ (list : List Element). Contains list run) (sym runs)
                 ((Contains-with_run (extent_of piece) old.land.space.runs run).1
                 (elim (contains_cases (extent_of piece) (map (λ (name : ℕ × Piece). extent_of name.1) names) run has) [
@@ -448,53 +529,67 @@ module _ (old : FsTree) (history : Option (List Event)) (items : List Item) (dra
     own_known = stands.known 0 (ino, piece) (omega arith)
 
     own_outside : IsTrue (is_slot old.land.space.sizes piece.extent) → ⊥
-    own_outside = outside_run old history items ((ino, piece) ∷ names) stands drafted piece.extent piece.extent_bytes own_known.lies
+    own_outside = outside_run old history items ((ino, piece) ∷ names) stands drafted piece.extent piece.extent_bytes
+        own_known.lies
 
     -- its run is taken
     pub taken-own : has_run old.land.space piece.extent (piece.extent_bytes / sector * sector) ≡ true
     taken-own = whole_run old.land.space piece own_known.lies
-        ((stands.runs (extent_of piece)).1 (contains_here (extent_of piece) (map (λ (name : ℕ × Piece). extent_of name.1) names)))
+        ((stands.runs (extent_of piece)).1
+        (contains_here (extent_of piece) (map (λ (name : ℕ × Piece). extent_of name.1) names)))
 
     pub whole-own : piece.extent_bytes / sector * sector ≡ piece.extent_bytes
     whole-own = whole-bytes old.land.space.sizes piece.extent piece.extent_bytes own_known.lies
 
     -- its reference is there, where the names that are left cover the items
-    pub there-own : names_times old.tree.owner (filter_map name_told items) piece.extent (name_of old.tree.owner (ino, piece)).reference
+    pub there-own : names_times old.tree.owner (filter_map name_told items) piece.extent
+        (name_of old.tree.owner (ino, piece)).reference
         ≤ names_times old.tree.owner names piece.extent (name_of old.tree.owner (ino, piece)).reference
         → 0 < count_at (book_of old.refs.refs) piece.extent (name_of old.tree.owner (ino, piece)).reference
     there-own covered =
         let count = stands.counts piece.extent (name_of old.tree.owner (ino, piece)).reference in
-        let all = times-cons (name_of old.tree.owner (ino, piece)) (names_of old.tree.owner names) piece.extent (name_of old.tree.owner (ino, piece)).reference in
+        let all = times-cons (name_of old.tree.owner (ino, piece)) (names_of old.tree.owner names) piece.extent
+        (name_of old.tree.owner (ino, piece)).reference in
         let one = times-own (name_of old.tree.owner (ino, piece)) in
         omega (arith, count, all, one, covered)
 
-    module _ (new : FsTree) (renamed : IsRenamed old new) (table : IsTable old.refs.refs) (drops : Drops (book_of old.refs.refs) (book_of new.refs.refs) piece.extent (name_of old.tree.owner (ino, piece)).reference) where
+    module _ (new : FsTree) (renamed : IsRenamed old new) (table : IsTable old.refs.refs)
+        (drops : Drops (book_of old.refs.refs) (book_of new.refs.refs) piece.extent
+        (name_of old.tree.owner (ino, piece)).reference) where
       -- as many references are left as names
-      total_left : total (references_at (book_of new.refs.refs) piece.extent) ≡ many (names_of old.tree.owner names) piece.extent
+      total_left : total (references_at (book_of new.refs.refs) piece.extent) ≡ many (names_of old.tree.owner names)
+          piece.extent
       total_left =
           let own = name_of old.tree.owner (ino, piece) in
-          let was = total_named old history items ((ino, piece) ∷ names) stands drafted table piece.extent own_outside in
+          let was = total_named old history items ((ino, piece) ∷ names) stands drafted table piece.extent
+          own_outside in
           let all = many-cons own (names_of old.tree.owner names) piece.extent in
           let one = many-cons own [] piece.extent in
           let same = IsCounted-same (λ (r : Reference). count_at (book_of old.refs.refs) piece.extent r)
           (λ (r : Reference). count_at (book_of new.refs.refs) piece.extent r + times (own ∷ []) piece.extent r)
-          (total (references_at (book_of old.refs.refs) piece.extent)) (total (references_at (book_of new.refs.refs) piece.extent) + many (own ∷ []) piece.extent)
+          (total (references_at (book_of old.refs.refs) piece.extent))
+          (total (references_at (book_of new.refs.refs) piece.extent) + many (own ∷ []) piece.extent)
           (IsCounted-list (references_at (book_of old.refs.refs) piece.extent))
-          (IsCounted-plus (λ (r : Reference). count_at (book_of new.refs.refs) piece.extent r) (λ (r : Reference). times (own ∷ []) piece.extent r)
+          (IsCounted-plus (λ (r : Reference). count_at (book_of new.refs.refs) piece.extent r)
+          (λ (r : Reference). times (own ∷ []) piece.extent r)
           (total (references_at (book_of new.refs.refs) piece.extent)) (many (own ∷ []) piece.extent)
-          (IsCounted-list (references_at (book_of new.refs.refs) piece.extent)) (IsCounted-times (own ∷ []) piece.extent))
+          (IsCounted-list (references_at (book_of new.refs.refs) piece.extent))
+          (IsCounted-times (own ∷ []) piece.extent))
           (dropped (book_of old.refs.refs) (book_of new.refs.refs) own drops piece.extent) in
           omega (arith, was, all, one, same)
 
-      some_left : 0 < total (references_at (book_of new.refs.refs) piece.extent) → references_at (book_of new.refs.refs) piece.extent ≢ []
+      some_left : 0 < total (references_at (book_of new.refs.refs) piece.extent)
+          → references_at (book_of new.refs.refs) piece.extent ≢ []
       some_left some none = let zero_is = ap total none in omega (arith, some, zero_is)
 
       known_left : (i : ℕ) (d : ℕ × Piece) → i < length names
-          → what_in (book_of new.refs.refs (get_or names i d).1.extent) ≡ what_in (book_of old.refs.refs (get_or names i d).1.extent)
+          → what_in (book_of new.refs.refs (get_or names i d).1.extent)
+          ≡ what_in (book_of old.refs.refs (get_or names i d).1.extent)
       known_left i d inside = elim (eqb_tells (get_or names i d).1.extent piece.extent) [
         | inl (equal, same) ↦
             let one = named-there old.tree.owner names i d inside in
-            let some : 0 < many (names_of old.tree.owner names) piece.extent = subst (λ (a : ℕ). 0 < many (names_of old.tree.owner names) a) same one in
+            let some : 0 < many (names_of old.tree.owner names) piece.extent =
+            subst (λ (a : ℕ). 0 < many (names_of old.tree.owner names) a) same one in
             let left = total_left in
             ap (λ (a : ℕ). what_in (book_of new.refs.refs a)) same
             ∙ drops.known (some_left (omega (arith, left, some)))
@@ -504,34 +599,42 @@ module _ (old : FsTree) (history : Option (List Event)) (items : List Item) (dra
 
       no_node_left : IsNoNode (what_in (book_of new.refs.refs piece.extent))
       no_node_left = from (references_at (book_of new.refs.refs) piece.extent) refl where
-        from : (xs : List Counted) → references_at (book_of new.refs.refs) piece.extent ≡ xs → IsNoNode (what_in (book_of new.refs.refs piece.extent))
+        from : (xs : List Counted) → references_at (book_of new.refs.refs) piece.extent ≡ xs
+            → IsNoNode (what_in (book_of new.refs.refs piece.extent))
         from [] none = nothing_known (what_in (book_of new.refs.refs piece.extent)) (ap what_in (drops.gone none))
         from (x ∷ xs) some =
             no_level (what_in (book_of new.refs.refs piece.extent)) piece.extent_bytes own_known.generation
             (drops.known (λ none. let wrong = sym some ∙ none in cc) ∙ own_known.known)
 
-      stands_left : ((run : Element) → Contains new.land.space.runs run ↔ Contains (map (λ name. extent_of name.1) names) run) → Stands new history items names
+      stands_left : ((run : Element) → Contains new.land.space.runs run ↔ Contains
+          (map (λ name. extent_of name.1) names) run) → Stands new history items names
       stands_left runs =
-          Stands-renamed old new history items ((ino, piece) ∷ names) names piece.extent stands drafted renamed.tree renamed.land renamed.refs
+          Stands-renamed old new history items ((ino, piece) ∷ names) names piece.extent stands drafted renamed.tree
+          renamed.land renamed.refs
           drops.elsewhere own_outside no_node_left
           (λ q reference.
-          let less = dropped (book_of old.refs.refs) (book_of new.refs.refs) (name_of old.tree.owner (ino, piece)) drops q reference in
+          let less = dropped (book_of old.refs.refs) (book_of new.refs.refs) (name_of old.tree.owner (ino, piece))
+          drops q reference in
           let all = times-cons (name_of old.tree.owner (ino, piece)) (names_of old.tree.owner names) q reference in
           omega (arith, less, all))
           (λ q reference.
           let all = times-cons (name_of old.tree.owner (ino, piece)) (names_of old.tree.owner names) q reference in
           let most = stands.few q reference in
           omega (arith, all, most))
-          (λ i d inside. known_in old.land.space.sizes (book_of old.refs.refs) (book_of new.refs.refs) (get_or names i d).1 (known_left i d inside)
+          (λ i d inside. known_in old.land.space.sizes (book_of old.refs.refs) (book_of new.refs.refs)
+          (get_or names i d).1 (known_left i d inside)
           (stands.known (suc i) d (omega (arith, inside))))
           runs
 
       -- others name the extent still
-      pub Stands-left : ((q : ℕ) → IsRefList (references_at (book_of new.refs.refs) q)) → 0 < references_to (book_of new.refs.refs) piece.extent → new.land.space.runs ≡ old.land.space.runs → Stands new history items names
+      pub Stands-left : ((q : ℕ) → IsRefList (references_at (book_of new.refs.refs) q))
+          → 0 < references_to (book_of new.refs.refs) piece.extent → new.land.space.runs ≡ old.land.space.runs
+          → Stands new history items names
       Stands-left sound some runs = stands_left (λ run. (
         λ has. from run ((stands.runs run).0 (subst (λ (list : List Element). Contains list run) runs has)),
         λ has. subst (λ (list : List Element). Contains list run) (sym runs)
-            ((stands.runs run).1 (contains_later (extent_of piece) (map (λ (name : ℕ × Piece). extent_of name.1) names) run has)),
+            ((stands.runs run).1 (contains_later (extent_of piece) (map (λ (name : ℕ × Piece). extent_of name.1) names)
+            run has)),
       )) where
         -- a name that is left is of the same run
         left_named : IsNamed names piece.extent
@@ -544,32 +647,45 @@ module _ (old : FsTree) (history : Option (List Event)) (items : List Item) (dra
 
         same_run : extent_of (get_or names left_named.i left_named.d).1 ≡ extent_of piece
         same_run =
-            let other = stands.known (suc left_named.i) left_named.d (let short = left_named.inside in omega (arith, short)) in
-            let both = sym other.known ∙ ap (λ (a : ℕ). what_in (book_of old.refs.refs a)) left_named.here ∙ own_known.known in
-            let bytes : (get_or names left_named.i left_named.d).1.extent_bytes ≡ piece.extent_bytes = ap bytes_in both in
-            ap (λ (a : ℕ). record { address = a; bytes = (get_or names left_named.i left_named.d).1.extent_bytes }) left_named.here
+            let other = stands.known (suc left_named.i) left_named.d
+            (let short = left_named.inside in omega (arith, short)) in
+            let both = sym other.known ∙ ap (λ (a : ℕ). what_in (book_of old.refs.refs a)) left_named.here
+            ∙ own_known.known in
+            let bytes : (get_or names left_named.i left_named.d).1.extent_bytes ≡ piece.extent_bytes =
+            ap bytes_in both in
+            ap (λ (a : ℕ). record { address = a; bytes = (get_or names left_named.i left_named.d).1.extent_bytes })
+            left_named.here
             ∙ ap (λ (n : ℕ). record { address = piece.extent; bytes = n }) bytes
 
-        from : (run : Element) → Contains (map (λ name. extent_of name.1) ((ino, piece) ∷ names)) run → Contains (map (λ name. extent_of name.1) names) run
-        from run has = elim (contains_cases (extent_of piece) (map (λ (name : ℕ × Piece). extent_of name.1) names) run has) [
-          | inl is ↦ subst (λ (e : Element). Contains (map (λ (name : ℕ × Piece). extent_of name.1) names) e) (same_run ∙ is)
-              (extent_named names left_named.i left_named.d left_named.inside)
-          | inr later ↦ later
-        ]
+        from : (run : Element) → Contains (map (λ name. extent_of name.1) ((ino, piece) ∷ names)) run
+            → Contains (map (λ name. extent_of name.1) names) run
+        from run has = elim (contains_cases (extent_of piece) (map (λ (name : ℕ × Piece). extent_of name.1) names) run
+            has) [
+              | inl is ↦ subst (λ (e : Element). Contains (map (λ (name : ℕ × Piece). extent_of name.1) names) e)
+                  (same_run ∙ is)
+                  (extent_named names left_named.i left_named.d left_named.inside)
+              | inr later ↦ later
+            ]
 
       -- none does, and its run is given back
       pub Stands-gone : references_to (book_of new.refs.refs) piece.extent ≡ 0
-          → new.land.space.runs ≡ without_run piece.extent piece.extent_bytes old.land.space.runs → Stands new history items names
+          → new.land.space.runs ≡ without_run piece.extent piece.extent_bytes old.land.space.runs
+          → Stands new history items names
       Stands-gone none runs = stands_left (λ run. (
         λ has.
-            let was = (Contains-without_run piece.extent piece.extent_bytes old.land.space.runs run).0 (subst (λ (list : List Element). Contains list run) runs has) in
-            elim (contains_cases (extent_of piece) (map (λ (name : ℕ × Piece). extent_of name.1) names) run ((stands.runs run).0 was.0)) [
+            let was = (Contains-without_run piece.extent piece.extent_bytes old.land.space.runs run).0
+            (subst (λ (list : List Element). Contains list run) runs has) in
+            elim (contains_cases (extent_of piece) (map (λ (name : ℕ × Piece). extent_of name.1) names) run
+            ((stands.runs run).0 was.0)) [
               | inl is ↦ absurd (was.1 (sym is))
               | inr later ↦ later
             ],
         λ has. subst (λ (list : List Element). Contains list run) (sym runs)
-            ((Contains-without_run piece.extent piece.extent_bytes old.land.space.runs run).1
-            ((stands.runs run).1 (contains_later (extent_of piece) (map (λ (name : ℕ × Piece). extent_of name.1) names) run has), other_run run has)),
+            ((Contains-without_run piece.extent piece.extent_bytes old.land.space.runs run).1 (
+              (stands.runs run).1 (contains_later (extent_of piece) (map (λ (name : ℕ × Piece). extent_of name.1) names)
+                  run has),
+              other_run run has,
+            )),
       )) where
         no_more : many (names_of old.tree.owner names) piece.extent ≡ 0
         no_more = sym total_left ∙ none_total (references_at (book_of new.refs.refs) piece.extent) none where
@@ -577,11 +693,14 @@ module _ (old : FsTree) (history : Option (List Event)) (items : List Item) (dra
           none_total [] none = refl
           none_total (x ∷ xs) none = absurd (omega (arith, none))
 
-        other_run : (run : Element) → Contains (map (λ name. extent_of name.1) names) run → run ≢ record { address = piece.extent; bytes = piece.extent_bytes }
+        other_run : (run : Element) → Contains (map (λ name. extent_of name.1) names) run
+            → run ≢ record { address = piece.extent; bytes = piece.extent_bytes }
         other_run run has is =
             let found = name_there names run has in
-            let same : (get_or names found.i found.d).1.extent ≡ piece.extent = ap (λ (e : Element). e.address) (found.same ∙ is) in
+            let same : (get_or names found.i found.d).1.extent ≡ piece.extent = ap (λ (e : Element). e.address)
+            (found.same ∙ is) in
             let one = named-there old.tree.owner names found.i found.d found.inside in
-            let some : 0 < many (names_of old.tree.owner names) piece.extent = subst (λ (a : ℕ). 0 < many (names_of old.tree.owner names) a) same one in
+            let some : 0 < many (names_of old.tree.owner names) piece.extent =
+            subst (λ (a : ℕ). 0 < many (names_of old.tree.owner names) a) same one in
             let no = no_more in
             omega (arith, some, no)

@@ -22,24 +22,28 @@ use Rattle.qg_fs_tree.specs.Laws.{StandsInAnotherOrder}
 use Rattle.qg_tree_refs.proofs.Owings.{times-cons}
 
 -- how often a list has a reference, one by one
-times_each : (xs : List Owing) (at : ℕ) (reference : Reference) → times xs at reference ≡ sum_by (λ x. times (x ∷ []) at reference) xs
+times_each : (xs : List Owing) (at : ℕ) (reference : Reference) → times xs at reference
+    ≡ sum_by (λ x. times (x ∷ []) at reference) xs
 times_each [] at reference = times-nil at reference
 times_each (x ∷ xs) at reference =
     times-cons x xs at reference
     ∙ ap (λ (n : ℕ). times (x ∷ []) at reference + n) (times_each xs at reference)
     ∙ sym (sum_by-cons (λ (y : Owing). times (y ∷ []) at reference) x xs)
 
-names_same : (owner : ℕ) (names others : List (ℕ × Piece)) → IsPermutation names others → (at : ℕ) (reference : Reference)
+names_same : (owner : ℕ) (names others : List (ℕ × Piece)) → IsPermutation names others
+    → (at : ℕ) (reference : Reference)
     → names_times owner others at reference ≡ names_times owner names at reference
 names_same owner names others same at reference =
     times_each (map (name_of owner) others) at reference
-    ∙ sum_by-IsPermutation (λ (x : Owing). times (x ∷ []) at reference) (map (name_of owner) names) (map (name_of owner) others)
+    ∙ sum_by-IsPermutation (λ (x : Owing). times (x ∷ []) at reference) (map (name_of owner) names)
+    (map (name_of owner) others)
     (IsPermutation-map (name_of owner) names others same)
     ∙ sym (times_each (map (name_of owner) names) at reference)
 
 contained : {A : Type 0} (xs ys : List A) (x : A) → IsPermutation xs ys → Contains ys x → Contains xs x
 contained {A} xs ys x same has =
-    All-contains (λ (y : A). Contains xs y) ys x (All-permutation (λ (y : A). Contains xs y) xs ys same (All-contains_itself xs)) has
+    All-contains (λ (y : A). Contains xs y) ys x
+    (All-permutation (λ (y : A). Contains xs y) xs ys same (All-contains_itself xs)) has
 
 pub stands-ordered : StandsInAnotherOrder
 stands-ordered fs history items names others same stands = record {
@@ -59,11 +63,15 @@ stands-ordered fs history items names others same stands = record {
       let alike = names_same fs.tree.owner names others same at reference in
       omega (arith, most, alike);
   settled = stands.settled;
-  known = All-permutation (λ (name : ℕ × Piece). IsKnownExtent fs.land.space.sizes (book_of fs.refs.refs) name.1) names others same stands.known;
+  known = All-permutation (λ (name : ℕ × Piece). IsKnownExtent fs.land.space.sizes (book_of fs.refs.refs) name.1) names
+      others same stands.known;
   runs = λ run.
       let extents = IsPermutation-map (λ (name : ℕ × Piece). extent_of name.1) names others same in
-      let back = IsPermutation-sym (map (λ (name : ℕ × Piece). extent_of name.1) names) (map (λ (name : ℕ × Piece). extent_of name.1) others) extents in (
-        λ has. contained (map (λ (name : ℕ × Piece). extent_of name.1) others) (map (λ (name : ℕ × Piece). extent_of name.1) names) run back ((stands.runs run).0 has),
-        λ has. (stands.runs run).1 (contained (map (λ (name : ℕ × Piece). extent_of name.1) names) (map (λ (name : ℕ × Piece). extent_of name.1) others) run extents has),
+      let back = IsPermutation-sym (map (λ (name : ℕ × Piece). extent_of name.1) names)
+      (map (λ (name : ℕ × Piece). extent_of name.1) others) extents in (
+        λ has. contained (map (λ (name : ℕ × Piece). extent_of name.1) others)
+            (map (λ (name : ℕ × Piece). extent_of name.1) names) run back ((stands.runs run).0 has),
+        λ has. (stands.runs run).1 (contained (map (λ (name : ℕ × Piece). extent_of name.1) names)
+            (map (λ (name : ℕ × Piece). extent_of name.1) others) run extents has),
       );
 }

@@ -40,22 +40,26 @@ names_of owner names = map (name_of owner) names
 abbrev pub named_by : ℕ → List Item → List Owing
 named_by owner items = names_of owner (filter_map name_told items)
 
-pub names-no_block : (owner : ℕ) (names : List (ℕ × Piece)) (tree at : ℕ) → times (names_of owner names) at (KeyedBlock tree) ≡ 0
+pub names-no_block : (owner : ℕ) (names : List (ℕ × Piece)) (tree at : ℕ) → times (names_of owner names) at
+    (KeyedBlock tree) ≡ 0
 names-no_block owner [] tree at = times-nil at (KeyedBlock tree)
 names-no_block owner (name ∷ names) tree at =
-    have-not-more (KeyedBlock tree) (name_of owner name) (names_of owner names) refl (names-no_block owner names tree) at
+    have-not-more (KeyedBlock tree) (name_of owner name) (names_of owner names) refl (names-no_block owner names tree)
+    at
 
 pub names-no_shared_block : (owner : ℕ) (names : List (ℕ × Piece)) (parent at : ℕ)
     → times (names_of owner names) at (SharedBlock parent) ≡ 0
 names-no_shared_block owner [] parent at = times-nil at (SharedBlock parent)
 names-no_shared_block owner (name ∷ names) parent at =
-    have-not-more (SharedBlock parent) (name_of owner name) (names_of owner names) refl (names-no_shared_block owner names parent) at
+    have-not-more (SharedBlock parent) (name_of owner name) (names_of owner names) refl
+    (names-no_shared_block owner names parent) at
 
 pub names-no_shared_data : (owner : ℕ) (names : List (ℕ × Piece)) (parent at : ℕ)
     → times (names_of owner names) at (SharedData parent) ≡ 0
 names-no_shared_data owner [] parent at = times-nil at (SharedData parent)
 names-no_shared_data owner (name ∷ names) parent at =
-    have-not-more (SharedData parent) (name_of owner name) (names_of owner names) refl (names-no_shared_data owner names parent) at
+    have-not-more (SharedData parent) (name_of owner name) (names_of owner names) refl
+    (names-no_shared_data owner names parent) at
 
 -- ---- keyed references to the children of a node
 
@@ -68,11 +72,13 @@ pub times-pointers : (owner : ℕ) (pointers : List Pointer) (at : ℕ) (referen
     ≡ keyed_ways owner (pointing pointers) at reference
 times-pointers owner [] at reference = times-nil at reference ∙ sym (keyed-none owner (pointing []) at reference refl)
 times-pointers owner (pointer ∷ pointers) at reference =
-    let first = times-cons (way_to pointer.child owner) (map (λ (p : Pointer). way_to p.child owner) pointers) at reference in
+    let first = times-cons (way_to pointer.child owner) (map (λ (p : Pointer). way_to p.child owner) pointers) at
+    reference in
     let here = times-way owner pointer.child at reference in
     let rest = times-pointers owner pointers at reference in
     let both = keyed-plus owner (one pointer.child) (pointing pointers) at reference in
-    let same = keyed-same owner (pointing (pointer ∷ pointers)) (λ (q : ℕ). one pointer.child q + pointing pointers q) at reference
+    let same = keyed-same owner (pointing (pointer ∷ pointers)) (λ (q : ℕ). one pointer.child q + pointing pointers q)
+    at reference
     (sum_by-cons (λ (p : Pointer). one p.child at) pointer pointers) in
     omega (arith, first, here, rest, both, same)
 
@@ -82,7 +88,8 @@ part_named : (header : Header) (part : Option FilePart) (owed : List Owing) (nam
     → owed_by_part header false part ++ owed ≡ names_of header.owner (cons_option (piece_in part) names)
 part_named header None owed names is = is
 part_named header (Some (Inode ino inode)) owed names is = is
-part_named header (Some (PieceOf ino piece)) owed names is = ap (λ (rest : List Owing). name_of header.owner (ino, piece) ∷ rest) is
+part_named header (Some (PieceOf ino piece)) owed names is =
+    ap (λ (rest : List Owing). name_of header.owner (ino, piece) ∷ rest) is
 
 items_named : (header : Header) (items : List Item)
     → flat_map (λ item. owed_by_part header false (file_part item)) items ≡ named_by header.owner items
@@ -102,40 +109,47 @@ keyed-parts node owner =
     (items_named header (own_items node))
 
 pub times-keyed : (node : Node) (owner at : ℕ) (reference : Reference) → times (keyed_children node owner) at reference
-    ≡ keyed_ways owner (pointing (own_pointers node)) at reference + times (named_by owner (own_items node)) at reference
+    ≡ keyed_ways owner (pointing (own_pointers node)) at reference + times (named_by owner (own_items node)) at
+    reference
 times-keyed node owner at reference =
     let parts = ap (λ (owed : List Owing). times owed at reference) (keyed-parts node owner) in
-    let both = times-append (map (λ (pointer : Pointer). way_to pointer.child owner) (own_pointers node)) (named_by owner (own_items node)) at reference in
+    let both = times-append (map (λ (pointer : Pointer). way_to pointer.child owner) (own_pointers node))
+    (named_by owner (own_items node)) at reference in
     let pointers = times-pointers owner (own_pointers node) at reference in
     omega (arith, parts, both, pointers)
 
 -- none is shared
-pub keyed-no_shared_block : (node : Node) (owner parent at : ℕ) → times (keyed_children node owner) at (SharedBlock parent) ≡ 0
+pub keyed-no_shared_block : (node : Node) (owner parent at : ℕ) → times (keyed_children node owner) at
+    (SharedBlock parent) ≡ 0
 keyed-no_shared_block node owner parent at =
     let all = times-keyed node owner at (SharedBlock parent) in
     let names = names-no_shared_block owner (filter_map name_told (own_items node)) parent at in
     omega (arith, all, names)
 
-pub keyed-no_shared_data : (node : Node) (owner parent at : ℕ) → times (keyed_children node owner) at (SharedData parent) ≡ 0
+pub keyed-no_shared_data : (node : Node) (owner parent at : ℕ) → times (keyed_children node owner) at
+    (SharedData parent) ≡ 0
 keyed-no_shared_data node owner parent at =
     let all = times-keyed node owner at (SharedData parent) in
     let names = names-no_shared_data owner (filter_map name_told (own_items node)) parent at in
     omega (arith, all, names)
 
 -- none leads to a node that is no child
-not_pointing : (pointers : List Pointer) (at : ℕ) → (Contains (map (λ pointer. pointer.child) pointers) at → ⊥) → pointing pointers at ≡ 0
+not_pointing : (pointers : List Pointer) (at : ℕ) → (Contains (map (λ pointer. pointer.child) pointers) at → ⊥)
+    → pointing pointers at ≡ 0
 not_pointing [] at apart = refl
 not_pointing (pointer ∷ pointers) at apart =
     let first = sum_by-cons (λ (p : Pointer). one p.child at) pointer pointers in
     let none = one-other pointer.child at (λ (same : at ≡ pointer.child). apart (0, omega arith, sym same)) in
-    let rest = not_pointing pointers at (λ has. apart (suc has.0, (let inside = has.1 in omega (arith, inside)), has.2)) in
+    let rest = not_pointing pointers at
+    (λ has. apart (suc has.0, (let inside = has.1 in omega (arith, inside)), has.2)) in
     omega (arith, first, none, rest)
 
-pub keyed-no_child : (node : Node) (owner tree at : ℕ) → (Contains (map (λ pointer. pointer.child) (own_pointers node)) at → ⊥)
+pub keyed-no_child : (node : Node) (owner tree at : ℕ)
+    → (Contains (map (λ pointer. pointer.child) (own_pointers node)) at → ⊥)
     → times (keyed_children node owner) at (KeyedBlock tree) ≡ 0
 keyed-no_child node owner tree at apart =
     let all = times-keyed node owner at (KeyedBlock tree) in
     let names = names-no_block owner (filter_map name_told (own_items node)) tree at in
-    let none = keyed-none owner (pointing (own_pointers node)) at (KeyedBlock tree) (not_pointing (own_pointers node) at apart) in
+    let none = keyed-none owner (pointing (own_pointers node)) at (KeyedBlock tree)
+    (not_pointing (own_pointers node) at apart) in
     omega (arith, all, names, none)
-

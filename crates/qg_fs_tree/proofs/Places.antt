@@ -17,11 +17,13 @@ module _ (sizes : Sizes) where
   abbrev pub slots_from : ℕ → ℕ → List ℕ
   slots_from from count = map (slot_at sizes) (range_with_len from count)
 
-  sum_first : (f : ℕ → ℕ) (from count : ℕ) → sum_by f (slots_from from (suc count)) ≡ f (slot_at sizes from) + sum_by f (slots_from (from + 1) count)
+  sum_first : (f : ℕ → ℕ) (from count : ℕ) → sum_by f (slots_from from (suc count)) ≡ f (slot_at sizes from) + sum_by f
+      (slots_from (from + 1) count)
   sum_first f from count = sum_by-cons f (slot_at sizes from) (slots_from (from + 1) count)
 
   -- sums of what is the same at each slot
-  sums_from : (f g : ℕ → ℕ) (from count : ℕ) → ((k : ℕ) → from ≤ k → k < from + count → f (slot_at sizes k) ≡ g (slot_at sizes k))
+  sums_from : (f g : ℕ → ℕ) (from count : ℕ) → ((k : ℕ) → from ≤ k → k < from + count → f (slot_at sizes k)
+      ≡ g (slot_at sizes k))
       → sum_by f (slots_from from count) ≡ sum_by g (slots_from from count)
   sums_from f g from zero same = refl
   sums_from f g from (suc count) same =
@@ -37,7 +39,8 @@ module _ (sizes : Sizes) where
       (λ k low high. same (slot_at sizes k) (is_slot-slot_at sizes k some (omega (arith, high))))
 
   -- a slot is not among those behind it
-  not_behind : (k from count : ℕ) → 0 < sizes.nodesize → k < from → sum_by (one (slot_at sizes k)) (slots_from from count) ≡ 0
+  not_behind : (k from count : ℕ) → 0 < sizes.nodesize → k < from → sum_by (one (slot_at sizes k))
+      (slots_from from count) ≡ 0
   not_behind k from zero some less = refl
   not_behind k from (suc count) some less =
       let first = sum_first (one (slot_at sizes k)) from count in
@@ -68,4 +71,5 @@ module _ (sizes : Sizes) where
   slot-once at some is =
       let slot = IsSlotAt-is_slot sizes at is in
       subst (λ (a : ℕ). IsOnce (every_slot sizes) a) slot.there
-      (once_from ((at - slots_begin) / sizes.nodesize) 0 sizes.slots some (omega arith) (let short = slot.number in omega (arith, short)))
+      (once_from ((at - slots_begin) / sizes.nodesize) 0 sizes.slots some (omega arith)
+      (let short = slot.number in omega (arith, short)))

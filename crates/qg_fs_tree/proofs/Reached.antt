@@ -28,7 +28,8 @@ first_or_later f x xs (suc n) here rest some = record { place = 0; x = x; there 
 some_term : {A : Type 0} (f : A → ℕ) (xs : List A) → 0 < sum_by f xs → IsTerm f xs
 some_term f [] some = absurd (omega (arith, some))
 some_term f (x ∷ xs) some =
-    first_or_later f x xs (f x) refl (λ later. some_term f xs later) (let both = sum_by-cons f x xs in omega (arith, both, some))
+    first_or_later f x xs (f x) refl (λ later. some_term f xs later)
+    (let both = sum_by-cons f x xs in omega (arith, both, some))
 
 reached_below : (nodes : ℕ → Option Node) (level at : ℕ) (o : Option Node) (q : ℕ)
     → ((from : ℕ) → 0 < ways nodes level from q → Reaches nodes level from q) → nodes at ≡ o
@@ -49,5 +50,6 @@ reached-some nodes (suc level) at q some = elim (eqb_tells q at) [
   | inl (equal, same) ↦ inl same
   | inr (unequal, differ) ↦
       let none = one-other at q differ in
-      reached_below nodes level at (nodes at) q (λ from way. reached-some nodes level from q way) refl (omega (arith, some, none))
+      reached_below nodes level at (nodes at) q (λ from way. reached-some nodes level from q way) refl
+      (omega (arith, some, none))
 ]

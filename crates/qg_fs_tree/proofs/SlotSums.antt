@@ -74,7 +74,8 @@ one_there at q f = elim (eqb_tells q at) [
   | inl (equal, same) ↦ ap (λ (k : ℕ). one at q * f k) same
   | inr (unequal, differ) ↦
       let none = one-other at q differ in
-      ap (λ (n : ℕ). n * f q) none ∙ (let e : 0 * f q ≡ 0 * f at = omega arith in e) ∙ ap (λ (n : ℕ). n * f at) (sym none)
+      ap (λ (n : ℕ). n * f q) none ∙ (let e : 0 * f q ≡ 0 * f at = omega arith in e)
+      ∙ ap (λ (n : ℕ). n * f at) (sym none)
 ]
 
 module _ (slots : List ℕ) where
@@ -129,7 +130,8 @@ over_first : (slots : List ℕ) (at : ℕ) (f : ℕ → ℕ) → over slots (one
 over_first [] at f = omega arith
 over_first (s ∷ slots) at f =
     let terms = sum_by-cons (λ (q : ℕ). one at q * f q) s slots in
-    let ones = ap (λ (n : ℕ). n * f at) (sum_by-cons (one at) s slots) ∙ add-mul (one at s) (sum_by (one at) slots) (f at) in
+    let ones = ap (λ (n : ℕ). n * f at) (sum_by-cons (one at) s slots) ∙ add-mul (one at s) (sum_by (one at) slots)
+    (f at) in
     let here = one_there at s f in
     let rest = over_first slots at f in
     omega (arith, terms, ones, here, rest)
@@ -143,7 +145,8 @@ module _ (slots : List ℕ) (at : ℕ) (once : IsOnce slots at) where
   pub over-part : (w f : ℕ → ℕ) → w at * f at ≤ over slots w f
   over-part w f =
       let term = over-one (λ (s : ℕ). w s * f s) in
-      let less = sums-less (λ (s : ℕ). one at s * (w s * f s)) (λ (s : ℕ). w s * f s) slots (λ s. few (one at s) (w s * f s) (one-most at s)) in
+      let less = sums-less (λ (s : ℕ). one at s * (w s * f s)) (λ (s : ℕ). w s * f s) slots
+      (λ s. few (one at s) (w s * f s) (one-most at s)) in
       omega (arith, term, less) where
         few : (k n : ℕ) → k ≤ 1 → k * n ≤ n
         few zero n most = omega arith
@@ -158,4 +161,5 @@ module _ (slots : List ℕ) (at : ℕ) (once : IsOnce slots at) where
       omega (arith, part, least) where
         once_least : (k n : ℕ) → 0 < k → n ≤ k * n
         once_least zero n some = absurd (omega (arith, some))
-        once_least (suc k) n some = let e = add-mul k 1 n in let f : suc k ≡ k + 1 = omega arith in let g = ap (λ (m : ℕ). m * n) f in omega (arith, e, g)
+        once_least (suc k) n some = let e = add-mul k 1 n in let f : suc k ≡ k + 1 = omega arith in let g =
+            ap (λ (m : ℕ). m * n) f in omega (arith, e, g)

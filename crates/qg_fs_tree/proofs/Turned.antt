@@ -89,7 +89,8 @@ none_here at q full some = elim (eqb_tells q at) [
   | inr (unequal, other) ↦ let zero = one-other at q other in absurd (omega (arith, some, zero))
 ]
 
-same_there : (at q : ℕ) (full : ℕ → Option Node) (w : ℕ → ℕ) → w at ≡ 0 → 0 < w q → (if q == at then None else full q) ≡ full q
+same_there : (at q : ℕ) (full : ℕ → Option Node) (w : ℕ → ℕ) → w at ≡ 0 → 0 < w q → (if q == at then None else full q)
+    ≡ full q
 same_there at q full w none some = elim (eqb_tells q at) [
   | inl (equal, there) ↦ let same = ap w there in absurd (omega (arith, same, none, some))
   | inr (unequal, other) ↦ ap (λ (b : Bool). if b then None else full q) unequal
@@ -99,7 +100,8 @@ either_within : (b : Bool) (f : Option Node) (node : Node) → (if b then None e
 either_within true f node is = cc
 either_within false f node is = is
 
-pub full-come : (telling : Telling) (full : ℕ → Option Node) (q : ℕ) → 0 < gains telling q → full_then telling full q ≡ None
+pub full-come : (telling : Telling) (full : ℕ → Option Node) (q : ℕ) → 0 < gains telling q → full_then telling full q
+    ≡ None
 full-come (Copied node copy) full q some = none_here copy q full some
 full-come (Made address) full q some = none_here address q full some
 full-come (Left node) full q some = absurd (omega (arith, some))
@@ -110,13 +112,15 @@ full-stays (Copied node copy) full w q timely some = same_there copy q full w ti
 full-stays (Made address) full w q timely some = same_there address q full w timely some
 full-stays (Left node) full w q timely some = refl
 
-pub full-within : (telling : Telling) (full : ℕ → Option Node) (q : ℕ) (node : Node) → full_then telling full q ≡ Some node
+pub full-within : (telling : Telling) (full : ℕ → Option Node) (q : ℕ) (node : Node) → full_then telling full q
+    ≡ Some node
     → full q ≡ Some node
 full-within (Copied old copy) full q node is = either_within (q == copy) (full q) node is
 full-within (Made address) full q node is = either_within (q == address) (full q) node is
 full-within (Left old) full q node is = is
 
--- what is told is true to the full nodes: what is copied of them is as it was, none is left, and none that ways lead to leads to what is
+-- what is told is true to the full nodes: what is copied of them is as it was, none is left, and none that ways lead to
+-- leads to what is
 -- copied or left
 abbrev pub LeadsNone : (ℕ → Option Node) → (ℕ → ℕ) → ℕ → Type 0
 LeadsNone full w at = (q : ℕ) (parent : Node) → full q ≡ Some parent → 0 < w q
@@ -124,7 +128,8 @@ LeadsNone full w at = (q : ℕ) (parent : Node) → full q ≡ Some parent → 0
 
 abbrev pub IsTrueTo : (ℕ → Option Node) → (ℕ → ℕ) → Telling → Type 0
 IsTrueTo full w (Copied node copy) =
-    ((other : Node) → full (header_of node).address ≡ Some other → other ≡ node) × LeadsNone full w (header_of node).address
+    ((other : Node) → full (header_of node).address ≡ Some other → other ≡ node)
+    × LeadsNone full w (header_of node).address
 IsTrueTo full w (Made address) = ⊤
 IsTrueTo full w (Left node) = (full (header_of node).address ≡ None) × LeadsNone full w (header_of node).address
 
@@ -138,8 +143,11 @@ none_within (Some node) all within none = let is = within node refl in cc
 
 pub true-within : (telling : Telling) (few all : ℕ → Option Node) (w : ℕ → ℕ)
     → ((q : ℕ) (node : Node) → few q ≡ Some node → all q ≡ Some node) → IsTrueTo all w telling → IsTrueTo few w telling
-true-within (Copied node copy) few all w within is =
-    (λ other same. is.0 other (within (header_of node).address other same), λ q parent full some. is.1 q parent (within q parent full) some)
+true-within (Copied node copy) few all w within is = (
+  λ other same. is.0 other (within (header_of node).address other same),
+  λ q parent full some. is.1 q parent
+      (within q parent full) some,
+)
 true-within (Made address) few all w within is = tt
 true-within (Left node) few all w within is = (
   none_within (few (header_of node).address) (all (header_of node).address) (within (header_of node).address) is.0,
@@ -160,11 +168,13 @@ pub in_alike : (owner : ℕ) (full : Option Node) → addresses (keyed_in owner 
 in_alike owner None = refl
 in_alike owner (Some node) = children-alike node owner
 
-pub keyed_no_shared_block : (owner : ℕ) (full : Option Node) (parent at : ℕ) → times (keyed_in owner full) at (SharedBlock parent) ≡ 0
+pub keyed_no_shared_block : (owner : ℕ) (full : Option Node) (parent at : ℕ) → times (keyed_in owner full) at
+    (SharedBlock parent) ≡ 0
 keyed_no_shared_block owner None parent at = times-nil at (SharedBlock parent)
 keyed_no_shared_block owner (Some node) parent at = keyed-no_shared_block node owner parent at
 
-pub keyed_no_shared_data : (owner : ℕ) (full : Option Node) (parent at : ℕ) → times (keyed_in owner full) at (SharedData parent) ≡ 0
+pub keyed_no_shared_data : (owner : ℕ) (full : Option Node) (parent at : ℕ) → times (keyed_in owner full) at
+    (SharedData parent) ≡ 0
 keyed_no_shared_data owner None parent at = times-nil at (SharedData parent)
 keyed_no_shared_data owner (Some node) parent at = keyed-no_shared_data node owner parent at
 
@@ -178,7 +188,8 @@ pub shared_no_block : (full : Option Node) (tree at : ℕ) → times (shared_in 
 shared_no_block None tree at = times-nil at (KeyedBlock tree)
 shared_no_block (Some node) tree at = shared-no_block node tree at
 
-pub shared_no_data : (full : Option Node) (tree ino offset at : ℕ) → times (shared_in full) at (KeyedData tree ino offset) ≡ 0
+pub shared_no_data : (full : Option Node) (tree ino offset at : ℕ)
+    → times (shared_in full) at (KeyedData tree ino offset) ≡ 0
 shared_no_data None tree ino offset at = times-nil at (KeyedData tree ino offset)
 shared_no_data (Some node) tree ino offset at = shared-no_data node tree ino offset at
 
@@ -217,7 +228,8 @@ times_lost owner (Made address) q reference =
     times-nil q reference ∙ sym (keyed-none owner (losses (Made address)) q reference refl)
 times_lost owner (Left node) q reference = times-way owner (header_of node).address q reference
 
-pub times_come : (book : TreeRefs) (owner level : ℕ) (telling : Telling) (q : ℕ) (reference : Reference) → book.tree ≡ owner
+pub times_come : (book : TreeRefs) (owner level : ℕ) (telling : Telling) (q : ℕ) (reference : Reference) → book.tree
+    ≡ owner
     → times (ways_to (coming_of book level telling)) q reference ≡ keyed_ways owner (gains telling) q reference
 times_come book owner level (Copied node copy) q reference mine =
     ap (λ (tree : ℕ). times (way_to copy tree ∷ []) q reference) mine ∙ times-way owner copy q reference
@@ -241,7 +253,8 @@ pub what_come : (book : TreeRefs) (level : ℕ) (telling : Telling) (q : ℕ) �
     → IsNewNode book (what_comes (coming_of book level telling) q)
 what_come book level (Copied node copy) q some = record {
   level = (header_of node).level;
-  known = come_here copy q (record { bytes = book.nodesize; level = Some (header_of node).level; generation = book.next }) some;
+  known = come_here copy q
+      (record { bytes = book.nodesize; level = Some (header_of node).level; generation = book.next }) some;
 }
 what_come book level (Made address) q some = record {
   level = level;
@@ -251,11 +264,13 @@ what_come book level (Left node) q some = absurd (omega (arith, some))
 
 -- ---- cases
 
-copy_unmarked : (count : ℕ) (full : Bool) (by tree : ℕ) → count ≡ 1 → full ≡ false → copy_case count full by tree ≡ TakeOver
+copy_unmarked : (count : ℕ) (full : Bool) (by tree : ℕ) → count ≡ 1 → full ≡ false → copy_case count full by tree
+    ≡ TakeOver
 copy_unmarked count full by tree alone mark =
     ap (λ (n : ℕ). copy_case n full by tree) alone ∙ ap (λ (b : Bool). copy_case 1 b by tree) mark
 
-copy_marked : (count : ℕ) (full : Bool) (by tree : ℕ) → count ≡ 1 → full ≡ true → copy_case count full by tree ≡ TurnKeyed
+copy_marked : (count : ℕ) (full : Bool) (by tree : ℕ) → count ≡ 1 → full ≡ true → copy_case count full by tree
+    ≡ TurnKeyed
 copy_marked count full by tree alone mark =
     ap (λ (n : ℕ). copy_case n full by tree) alone ∙ ap (λ (b : Bool). copy_case 1 b by tree) mark
 
@@ -283,45 +298,77 @@ module _ (book : TreeRefs) where
 
   pub copies : (owner : ℕ) (node : Node) (copy : ℕ) (full : Option Node) → book.tree ≡ owner
       → references_to (book_of book.refs) (header_of node).address ≡ 1
-      → full_in (book_of book.refs (header_of node).address) ≡ is_some full → ((other : Node) → full ≡ Some other → other ≡ node)
+      → full_in (book_of book.refs (header_of node).address) ≡ is_some full
+      → ((other : Node) → full ≡ Some other → other ≡ node)
       → exchange_of book (Copied node copy)
-      ≡ record { full = None; gains = keyed_in owner full; losses = (way_to (header_of node).address owner ∷ []) ++ shared_in full }
+      ≡ record {
+        full = None;
+        gains = keyed_in owner full;
+        losses = (way_to (header_of node).address owner ∷ [])
+            ++ shared_in full;
+      }
   unfolding by_copy
   copies owner node copy None mine alone mark same =
       let case : copying_in (book_of book.refs) book.tree node ≡ TakeOver =
-      copy_unmarked (references_to (book_of book.refs) (header_of node).address) (full_in (book_of book.refs (header_of node).address))
+      copy_unmarked (references_to (book_of book.refs) (header_of node).address)
+      (full_in (book_of book.refs (header_of node).address))
       (owner_of (placed_by (book_of book.refs) node)) book.tree alone mark in
       ap (by_copy node) case
       ∙ ap (λ (tree : ℕ). record { full = None; gains = []; losses = way_to (header_of node).address tree ∷ [] }) mine
   copies owner node copy (Some other) mine alone mark same =
       let case : copying_in (book_of book.refs) book.tree node ≡ TurnKeyed =
-      copy_marked (references_to (book_of book.refs) (header_of node).address) (full_in (book_of book.refs (header_of node).address))
+      copy_marked (references_to (book_of book.refs) (header_of node).address)
+      (full_in (book_of book.refs (header_of node).address))
       (owner_of (placed_by (book_of book.refs) node)) book.tree alone mark in
       ap (by_copy node) case
-      ∙ ap (λ (tree : ℕ). record { full = None; gains = keyed_children node tree; losses = way_to (header_of node).address tree ∷ shared_children node }) mine
-      ∙ ap (λ (n : Node). record { full = None; gains = keyed_children n owner; losses = way_to (header_of node).address owner ∷ shared_children n }) (sym (same other refl))
+      ∙ ap (λ (tree : ℕ). record {
+        full = None;
+        gains = keyed_children node tree;
+        losses =
+            way_to (header_of node).address tree ∷ shared_children node;
+      }) mine
+      ∙ ap (λ (n : Node). record {
+        full = None;
+        gains = keyed_children n owner;
+        losses =
+            way_to (header_of node).address owner ∷ shared_children n;
+      }) (sym (same other refl))
 
-  pub leaves : (owner : ℕ) (node : Node) → book.tree ≡ owner → references_to (book_of book.refs) (header_of node).address ≡ 1
+  pub leaves : (owner : ℕ) (node : Node) → book.tree ≡ owner → references_to (book_of book.refs)
+      (header_of node).address ≡ 1
       → IsBare (Left node)
-      → exchange_of book (Left node) ≡ record { full = None; gains = []; losses = way_to (header_of node).address owner ∷ [] }
+      → exchange_of book (Left node) ≡ record {
+        full = None;
+        gains = [];
+        losses = way_to (header_of node).address owner
+            ∷ [];
+      }
   unfolding by_leaving
   leaves owner node mine alone bare =
       let case : leaving_in (book_of book.refs) book.tree node ≡ Goes =
-      left_alone (references_to (book_of book.refs) (header_of node).address) (full_in (book_of book.refs (header_of node).address))
+      left_alone (references_to (book_of book.refs) (header_of node).address)
+      (full_in (book_of book.refs (header_of node).address))
       (owner_of (placed_by (book_of book.refs) node)) book.tree alone in
       let nothing = owes_nothing (placed_by (book_of book.refs) node) bare.0 bare.1 in
       ap (by_leaving node) case
-      ∙ ap (λ (owed : List Owing). record { full = None; gains = []; losses = way_to (header_of node).address book.tree ∷ owed }) nothing
+      ∙ ap (λ (owed : List Owing). record {
+        full = None;
+        gains = [];
+        losses = way_to (header_of node).address book.tree
+            ∷ owed;
+      }) nothing
       ∙ ap (λ (tree : ℕ). record { full = None; gains = []; losses = way_to (header_of node).address tree ∷ [] }) mine
 
 -- ---- what is kept
 
-pub kept_nothing : (kept : Option Kept) → ((some : Kept) → kept ≡ Some some → 0 < length some.references) → length (references_in kept) ≡ 0
+pub kept_nothing : (kept : Option Kept) → ((some : Kept) → kept ≡ Some some → 0 < length some.references)
+    → length (references_in kept) ≡ 0
     → kept ≡ None
 kept_nothing None some none = refl
 kept_nothing (Some kept) some none = let least = some kept refl in absurd (omega (arith, least, none))
 
-pub kept_same : (old new : Option Kept) (come : Option What) → 0 < total (references_in old) → 0 < total (references_in new)
+pub kept_same : (old new : Option Kept) (come : Option What) → 0 < total (references_in old)
+    → 0 < total (references_in new)
     → ((kept : Kept) → new ≡ Some kept → option_or (what_in old) come ≡ Some kept.what) → what_in new ≡ what_in old
 kept_same None new come was is known = absurd (omega (arith, was))
 kept_same (Some old) None come was is known = absurd (omega (arith, is))
@@ -347,7 +394,8 @@ none_or_none (Some at) b first last = cc
 
 -- ---- a book that stands for ways and names
 
--- the references of a book are those by a count of ways, by names, and those that full nodes owe shared in place of keyed ones
+-- the references of a book are those by a count of ways, by names, and those that full nodes owe shared in place of
+-- keyed ones
 abbrev pub AreCounted : ℕ → List (ℕ × Piece) → List ℕ → Book → (ℕ → ℕ) → (ℕ → Option Node) → Type 0
 AreCounted owner names slots book w full = (at : ℕ) (reference : Reference)
     → count_at book at reference + keyed_sum slots owner full w at reference
@@ -374,26 +422,31 @@ pub record StandsFor (owner : ℕ) (names : List (ℕ × Piece)) (slots : List �
   pub marks : (q : ℕ) → 0 < w q → full_in (book_of book.refs q) ≡ is_some (full q)
   pub within : (q : ℕ) (node : Node) → full q ≡ Some node → full_first q ≡ Some node
   pub stays : (q : ℕ) → 0 < w q → Stays first ways full_first book full q
-  pub named : (at : ℕ) → 0 < many (names_of owner names) at → what_in (book_of book.refs at) ≡ what_in (book_of first.refs at)
+  pub named : (at : ℕ) → 0 < many (names_of owner names) at → what_in (book_of book.refs at)
+      ≡ what_in (book_of first.refs at)
 
 -- ---- sums of one kind
 
 module _ (slots : List ℕ) (full : ℕ → Option Node) (w : ℕ → ℕ) where
   pub sum_no_shared_block : (owner parent at : ℕ) → keyed_sum slots owner full w at (SharedBlock parent) ≡ 0
   sum_no_shared_block owner parent at =
-      over-none slots w (λ (s : ℕ). times (keyed_in owner (full s)) at (SharedBlock parent)) (λ s some. keyed_no_shared_block owner (full s) parent at)
+      over-none slots w (λ (s : ℕ). times (keyed_in owner (full s)) at (SharedBlock parent))
+      (λ s some. keyed_no_shared_block owner (full s) parent at)
 
   pub sum_no_shared_data : (owner parent at : ℕ) → keyed_sum slots owner full w at (SharedData parent) ≡ 0
   sum_no_shared_data owner parent at =
-      over-none slots w (λ (s : ℕ). times (keyed_in owner (full s)) at (SharedData parent)) (λ s some. keyed_no_shared_data owner (full s) parent at)
+      over-none slots w (λ (s : ℕ). times (keyed_in owner (full s)) at (SharedData parent))
+      (λ s some. keyed_no_shared_data owner (full s) parent at)
 
   pub sum_no_block : (tree at : ℕ) → shared_sum slots full w at (KeyedBlock tree) ≡ 0
   sum_no_block tree at =
-      over-none slots w (λ (s : ℕ). times (shared_in (full s)) at (KeyedBlock tree)) (λ s some. shared_no_block (full s) tree at)
+      over-none slots w (λ (s : ℕ). times (shared_in (full s)) at (KeyedBlock tree))
+      (λ s some. shared_no_block (full s) tree at)
 
   pub sum_no_data : (tree ino offset at : ℕ) → shared_sum slots full w at (KeyedData tree ino offset) ≡ 0
   sum_no_data tree ino offset at =
-      over-none slots w (λ (s : ℕ). times (shared_in (full s)) at (KeyedData tree ino offset)) (λ s some. shared_no_data (full s) tree ino offset at)
+      over-none slots w (λ (s : ℕ). times (shared_in (full s)) at (KeyedData tree ino offset))
+      (λ s some. shared_no_data (full s) tree ino offset at)
 
 -- ---- how many references there are in all
 
@@ -404,24 +457,30 @@ module _ (owner : ℕ) (names : List (ℕ × Piece)) (slots : List ℕ) where
   total-is book w full counts at =
       let keyed = IsCounted-sum (λ (s : ℕ) (r : Reference). w s * times (keyed_in owner (full s)) at r)
       (λ (s : ℕ). w s * many (keyed_in owner (full s)) at) slots
-      (λ s. IsCounted-over (w s) (λ (r : Reference). times (keyed_in owner (full s)) at r) (many (keyed_in owner (full s)) at)
+      (λ s. IsCounted-over (w s) (λ (r : Reference). times (keyed_in owner (full s)) at r)
+      (many (keyed_in owner (full s)) at)
       (IsCounted-times (keyed_in owner (full s)) at)) in
       let shared = IsCounted-sum (λ (s : ℕ) (r : Reference). w s * times (shared_in (full s)) at r)
       (λ (s : ℕ). w s * many (shared_in (full s)) at) slots
       (λ s. IsCounted-over (w s) (λ (r : Reference). times (shared_in (full s)) at r) (many (shared_in (full s)) at)
       (IsCounted-times (shared_in (full s)) at)) in
-      let left = IsCounted-plus (λ (r : Reference). count_at book at r) (λ (r : Reference). keyed_sum slots owner full w at r)
+      let left = IsCounted-plus (λ (r : Reference). count_at book at r)
+      (λ (r : Reference). keyed_sum slots owner full w at r)
       (total (references_at book at)) (over slots w (λ (s : ℕ). many (keyed_in owner (full s)) at))
       (IsCounted-list (references_at book at)) keyed in
-      let ways = IsCounted-plus (λ (r : Reference). keyed_ways owner w at r) (λ (r : Reference). times (names_of owner names) at r)
-      (w at) (many (names_of owner names) at) (IsCounted-keyed owner w at) (IsCounted-times (names_of owner names) at) in
+      let ways = IsCounted-plus (λ (r : Reference). keyed_ways owner w at r)
+      (λ (r : Reference). times (names_of owner names) at r)
+      (w at) (many (names_of owner names) at) (IsCounted-keyed owner w at)
+      (IsCounted-times (names_of owner names) at) in
       let right = IsCounted-plus (λ (r : Reference). keyed_ways owner w at r + times (names_of owner names) at r)
       (λ (r : Reference). shared_sum slots full w at r) (w at + many (names_of owner names) at)
       (over slots w (λ (s : ℕ). many (shared_in (full s)) at)) ways shared in
       let same = IsCounted-same (λ (r : Reference). count_at book at r + keyed_sum slots owner full w at r)
       (λ (r : Reference). keyed_ways owner w at r + times (names_of owner names) at r + shared_sum slots full w at r)
       (total (references_at book at) + over slots w (λ (s : ℕ). many (keyed_in owner (full s)) at))
-      (w at + many (names_of owner names) at + over slots w (λ (s : ℕ). many (shared_in (full s)) at)) left right (counts at) in
-      let alike = over-same slots w (λ (s : ℕ). many (keyed_in owner (full s)) at) (λ (s : ℕ). many (shared_in (full s)) at)
+      (w at + many (names_of owner names) at + over slots w (λ (s : ℕ). many (shared_in (full s)) at)) left right
+      (counts at) in
+      let alike = over-same slots w (λ (s : ℕ). many (keyed_in owner (full s)) at)
+      (λ (s : ℕ). many (shared_in (full s)) at)
       (λ s some. many-alike (keyed_in owner (full s)) (shared_in (full s)) (in_alike owner (full s)) at) in
       omega (arith, same, alike)

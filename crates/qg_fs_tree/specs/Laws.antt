@@ -9,5 +9,6 @@ use Rattle.qg_fs_tree.specs.Standing.{Stands}
 
 -- the order of names doesn't matter
 abbrev pub StandsInAnotherOrder : Type 0
-StandsInAnotherOrder = (fs : FsTree) (history : Option (List Event)) (items : List Item) (names others : List (ℕ × Piece))
+StandsInAnotherOrder = (fs : FsTree) (history : Option (List Event)) (items : List Item)
+    (names others : List (ℕ × Piece))
     → IsPermutation names others → Stands fs history items names → Stands fs history items others

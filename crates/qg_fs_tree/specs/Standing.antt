@@ -1,4 +1,5 @@
--- A subvolume's tree and the references that it owes (on-disk format, "B-tree" and "backreferences"; how they stand together is this
+-- A subvolume's tree and the references that it owes (on-disk format, "B-tree" and "backreferences"; how they stand
+-- together is this
 -- project's own). Addresses are in bytes.
 use Rattle.std.specs.Prelude.{◌≡◌, ◌⊎◌, ◌↔◌, ⊤, ℕ, ◌+◌, ◌≤◌, false, List, [], ◌∷◌, map, Option, Some, None, IsSome, IsTrue, Contains, nat_lt, if◌then◌else◌}
 use Rattle.std.specs.List.{All, count_by, filter_map, range_with_len}
@@ -61,7 +62,8 @@ every_slot sizes = map (slot_at sizes) (range_with_len 0 sizes.slots)
 abbrev pub placed_at : FsTree → Option (List Event) → ℕ → Option (ℕ × Placed)
 placed_at fs history at =
     if nat_lt 0 (ways (nodes_of fs history) fs.tree.height fs.tree.address at)
-    then option_map (λ node. (at, record { node = node; full = full_in (book_of fs.refs.refs at) })) (nodes_of fs history at) else None
+    then option_map (λ node. (at, record { node = node; full = full_in (book_of fs.refs.refs at) }))
+    (nodes_of fs history at) else None
 
 -- the tree as a layout of its own: its root, and the nodes that it reaches, slot by slot
 unfoldable pub layout_in : FsTree → Option (List Event) → Layout
@@ -95,7 +97,8 @@ names_times owner names at reference = times (map (name_of owner) names) at refe
 pub record IsKnownExtent (sizes : Sizes) (book : Book) (piece : Piece) : Type 0 where
   pub lies : IsTrue (is_run sizes piece.extent piece.extent_bytes)
   pub generation : ℕ
-  pub known : what_in (book piece.extent) ≡ Some (record { bytes = piece.extent_bytes; level = None; generation = generation })
+  pub known : what_in (book piece.extent)
+      ≡ Some (record { bytes = piece.extent_bytes; level = None; generation = generation })
 
 -- a book of references is one of a tree that lies in an image
 pub record IsBookOf (fs : FsTree) : Type 0 where
@@ -103,28 +106,35 @@ pub record IsBookOf (fs : FsTree) : Type 0 where
   pub next : fs.refs.next ≡ fs.tree.next
   pub nodesize : fs.refs.nodesize ≡ fs.land.space.sizes.nodesize
 
--- The tree has these items. No node is shared: one reference is kept to each, and one that is not full was made by the subvolume. A fresh
--- node is not full. What is kept is what the tree owes, but that these pieces stand for those of the items: in the midst of a command some
--- are named still, or not yet. None is named more often than a reference is counted. Each node lies in a slot, and the runs that are taken
+-- The tree has these items. No node is shared: one reference is kept to each, and one that is not full was made by the
+-- subvolume. A fresh
+-- node is not full. What is kept is what the tree owes, but that these pieces stand for those of the items: in the
+-- midst of a command some
+-- are named still, or not yet. None is named more often than a reference is counted. Each node lies in a slot, and the
+-- runs that are taken
 -- are the extents of these pieces
-pub record Stands (fs : FsTree) (history : Option (List Event)) (items : List Item) (names : List (ℕ × Piece)) : Type 0 where
-  pub book : IsBookOf fs
-  pub rooted : IsRooted Files fs.tree fs.land history items
-  pub placed : (q : ℕ) → IsReached fs history q → IsTrue (is_slot fs.land.space.sizes q)
-  pub alone : (q : ℕ) → IsReached fs history q → references_to (book_of fs.refs.refs) q ≡ 1
-  pub home : (q : ℕ) (node : Node) → IsReached fs history q → nodes_of fs history q ≡ Some node
-      → full_in (book_of fs.refs.refs q) ≡ false → (header_of node).owner ≡ fs.tree.owner
-  pub young : (q : ℕ) → IsReached fs history q → IsSome (fresh_at fs.land.blocks.draft q) → full_in (book_of fs.refs.refs q) ≡ false
-  pub fits : fs.refs.misfit ≡ None
-  pub counts : (at : ℕ) (reference : Reference)
-      → count_at (book_of fs.refs.refs) at reference + names_times fs.tree.owner (filter_map name_told items) at reference
-      ≡ owed_count (layout_in fs history) at reference + names_times fs.tree.owner names at reference
-  pub few : (at : ℕ) (reference : Reference) → names_times fs.tree.owner names at reference ≤ 4294967295
-  pub settled : IsSettled fs.refs fs.land history
-  pub known : All (λ name. IsKnownExtent fs.land.space.sizes (book_of fs.refs.refs) name.1) names
-  pub runs : (run : Element) → Contains fs.land.space.runs run ↔ Contains (map (λ name. extent_of name.1) names) run
+pub record Stands (fs : FsTree) (history : Option (List Event)) (items : List Item) (names : List (ℕ × Piece)) : Type 0
+  where
+    pub book : IsBookOf fs
+    pub rooted : IsRooted Files fs.tree fs.land history items
+    pub placed : (q : ℕ) → IsReached fs history q → IsTrue (is_slot fs.land.space.sizes q)
+    pub alone : (q : ℕ) → IsReached fs history q → references_to (book_of fs.refs.refs) q ≡ 1
+    pub home : (q : ℕ) (node : Node) → IsReached fs history q → nodes_of fs history q ≡ Some node
+        → full_in (book_of fs.refs.refs q) ≡ false → (header_of node).owner ≡ fs.tree.owner
+    pub young : (q : ℕ) → IsReached fs history q → IsSome (fresh_at fs.land.blocks.draft q)
+        → full_in (book_of fs.refs.refs q) ≡ false
+    pub fits : fs.refs.misfit ≡ None
+    pub counts : (at : ℕ) (reference : Reference)
+        → count_at (book_of fs.refs.refs) at reference + names_times fs.tree.owner (filter_map name_told items) at
+        reference
+        ≡ owed_count (layout_in fs history) at reference + names_times fs.tree.owner names at reference
+    pub few : (at : ℕ) (reference : Reference) → names_times fs.tree.owner names at reference ≤ 4294967295
+    pub settled : IsSettled fs.refs fs.land history
+    pub known : All (λ name. IsKnownExtent fs.land.space.sizes (book_of fs.refs.refs) name.1) names
+    pub runs : (run : Element) → Contains fs.land.space.runs run ↔ Contains (map (λ name. extent_of name.1) names) run
 
--- What an edit makes of a tree and the nodes: what it reaches it reached before, or lies in a slot that was free; only these are told
+-- What an edit makes of a tree and the nodes: what it reaches it reached before, or lies in a slot that was free; only
+-- these are told
 -- otherwise, and only slots that were free or reached are free
 pub record Moves (old new : FsTree) (history : Option (List Event)) : Type 0 where
   pub reach : (q : ℕ) → IsReached new history q → IsReached old history q ⊎ IsTrue (is_free_slot old.land.space q)
@@ -149,7 +159,8 @@ unfoldable pub taken_slots : Holding → ℕ
 taken_slots holding = count_by (has_slot holding) (every_slot holding.sizes)
 
 -- an edit left the tree with these items, and the same names; of slots it took at most so many more than it gave back
-pub record IsEditedTo (old new : FsTree) (history : Option (List Event)) (items : List Item) (names : List (ℕ × Piece)) (most : ℕ) : Type 0 where
+pub record IsEditedTo (old new : FsTree) (history : Option (List Event)) (items : List Item) (names : List (ℕ × Piece))
+    (most : ℕ) : Type 0 where
   pub stands : Stands new history items names
   pub moves : Moves old new history
   pub few : taken_slots new.land.space ≤ taken_slots old.land.space + most

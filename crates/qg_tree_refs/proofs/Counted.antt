@@ -44,7 +44,8 @@ without x (y ∷ ys) some = elim (cases_Bool (same_reference x y)) [
       record {
         rest = ys;
         shorter = refl;
-        counts = λ reference. among-cons reference y ys ∙ ap (λ (z : Reference). one_of reference z + among reference ys) (sym is);
+        counts = λ reference. among-cons reference y ys
+            ∙ ap (λ (z : Reference). one_of reference z + among reference ys) (sym is);
       }
   | inr differs ↦
       let none : one_of x y ≡ 0 = cond-false _ _ _ differs in
@@ -165,7 +166,8 @@ either_few false n = omega arith
 pub counted-most : (reference : Reference) (entry : Counted) → counted reference entry ≤ entry.count
 counted-most reference entry = either_few (same_reference reference entry.reference) entry.count
 
-pub total-cons : (entry : Counted) (references : List Counted) → total (entry ∷ references) ≡ entry.count + total references
+pub total-cons : (entry : Counted) (references : List Counted) → total (entry ∷ references)
+    ≡ entry.count + total references
 total-cons entry references = sum_by-cons (λ (e : Counted). e.count) entry references
 
 pub IsCounted-list : (references : List Counted) → IsCounted (count_of references) (total references)
@@ -185,7 +187,8 @@ IsCounted-list (entry ∷ references) =
 abbrev pub many : List Owing → ℕ → ℕ
 many owings at = length (those_at owings at)
 
-pub IsCounted-times : (owings : List Owing) (at : ℕ) → IsCounted (λ reference. times owings at reference) (many owings at)
+pub IsCounted-times : (owings : List Owing) (at : ℕ) → IsCounted (λ reference. times owings at reference)
+    (many owings at)
 unfolding times
 IsCounted-times owings at = record { listed = those_at owings at; counts = λ reference. refl; many = refl }
 
@@ -203,11 +206,14 @@ IsCounted-sum {A} f n (x ∷ xs) each =
     (each x) (IsCounted-sum f n xs each))
 
 -- so many times over
-pub IsCounted-over : (k : ℕ) (f : Reference → ℕ) (n : ℕ) → IsCounted f n → IsCounted (λ reference. k * f reference) (k * n)
+pub IsCounted-over : (k : ℕ) (f : Reference → ℕ) (n : ℕ) → IsCounted f n → IsCounted (λ reference. k * f reference)
+    (k * n)
 IsCounted-over zero f n whole =
-    IsCounted-as (λ (reference : Reference). 0) (λ (reference : Reference). 0 * f reference) 0 (0 * n) (λ reference. omega arith) (omega arith)
+    IsCounted-as (λ (reference : Reference). 0) (λ (reference : Reference). 0 * f reference) 0 (0 * n)
+    (λ reference. omega arith) (omega arith)
     (IsCounted-none (λ (reference : Reference). 0) (λ reference. refl))
 IsCounted-over (suc k) f n whole =
-    IsCounted-as (λ (reference : Reference). f reference + k * f reference) (λ (reference : Reference). suc k * f reference)
+    IsCounted-as (λ (reference : Reference). f reference + k * f reference)
+    (λ (reference : Reference). suc k * f reference)
     (n + k * n) (suc k * n) (λ reference. omega arith) (omega arith)
     (IsCounted-plus f (λ (reference : Reference). k * f reference) n (k * n) whole (IsCounted-over k f n whole))

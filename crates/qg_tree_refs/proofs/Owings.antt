@@ -31,7 +31,8 @@ pub times-cons : (x : Owing) (xs : List Owing) (at : ℕ) (reference : Reference
 times-cons x xs at reference = times-append (x ∷ []) xs at reference
 
 -- one has no reference but its own
-pub times-few : (x : Owing) (at : ℕ) (reference : Reference) → times (x ∷ []) at reference ≤ one_of reference x.reference
+pub times-few : (x : Owing) (at : ℕ) (reference : Reference) → times (x ∷ []) at reference
+    ≤ one_of reference x.reference
 times-few x at reference = elim (eqb_tells x.address at) [
   | inl (equal, same) ↦ let here = times_here x at reference same in omega (arith, here)
   | inr (unequal, differ) ↦ let none = times_there x at reference differ in omega (arith, none)
@@ -64,12 +65,14 @@ length_more : (here : Bool) (reference : Reference) (rest : List Reference)
 length_more true reference rest = omega arith
 length_more false reference rest = omega arith
 
-pub many-cons : (x : Owing) (xs : List Owing) (at : ℕ) → many (x ∷ xs) at ≡ (if x.address == at then 1 else 0) + many xs at
+pub many-cons : (x : Owing) (xs : List Owing) (at : ℕ) → many (x ∷ xs) at ≡ (if x.address == at then 1 else 0) + many
+    xs at
 many-cons x xs at = length_more (x.address == at) x.reference (those_at xs at)
 
 pub many-append : (xs ys : List Owing) (at : ℕ) → many (xs ++ ys) at ≡ many xs at + many ys at
 many-append xs ys at =
-    ap (λ (rs : List Reference). length rs) (filter_map-append (λ (owing : Owing). if owing.address == at then Some owing.reference else None) xs ys)
+    ap (λ (rs : List Reference). length rs)
+    (filter_map-append (λ (owing : Owing). if owing.address == at then Some owing.reference else None) xs ys)
     ∙ length-append (those_at xs at) (those_at ys at)
 
 -- two lists lead to the same addresses, one by one
@@ -117,11 +120,13 @@ shared_pointers header pointers = map (λ pointer. owed_to_child header true poi
 abbrev shared_items : Header → List Item → List Owing
 shared_items header items = flat_map (λ item. owed_by_part header true (file_part item)) items
 
-shared_parts : (node : Node) → shared_children node ≡ shared_pointers (header_of node) (own_pointers node) ++ shared_items (header_of node) (own_items node)
+shared_parts : (node : Node) → shared_children node ≡ shared_pointers (header_of node) (own_pointers node)
+    ++ shared_items (header_of node) (own_items node)
 unfolding owed_by_node
 shared_parts node = refl
 
-pointers_have_not : (header : Header) (reference : Reference) → ((at : ℕ) → one_of reference (SharedBlock header.address) ≡ 0)
+pointers_have_not : (header : Header) (reference : Reference)
+    → ((at : ℕ) → one_of reference (SharedBlock header.address) ≡ 0)
     → (pointers : List Pointer) → HaveNot reference (shared_pointers header pointers)
 pointers_have_not header reference differs [] at = times-nil at reference
 pointers_have_not header reference differs (pointer ∷ pointers) at =
@@ -129,39 +134,48 @@ pointers_have_not header reference differs (pointer ∷ pointers) at =
     (pointers_have_not header reference differs pointers) at
 
 part_has_not : (header : Header) (reference : Reference) → one_of reference (SharedData header.address) ≡ 0
-    → (part : Option FilePart) (owed : List Owing) → HaveNot reference owed → HaveNot reference (owed_by_part header true part ++ owed)
+    → (part : Option FilePart) (owed : List Owing) → HaveNot reference owed
+    → HaveNot reference (owed_by_part header true part ++ owed)
 part_has_not header reference differs None owed none at = none at
 part_has_not header reference differs (Some (Inode ino inode)) owed none at = none at
 part_has_not header reference differs (Some (PieceOf ino piece)) owed none at =
-    have-not-more reference (record { address = piece.extent; reference = SharedData header.address }) owed differs none at
+    have-not-more reference (record { address = piece.extent; reference = SharedData header.address }) owed differs
+    none at
 
 items_have_not : (header : Header) (reference : Reference) → one_of reference (SharedData header.address) ≡ 0
     → (items : List Item) → HaveNot reference (shared_items header items)
 items_have_not header reference differs [] at = times-nil at reference
 items_have_not header reference differs (item ∷ items) at =
-    ap (λ (owed : List Owing). times owed at reference) (flat_map-cons (λ (i : Item). owed_by_part header true (file_part i)) item items)
-    ∙ part_has_not header reference differs (file_part item) (shared_items header items) (items_have_not header reference differs items) at
+    ap (λ (owed : List Owing). times owed at reference)
+    (flat_map-cons (λ (i : Item). owed_by_part header true (file_part i)) item items)
+    ∙ part_has_not header reference differs (file_part item) (shared_items header items)
+    (items_have_not header reference differs items) at
 
 shared_has_not : (node : Node) (reference : Reference) → one_of reference (SharedBlock (header_of node).address) ≡ 0
     → one_of reference (SharedData (header_of node).address) ≡ 0 → HaveNot reference (shared_children node)
 shared_has_not node reference block piece at =
     ap (λ (owed : List Owing). times owed at reference) (shared_parts node)
-    ∙ have_not_both reference (shared_pointers (header_of node) (own_pointers node)) (shared_items (header_of node) (own_items node))
-    (pointers_have_not (header_of node) reference (λ q. block) (own_pointers node)) (items_have_not (header_of node) reference piece (own_items node)) at
+    ∙ have_not_both reference (shared_pointers (header_of node) (own_pointers node))
+    (shared_items (header_of node) (own_items node))
+    (pointers_have_not (header_of node) reference (λ q. block) (own_pointers node))
+    (items_have_not (header_of node) reference piece (own_items node)) at
 
 -- none is keyed
 pub shared-no_block : (node : Node) (tree at : ℕ) → times (shared_children node) at (KeyedBlock tree) ≡ 0
 shared-no_block node tree at = shared_has_not node (KeyedBlock tree) refl refl at
 
-pub shared-no_data : (node : Node) (tree ino offset at : ℕ) → times (shared_children node) at (KeyedData tree ino offset) ≡ 0
+pub shared-no_data : (node : Node) (tree ino offset at : ℕ) → times (shared_children node) at
+    (KeyedData tree ino offset) ≡ 0
 shared-no_data node tree ino offset at = shared_has_not node (KeyedData tree ino offset) refl refl at
 
 -- ---- both lead to the same children
 
 pointers_alike : (header other : Header) (pointers : List Pointer)
-    → addresses (map (λ pointer. owed_to_child other false pointer.child) pointers) ≡ addresses (shared_pointers header pointers)
+    → addresses (map (λ pointer. owed_to_child other false pointer.child) pointers)
+    ≡ addresses (shared_pointers header pointers)
 pointers_alike header other [] = refl
-pointers_alike header other (pointer ∷ pointers) = ap (λ (rest : List ℕ). pointer.child ∷ rest) (pointers_alike header other pointers)
+pointers_alike header other (pointer ∷ pointers) = ap (λ (rest : List ℕ). pointer.child ∷ rest)
+    (pointers_alike header other pointers)
 
 part_alike : (header other : Header) (part : Option FilePart) (xs ys : List Owing) → addresses xs ≡ addresses ys
     → addresses (owed_by_part other false part ++ xs) ≡ addresses (owed_by_part header true part ++ ys)
@@ -170,22 +184,26 @@ part_alike header other (Some (Inode ino inode)) xs ys same = same
 part_alike header other (Some (PieceOf ino piece)) xs ys same = ap (λ (rest : List ℕ). piece.extent ∷ rest) same
 
 items_alike : (header other : Header) (items : List Item)
-    → addresses (flat_map (λ item. owed_by_part other false (file_part item)) items) ≡ addresses (shared_items header items)
+    → addresses (flat_map (λ item. owed_by_part other false (file_part item)) items)
+    ≡ addresses (shared_items header items)
 items_alike header other [] = refl
 items_alike header other (item ∷ items) =
     ap addresses (flat_map-cons (λ (i : Item). owed_by_part other false (file_part i)) item items)
-    ∙ part_alike header other (file_part item) (flat_map (λ (i : Item). owed_by_part other false (file_part i)) items) (shared_items header items)
+    ∙ part_alike header other (file_part item) (flat_map (λ (i : Item). owed_by_part other false (file_part i)) items)
+    (shared_items header items)
     (items_alike header other items)
     ∙ sym (ap addresses (flat_map-cons (λ (i : Item). owed_by_part header true (file_part i)) item items))
 
-append_alike : (xs ys zs ws : List Owing) → addresses xs ≡ addresses zs → addresses ys ≡ addresses ws → addresses (xs ++ ys) ≡ addresses (zs ++ ws)
+append_alike : (xs ys zs ws : List Owing) → addresses xs ≡ addresses zs → addresses ys ≡ addresses ws
+    → addresses (xs ++ ys) ≡ addresses (zs ++ ws)
 append_alike xs ys zs ws first last =
     map-append (λ (owing : Owing). owing.address) xs ys
     ∙ ap (λ (front : List ℕ). front ++ addresses ys) first
     ∙ ap (λ (back : List ℕ). addresses zs ++ back) last
     ∙ sym (map-append (λ (owing : Owing). owing.address) zs ws)
 
-pub children-alike : (node : Node) (owner : ℕ) → addresses (keyed_children node owner) ≡ addresses (shared_children node)
+pub children-alike : (node : Node) (owner : ℕ) → addresses (keyed_children node owner)
+    ≡ addresses (shared_children node)
 children-alike node owner =
     let header : Header = record (header_of node) { owner = owner } in
     ap addresses (sym (keyed-under header node owner refl))

@@ -46,7 +46,8 @@ both_same true b there back = sym (there refl)
 both_same false true there back = back refl
 both_same false false there back = refl
 
-slots_as : (a b : Holding) (q : ℕ) → (Contains a.slots q → Contains b.slots q) → (Contains b.slots q → Contains a.slots q)
+slots_as : (a b : Holding) (q : ℕ) → (Contains a.slots q → Contains b.slots q)
+    → (Contains b.slots q → Contains a.slots q)
     → has_slot a q ≡ has_slot b q
 slots_as a b q there back =
     both_same (has_slot a q) (has_slot b q)
@@ -55,9 +56,11 @@ slots_as a b q there back =
 
 pub slot-taken : (old new : Holding) (now : ℕ) → new.slots ≡ with_number now old.slots → has_slot new now ≡ true
 slot-taken old new now is =
-    (Contains-has_slot new now).1 (subst (λ (list : List ℕ). Contains list now) (sym is) ((Contains-with_number now old.slots now).1 (inl refl)))
+    (Contains-has_slot new now).1
+    (subst (λ (list : List ℕ). Contains list now) (sym is) ((Contains-with_number now old.slots now).1 (inl refl)))
 
-pub slot-beside : (old new : Holding) (now q : ℕ) → new.slots ≡ with_number now old.slots → q ≢ now → has_slot new q ≡ has_slot old q
+pub slot-beside : (old new : Holding) (now q : ℕ) → new.slots ≡ with_number now old.slots → q ≢ now → has_slot new q
+    ≡ has_slot old q
 slot-beside old new now q is differ =
     slots_as new old q
     (λ has. elim ((Contains-with_number now old.slots q).0 (subst (λ (list : List ℕ). Contains list q) is has)) [
@@ -69,16 +72,19 @@ slot-beside old new now q is differ =
 pub slot-given : (old new : Holding) (at : ℕ) → new.slots ≡ without_slot at old.slots → has_slot new at ≡ false
 slot-given old new at is = elim (cases_Bool (has_slot new at)) [
   | inl has ↦
-      let there = (Contains-without_slot at old.slots at).0 (subst (λ (list : List ℕ). Contains list at) is ((Contains-has_slot new at).0 has)) in
+      let there = (Contains-without_slot at old.slots at).0
+      (subst (λ (list : List ℕ). Contains list at) is ((Contains-has_slot new at).0 has)) in
       absurd (there.1 refl)
   | inr none ↦ none
 ]
 
-pub slot-left : (old new : Holding) (at q : ℕ) → new.slots ≡ without_slot at old.slots → q ≢ at → has_slot new q ≡ has_slot old q
+pub slot-left : (old new : Holding) (at q : ℕ) → new.slots ≡ without_slot at old.slots → q ≢ at → has_slot new q
+    ≡ has_slot old q
 slot-left old new at q is differ =
     slots_as new old q
     (λ has. ((Contains-without_slot at old.slots q).0 (subst (λ (list : List ℕ). Contains list q) is has)).0)
-    (λ has. subst (λ (list : List ℕ). Contains list q) (sym is) ((Contains-without_slot at old.slots q).1 (has, differ)))
+    (λ has. subst (λ (list : List ℕ). Contains list q) (sym is)
+    ((Contains-without_slot at old.slots q).1 (has, differ)))
 
 -- ---- references
 
@@ -94,7 +100,8 @@ known_there : (kept : Option Kept) (what : What) → what_in kept ≡ Some what 
 known_there None what is = cc
 known_there (Some kept) what is = (kept, refl)
 
-nothing_there : (kept : Option Kept) → ((some : Kept) → kept ≡ Some some → 0 < length some.references) → length (references_in kept) ≡ 0
+nothing_there : (kept : Option Kept) → ((some : Kept) → kept ≡ Some some → 0 < length some.references)
+    → length (references_in kept) ≡ 0
     → kept ≡ None
 nothing_there None some none = refl
 nothing_there (Some kept) some none = let least = some kept refl in absurd (omega (arith, least, none))
@@ -103,7 +110,8 @@ or_known : (known come : Option What) → come ≡ None → option_or known come
 or_known None come none = none
 or_known (Some what) come none = refl
 
-module _ (old new : Book) (exchange : Exchange) (coming : Option Coming) (sound : IsBook old) (done : Exchanges old new exchange coming) where
+module _ (old new : Book) (exchange : Exchange) (coming : Option Coming) (sound : IsBook old)
+    (done : Exchanges old new exchange coming) where
   -- where no node comes, references lead only where they led
   pub led-before : (q : ℕ) → what_comes coming q ≡ None → 0 < references_to new q → 0 < references_to old q
   led-before q none some =
@@ -118,23 +126,28 @@ module _ (old new : Book) (exchange : Exchange) (coming : Option Coming) (sound 
   total_moved q =
       IsCounted-same (λ (r : Reference). count_at new q r + times exchange.losses q r)
       (λ (r : Reference). count_at old q r + times (ways_to coming ++ exchange.gains) q r)
-      (total (references_at new q) + many exchange.losses q) (total (references_at old q) + many (ways_to coming ++ exchange.gains) q)
+      (total (references_at new q) + many exchange.losses q)
+      (total (references_at old q) + many (ways_to coming ++ exchange.gains) q)
       (IsCounted-plus (λ (r : Reference). count_at new q r) (λ (r : Reference). times exchange.losses q r)
-      (total (references_at new q)) (many exchange.losses q) (IsCounted-list (references_at new q)) (IsCounted-times exchange.losses q))
-      (IsCounted-plus (λ (r : Reference). count_at old q r) (λ (r : Reference). times (ways_to coming ++ exchange.gains) q r)
+      (total (references_at new q)) (many exchange.losses q) (IsCounted-list (references_at new q))
+      (IsCounted-times exchange.losses q))
+      (IsCounted-plus (λ (r : Reference). count_at old q r)
+      (λ (r : Reference). times (ways_to coming ++ exchange.gains) q r)
       (total (references_at old q)) (many (ways_to coming ++ exchange.gains) q) (IsCounted-list (references_at old q))
       (IsCounted-times (ways_to coming ++ exchange.gains) q))
       (λ r. done.counts q r)
 
   -- and they lead still where no more is lost than gained
-  pub led-still : (q : ℕ) → many exchange.losses q ≤ many exchange.gains q → 0 < references_to old q → 0 < references_to new q
+  pub led-still : (q : ℕ) → many exchange.losses q ≤ many exchange.gains q → 0 < references_to old q
+      → 0 < references_to new q
   led-still q few some =
       let moved = total_moved q in
       let gained = many-append (ways_to coming) exchange.gains q in
       let least = length-total (references_at old q) (sound.sound q) in
       long_total (references_at new q) (omega (arith, moved, gained, least, few, some))
 
-  led_alike : (q m n : ℕ) → what_comes coming q ≡ None → many exchange.losses q ≤ many exchange.gains q → references_to new q ≡ m
+  led_alike : (q m n : ℕ) → what_comes coming q ≡ None → many exchange.losses q ≤ many exchange.gains q
+      → references_to new q ≡ m
       → references_to old q ≡ n → nat_lt 0 (references_to new q) ≡ nat_lt 0 (references_to old q)
   led_alike q zero zero none few now was = ap (λ (k : ℕ). nat_lt 0 k) (now ∙ sym was)
   led_alike q zero (suc n) none few now was =
@@ -158,7 +171,8 @@ module _ (old new : Book) (exchange : Exchange) (coming : Option Coming) (sound 
   pub unknown-gone : (q : ℕ) → references_to new q ≡ 0 → what_in (new q) ≡ None
   unknown-gone q none = ap what_in (nothing_there (new q) (λ kept there. done.book.some q kept there) none)
 
-  known_alike : (q m : ℕ) → what_comes coming q ≡ None → many exchange.losses q ≤ many exchange.gains q → references_to new q ≡ m
+  known_alike : (q m : ℕ) → what_comes coming q ≡ None → many exchange.losses q ≤ many exchange.gains q
+      → references_to new q ≡ m
       → what_in (new q) ≡ what_in (old q)
   known_alike q zero none few now =
       let was = nothing_before (references_to old q) refl in
@@ -169,7 +183,8 @@ module _ (old new : Book) (exchange : Exchange) (coming : Option Coming) (sound 
       nothing_before (suc n) is = let still = led-still q few (omega (arith, is)) in absurd (omega (arith, still, now))
   known_alike q (suc m) none few now = known-kept q none (omega (arith, now))
 
-  pub known-alike : (q : ℕ) → what_comes coming q ≡ None → many exchange.losses q ≤ many exchange.gains q → what_in (new q) ≡ what_in (old q)
+  pub known-alike : (q : ℕ) → what_comes coming q ≡ None → many exchange.losses q ≤ many exchange.gains q
+      → what_in (new q) ≡ what_in (old q)
   known-alike q none few = known_alike q (references_to new q) none few refl
 
 -- what comes, and where none does
@@ -185,7 +200,8 @@ come-elsewhere coming q differ = elim (eqb_tells q coming.address) [
   | inr (unequal, other) ↦ ap (λ (b : Bool). if b then Some coming.what else None) unequal
 ]
 
-module _ (old new : Book) (exchange : Exchange) (coming : Coming) (sound : IsBook old) (done : Exchanges old new exchange (Some coming))
+module _ (old new : Book) (exchange : Exchange) (coming : Coming) (sound : IsBook old)
+    (done : Exchanges old new exchange (Some coming))
     (lost : times exchange.losses coming.address (KeyedBlock coming.tree) ≡ 0) where
   -- a reference leads to the node that comes
   pub led-come : 0 < references_to new coming.address
@@ -202,7 +218,8 @@ module _ (old new : Book) (exchange : Exchange) (coming : Coming) (sound : IsBoo
       let none = nothing-kept old coming.address sound done.first in
       let kept = kept_there (new coming.address) led-come in
       ap what_in kept.1
-      ∙ sym (sym (ap (λ (k : Option Kept). option_or (what_in k) (what_comes (Some coming) coming.address)) none ∙ come-there coming)
+      ∙ sym (sym (ap (λ (k : Option Kept). option_or (what_in k) (what_comes (Some coming) coming.address)) none
+      ∙ come-there coming)
       ∙ done.known coming.address kept.0 kept.1)
 
 -- ---- a node that goes
@@ -245,7 +262,11 @@ module _ (book : Book) (old new : Ground) (at : ℕ) (let_go : IsLetGo book old 
   held-same = held_same (length (references_at book at)) refl
 
   -- and the node went
-  pub gone-there : length (references_at book at) ≡ 0 → (has_slot new.space at ≡ false) × (fresh_at new.blocks.draft at ≡ None)
+  pub gone-there : length (references_at book at) ≡ 0 → (has_slot new.space at ≡ false)
+      × (fresh_at new.blocks.draft at ≡ None)
   gone-there none =
-      let gone = let_go.goes (no_list (references_at book at) none) in
-      (slot-given old.space new.space at (ap (λ (h : Holding). h.slots) gone.1), none_first (fresh_at new.blocks.draft at) _ gone.0)
+      let gone = let_go.goes (no_list (references_at book at) none) in (
+        slot-given old.space new.space at (ap (λ (h : Holding). h.slots) gone.1),
+        none_first
+            (fresh_at new.blocks.draft at) _ gone.0,
+      )

@@ -32,7 +32,8 @@ pub record HasGone (book : TreeRefs) (land : Ground) (at : ℕ) : Type 0 where
   pub unknown : what_in (book_of book.refs at) ≡ None
   pub clean : fresh_at land.blocks.draft at ≡ None
 
--- it stayed: what is known, whether references lead there and whether its slot is taken is as it was, and it is fresh where it was, with
+-- it stayed: what is known, whether references lead there and whether its slot is taken is as it was, and it is fresh
+-- where it was, with
 -- the same level
 pub record HasStayed (before after : TreeRefs) (old new : Ground) (at : ℕ) : Type 0 where
   pub slot : has_slot new.space at ≡ has_slot old.space at
@@ -72,7 +73,8 @@ told-clean old new history q sizes first last =
 referred_as : (n m : ℕ) → nat_lt 0 n ≡ nat_lt 0 m → 0 < n → 0 < m
 referred_as n m same some = ltb-true 0 m (sym same ∙ lt-ltb 0 n some)
 
-module _ (before after : TreeRefs) (old new : Ground) (history : Option (List Event)) (settled : IsSettled before old history)
+module _ (before after : TreeRefs) (old new : Ground) (history : Option (List Event))
+    (settled : IsSettled before old history)
     (nodesize : after.nodesize ≡ before.nodesize) (next : after.next ≡ before.next)
     (sizes : new.space.sizes ≡ old.space.sizes) (node_sizes : new.blocks.draft.sizes ≡ old.blocks.draft.sizes)
     (held : new.space.held_slots ≡ old.space.held_slots)
@@ -111,8 +113,10 @@ module _ (before after : TreeRefs) (old new : Ground) (history : Option (List Ev
     | inr (inr stayed) ↦
         let was = stayed.fresh node there in
         stayed.known ∙ settled.fresh at was.0 was.1
-        ∙ ap (λ (n : ℕ). Some (record { bytes = n; level = Some (header_of was.0).level; generation = before.next })) (sym nodesize)
-        ∙ ap (λ (n : ℕ). Some (record { bytes = after.nodesize; level = Some (header_of was.0).level; generation = n })) (sym next)
+        ∙ ap (λ (n : ℕ). Some (record { bytes = n; level = Some (header_of was.0).level; generation = before.next }))
+        (sym nodesize)
+        ∙ ap (λ (n : ℕ). Some
+        (record { bytes = after.nodesize; level = Some (header_of was.0).level; generation = n })) (sym next)
         ∙ ap (λ (n : ℕ). Some (record { bytes = after.nodesize; level = Some n; generation = after.next })) was.2
   ]
     where
@@ -120,7 +124,8 @@ module _ (before after : TreeRefs) (old new : Ground) (history : Option (List Ev
       never wrong = cc
 
   newer_then : (at level : ℕ)
-      → what_in (book_of after.refs at) ≡ Some (record { bytes = after.nodesize; level = Some level; generation = after.next })
+      → what_in (book_of after.refs at)
+      ≡ Some (record { bytes = after.nodesize; level = Some level; generation = after.next })
       → IsSome (fresh_at new.blocks.draft at)
   newer_then at level known = elim (each at) [
     | inl came ↦ some_is (fresh_at new.blocks.draft at) came.mine came.here
@@ -131,10 +136,12 @@ module _ (before after : TreeRefs) (old new : Ground) (history : Option (List Ev
         ∙ ap (λ (n : ℕ). Some (record { bytes = before.nodesize; level = Some level; generation = n })) next))
   ]
     where
-      never : ◌≡◌ {A = Option What} None (Some (record { bytes = after.nodesize; level = Some level; generation = after.next })) → ⊥
+      never : ◌≡◌ {A = Option What} None
+          (Some (record { bytes = after.nodesize; level = Some level; generation = after.next })) → ⊥
       never wrong = cc
 
-  clean_then : (at : ℕ) (node : Node) → fresh_at new.blocks.draft at ≡ None → told new.blocks.draft history at ≡ Some node
+  clean_then : (at : ℕ) (node : Node) → fresh_at new.blocks.draft at ≡ None → told new.blocks.draft history at
+      ≡ Some node
       → 0 < references_to (book_of after.refs) at
       → what_in (book_of after.refs at) ≡ Some (what_of after.nodesize (header_of node).generation node)
   clean_then at node none there some = elim (each at) [
@@ -144,8 +151,11 @@ module _ (before after : TreeRefs) (old new : Ground) (history : Option (List Ev
         let was = none_if (fresh_at old.blocks.draft at) (fresh_at new.blocks.draft at) none stayed.still in
         stayed.known
         ∙ settled.clean at node was (sym (told-clean old new history at node_sizes was none) ∙ there)
-        (referred_as (references_to (book_of after.refs) at) (references_to (book_of before.refs) at) stayed.referred some)
-        ∙ ap (λ (n : ℕ). Some (record { bytes = n; level = Some (header_of node).level; generation = (header_of node).generation })) (sym nodesize)
+        (referred_as (references_to (book_of after.refs) at) (references_to (book_of before.refs) at) stayed.referred
+        some)
+        ∙ ap (λ (n : ℕ). Some
+        (record { bytes = n; level = Some (header_of node).level; generation = (header_of node).generation }))
+        (sym nodesize)
   ]
     where
       never : (mine : Node) → None ≡ Some mine → ⊥

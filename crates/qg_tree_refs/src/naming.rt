@@ -12,12 +12,7 @@ use qg_refs::{Reference, What};
 impl TreeRefs {
     /// One reference more to an extent of so many bytes, and whether it may be there once more; where not, nothing changes. Of an extent that
     /// has a reference already what is known stays.
-    pub fn name(
-        &mut self,
-        at: Address,
-        bytes: u64,
-        reference: Reference,
-    ) -> Result<bool, NoMemory>
+    pub fn name(&mut self, at: Address, bytes: u64, reference: Reference) -> Result<bool, NoMemory>
         ensures given { IfOk result (λ given. given ≡ true → Adds (book_of self.old.refs) (book_of self.new.refs) at
             (record { bytes = bytes; level = None; generation = self.old.next }) reference) }
         ensures room { IfOk result (λ given. given ≡ nat_lt (count_at (book_of self.old.refs) at reference) (greatest_count reference)) }
