@@ -3,5 +3,11 @@ pub mod Gains
 pub mod Losses
 pub mod Whole
 pub mod Keyed
+pub mod Counted
+pub mod Single
+pub mod Owings
 pub mod Stepping
 pub mod Going
+pub mod Settling
+pub mod Placing
+pub mod Keeping

@@ -12,26 +12,28 @@ use Rattle.qg_owed.specs.Told.{owings_told}
 use Rattle.qg_tree_refs.specs.declared.coming.Coming.{Coming}
 use Rattle.qg_tree_refs.specs.declared.tree_refs.TreeRefs.{TreeRefs}
 use Rattle.qg_tree_refs.specs.Exchange.{CanExchange, Exchange, Exchanges}
-use Rattle.qg_tree_refs.specs.Following.{Follows, IsProper, Step, coming_of, exchange_of}
+use Rattle.qg_tree_refs.specs.Following.{Follows, KeepsLevel, Step, coming_of, exchange_of}
 
 -- ---- one telling
 
 -- whether a telling is proper hangs on no level
-proper-level : (before : TreeRefs) (telling : Telling) (level : ℕ) → IsProper telling before
+proper-level : (before : TreeRefs) (telling : Telling) (level : ℕ)
+    → CanExchange (book_of before.refs) (exchange_of before telling) (coming_of before 0 telling)
     → CanExchange (book_of before.refs) (exchange_of before telling) (coming_of before level telling)
 proper-level before (Copied node copy) level can = can
 proper-level before (Made address) level can = record { there = can.there; room = can.room; first = can.first }
 proper-level before (Left node) level can = can
 
-pub Step-exchanged : (before after : TreeRefs) (telling : Telling) (refs : List (ℕ × Kept)) (level : ℕ)
+pub Step-at : (before after : TreeRefs) (telling : Telling) (refs : List (ℕ × Kept)) (level : ℕ)
     (misfit : Option ℕ) (exchange : Exchange) (coming : Option Coming)
     → exchange ≡ exchange_of before telling → coming ≡ coming_of before level telling
     → (misfit ≡ None → Exchanges (book_of before.refs) (book_of refs) exchange coming)
-    → (CanExchange (book_of before.refs) exchange coming → misfit ≡ None)
-    → after ≡ record before { refs = refs; misfit = option_or before.misfit misfit } → Step before telling after
-Step-exchanged before after telling refs level misfit exchange coming is comes done can noted =
+    → (CanExchange (book_of before.refs) exchange coming → KeepsLevel (book_of before.refs) telling → misfit ≡ None)
+    → after ≡ record before { refs = refs; misfit = option_or before.misfit misfit }
+    → (step : Step before telling after) × (step.level ≡ level)
+Step-at before after telling refs level misfit exchange coming is comes done can noted =
     let now : after.refs ≡ refs = ap (λ (book : TreeRefs). book.refs) noted in
-    record {
+    let step : Step before telling after = record {
       level = level;
       misfit = misfit;
       done = λ none.
@@ -44,11 +46,30 @@ Step-exchanged before after telling refs level misfit exchange coming is comes d
       proper = λ may.
           can (subst (λ (change : Exchange). CanExchange (book_of before.refs) change coming) (sym is)
           (subst (λ (some : Option Coming). CanExchange (book_of before.refs) (exchange_of before telling) some)
-          (sym comes) (proper-level before telling level may)));
+          (sym comes) (proper-level before telling level may.can))) may.level;
       noted =
           let first = option_or before.misfit misfit in
           noted ∙ ap (λ (table : List (ℕ × Kept)). record before { refs = table; misfit = first }) (sym now);
-    }
+    } in
+    (step, refl)
+
+pub Step-exchanged : (before after : TreeRefs) (telling : Telling) (refs : List (ℕ × Kept)) (level : ℕ)
+    (misfit : Option ℕ) (exchange : Exchange) (coming : Option Coming)
+    → exchange ≡ exchange_of before telling → coming ≡ coming_of before level telling
+    → (misfit ≡ None → Exchanges (book_of before.refs) (book_of refs) exchange coming)
+    → (CanExchange (book_of before.refs) exchange coming → KeepsLevel (book_of before.refs) telling → misfit ≡ None)
+    → after ≡ record before { refs = refs; misfit = option_or before.misfit misfit } → Step before telling after
+Step-exchanged before after telling refs level misfit exchange coming is comes done can noted =
+    (Step-at before after telling refs level misfit exchange coming is comes done can noted).0
+
+-- a misfit that was met before, or is
+pub or-none : (first last : Option ℕ) → option_or first last ≡ None → (first ≡ None) × (last ≡ None)
+or-none None last none = (refl, none)
+or-none (Some at) last none = let wrong : Some at ≡ None = none in cc
+
+pub none-or : (first last : Option ℕ) → first ≡ None → last ≡ None → option_or first last ≡ None
+none-or None last a b = b
+none-or (Some at) last a b = let wrong : Some at ≡ None = a in cc
 
 -- no node becomes full
 abbrev pub exchange_with : List Owing → List Owing → Exchange

@@ -204,6 +204,7 @@ module _ (old marked given begun new : Book) (exchange : Exchange) (coming : Opt
   -- what is gained and lost in all
   pub Exchanges-whole : Exchanges old new exchange coming
   Exchanges-whole = record {
+    book = is;
     counts = counts_whole;
     first = new_before old given coming more_given begins.first;
     known = λ at kept here.

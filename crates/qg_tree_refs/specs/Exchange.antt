@@ -9,7 +9,7 @@ use Rattle.qg_state.specs.Owed.{Owing}
 use Rattle.qg_cow.specs.Children.{way_to}
 use Rattle.qg_refs.specs.declared.kept.What.{What}
 use Rattle.qg_refs.specs.declared.kept.Kept.{Kept}
-use Rattle.qg_refs.specs.Book.{Book, count_at, full_in, what_in}
+use Rattle.qg_refs.specs.Book.{Book, IsBook, count_at, full_in, what_in}
 use Rattle.qg_refs.specs.Counts.{greatest_count}
 use Rattle.qg_owed.specs.Told.{owings_told}
 use Rattle.qg_tree_refs.specs.declared.coming.Coming.{Coming}
@@ -110,9 +110,10 @@ pub record CanExchange (book : Book) (exchange : Exchange) (coming : Option Comi
   pub room : CanGive book exchange.gains
   pub first : IsNew book coming
 
--- all is gained and lost, no reference else changes, and what has none is not kept. Of the node that comes there was
--- none before. What is kept of another is known as before; it is full where it was or becomes so
+-- what is left is a book: all is gained and lost, no reference else changes, and what has none is not kept. Of the node
+-- that comes there was none before. What is kept of another is known as before; it is full where it was or becomes so
 pub record Exchanges (old new : Book) (exchange : Exchange) (coming : Option Coming) : Type 0 where
+  pub book : IsBook new
   pub counts : (at : ℕ) (reference : Reference)
       → count_at new at reference + times exchange.losses at reference
       ≡ count_at old at reference + times (ways_to coming ++ exchange.gains) at reference

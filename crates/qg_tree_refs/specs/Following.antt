@@ -1,5 +1,5 @@
 -- What a subvolume's book makes of what its tree tells (this project's own). Addresses are in bytes.
-use Rattle.std.specs.Prelude.{◌≡◌, ℕ, ◌-◌, List, [], ◌∷◌, length, Option, Some, None}
+use Rattle.std.specs.Prelude.{◌≡◌, ⊤, ℕ, ◌-◌, Bool, false, ◌&&◌, not, List, [], ◌∷◌, length, Option, Some, None, ◌==◌, nat_lt, if◌then◌else◌, unwrap_or}
 use Rattle.qg_node.specs.declared.node.Node.{Node}
 use Rattle.qg_node.specs.Nodes.{header_of}
 use Rattle.qg_state.specs.State.{Placed}
@@ -11,10 +11,11 @@ use Rattle.qg_cow.specs.Children.{way_to}
 use Rattle.qg_cow.specs.Copying.{case_of, children_gain, copy_losses}
 use Rattle.qg_cow.specs.Left.{leaving_gains, leaving_losses}
 use Rattle.qg_cow.specs.Left.{case_of as leaving_case}
-use Rattle.std.specs.Option.{option_or}
+use Rattle.std.specs.Option.{option_map, option_or}
 use Rattle.qg_ground.specs.Tellings.{Telling}
 use Rattle.qg_ground.specs.Tellings.Telling.{Copied, Made, Left}
-use Rattle.qg_refs.specs.Book.{Book, full_in, references_at}
+use Rattle.qg_refs.specs.declared.kept.What.{What}
+use Rattle.qg_refs.specs.Book.{Book, full_in, references_at, what_in}
 use Rattle.qg_extents.specs.Table.{book_of}
 use Rattle.qg_tree_refs.specs.declared.coming.Coming.{Coming}
 use Rattle.qg_tree_refs.specs.declared.tree_refs.TreeRefs.{TreeRefs}
@@ -86,10 +87,29 @@ coming_of book level (Copied node copy) = Some (comes book copy (header_of node)
 coming_of book level (Made address) = Some (comes book address level)
 coming_of book level (Left node) = None
 
--- a book can do what it is told: the references that go are there, those that come may be there besides, and to a copy
--- or a node that was made there is none yet
-abbrev pub IsProper : Telling → TreeRefs → Type 0
-IsProper telling book = CanExchange (book_of book.refs) (exchange_of book telling) (coming_of book 0 telling)
+-- this level is known
+abbrev pub is_of_level : Option What → ℕ → Bool
+is_of_level None level = false
+is_of_level (Some what) level = unwrap_or (option_map (λ known. known == level) what.level) false
+
+-- a node's address where it has references besides one, so that it stays where it is left, and its level is not known
+abbrev pub other_level : Book → Node → Option ℕ
+other_level book node =
+    if nat_lt 1 (references_to book (header_of node).address)
+    && not (is_of_level (what_in (book (header_of node).address)) (header_of node).level)
+    then Some (header_of node).address else None
+
+-- a node that is left and stays is of the level that is known of it
+abbrev pub KeepsLevel : Book → Telling → Type 0
+KeepsLevel book (Copied node copy) = ⊤
+KeepsLevel book (Made address) = ⊤
+KeepsLevel book (Left node) = other_level book node ≡ None
+
+-- a book can do what it is told: the references that go are there, those that come may be there besides, to a copy or a
+-- node that was made there is none yet, and what stays is of the level that is known
+pub record IsProper (telling : Telling) (book : TreeRefs) : Type 0 where
+  pub can : CanExchange (book_of book.refs) (exchange_of book telling) (coming_of book 0 telling)
+  pub level : KeepsLevel (book_of book.refs) telling
 
 -- what a telling makes of a book: where no misfit is met it is done, and where it is proper none is met. The first
 -- misfit ever met is noted

@@ -62,6 +62,7 @@ fn let_go(refs: &Extents, land: &mut Ground, at: Address)
     ensures goes { references_at (book_of refs.now) at ≡ [] → (held_at land.new.blocks at ≡ None)
         × (land.new.space ≡ record land.old.space { slots = without_slot at land.old.space.slots }) }
     ensures gone { LetsGo land.old land.new at }
+    ensures sizes { land.new.blocks.draft.sizes ≡ land.old.blocks.draft.sizes }
     ensures gives { fresh_at land.old.blocks.draft at ≡ None → GivesBack land.old land.new at }
     ensures rests { (history : Option (List Event)) (generation : ℕ) → IsBacked land.old.blocks history
         → IsDrafted land.old generation → Rests land.old land.new history generation }

@@ -7,6 +7,7 @@ mod coming;
 mod exchange;
 mod giving;
 mod lists;
+mod naming;
 mod taking;
 mod tree_refs;
 

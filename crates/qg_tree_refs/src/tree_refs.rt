@@ -15,15 +15,16 @@ use qg_refs::What;
 /// A subvolume's book: what its tree tells becomes references in the book in memory (on-disk format, "backreferences").
 #[derive(Drop)]
 pub struct TreeRefs {
-    refs: Extents,
+    pub(crate) refs: Extents,
     tree: RootId,
     nodesize: u64,
-    next: Generation,
+    pub(crate) next: Generation,
     misfit: Option<Address>,
 }
 
 impl TreeRefs {
-    ghost use Rattle.qg_tree_refs.specs.Following.{Step, comes};
+    ghost use Rattle.qg_extents.specs.Table.{book_of};
+    ghost use Rattle.qg_tree_refs.specs.Following.{Step, comes, other_level};
 
     /// The book of the subvolume `tree`, whose nodes have so many bytes. Those that come are of the generation `next`.
     /// No misfit is noted.
@@ -95,7 +96,7 @@ impl TreeRefs {
 
     /// A node of a level was made.
     pub(crate) fn make(&mut self, at: Address, level: u8) -> Result<(), NoMemory>
-        ensures { OnOk result (Step self.old (Made at) self.new) }
+        ensures { OnOk result ((step : Step self.old (Made at) self.new) × (step.level ≡ level)) }
     {
         let alloc = self.refs.allocator();
         let lists = Lists {
@@ -109,13 +110,29 @@ impl TreeRefs {
         Ok(())
     }
 
+    /// A node's address, where references besides one lead to it, and its level is not known.
+    fn other_level(&self, node: &Node) -> Option<Address>
+        ensures { result ≡ other_level (book_of self.now.refs) node.now }
+    {
+        let at = node.header().address;
+        let known = match self.refs.known(at) {
+            Some(what) => what.level == Some(node.level()),
+            None => false,
+        };
+        if self.refs.how_many(at) > 1 && !known {
+            return Some(at);
+        }
+        None
+    }
+
     /// The node is reached no more.
     pub(crate) fn leave(&mut self, node: &Node) -> Result<(), NoMemory>
         ensures { OnOk result (Step self.old (Left node.now) self.new) }
     {
+        let level = self.other_level(node);
         let lists = lists_of_leaving(&self.refs, node, self.tree)?;
         let misfit = exchange(&mut self.refs, &lists, None)?;
-        self.note(misfit);
+        self.note(level.or(misfit));
         Ok(())
     }
 }

@@ -14,4 +14,4 @@ returns c =
     (c.comes-coming.ensures ∙ ap (λ (level : ℕ). comes self c.args.copy level) c.level.ensures) in
     Step-exchanged self c.note.new.self (Copied c.args.node.now c.args.copy) c.exchange.new.refs 0 c.in_ok-misfit.misfit
     (exchange_told c.in_ok-lists.lists) (Some c.comes-coming.result)
-    c.in_ok-lists.ensures.exact coming c.in_ok-misfit.ensures.done c.in_ok-misfit.ensures.proper c.note.ensures
+    c.in_ok-lists.ensures.exact coming c.in_ok-misfit.ensures.done (λ can level. c.in_ok-misfit.ensures.proper can) c.note.ensures

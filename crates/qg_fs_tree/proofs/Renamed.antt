@@ -1,0 +1,263 @@
+-- A tree that stands, once one address of its book and the runs that are taken have changed: it stands with other
+-- names.
+use Rattle.std.proofs.Common.{◌≡◌, ◌≢◌, ℕ, zero, suc, ◌+◌, ◌<◌, ◌≤◌, Bool, true, false, List, [], ◌∷◌, length, get_or, map, Option, Some, None, arith, refl, sym, ap, subst, ◌∙◌, inl, inr}
+use Rattle.std.specs.Prelude.{◌⊎◌, ◌↔◌, IsSome, IsTrue, Contains, is_some, nat_lt, if◌then◌else◌}
+use Rattle.std.specs.List.{All, filter_map}
+use Rattle.std.specs.Result.{result_ok}
+use Rattle.std.proofs.lemmas.Bool.{cases_Bool}
+use Rattle.std.proofs.lemmas.Bool.Decides.{eqb_tells}
+use Rattle.qg_device.specs.History.{Event, content}
+use Rattle.qg_num.specs.declared.piece.Piece.{Piece}
+use Rattle.qg_node.specs.declared.item.Item.{Item}
+use Rattle.qg_node.specs.declared.node.Node.{Node}
+use Rattle.qg_node.specs.Nodes.{header_of}
+use Rattle.qg_items.specs.declared.extent.Reference.{Reference}
+use Rattle.qg_super.specs.declared.sizes.Sizes.{Sizes}
+use Rattle.qg_super.specs.Places.{is_slot}
+use Rattle.qg_state.specs.declared.element.Element.{Element}
+use Rattle.qg_state.specs.Owed.{owed_count}
+use Rattle.qg_state.specs.Reach.{extent_of}
+use Rattle.qg_verdict.specs.declared.tree.Tree.TheVariants.{Files}
+use Rattle.qg_blocks.specs.Held.{Draft}
+use Rattle.qg_blocks.specs.Standing.{has_slot, standing}
+use Rattle.qg_blocks.specs.Told.{fresh_at, told, told_or}
+use Rattle.qg_space.specs.Holding.{Holding, free_slots, is_free_slot}
+use Rattle.qg_space.specs.Holding.{has_slot as has_taken}
+use Rattle.qg_ground.specs.declared.ground.Ground.{Ground}
+use Rattle.qg_ground.specs.Land.{IsDrafted}
+use Rattle.qg_refs.specs.declared.kept.What.{What}
+use Rattle.qg_refs.specs.declared.kept.Kept.{Kept}
+use Rattle.qg_refs.specs.Book.{count_at, full_in, references_in, what_in}
+use Rattle.qg_extents.specs.Table.{book_of}
+use Rattle.qg_descent.specs.Tree.{Reaches, Root}
+use Rattle.qg_tree_edits.specs.Counting.{one, ways}
+use Rattle.qg_tree_edits.specs.Rooting.{IsRooted}
+use Rattle.qg_tree_refs.specs.declared.tree_refs.TreeRefs.{TreeRefs}
+use Rattle.qg_tree_refs.specs.Following.{references_to}
+use Rattle.qg_tree_refs.specs.Settled.{IsSettled}
+use Rattle.qg_fs_tree.specs.declared.fs_tree.FsTree.{FsTree}
+use Rattle.qg_fs_tree.specs.Standing.{IsKnownExtent, IsReached, Stands, every_slot, layout_in, name_told, names_times, nodes_of}
+use Rattle.qg_fs_tree.proofs.Before.{placed, single}
+use Rattle.qg_fs_tree.proofs.Counts.{mark_of, slots_of, ways_in}
+use Rattle.qg_fs_tree.proofs.Layouts.{owed-is, owed_marked}
+use Rattle.qg_fs_tree.proofs.Keyed.{keyed_ways}
+use Rattle.qg_fs_tree.proofs.SlotSums.{over, over-alike, over-same}
+use Rattle.qg_tree_refs.specs.Exchange.{times}
+
+-- ---- nothing is told but at slots
+
+slot_alike : (a b : Sizes) (at : ℕ) → a.nodesize ≡ b.nodesize → a.slots ≡ b.slots → is_slot a at ≡ is_slot b at
+unfolding is_slot
+slot_alike a b at size slots = rw (size, slots) refl
+
+no_slot : (sizes : Sizes) (bytes at : ℕ) → is_slot sizes at ≡ false → has_slot sizes bytes at ≡ false
+unfolding has_slot
+no_slot sizes bytes at none = rw none refl
+
+nothing_stands : (sizes : Sizes) (image : List ℕ) (at : ℕ) → is_slot sizes at ≡ false
+    → result_ok (standing sizes image at) ≡ None
+unfolding standing
+nothing_stands sizes image at none = rw (no_slot sizes (length image) at none) refl
+
+nothing_told : (fresh : Option Node) (sizes : Sizes) (history : Option (List Event)) (at : ℕ) → fresh ≡ None
+    → is_slot sizes at ≡ false
+    → told_or fresh sizes history at ≡ None
+nothing_told None sizes None at none outside = refl
+nothing_told None sizes (Some events) at none outside = nothing_stands sizes (content events) at outside
+nothing_told (Some node) sizes history at none outside = cc
+
+pub told-slot : (land : Ground) (history : Option (List Event)) (generation : ℕ) → IsDrafted land generation
+    → (at : ℕ) (node : Node)
+    → told land.blocks.draft history at ≡ Some node → IsTrue (is_slot land.space.sizes at)
+unfolding told
+told-slot land history generation drafted at node is = elim (cases_Bool (is_slot land.space.sizes at)) [
+  | inl slot ↦ slot
+  | inr none ↦
+      let outside : is_slot land.blocks.draft.sizes at ≡ false =
+      slot_alike land.blocks.draft.sizes land.space.sizes at drafted.sizes.nodesize drafted.sizes.slots ∙ none in
+      from (fresh_at land.blocks.draft at) refl outside none
+] where
+  from : (o : Option Node) → fresh_at land.blocks.draft at ≡ o → is_slot land.blocks.draft.sizes at ≡ false
+      → is_slot land.space.sizes at ≡ false
+      → IsTrue (is_slot land.space.sizes at)
+  from None clean outside none =
+      let nothing = nothing_told (fresh_at land.blocks.draft at) land.blocks.draft.sizes history at clean outside in
+      let wrong : Some node ≡ None = sym is ∙ nothing in
+      absurd cc
+  from (Some mine) there outside none = (drafted.each at mine there).slot
+
+-- which runs are taken changes no slot
+pub free-runs : (holding : Holding) (runs : List Element) (q : ℕ) → is_free_slot (record holding { runs = runs }) q
+    ≡ is_free_slot holding q
+unfolding is_free_slot
+free-runs holding runs q = refl
+
+-- ---- one address of a book
+
+-- nothing is known of a node there
+abbrev pub IsNoNode : Option What → Type 0
+IsNoNode what = (bytes level generation : ℕ) → what
+    ≡ Some (record { bytes = bytes; level = Some level; generation = generation }) → ⊥
+
+module _ (old new : FsTree) (history : Option (List Event)) (items : List Item) (names names_new : List (ℕ × Piece))
+    (at : ℕ)
+    (stands : Stands old history items names) (drafted : IsDrafted old.land old.tree.next)
+    (tree : new.tree ≡ old.tree)
+    (land : new.land ≡ record old.land { space = record old.land.space { runs = new.land.space.runs } })
+    (refs : new.refs ≡ record old.refs { refs = new.refs.refs })
+    (elsewhere : (other : ℕ) → other ≢ at → book_of new.refs.refs other ≡ book_of old.refs.refs other)
+    (outside : IsTrue (is_slot old.land.space.sizes at) → ⊥) (no_node : IsNoNode (what_in (book_of new.refs.refs at)))
+  where
+    sizes : new.land.space.sizes ≡ old.land.space.sizes
+    sizes = ap (λ (l : Ground). l.space.sizes) land
+
+    nodes : (q : ℕ) → nodes_of new history q ≡ nodes_of old history q
+    nodes q = ap (λ (l : Ground). told l.blocks.draft history q) land
+
+    slot_there : (q : ℕ) → IsTrue (is_slot old.land.space.sizes q) → q ≢ at
+    slot_there q slot same = outside (subst (λ (a : ℕ). IsTrue (is_slot old.land.space.sizes a)) same slot)
+
+    same_there : (q : ℕ) → IsTrue (is_slot old.land.space.sizes q) → book_of new.refs.refs q ≡ book_of old.refs.refs q
+    same_there q slot = elsewhere q (slot_there q slot)
+
+    reach_same : (q : ℕ) → IsReached new history q → IsReached old history q
+    reach_same q reaches =
+        subst (λ (r : Root). Reaches (nodes_of old history) r.height r.address q) tree
+        (subst (λ (l : Ground). Reaches (told l.blocks.draft history) new.tree.height new.tree.address q) land reaches)
+
+    slot_old : (q : ℕ) → IsReached new history q → IsTrue (is_slot old.land.space.sizes q)
+    slot_old q reaches = stands.placed q (reach_same q reaches)
+
+    ways_same : (q : ℕ) → ways_in new history q ≡ ways_in old history q
+    ways_same q =
+        ap (λ (l : Ground). ways (told l.blocks.draft history) new.tree.height new.tree.address q) land
+        ∙ ap (λ (r : Root). ways (nodes_of old history) r.height r.address q) tree
+
+    settled_new : IsSettled new.refs new.land history
+    settled_new = record {
+      slots = λ q slot.
+          let before = subst (λ (s : Sizes). IsTrue (is_slot s q)) sizes slot in
+          ap (λ (l : Ground). has_taken l.space q) land ∙ stands.settled.slots q before
+          ∙ ap (λ (kept : Option Kept). nat_lt 0 (length (references_in kept))) (sym (same_there q before));
+      written = λ q has.
+          subst (λ (l : Ground). IsSome (fresh_at l.blocks.draft q) ⊎ Contains l.space.held_slots q) (sym land)
+          (stands.settled.written q (subst (λ (l : Ground). IsTrue (has_taken l.space q)) land has));
+      fresh = λ q node there.
+          let was : fresh_at old.land.blocks.draft q ≡ Some node =
+          sym (ap (λ (l : Ground). fresh_at l.blocks.draft q) land) ∙ there in
+          ap what_in (same_there q (drafted.each q node was).slot) ∙ stands.settled.fresh q node was
+          ∙ ap (λ (b : TreeRefs). Some
+          (record { bytes = b.nodesize; level = Some (header_of node).level; generation = b.next })) (sym refs);
+      newer = λ q level known. newer_new q level known;
+      clean = λ q node none there some. clean_new q node none there some;
+    } where
+      newer_new : (q level : ℕ) → what_in (book_of new.refs.refs q)
+          ≡ Some (record { bytes = new.refs.nodesize; level = Some level; generation = new.refs.next })
+          → IsSome (fresh_at new.land.blocks.draft q)
+      newer_new q level known = elim (eqb_tells q at) [
+        | inl (equal, same) ↦ absurd
+            (no_node new.refs.nodesize level new.refs.next (ap (λ (a : ℕ). what_in (book_of new.refs.refs a)) (sym same)
+            ∙ known))
+        | inr (unequal, differ) ↦
+            subst (λ (l : Ground). IsSome (fresh_at l.blocks.draft q)) (sym land)
+            (stands.settled.newer q level (ap what_in (sym (elsewhere q differ)) ∙ known
+            ∙ ap (λ (b : TreeRefs). Some (record { bytes = b.nodesize; level = Some level; generation = b.next })) refs))
+      ]
+
+      clean_new : (q : ℕ) (node : Node) → fresh_at new.land.blocks.draft q ≡ None → told new.land.blocks.draft history q
+          ≡ Some node
+          → 0 < references_to (book_of new.refs.refs) q
+          → what_in (book_of new.refs.refs q)
+          ≡ Some (record {
+            bytes = new.refs.nodesize;
+            level = Some (header_of node).level;
+            generation =
+                (header_of node).generation;
+          })
+      clean_new q node none there some =
+          let was : fresh_at old.land.blocks.draft q ≡ None = sym (ap (λ (l : Ground). fresh_at l.blocks.draft q) land)
+          ∙ none in
+          let told_was : nodes_of old history q ≡ Some node = sym (nodes q) ∙ there in
+          let slot = told-slot old.land history old.tree.next drafted q node told_was in
+          let same = same_there q slot in
+          ap what_in same
+          ∙ stands.settled.clean q node was told_was (subst (λ (kept : Option Kept). 0 < length (references_in kept))
+          same some)
+          ∙ ap (λ (b : TreeRefs). Some
+          (record {
+            bytes = b.nodesize;
+            level = Some (header_of node).level;
+            generation = (header_of node).generation;
+          })) (sym refs)
+
+    -- the layout owes the same
+    owed_same : (q : ℕ) (reference : Reference) → owed_count (layout_in new history) q reference
+        ≡ owed_count (layout_in old history) q reference
+    owed_same q reference =
+        let now = owed-is new history q reference
+        (λ s. subst (λ (n : ℕ). n ≤ 1) (sym (ways_same s)) (single old history items names stands drafted s)) in
+        let was = owed-is old history q reference (single old history items names stands drafted) in
+        let root = ap (λ (r : Root). keyed_ways r.owner (one r.address) q reference) tree in
+        let sum =
+        ap (λ (s : Sizes). over (every_slot s) (ways_in new history)
+        (λ (k : ℕ). times (owed_marked (nodes_of new history k) (mark_of new k)) q reference)) sizes
+        ∙ over-alike (slots_of old) (ways_in new history) (ways_in old history)
+        (λ (k : ℕ). times (owed_marked (nodes_of new history k) (mark_of new k)) q reference) ways_same
+        ∙ over-same (slots_of old) (ways_in old history)
+        (λ (k : ℕ). times (owed_marked (nodes_of new history k) (mark_of new k)) q reference)
+        (λ (k : ℕ). times (owed_marked (nodes_of old history k) (mark_of old k)) q reference)
+        (λ k some. ap (λ (o : Option Node). times (owed_marked o (mark_of new k)) q reference) (nodes k)
+        ∙ ap (λ (kept : Option Kept). times (owed_marked (nodes_of old history k) (full_in kept)) q reference)
+        (same_there k (placed old history items names stands drafted k some))) in
+        omega (arith, now, was, root, sum)
+
+    pub Stands-renamed :
+        ((q : ℕ) (reference : Reference) → count_at (book_of new.refs.refs) q reference + names_times old.tree.owner
+        names q reference
+        ≡ count_at (book_of old.refs.refs) q reference + names_times old.tree.owner names_new q reference)
+        → ((q : ℕ) (reference : Reference) → names_times old.tree.owner names_new q reference ≤ 4294967295)
+        → All (λ name. IsKnownExtent old.land.space.sizes (book_of new.refs.refs) name.1) names_new
+        → ((run : Element) → Contains new.land.space.runs run ↔ Contains (map (λ name. extent_of name.1) names_new) run)
+        → Stands new history items names_new
+    Stands-renamed counts few known runs = record {
+      book = record {
+        owner = ap (λ (b : TreeRefs). b.tree) refs ∙ stands.book.owner ∙ ap (λ (r : Root). r.owner) (sym tree);
+        next = ap (λ (b : TreeRefs). b.next) refs ∙ stands.book.next ∙ ap (λ (r : Root). r.next) (sym tree);
+        nodesize = ap (λ (b : TreeRefs). b.nodesize) refs ∙ stands.book.nodesize ∙ ap (λ (s : Sizes). s.nodesize)
+            (sym sizes);
+      };
+      rooted = rooted_new;
+      placed = λ q reaches. subst (λ (s : Sizes). IsTrue (is_slot s q)) (sym sizes) (slot_old q reaches);
+      alone = λ q reaches. ap (λ (kept : Option Kept). length (references_in kept)) (same_there q (slot_old q reaches))
+          ∙ stands.alone q (reach_same q reaches);
+      home = λ q node reaches there bare.
+          stands.home q node (reach_same q reaches) (sym (nodes q) ∙ there)
+          (sym (ap full_in (same_there q (slot_old q reaches))) ∙ bare)
+          ∙ ap (λ (r : Root). r.owner) (sym tree);
+      young = λ q reaches some.
+          ap full_in (same_there q (slot_old q reaches))
+          ∙ stands.young q (reach_same q reaches) (subst (λ (l : Ground). IsSome (fresh_at l.blocks.draft q)) land some);
+      fits = ap (λ (b : TreeRefs). b.misfit) refs ∙ stands.fits;
+      counts = λ q reference.
+          let owner = ap (λ (r : Root). r.owner) tree in
+          let now = counts q reference in
+          let was = stands.counts q reference in
+          let owed = owed_same q reference in
+          let told_names = ap (λ (o : ℕ). names_times o (filter_map name_told items) q reference) owner in
+          let new_names = ap (λ (o : ℕ). names_times o names_new q reference) owner in
+          omega (arith, now, was, owed, told_names, new_names);
+      few = λ q reference. subst (λ (o : ℕ). names_times o names_new q reference ≤ 4294967295)
+          (ap (λ (r : Root). r.owner) (sym tree)) (few q reference);
+      settled = settled_new;
+      known = subst (λ (s : Sizes). All (λ (name : ℕ × Piece). IsKnownExtent s (book_of new.refs.refs) name.1) names_new)
+          (sym sizes) known;
+      runs = runs;
+    } where
+      rooted_new : IsRooted Files new.tree new.land history items
+      rooted_new =
+          subst (λ (r : Root). IsRooted Files r new.land history items) (sym tree)
+          (subst (λ (l : Ground). IsRooted Files old.tree l history items) (sym land) (record {
+            tells = stands.rooted.tells;
+            apart = λ q free. stands.rooted.apart q (sym (free-runs old.land.space new.land.space.runs q) ∙ free);
+            short = stands.rooted.short;
+          }))

@@ -1,0 +1,49 @@
+use Rattle.std.proofs.Common.{◌≡◌, ℕ, true, false, None, arith, refl, sym, ap, subst, ◌∙◌}
+use Rattle.std.specs.Prelude.{List, length}
+use Rattle.std.proofs.lemmas.Bool.{true≢false}
+use Rattle.qg_items.specs.declared.extent.Reference.{Reference}
+use Rattle.qg_refs.specs.declared.kept.Kept.{Kept}
+use Rattle.qg_refs.specs.declared.kept.What.{What}
+use Rattle.qg_refs.specs.Book.{Adds, references_at}
+use Rattle.qg_extents.specs.Table.{IsTable, book_of}
+use Rattle.qg_fs_tree.proofs.Named.{Stands-named, room-named, some-named, taken-named}
+use Rattle.qg_fs_tree.proofs.fs_tree.FsTree.name.Goals as goal
+use Rattle.qg_fs_tree.proofs.fs_tree.FsTree.name.Goals.{then-how_many-eq0-via-then-how_many-eq0, then-how_many-eq0-via-else-how_many-eq0+then-not-is_taken}
+
+pub returns-then-how_many-eq0-clause-sound : goal.returns-then-how_many-eq0-clause-sound
+returns-then-how_many-eq0-clause-sound c history bytes items names subvolume stands among few =
+    let fs = c.args.self.now in
+    let piece = c.args.piece.now in
+    let drafted = subvolume.editable.drafted in
+    let table = subst (λ (refs : List (ℕ × Kept)). IsTable refs) c.refs.ensures c.len-ascending.ensures.table in
+    absurd (elim c.then-how_many-eq0.branch [
+      | then-how_many-eq0-via-then-how_many-eq0 w ↦
+          let some = some-named fs history items drafted c.args.ino piece names stands among table in
+          let many = c.how_many.ensures
+          ∙ ap (λ (refs : List (ℕ × Kept)). length (references_at (book_of refs) piece.extent)) c.refs-2.ensures in
+          let none = w.if-how_many-eq0.true in
+          omega (arith, some, many, none)
+      | then-how_many-eq0-via-else-how_many-eq0+then-not-is_taken w ↦
+          true≢false (sym (taken-named fs history items drafted c.args.ino piece names stands among)
+          ∙ sym w.is_taken.ensures ∙ w.if-not-is_taken.true)
+    ])
+
+pub returns-then-not-branch-clause-sound : goal.returns-then-not-branch-clause-sound
+returns-then-not-branch-clause-sound c history bytes items names subvolume stands among few =
+    let table = subst (λ (refs : List (ℕ × Kept)). IsTable refs) c.refs.ensures c.len-ascending.ensures.table in
+    let room = room-named c.args.self.now history items subvolume.editable.drafted c.args.ino c.args.piece.now names
+    stands among
+    table few c.reference_of-reference.result c.reference_of-reference.ensures in
+    absurd (true≢false (sym room ∙ sym c.in_ok-name.ensures.room ∙ c.if-not-branch.true))
+
+pub returns-clause-named : goal.returns-clause-named
+returns-clause-named c history bytes items names subvolume stands among few =
+    let fs = c.args.self.now in
+    let piece = c.args.piece.now in
+    let what : What = record { bytes = piece.extent_bytes; level = None; generation = fs.refs.next } in
+    let adds = subst (λ (r : Reference). Adds (book_of fs.refs.refs) (book_of c.name.new.self.refs) piece.extent what
+    r) c.reference_of-reference.ensures
+    (c.in_ok-name.ensures.given c.if-not-branch.false) in
+    Stands-named fs history items subvolume.editable.drafted c.args.ino piece names stands among
+    (record fs { refs = c.name.new.self })
+    (record { tree = refl; land = refl; refs = c.name.ensures.others }) what adds refl few

@@ -1,0 +1,138 @@
+// Items of the tree are put in, replaced and taken out, and its references follow.
+ghost use Rattle.std.specs.Prelude.{◌≡◌, ◌+◌, ◌*◌, ◌≤◌, ℕ, List, Some, OnOk, IsTrue, length, not};
+ghost use Rattle.qg_device.specs.Cause.{HasCause};
+ghost use Rattle.qg_device.specs.History.{Event};
+ghost use Rattle.qg_num.specs.declared.piece.Piece.{Piece as PieceValue};
+ghost use Rattle.qg_node.specs.declared.item.Item.{Item as ItemValue};
+ghost use Rattle.qg_blocks.specs.Told.{BreaksNone};
+ghost use Rattle.qg_space.specs.Holding.{free_slots};
+ghost use Rattle.qg_edit.specs.Edits.{has_key, with_item, without_key};
+ghost use Rattle.qg_tree_edits.specs.Rooting.{Grows, LeavesBe};
+ghost use Rattle.qg_fs_tree.specs.Standing.{IsEditedTo, IsSubvolume, Stands};
+
+use crate::FsTree;
+use qg_disk::Disk;
+use qg_image::FilePart;
+use qg_node::Body;
+use qg_num::{BlockFault, Key, Steps};
+use qg_tree_edits::{insert, remove, replace};
+use qg_tree_refs::TreeRefs;
+use std::alloc::Global;
+use std::sync::ledger::Ledger;
+
+impl FsTree {
+    /// Puts an item in its place. Its key must not be there, and its body has at most 1024 bytes.
+    ///
+    /// It takes at most 2·height + 3 slots. `Image` comes where a node is not what leads to it expects, or with `refs` where the key is
+    /// there, or a reference is not what the tree owes; and with `shape` and the root's address where not 3·(height + 2) slots are free. After
+    /// an `Err` nothing of it is of use.
+    pub fn insert<D: Disk, L: Ledger>(
+        &mut self,
+        alloc: Global,
+        disk: &mut D,
+        key: Key,
+        body: Body,
+        reads: &mut Steps<L>,
+    ) -> Result<(), BlockFault>
+        requires subvolume { IsSubvolume self.old (D.history disk.old) (D.size disk.old) }
+        requires short { length body ≤ 1024 }
+        ensures inserted { (items : List ItemValue) (names : List (ℕ × PieceValue)) → Stands self.old (D.history disk.old) items names
+            → IsTrue (not (has_key key items))
+            → OnOk result (IsEditedTo self.old self.new (D.history disk.old) (with_item (record { key = key; body = body }) items) names (self.old.tree.height + 2)) }
+        ensures sound { (events : List Event) → D.history disk.old ≡ Some events → (items : List ItemValue) (names : List (ℕ × PieceValue))
+            → Stands self.old (D.history disk.old) items names → IsTrue (not (has_key key items))
+            → 3 * (self.old.tree.height + 2) ≤ free_slots self.old.land.space → BreaksNone result }
+        ensures grows { OnOk result (Grows 1 self.old.tree self.new.tree self.old.land self.new.land) }
+        ensures subvolume { IsSubvolume self.new (D.history disk.new) (D.size disk.new) }
+        ensures rests { LeavesBe self.old.land self.new.land (D.history disk.old) (D.history disk.new) (D.size disk.old) (D.size disk.new)
+            self.old.tree.next }
+        ensures cause { HasCause BlockFault.Disk (D.faults disk.old) (D.faults disk.new) result }
+        ensures reads { reads.new ≤ reads.old + 9 * (self.old.tree.height + 2) }
+    {
+        self.roomy()?;
+        insert::<FilePart, D, L, TreeRefs>(
+            &mut self.tree,
+            alloc,
+            &mut self.land,
+            disk,
+            &mut self.refs,
+            key,
+            body,
+            reads,
+        )?;
+        self.fitting()
+    }
+
+    /// Gives the item with a key another body, of at most 1024 bytes. The key must be there. Else as [`FsTree::insert`].
+    pub fn replace<D: Disk, L: Ledger>(
+        &mut self,
+        alloc: Global,
+        disk: &mut D,
+        key: Key,
+        body: Body,
+        reads: &mut Steps<L>,
+    ) -> Result<(), BlockFault>
+        requires subvolume { IsSubvolume self.old (D.history disk.old) (D.size disk.old) }
+        requires short { length body ≤ 1024 }
+        ensures replaced { (items : List ItemValue) (names : List (ℕ × PieceValue)) → Stands self.old (D.history disk.old) items names
+            → IsTrue (has_key key items)
+            → OnOk result (IsEditedTo self.old self.new (D.history disk.old) (with_item (record { key = key; body = body }) items) names (self.old.tree.height + 2)) }
+        ensures sound { (events : List Event) → D.history disk.old ≡ Some events → (items : List ItemValue) (names : List (ℕ × PieceValue))
+            → Stands self.old (D.history disk.old) items names → IsTrue (has_key key items)
+            → 3 * (self.old.tree.height + 2) ≤ free_slots self.old.land.space → BreaksNone result }
+        ensures grows { OnOk result (Grows 1 self.old.tree self.new.tree self.old.land self.new.land) }
+        ensures subvolume { IsSubvolume self.new (D.history disk.new) (D.size disk.new) }
+        ensures rests { LeavesBe self.old.land self.new.land (D.history disk.old) (D.history disk.new) (D.size disk.old) (D.size disk.new)
+            self.old.tree.next }
+        ensures cause { HasCause BlockFault.Disk (D.faults disk.old) (D.faults disk.new) result }
+        ensures reads { reads.new ≤ reads.old + 9 * (self.old.tree.height + 2) }
+    {
+        self.roomy()?;
+        replace::<FilePart, D, L, TreeRefs>(
+            &mut self.tree,
+            alloc,
+            &mut self.land,
+            disk,
+            &mut self.refs,
+            key,
+            body,
+            reads,
+        )?;
+        self.fitting()
+    }
+
+    /// Takes out the item with a key. The key must be there. Else as [`FsTree::insert`].
+    pub fn remove<D: Disk, L: Ledger>(
+        &mut self,
+        alloc: Global,
+        disk: &mut D,
+        key: Key,
+        reads: &mut Steps<L>,
+    ) -> Result<(), BlockFault>
+        requires subvolume { IsSubvolume self.old (D.history disk.old) (D.size disk.old) }
+        ensures removed { (items : List ItemValue) (names : List (ℕ × PieceValue)) → Stands self.old (D.history disk.old) items names
+            → IsTrue (has_key key items)
+            → OnOk result (IsEditedTo self.old self.new (D.history disk.old) (without_key key items) names (self.old.tree.height + 2)) }
+        ensures sound { (events : List Event) → D.history disk.old ≡ Some events → (items : List ItemValue) (names : List (ℕ × PieceValue))
+            → Stands self.old (D.history disk.old) items names → IsTrue (has_key key items)
+            → 3 * (self.old.tree.height + 2) ≤ free_slots self.old.land.space → BreaksNone result }
+        ensures grows { OnOk result (Grows 0 self.old.tree self.new.tree self.old.land self.new.land) }
+        ensures subvolume { IsSubvolume self.new (D.history disk.new) (D.size disk.new) }
+        ensures rests { LeavesBe self.old.land self.new.land (D.history disk.old) (D.history disk.new) (D.size disk.old) (D.size disk.new)
+            self.old.tree.next }
+        ensures cause { HasCause BlockFault.Disk (D.faults disk.old) (D.faults disk.new) result }
+        ensures reads { reads.new ≤ reads.old + 9 * (self.old.tree.height + 2) }
+    {
+        self.roomy()?;
+        remove::<FilePart, D, L, TreeRefs>(
+            &mut self.tree,
+            alloc,
+            &mut self.land,
+            disk,
+            &mut self.refs,
+            key,
+            reads,
+        )?;
+        self.fitting()
+    }
+}

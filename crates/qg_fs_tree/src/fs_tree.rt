@@ -1,0 +1,48 @@
+// A subvolume's tree with what it lies in and what it owes.
+ghost use Rattle.std.specs.Prelude.{◌≡◌, ◌+◌, ◌*◌, ◌<◌, ◌≤◌, Err, IsOk, MatchOption};
+ghost use Rattle.qg_num.specs.declared.fault.BlockFault.TheVariants.{Image};
+ghost use Rattle.qg_num.specs.declared.rule.Rule.TheVariants.{Refs, Shape};
+ghost use Rattle.qg_space.specs.Holding.{free_slots};
+
+use qg_descent::Tree;
+use qg_ground::Ground;
+use qg_num::{BlockFault, Rule};
+use qg_tree_refs::TreeRefs;
+
+/// A subvolume's tree with all that its edits change (on-disk format, "B-tree" and "backreferences"): the nodes and the space that it lies
+/// in, and the references that it owes.
+#[derive(Drop)]
+pub struct FsTree {
+    pub tree: Tree,
+    pub land: Ground,
+    pub refs: TreeRefs,
+}
+
+impl FsTree {
+    /// `Image` with `refs` where a reference was not there that should be, or was there already, and with its address.
+    pub(crate) fn fitting(&self) -> Result<(), BlockFault>
+        ensures { MatchOption self.now.refs.misfit (IsOk result) (λ address. result ≡ Err (Image Refs address)) }
+    {
+        match self.refs.misfit() {
+            None => Ok(()),
+            Some(address) => Err(BlockFault::Image {
+                rule: Rule::Refs,
+                address,
+            }),
+        }
+    }
+
+    /// `Image` with `shape` and the root's address where an edit may want more slots than are free.
+    pub(crate) fn roomy(&self) -> Result<(), BlockFault>
+        ensures enough { 3 * (self.now.tree.height + 2) ≤ free_slots self.now.land.space → IsOk result }
+        ensures few { free_slots self.now.land.space < 3 * (self.now.tree.height + 2) → result ≡ Err (Image Shape self.now.tree.address) }
+    {
+        if 3 * (self.tree.height() as u64 + 2) > self.land.space.free_slots() {
+            return Err(BlockFault::Image {
+                rule: Rule::Shape,
+                address: self.tree.root(),
+            });
+        }
+        Ok(())
+    }
+}

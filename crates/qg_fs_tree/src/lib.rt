@@ -1,0 +1,10 @@
+//! A subvolume's tree, edited together with the references that it owes.
+#![tactic(auto)]
+
+mod editing;
+mod fs_tree;
+mod laws;
+mod naming;
+
+pub use fs_tree::FsTree;
+pub use laws::names_in_another_order;
