@@ -16,3 +16,4 @@ pub mod Named
 pub mod Ordered
 pub mod Edited
 pub mod Kept
+pub mod Told

@@ -3,6 +3,7 @@ ghost use Rattle.std.specs.Prelude.{◌≡◌, ◌+◌, ◌<◌, ◌≤◌, ℕ,
 ghost use Rattle.qg_device.specs.Cause.{HasCause};
 ghost use Rattle.qg_device.specs.History.{Event};
 ghost use Rattle.qg_node.specs.declared.node.Node.{Node as NodeValue};
+ghost use Rattle.qg_node.specs.Nodes.{header_of};
 ghost use Rattle.qg_blocks.specs.Told.{BreaksNone, IsBacked, fresh_at, held_at, told};
 ghost use Rattle.qg_space.specs.Holding.{without_slot};
 ghost use Rattle.qg_ground.specs.Land.{IsDrafted, Rests};
@@ -74,6 +75,21 @@ fn let_go(refs: &Extents, land: &mut Ground, at: Address)
     give_back(&mut land.space, at);
 }
 
+/// Notes a misfit where a copy is of another level than the node. Both are in memory.
+fn note_level(refs: &mut TreeRefs, blocks: &Blocks, at: Address, copy: Address)
+    requires node { IsSome (held_at blocks.now at) }
+    requires copy { IsSome (held_at blocks.now copy) }
+    ensures same { (node mine : NodeValue) → held_at blocks.now at ≡ Some node → held_at blocks.now copy ≡ Some mine
+        → (header_of mine).level ≡ (header_of node).level → refs.new ≡ refs.old }
+    ensures fits { refs.new.misfit ≡ None → (refs.new ≡ refs.old)
+        × ((node mine : NodeValue) → held_at blocks.now at ≡ Some node → held_at blocks.now copy ≡ Some mine
+        → (header_of mine).level ≡ (header_of node).level) }
+{
+    if blocks.peek(copy).level() != blocks.peek(at).level() {
+        refs.note(Some(copy));
+    }
+}
+
 impl<D: Disk, L: Ledger> Book<D, L> for TreeRefs {
     ghost use Rattle.std.specs.Prelude.{⊤, length, nat_lt};
     ghost use Rattle.qg_refs.specs.Book.{references_at};
@@ -113,6 +129,7 @@ impl<D: Disk, L: Ledger> Book<D, L> for TreeRefs {
             return Ok(());
         }
         self.copy(land.blocks.peek(at), copy)?;
+        note_level(self, &land.blocks, at, copy);
         let_go(self.refs(), land, at);
         Ok(())
     }

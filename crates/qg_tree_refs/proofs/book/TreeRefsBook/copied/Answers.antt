@@ -1,9 +1,13 @@
-use Rattle.std.proofs.Common.{◌≡◌, ap, refl, ◌∙◌}
+use Rattle.std.proofs.Common.{◌≡◌, [], ◌∷◌, ◌++◌, ap, refl, subst, sym, ◌∙◌}
 use Rattle.std.specs.Prelude.{None}
 use Rattle.qg_blocks.specs.Held.{Draft}
 use Rattle.qg_blocks.specs.Told.{fresh_at, held_at}
 use Rattle.qg_ground.specs.declared.ground.Ground.{Ground}
 use Rattle.qg_ground.proofs.Lands.{Rests-after, Rests-draft}
+use Rattle.qg_ground.specs.Tellings.Telling.{Copied}
+use Rattle.qg_tree_refs.specs.declared.tree_refs.TreeRefs.{TreeRefs}
+use Rattle.qg_tree_refs.specs.Following.{Follows}
+use Rattle.qg_tree_refs.proofs.Settles.{held-fresh, level-copied, some-fresh}
 use Rattle.qg_tree_refs.proofs.Stepping.{Follows-copied}
 use Rattle.qg_tree_refs.proofs.book.TreeRefsBook.copied.Goals as goal
 
@@ -30,9 +34,15 @@ returns-in_err-copy-clause-rests g c generation drafted =
 
 pub returns-clause-told : goal.returns-clause-told
 returns-clause-told g c node there before log follows =
-    Follows-copied before c.args.self.now c.copy.new.self log node c.peek.result.now c.args.copy
-    (held_at c.try_load.new.blocks c.args.at) c.peek.ensures
-    (c.in_ok-try_load.ensures.told node there).1 follows c.in_ok-copy.ensures
+    let held = c.try_load.new.blocks in
+    let loaded = (c.in_ok-try_load.ensures.told node there).1 in
+    let mine = some-fresh (fresh_at c.args.land.now.blocks.draft c.args.copy) c.requires.copied.fresh in
+    let here = held-fresh held c.args.land.now.blocks.draft c.args.copy mine.0 c.try_load.ensures.draft mine.1 in
+    let level = level-copied c.args.copy node mine.0 (c.requires.copied.same node mine.0 there mine.1) in
+    let same = c.note_level.ensures.same node mine.0 loaded here level in
+    subst (λ (book : TreeRefs). Follows before (log ++ Copied node c.args.copy ∷ []) book) (sym same)
+    (Follows-copied before c.args.self.now c.copy.new.self log node c.peek.result.now c.args.copy
+    (held_at held c.args.at) c.peek.ensures loaded follows c.in_ok-copy.ensures)
 
 pub returns-clause-rests : goal.returns-clause-rests
 returns-clause-rests g c generation drafted =

@@ -9,7 +9,7 @@ returns-clause-told g c node there before log follows =
     Follows-left before c.args.self.now c.leave.new.self log node c.peek.result.now (held_at blocks c.args.at)
     c.peek.ensures
     (held-told blocks (g.D.Disk.history c.args._disk.now) c.args.at node c.requires.backed there c.requires.loaded)
-    follows c.in_ok-leave.ensures
+    follows c.in_ok-leave.ensures.0
 
 pub returns-clause-rests : goal.returns-clause-rests
 returns-clause-rests g c generation drafted =
