@@ -1,8 +1,7 @@
 -- How what stands of a book and of land between two edits is kept.
-use Rattle.std.proofs.Common.{◌≡◌, ◌≢◌, ◌⊎◌, ℕ, true, List, refl, sym, ap, ◌∙◌, inl, inr}
+use Rattle.std.proofs.Common.{◌≡◌, ℕ, true, List, refl, sym, ap, ◌∙◌, inl}
 use Rattle.std.specs.Prelude.{Option, Some, None}
 use Rattle.qg_node.specs.declared.node.Node.{Node}
-use Rattle.qg_node.specs.Nodes.{header_of}
 use Rattle.qg_image.specs.Table.{with_number}
 use Rattle.qg_blocks.specs.Held.{Draft}
 use Rattle.qg_blocks.specs.Told.{fresh_at}
@@ -10,7 +9,7 @@ use Rattle.qg_space.specs.Holding.{is_free_slot}
 use Rattle.qg_space.proofs.Members.{Contains-has_slot}
 use Rattle.qg_ground.specs.declared.ground.Ground.{Ground}
 use Rattle.qg_ground.specs.Land.{IsDrafted}
-use Rattle.qg_ground.specs.Tellings.{Empties, HoldsNothing, KeepsLevels, Spares}
+use Rattle.qg_ground.specs.Tellings.{Empties, KeepsLevels, Spares}
 use Rattle.qg_ground.specs.Changes.{Puts, PutsFresh}
 use Rattle.qg_ground.proofs.Lands.{IsSome-is, fresh_at-told}
 use Rattle.qg_ground.proofs.Slots.{free-absent}
