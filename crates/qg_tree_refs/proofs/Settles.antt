@@ -11,7 +11,8 @@ use Rattle.qg_blocks.specs.Held.{Draft, Held}
 use Rattle.qg_blocks.specs.Told.{clean_at, first_of, fresh_at, held_at}
 use Rattle.qg_space.specs.Holding.{Holding}
 use Rattle.qg_ground.specs.declared.ground.Ground.{Ground}
-use Rattle.qg_ground.specs.Tellings.{IsCopyAt, Telling, node_copy}
+use Rattle.qg_ground.specs.Changes.{PutsFresh}
+use Rattle.qg_ground.specs.Tellings.{Empties, HoldsNothing, IsCopyAt, Telling, node_copy}
 use Rattle.qg_ground.specs.Tellings.Telling.{Copied, Made, Left}
 use Rattle.qg_refs.specs.declared.kept.What.{What}
 use Rattle.qg_refs.specs.Book.{what_in}
@@ -123,3 +124,42 @@ Settled-left old new before land after history at node table settled step level 
     emptied.address known in
     IsSettled-left old new before land after history at node was table.book done nodesize next emptied known_there let_go
     sizes
+
+-- ---- what a tree does to land, in these words
+
+pub IsPutAt-fresh : (old land mid : Ground) (now : ℕ) (mine : Node) → PutsFresh old land now
+    → mid.blocks.draft ≡ land.blocks.draft → mid.space ≡ land.space → fresh_at land.blocks.draft now ≡ Some mine
+    → IsPutAt old mid now mine
+IsPutAt-fresh old land mid now mine puts draft space is = record {
+  here = ap (λ (d : Draft). fresh_at d now) draft ∙ is;
+  others = λ q differ. ap (λ (d : Draft). fresh_at d q) draft ∙ puts.others q differ;
+  space = space ∙ puts.space;
+  sizes = ap (λ (d : Draft). d.sizes) draft ∙ puts.sizes;
+}
+
+level_elsewhere : (at q : ℕ) (was node : Node) → q ≢ at
+    → ((header_of was).level ≡ (header_of node).level) ⊎ ((q ≡ at) × HoldsNothing node)
+    → (header_of was).level ≡ (header_of node).level
+level_elsewhere at q was node differ (inl same) = same
+level_elsewhere at q was node differ (inr here) = absurd (differ here.0)
+
+pub IsEmptied-fresh : (old new : Ground) (at : ℕ) (node : Node) → Empties old new at
+    → fresh_at new.blocks.draft at ≡ Some node → (header_of node).address ≡ at → IsEmptied old new at node
+IsEmptied-fresh old new at node empties is address =
+    let one : Some empties.here.0 ≡ Some node = sym empties.here.1 ∙ is in
+    let same : empties.here.0 ≡ node = cc in
+    let was = empties.each at node is in
+    record {
+      space = empties.space;
+      sizes = empties.sizes;
+      here = is;
+      address = address;
+      no_items = ap own_items (sym same) ∙ empties.here.2.0;
+      no_pointers = ap own_pointers (sym same) ∙ empties.here.2.1;
+      was = was.0;
+      there = was.1;
+      each = λ q other differ there.
+          let before = empties.each q other there in
+          (before.0, before.1, level_elsewhere at q before.0 other differ before.2);
+      still = empties.stays;
+    }

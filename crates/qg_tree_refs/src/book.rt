@@ -91,16 +91,19 @@ fn note_level(refs: &mut TreeRefs, blocks: &Blocks, at: Address, copy: Address)
 }
 
 impl<D: Disk, L: Ledger> Book<D, L> for TreeRefs {
-    ghost use Rattle.std.specs.Prelude.{⊤, length, nat_lt};
+    ghost use Rattle.std.specs.Prelude.{◌≡◌, ⊤, None, length, nat_lt};
+    ghost use Rattle.std.proofs.Common.{subst, sym};
     ghost use Rattle.qg_refs.specs.Book.{references_at};
     ghost use Rattle.qg_extents.specs.Table.{book_of};
     ghost use Rattle.qg_tree_refs.specs.Following.{Follows};
+    ghost use Rattle.qg_tree_refs.specs.Settled.{IsSettled};
+    ghost use Rattle.qg_tree_refs.specs.Lasting.{settled_still};
 
     ghost follows = { λ before log after. Follows before log after };
 
     ghost stands = { λ book land disk. ⊤ };
 
-    ghost settled = { λ book land disk. ⊤ };
+    ghost settled = { λ book land disk. book.misfit ≡ None → IsSettled book land (D.history disk) };
 
     ghost shares = { λ book land disk at. nat_lt 1 (length (references_at (book_of book.refs) at)) };
 
@@ -128,6 +131,7 @@ impl<D: Disk, L: Ledger> Book<D, L> for TreeRefs {
             self.note(Some(at));
             return Ok(());
         }
+        let _ascending = self.refs().len();
         self.copy(land.blocks.peek(at), copy)?;
         note_level(self, &land.blocks, at, copy);
         let_go(self.refs(), land, at);
@@ -141,6 +145,7 @@ impl<D: Disk, L: Ledger> Book<D, L> for TreeRefs {
         at: Address,
         _reads: &mut Steps<L>,
     ) -> Result<(), BlockFault> {
+        let _ascending = self.refs().len();
         let level = land.blocks.peek(at).level();
         self.make(at, level)?;
         Ok(())
@@ -153,6 +158,7 @@ impl<D: Disk, L: Ledger> Book<D, L> for TreeRefs {
         at: Address,
         _reads: &mut Steps<L>,
     ) -> Result<(), BlockFault> {
+        let _ascending = self.refs().len();
         self.leave(land.blocks.peek(at))?;
         let_go(self.refs(), land, at);
         Ok(())
@@ -160,5 +166,7 @@ impl<D: Disk, L: Ledger> Book<D, L> for TreeRefs {
 
     ghost lasts = { λ book old new before after history size backed spares stands. tt };
 
-    ghost keeps = { λ book old new before after history space levels settled. tt };
+    ghost keeps = { λ book old new before after history space levels settled fits.
+        subst (λ (h : Option (List Event)). IsSettled book new h) (sym history)
+        (settled_still book old new (D.history before) space levels (settled fits)) };
 }
