@@ -17,3 +17,4 @@ pub mod Ordered
 pub mod Edited
 pub mod Kept
 pub mod Told
+pub mod Called

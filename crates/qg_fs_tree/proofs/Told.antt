@@ -1,39 +1,22 @@
 -- What an edit of a tree tells its book is true to the nodes with the full mark: the last commit holds them.
-use Rattle.std.proofs.Common.{◌≡◌, ℕ, suc, ◌<◌, ◌≤◌, Bool, true, false, List, [], ◌∷◌, map, Option, Some, None, arith, refl, sym, ap, ◌∙◌}
-use Rattle.std.specs.Prelude.{⊤, Contains, if◌then◌else◌, is_some}
+use Rattle.std.proofs.Common.{◌≡◌, ℕ, suc, ◌<◌, ◌≤◌, Bool, true, false, List, [], ◌∷◌, Option, Some, None, arith, refl, sym, ap, ◌∙◌}
+use Rattle.std.specs.Prelude.{Contains, if◌then◌else◌, is_some}
 use Rattle.std.specs.List.{All}
 use Rattle.qg_device.specs.History.{Event}
 use Rattle.qg_num.specs.declared.piece.Piece.{Piece}
 use Rattle.qg_node.specs.declared.item.Item.{Item}
 use Rattle.qg_node.specs.declared.node.Node.{Node}
-use Rattle.qg_node.specs.Nodes.{header_of, own_pointers}
+use Rattle.qg_node.specs.Nodes.{header_of}
 use Rattle.qg_blocks.specs.Told.{fresh_at}
 use Rattle.qg_ground.specs.Land.{IsDrafted}
 use Rattle.qg_ground.specs.Tellings.{Telling}
 use Rattle.qg_ground.specs.Tellings.Telling.{Copied, Made, Left}
-use Rattle.qg_tree_edits.specs.Counting.{IsAsWas, clean_at}
+use Rattle.qg_tree_edits.specs.Counting.{Downward, IsAsWas, IsDownward, IsUnheld, clean_at}
 use Rattle.qg_fs_tree.specs.declared.fs_tree.FsTree.{FsTree}
 use Rattle.qg_fs_tree.specs.Standing.{Stands, nodes_of}
 use Rattle.qg_fs_tree.proofs.Before.{full-clean, full-held, full-parts, full_in_tree}
 use Rattle.qg_fs_tree.proofs.Counts.{mark_of, ways_in}
-use Rattle.qg_fs_tree.proofs.Turned.{AreTrueTo, IsTrueTo, LeadsNone, turned_by}
-
--- none of these nodes leads to what is copied or left, while so many ways lead to each address
-abbrev pub IsDownward : (ℕ → Option Node) → Telling → (ℕ → ℕ) → Type 0
-IsDownward clean (Copied node copy) count = LeadsNone clean count (header_of node).address
-IsDownward clean (Made address) count = ⊤
-IsDownward clean (Left node) count = LeadsNone clean count (header_of node).address
-
-abbrev pub Downward : (ℕ → Option Node) → (ℕ → ℕ) → List Telling → Type 0
-Downward clean before [] = ⊤
-Downward clean before (telling ∷ tellings) =
-    IsDownward clean telling before × Downward clean (turned_by telling before) tellings
-
--- a node that is left lies in none of these slots
-abbrev pub IsUnheld : List ℕ → Telling → Type 0
-IsUnheld slots (Copied node copy) = ⊤
-IsUnheld slots (Made address) = ⊤
-IsUnheld slots (Left node) = Contains slots (header_of node).address → ⊥
+use Rattle.qg_fs_tree.proofs.Turned.{AreTrueTo, IsTrueTo, turned_by}
 
 -- ---- one telling
 

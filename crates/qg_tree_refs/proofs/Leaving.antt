@@ -130,12 +130,12 @@ module _ (old new : TreeRefs) (node : Node) (table : IsTable old.refs)
       let level = level_known (what_in (book_of old.refs at)) (header_of node).level is in
       (level.0, known ∙ level.1, level.2)
     where
-      several : (b : Bool) → nat_lt 1 (references_to (book_of old.refs) at) ≡ b
-          → nat_lt 1 (references_to (book_of old.refs) at) ≡ true
-      several true is = is
-      several false is = absurd (not_only some (few_from (references_to (book_of old.refs) at) is))
-
       few_from : (n : ℕ) → nat_lt 1 n ≡ false → n ≤ 1
       few_from zero is = omega arith
       few_from (suc zero) is = omega arith
       few_from (suc (suc n)) is = let many_there : nat_lt 1 (suc (suc n)) ≡ true = lt-ltb 1 (suc (suc n)) (omega arith) in cc
+
+      several : (b : Bool) → nat_lt 1 (references_to (book_of old.refs) at) ≡ b
+          → nat_lt 1 (references_to (book_of old.refs) at) ≡ true
+      several true is = is
+      several false is = absurd (not_only some (few_from (references_to (book_of old.refs) at) is))

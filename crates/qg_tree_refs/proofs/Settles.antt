@@ -95,14 +95,14 @@ pub Settled-copied : (old new : TreeRefs) (before land after : Ground) (history 
     → after.blocks.draft.sizes ≡ land.blocks.draft.sizes → new.misfit ≡ None → IsSettled new after history
 Settled-copied old new before land after history at node copy mine table settled step put levelled placed clean let_go
     sizes fits =
-        let was = settled (fit-before old new (Copied node copy) step fits) in
-        let done = exchanged old new (Copied node copy) step fits in
-        let nodesize = same-size old new (Copied node copy) step fits in
-        let next = same-next old new (Copied node copy) step fits in
-        let clean_there = subst (λ (a : ℕ). fresh_at land.blocks.draft a ≡ None) (sym placed) clean in
-        let gone_there = subst (λ (a : ℕ). IsLetGo (book_of new.refs) land after a) (sym placed) let_go in
-        IsSettled-copied old new before land after history node copy mine was table.book done nodesize next put levelled
-        clean_there gone_there sizes
+    let was = settled (fit-before old new (Copied node copy) step fits) in
+    let done = exchanged old new (Copied node copy) step fits in
+    let nodesize = same-size old new (Copied node copy) step fits in
+    let next = same-next old new (Copied node copy) step fits in
+    let clean_there = subst (λ (a : ℕ). fresh_at land.blocks.draft a ≡ None) (sym placed) clean in
+    let gone_there = subst (λ (a : ℕ). IsLetGo (book_of new.refs) land after a) (sym placed) let_go in
+    IsSettled-copied old new before land after history node copy mine was table.book done nodesize next put levelled
+    clean_there gone_there sizes
 
 -- ---- a node that is left
 
@@ -120,7 +120,7 @@ Settled-left old new before land after history at node table settled step level 
     let next = same-next old new (Left node) step fits in
     let known = level-left old new node table done emptied.no_items emptied.no_pointers none in
     let known_there = subst (λ (a : ℕ). 0 < references_to (book_of new.refs) a
-        → (what : What) × (what_in (book_of new.refs a) ≡ Some what) × (what.level ≡ Some (header_of node).level))
+    → (what : What) × (what_in (book_of new.refs a) ≡ Some what) × (what.level ≡ Some (header_of node).level))
     emptied.address known in
     IsSettled-left old new before land after history at node was table.book done nodesize next emptied known_there let_go
     sizes

@@ -81,7 +81,7 @@ returns-clause-settled g c before puts settled fits =
     let held = c.try_load.new.blocks in
     let mid : Ground = record { blocks = held; space = land.space } in
     let history = g.D.Disk.history c.try_load.new.disk in
-    let table = subst (λ (refs : List (ℕ × Kept)). IsTable refs) c.refs.ensures c.len-_ascending.ensures.table in
+    let table = subst (λ (refs : List (ℕ × Kept)). IsTable refs) c.refs.ensures c.len-ascending.ensures.table in
     let same = c.note_level.ensures.fits fits in
     let fits_copy = sym (ap (λ (book : TreeRefs). book.misfit) same.0) ∙ fits in
     let node = c.peek.result.now in

@@ -27,7 +27,7 @@ returns-clause-settled g c before generation drafted empties settled fits =
     let land = c.args.land.now in
     let at = c.args.at in
     let node = c.peek.result.now in
-    let table = subst (λ (refs : List (ℕ × Kept)). IsTable refs) c.refs.ensures c.len-_ascending.ensures.table in
+    let table = subst (λ (refs : List (ℕ × Kept)). IsTable refs) c.refs.ensures c.len-ascending.ensures.table in
     let same = fresh-held land.blocks at empties.here.0 node empties.here.1 c.peek.ensures in
     let here : fresh_at land.blocks.draft at ≡ Some node =
     empties.here.1 ∙ ap (λ (n : Node). Some n) (sym same) in
