@@ -8,14 +8,8 @@ use Rattle.qg_walk.specs.Standing.{standing_failure}
 use Rattle.qg_walk.proofs.Failures.{TellsFailure-of, told-no_disk}
 use Rattle.qg_walk.proofs.visit.visit.Goals as goal
 
-pub form_failure-requires-clause-used : goal.form_failure-requires-clause-used
-form_failure-requires-clause-used g c =
-    let fits = c.in_ok-node.ensures.stands.sound.fits in
-    let served = SizesFit-is_served (sizes_of c.args.superblock.now) c.requires.served in
-    omega (arith, served.nodesize, fits)
-
-pub form_failure-requires-clause-ascending : goal.form_failure-requires-clause-ascending
-form_failure-requires-clause-ascending g c = c.in_ok-node.ensures.stands.sound.ascending
+pub form_failure-requires : goal.form_failure-requires
+form_failure-requires g c = record { ascending = c.in_ok-node.ensures.stands.sound.ascending }
 
 pub returns-in-Some-clause-failure : goal.returns-in-Some-clause-failure
 returns-in-Some-clause-failure g c = λ events told.
