@@ -116,8 +116,7 @@ fn is_shaped(nodesize: u32, from: Option<Key>, node: &Node) -> bool
 fn takes_a_quarter(nodesize: usize, node: &Node) -> bool
     ensures { result ≡ nat_le (capacity nodesize) (4 * used_bytes node.now) }
 {
-    nodesize <= HEADER_BYTES
-        || !node.has_room(HEADER_BYTES + (nodesize - HEADER_BYTES - 1) / 4)
+    nodesize <= HEADER_BYTES || !node.has_room(HEADER_BYTES + (nodesize - HEADER_BYTES - 1) / 4)
 }
 
 #[tactic(auto, unfolding(qg_image::specs::IsShaped::is_shaped))]

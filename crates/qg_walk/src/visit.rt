@@ -9,9 +9,9 @@ ghost use Rattle.qg_verdict.specs.Walk.{node_found};
 ghost use Rattle.qg_walk.specs.Fault.{FailsAs};
 ghost use Rattle.qg_walk.specs.Standing.{IsJudged, standing_failure};
 
-use crate::{NodeList, OpenFault};
 use crate::form::form_failure;
 use crate::slot::node_at;
+use crate::{NodeList, OpenFault};
 use qg_disk::Disk;
 use qg_node::Node;
 use qg_num::Address;

@@ -26,7 +26,7 @@ use Rattle.qg_check.proofs.trees.read_quotas.Goals as goal
 
 -- the rules are kept by what was read, beside the only subvolume
 kept : (g : Over) (c : goal.After-drop-walked g) → KeepsRules (5 ∷ []) c.as_slice.result.now
-kept g c = quota_rule_kept (5 ∷ []) c.as_slice.result.now (subst (λ (n : ℕ). quota_rule (n ∷ []) c.as_slice.result.now ≡ None) c.new.ensures c.in-Ok.ensures.sound)
+kept g c = quota_rule_kept (5 ∷ []) c.as_slice.result.now (subst (λ (n : ℕ). quota_rule (n ∷ []) c.as_slice.result.now ≡ None) c.new-2.ensures c.in-Ok.ensures.sound)
 
 pub returns-in-Ok-clause-failure : goal.returns-in-Ok-clause-failure
 returns-in-Ok-clause-failure g c = λ events extents told named.
@@ -63,10 +63,10 @@ returns-in-Err-Rule-clause-failure g c = λ events extents told named.
     let walk = subst (λ (expected : Expected). IsWalk Quotas quota_part AreAddressesOf c.args.superblock.now (content events) expected c.args.root.now.bytenr c.in_ok-walked.walked.parts c.in_ok-walked.walked.nodes) c.root_told.ensures (c.in_ok-walked.ensures.found events told) in
     let parts : quota_parts super (content events) ≡ c.as_slice.result.now =
     quota_parts_of super (content events) root named.quota_tree ∙ tree_read Quotas quota_part super (content events) root _ _ walk ∙ sym c.as_slice.ensures in
-    let refused : quota_rule (c.new.result ∷ []) c.as_slice.result.now ≡ Some c.in-Err-Rule.rule =
-    subst (λ (fault : QuotaFault). IfRule fault (λ rule. quota_rule (c.new.result ∷ []) c.as_slice.result.now ≡ Some rule)) c.in-Err-Rule.field-0-is c.in-Err-Rule.ensures.refused in
+    let refused : quota_rule (c.new-2.result ∷ []) c.as_slice.result.now ≡ Some c.in-Err-Rule.rule =
+    subst (λ (fault : QuotaFault). IfRule fault (λ rule. quota_rule (c.new-2.result ∷ []) c.as_slice.result.now ≡ Some rule)) c.in-Err-Rule.field-0-is c.in-Err-Rule.ensures.refused in
     let broken_rule : quota_rule (5 ∷ []) c.as_slice.result.now ≡ Some c.in-Err-Rule.rule =
-    subst (λ (n : ℕ). quota_rule (n ∷ []) c.as_slice.result.now ≡ Some c.in-Err-Rule.rule) c.new.ensures refused in
+    subst (λ (n : ℕ). quota_rule (n ∷ []) c.as_slice.result.now ≡ Some c.in-Err-Rule.rule) c.new-2.ensures refused in
     rw (walk.sound, named.only, parts) (quota_rule_told (5 ∷ []) c.as_slice.result.now c.in-Err-Rule.rule root.bytenr broken_rule)
 
 pub returns-in_err-walked-clause-failure : goal.returns-in_err-walked-clause-failure

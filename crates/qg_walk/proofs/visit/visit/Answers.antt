@@ -1,7 +1,5 @@
-use Rattle.std.proofs.Common.{◌≡◌, Some, arith, sym, ◌∙◌}
+use Rattle.std.proofs.Common.{◌≡◌, Some, sym, ◌∙◌}
 use Rattle.qg_device.specs.History.{content}
-use Rattle.qg_super.specs.SuperText.{sizes_of}
-use Rattle.qg_super.proofs.Served.{SizesFit-is_served}
 use Rattle.qg_verdict.specs.Walk.{node_found}
 use Rattle.qg_walk.specs.declared.fault.OpenFault.TheVariants.{Disk}
 use Rattle.qg_walk.specs.Standing.{standing_failure}
