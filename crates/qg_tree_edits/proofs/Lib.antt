@@ -53,3 +53,4 @@ pub mod LedTold
 pub mod RejoinedTold
 pub mod Levels
 pub mod Clean
+pub mod Owners

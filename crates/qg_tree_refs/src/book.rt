@@ -83,7 +83,7 @@ impl<D: Disk, L: Ledger> Book<D, L> for TreeRefs {
 
     ghost stands = { λ book land disk. ⊤ };
 
-    ghost settled = { λ book land. ⊤ };
+    ghost settled = { λ book land disk. ⊤ };
 
     ghost shares = { λ book land disk at. nat_lt 1 (length (references_at (book_of book.refs) at)) };
 
@@ -142,5 +142,5 @@ impl<D: Disk, L: Ledger> Book<D, L> for TreeRefs {
 
     ghost lasts = { λ book old new before after history size backed spares stands. tt };
 
-    ghost keeps = { λ book old new space levels settled. tt };
+    ghost keeps = { λ book old new before after history space levels settled. tt };
 }

@@ -12,6 +12,7 @@ use Rattle.qg_ground.specs.Tellings.{Telling}
 use Rattle.qg_tree_edits.specs.Counting.{IsPartTold, IsRootTold}
 use Rattle.qg_tree_edits.specs.Rooting.{HasRoot, StandsForRoot}
 use Rattle.qg_tree_edits.proofs.Replaced.{done-both, edited-root, fit-root, low-root, stands-root, told-root}
+use Rattle.qg_ground.proofs.Owners.{IsOwnedBy-after}
 use Rattle.qg_tree_edits.proofs.changing.edit_tree.Goals as goal
 
 pub returns-in_err-instead-clause-reads : goal.returns-in_err-instead-clause-reads
@@ -115,3 +116,11 @@ returns-clause-leaves g c items rooted can first clear =
     on_ok_weaker c.set_root.result
     (λ kept. subst (λ (h : Option (List Event)). leaves (told new.blocks.draft h) after.height after.address ≡ leaves (told mid.blocks.draft h) root.height instead.now) same kept ∙ cleared)
     (c.set_root.ensures.leaves part.items_new stands_then none)
+
+-- ---- owners
+
+pub returns-clause-owners : goal.returns-clause-owners
+returns-clause-owners g c =
+    on_ok_weaker c.set_root.result
+    (λ last. IsOwnedBy-after c.args.tree.now.owner c.args.land.now c.edit_under.new.land c.set_root.new.land c.in_ok-instead.ensures.owners last)
+    c.set_root.ensures.owners

@@ -78,7 +78,7 @@ returns-in-Parted-clause-settled g c settled =
     let new = c.join_nodes.new.land in
     let are = c.join_nodes.ensures.rewritten in
     let joined = c.in_ok-join_nodes.ensures.joined in
-    g.met.B.Book.keeps c.args.book.now old new
+    g.met.B.Book.keeps c.args.book.now old new c.args.disk.now c.args.disk.now refl
     (both-space old new c.args.left c.args.right c.requires.apart c.requires.pair are c.in_ok-join_nodes.field-0 joined)
     (joined-levels old new c.args.left c.args.right c.requires.apart c.requires.pair are c.in_ok-join_nodes.field-0 joined c.in-Parted.is) settled
 

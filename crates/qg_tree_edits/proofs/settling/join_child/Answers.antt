@@ -22,6 +22,8 @@ use Rattle.qg_tree_edits.proofs.RejoinedHolds.{rejoined-can}
 use Rattle.qg_tree_edits.proofs.RejoinedSettled.{rejoined-settled}
 use Rattle.qg_tree_edits.proofs.RejoinedTold.{rejoined-told}
 use Rattle.qg_tree_edits.proofs.Served.{fresh-inner, instead-named, node-drafted, places-few, size-drafted, slots-none}
+use Rattle.qg_ground.proofs.Owners.{IsOwnedBy-after}
+use Rattle.qg_tree_edits.proofs.Owners.{rest-owner, rest-owner-after, rewritten-owners, united-owners}
 use Rattle.qg_tree_edits.proofs.settling.join_child.Goals as goal
 
 pub returns-in_err-pair-clause-sound : goal.returns-in_err-pair-clause-sound
@@ -254,6 +256,38 @@ returns-clause-kept g c settled =
     let rewritten = c.lead_to.ensures.rewritten node here in
     let united = c.in_ok-instead.ensures.settled (c.in_ok-pair.ensures.settled settled) in
     IfOk-weaker c.lead_to.result _ _
-    (λ rest cut. g.met.B.Book.keeps c.unite.new.book c.unite.new.land c.lead_to.new.land (rewritten-space c.unite.new.land c.lead_to.new.land c.args.at node here rewritten)
+    (λ rest cut. g.met.B.Book.keeps c.unite.new.book c.unite.new.land c.lead_to.new.land c.unite.new.disk c.unite.new.disk refl (rewritten-space c.unite.new.land c.lead_to.new.land c.args.at node here rewritten)
     (rewritten-levels c.unite.new.land c.lead_to.new.land c.args.at node here rewritten cut.stays) united)
+    (c.lead_to.ensures.rest node here)
+
+-- ---- owners
+
+pub returns-clause-owners : goal.returns-clause-owners
+returns-clause-owners g c =
+    let tree = g.P.TreePart.tree in
+    let root = c.args.tree.now in
+    let owner = root.owner in
+    let land = c.args.land.now in
+    let mid = c.own_neighbour.new.land in
+    let both = c.unite.new.land in
+    let new = c.lead_to.new.land in
+    let history = g.D.Disk.history c.args.disk.now in
+    let later = g.D.Disk.history c.own_neighbour.new.disk in
+    let last = g.D.Disk.history c.unite.new.disk in
+    let node = c.requires.parent.node in
+    let pair = c.in_ok-pair.pair in
+    let instead = c.in_ok-instead.instead in
+    let rests = c.own_neighbour.ensures.rests in
+    let after = c.unite.ensures.rests root.next rests.drafted in
+    let high = c.requires.parent.levelled in
+    let paired = c.in_ok-pair.ensures.paired node c.requires.parent.here in
+    let here = rejoined-above tree root land mid both history later last (own_pointers node) c.args.to c.args.level c.args.place c.args.child pair instead paired
+    rests c.requires.child c.requires.thin c.in_ok-instead.ensures.united after c.args.at node c.requires.parent.here (omega (arith, high)) in
+    let differ = pair-differ tree root land mid history later (own_pointers node) c.args.to c.args.level c.args.place c.args.child pair paired rests c.requires.child c.requires.thin in
+    let are = are-pair tree root land mid history later (own_pointers node) c.args.to c.args.level c.args.place c.args.child pair paired rests c.requires.child c.requires.thin in
+    let united = united-owners owner mid both pair.left pair.right instead differ are c.in_ok-instead.ensures.united in
+    let before = IsOwnedBy-after owner land mid both c.in_ok-pair.ensures.owners united in
+    let edited = rewritten-owners owner both new c.args.at node here (c.lead_to.ensures.rewritten node here) in
+    IfOk-weaker c.lead_to.result _ _
+    (λ rest cut. (IsOwnedBy-after owner land both new before edited, rest-owner-after owner land both rest before (rest-owner owner both c.args.at node rest here cut.owned)))
     (c.lead_to.ensures.rest node here)
