@@ -42,6 +42,9 @@ pub mod Grown
 pub mod Shrunk
 pub mod Replaced
 pub mod Ways
+pub mod Reached
+pub mod Downward
+pub mod Committed
 pub mod Turning
 pub mod ToldOwned
 pub mod ToldUnited

@@ -17,6 +17,7 @@ use Rattle.qg_tree_edits.proofs.Levels.{rewritten-levels, rewritten-space}
 use Rattle.qg_tree_edits.proofs.LeavesSettled.{ok-both, rejoined-leaves}
 use Rattle.qg_tree_edits.proofs.Paired.{are-pair, pair-differ, pair-inside}
 use Rattle.qg_tree_edits.proofs.PairedHolds.{pair-front}
+use Rattle.qg_tree_edits.proofs.PlacedTold.{ok-both as known-both}
 use Rattle.qg_tree_edits.proofs.Rejoined.{rejoined-above, rejoined-count, rejoined-stands, unbroken-other}
 use Rattle.qg_tree_edits.proofs.RejoinedHolds.{rejoined-can}
 use Rattle.qg_tree_edits.proofs.RejoinedSettled.{rejoined-settled}
@@ -209,16 +210,17 @@ returns-clause-told g c items un before log follows =
     let can = rejoined-can g.P.TreePart.tree c.args.tree.now c.args.land.now c.own_neighbour.new.land c.unite.new.land (g.D.Disk.history c.args.disk.now) (g.D.Disk.history c.own_neighbour.new.disk)
     (g.D.Disk.history c.unite.new.disk) c.args.level c.args.at c.args.to c.args.place c.args.child items un c.in_ok-pair.pair c.in_ok-instead.instead owned.0 c.requires.makes c.requires.editable.drafted
     c.own_neighbour.ensures.rests c.requires.child c.requires.thin c.in_ok-instead.ensures.united after in
-    IfOk-weaker c.lead_to.result _ _
-    (λ rest led. (
+    known-both c.lead_to.result _ _ _
+    (λ rest led whole. (
       first ++ united.0,
       subst (λ (ts : List Telling). g.B.Book.follows before ts c.unite.new.book) (append_assoc log first united.0) united.1,
       rejoined-told g.P.TreePart.tree c.args.tree.now c.args.land.now c.own_neighbour.new.land c.unite.new.land c.lead_to.new.land (g.D.Disk.history c.args.disk.now) (g.D.Disk.history c.own_neighbour.new.disk)
           (g.D.Disk.history c.unite.new.disk) c.args.level c.args.at c.args.to c.args.place c.args.child items rest
           un c.in_ok-pair.pair c.in_ok-instead.instead owned.0 c.requires.makes c.requires.editable.drafted
-          c.own_neighbour.ensures.rests c.requires.child c.requires.thin c.in_ok-instead.ensures.united after led united.0 united.2,
+          c.own_neighbour.ensures.rests c.requires.child c.requires.thin c.in_ok-instead.ensures.united after led united.0 united.2 whole,
     ))
     (c.lead_to.ensures.led g.P.TreePart.tree (super_of c.args.tree.now c.args.land.now.blocks.draft) (g.D.Disk.history c.args.disk.now) c.args.level un.pointers un.header items can)
+    (c.lead_to.ensures.fits refl)
 
 -- ---- the leaves
 
