@@ -12,7 +12,7 @@ use Rattle.qg_ground.specs.Land.{IsDrafted, IsGround, Rests}
 use Rattle.qg_ground.proofs.Editing.{ArePlaced-drafted}
 use Rattle.qg_ground.proofs.Lands.{IsDrafted-none, Rests-draft}
 use Rattle.qg_descent.specs.Tree.{Root}
-use Rattle.qg_descent.specs.Editing.{CanMake, IsEditable}
+use Rattle.qg_tree_edits.specs.Editing.{CanMake, IsEditable}
 use Rattle.qg_descent.specs.Way.{HasRead, IsReadable}
 
 module _ (land : Ground) (history : Option (List Event)) (bytes generation : ℕ) where
