@@ -1,5 +1,5 @@
 -- Files that a subvolume's tree tells, and how a reading of one answers (this project's own). Addresses are in bytes.
-use Rattle.std.specs.Prelude.{◌≡◌, ◌⊎◌, ℕ, List, Option, Some, Result, Err, IsTrue}
+use Rattle.std.specs.Prelude.{◌≡◌, ◌⊎◌, ℕ, List, Option, Some, None, Result, Err, IsTrue}
 use Rattle.qg_device.specs.History.{Event}
 use Rattle.qg_num.specs.declared.fault.BlockFault.{BlockFault}
 use Rattle.qg_num.specs.declared.fault.BlockFault.TheVariants.{Image}
@@ -31,3 +31,15 @@ pub record IsMisread {A : Type 0} (root : Root) (draft : Draft) (events : List E
 abbrev pub FailsOnFile : {A : Type 0} → Root → Draft → List Event → ℕ → Result A BlockFault → Type 0
 FailsOnFile root draft events ino result =
     FailsOnWay Files root draft events result ⊎ IsMisread root draft events ino result
+
+-- a call answers the rule `file` and the root's address; where a tree is told, its items are those of no files
+pub record IsUnfit {A : Type 0} (root : Root) (draft : Draft) (events : List Event) (result : Result A BlockFault)
+    : Type 0 where
+  pub answer : result ≡ Err (Image rule.File root.address)
+  pub none : (items : List Item) → TellsTree Files root draft (Some events) items → (generation : ℕ)
+      → files_of generation items ≡ None
+
+-- a call that reads pieces answers a rule and an address only where one of these holds
+abbrev pub FailsOnPieces : {A : Type 0} → Root → Draft → List Event → ℕ → Result A BlockFault → Type 0
+FailsOnPieces root draft events ino result =
+    FailsOnFile root draft events ino result ⊎ IsUnfit root draft events result

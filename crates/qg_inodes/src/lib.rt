@@ -2,6 +2,7 @@
 #![tactic(auto)]
 
 // mod file;
+mod apart;
 mod inode;
 mod item;
 // mod pieces;
