@@ -1,5 +1,5 @@
 -- What a reading of a file answers, where its tree is told.
-use Rattle.std.proofs.Common.{◌≡◌, ℕ, List, Some, None, sym, ap, ◌∙◌, inl, inr}
+use Rattle.std.proofs.Common.{◌≡◌, ℕ, List, Some, None, sym, ap, subst, ◌∙◌, inr}
 use Rattle.std.specs.Prelude.{Err, Ok, Option, IsTrue, Result}
 use Rattle.std.specs.Option.{option_map}
 use Rattle.qg_device.specs.History.{Event}
@@ -68,3 +68,16 @@ module _ (root : Root) (draft : Draft) (history : Option (List Event)) (files : 
       none_some (none ∙ has.1) where
         none_some : {A : Type 0} {x : A} → ◌≡◌ None (Some x) → ⊥
         none_some is = cc
+
+-- what stands under its key says nothing
+pub inode-misread : (A : Type 0) (root : Root) (draft : Draft) (history : Option (List Event)) (events : List Event)
+    (ino : ℕ) (fault : BlockFault) (body : List ℕ) → fault ≡ Image rule.Item root.address → history ≡ Some events
+    → ((items : List Item) → TellsTree Files root draft history items → Some body ≡ body_at (key_with ino 1 0) items)
+    → ◌≡◌ None (inode_read body) → FailsOnFile {A = A} root draft events ino (Err fault)
+inode-misread A root draft history events ino fault body answer is there none =
+    inr (record {
+      answer = ap (λ (f : BlockFault). Err f) answer;
+      there = λ items tells.
+          let told = subst (λ (h : Option (List Event)). TellsTree Files root draft h items) (sym is) tells in
+          unread-there ino items body (sym (there items told)) (sym none);
+    })
