@@ -6,4 +6,5 @@ pub mod Keys
 pub mod Within
 pub mod Last
 pub mod Meeting
+pub mod Judging
 pub mod Answered

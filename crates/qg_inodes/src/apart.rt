@@ -1,5 +1,5 @@
 // Which lists of pieces may be edited.
-ghost use Rattle.std.specs.Prelude.{◌≡◌, ◌↔◌, ℕ, ◌≤◌, IsTrue};
+ghost use Rattle.std.specs.Prelude.{◌≡◌, ◌↔◌, ℕ, ◌^◌, ◌<◌, ◌≤◌, IsTrue};
 ghost use Rattle.qg_image.specs.FilesOf.{are_pieces, largest_size};
 ghost use Rattle.qg_files.specs.Apart.{AreApart, IsWithinSizes};
 ghost use Rattle.qg_inodes.specs.Judged.{IsJudged};
@@ -27,7 +27,7 @@ fn are_apart(pieces: &[Piece]) -> bool
 {
     let mut end = 0;
     for piece in pieces {
-        if piece.position < end || !is_within_sizes(piece) {
+        if piece.position < end || !is_within_sizes(*piece) {
             return false;
         }
         end = piece.position + piece.len;
@@ -35,8 +35,10 @@ fn are_apart(pieces: &[Piece]) -> bool
     true
 }
 
-fn is_within_sizes(piece: &Piece) -> bool
-    ensures { IsTrue result ↔ IsWithinSizes piece.now }
+// Whether one piece may be edited, by itself.
+fn is_within_sizes(piece: Piece) -> bool
+    ensures within { IsTrue result ↔ IsWithinSizes piece }
+    ensures fits { piece.extent_bytes < 2 ^ 64 }
 {
     0 < piece.len
         && piece.position <= LARGEST_SIZE
