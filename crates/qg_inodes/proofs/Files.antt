@@ -1,6 +1,6 @@
 -- The files that the items of a subvolume's tree stand for, one by one.
 use Rattle.std.proofs.Common.{◌≡◌, ℕ, ◌≤◌, true, false, List, [], ◌∷◌, map, Some, None, refl, sym, ap, subst, ◌∙◌, arith, inl, inr}
-use Rattle.std.specs.Prelude.{Bool, Option, ◌==◌, ◌&&◌, ◌⊎◌, is_some, nat_le, nat_lt}
+use Rattle.std.specs.Prelude.{Bool, Option, ◌==◌, ◌&&◌, ◌||◌, ◌⊎◌, IsTrue, is_none, is_some, nat_le, nat_lt}
 use Rattle.std.specs.Bool.{then_some}
 use Rattle.std.specs.List.{cons_option, list_all}
 use Rattle.std.specs.Option.{option_map}
@@ -15,14 +15,17 @@ use Rattle.qg_image.specs.declared.file.File.{File}
 use Rattle.qg_image.specs.declared.part.FilePart.{FilePart}
 use Rattle.qg_image.specs.declared.part.FilePart.TheVariants.{Inode, PieceOf}
 use Rattle.qg_image.proofs.Pieces.{WholeFile-is_file}
+use Rattle.qg_image.specs.ItemMeaning.{file_part}
 use Rattle.qg_image.specs.FilesOf.{are_files, are_pieces, file_in, file_parts, files_in, files_of, inodes_end, inodes_in, is_file, is_file_item, is_inode, is_owned, largest_size, least_inode, piece_in, pieces_bytes, pieces_in}
 use Rattle.qg_image.specs.Table.{has_key, value_at}
 use Rattle.qg_machine.specs.FileChange.{pieces_or_none}
 use Rattle.qg_parts.specs.Keys.{key_with}
 use Rattle.qg_contents.specs.Written.{inode_of}
 use Rattle.qg_descent.specs.Reading.{body_at}
+use Rattle.qg_inodes.specs.Items.{has_unread, is_unread}
 use Rattle.qg_inodes.specs.Pieces.{pieces_at}
 use Rattle.qg_inodes.proofs.Inodes.{Tells, inode-told}
+use Rattle.qg_inodes.proofs.Says.{SaysInode, SaysPiece, says}
 
 -- ---- what is known of items that are those of files
 
@@ -197,3 +200,29 @@ module _ (generation : ℕ) (items : List Item) (files : List (ℕ × File)) (ar
     by : (told : Option InodeItem) → value_at ino (inodes_in parts) ≡ told → HasPieces parts files ino
     by None is = of_none is
     by (Some inode) is = of_file inode (has-file inode is)
+
+-- ---- each item says something
+
+pub none-unread : (generation ino : ℕ) (items : List Item) → list_all (is_file_item generation) items ≡ true
+    → IsTrue (has_unread ino items)
+    → ⊥
+none-unread generation ino [] each unread = absurd cc
+none-unread generation ino (item ∷ items) each unread =
+    let parts = and_parts (is_file_item generation item) (list_all (is_file_item generation) items) each in
+    either (is_unread ino item) (has_unread ino items) (λ first. says_none (first_none first) (says generation item parts.0))
+    (none-unread generation ino items parts.1) unread
+  where
+    either : (a b : Bool) → (a ≡ true → ⊥) → (b ≡ true → ⊥) → (a || b) ≡ true → ⊥
+    either true b first rest is = first refl
+    either false b first rest is = rest is
+
+    first_none : is_unread ino item ≡ true → is_none (file_part item) ≡ true
+    first_none is = (and_parts (item.key.objectid == ino) (is_none (file_part item)) is).1
+
+    not_none : (part : FilePart) → file_part item ≡ Some part → is_none (file_part item) ≡ true → ⊥
+    not_none part is none =
+        let differ : false ≡ true = sym (ap (λ (o : Option FilePart). is_none o) is) ∙ none in absurd cc
+
+    says_none : is_none (file_part item) ≡ true → SaysInode item ⊎ SaysPiece item → ⊥
+    says_none none (inl inode) = not_none (Inode item.key.objectid inode.inode) inode.says none
+    says_none none (inr piece) = not_none (PieceOf item.key.objectid piece.piece) piece.says none

@@ -204,29 +204,42 @@ or_true : (a : Bool) → (a || true) ≡ true
 or_true true = refl
 or_true false = refl
 
+behind_first : (test : Item → Bool) (first : Item) (items : List Item) → IsTrue (list_any test items)
+    → IsTrue (list_any test (first ∷ items))
+behind_first test first items later = ap (λ (b : Bool). test first || b) later ∙ or_true (test first)
+
+this_first : (test : Item → Bool) (first : Item) (items : List Item) (item : Item)
+    → ◌≡◌ {A = Option Item} (Some first) (Some item) → test item ≡ true
+    → IsTrue (list_any test (first ∷ items))
+this_first test first items item same passes =
+    let own : first ≡ item = cc in
+    ap (λ (b : Bool). b || list_any test items) (ap test own ∙ passes)
+
 among : (test kept : Item → Bool) (other : Option Item) (items : List Item) (item : Item)
     → last_or other (filter kept items) ≡ Some item → test item ≡ true
     → (other ≡ Some item) ⊎ IsTrue (list_any test items)
 among test kept other [] item is passes = inl is
-among test kept other (first ∷ items) item is passes = either (kept first) is where
-  behind : IsTrue (list_any test items) → (other ≡ Some item) ⊎ IsTrue (list_any test (first ∷ items))
-  behind later = inr (ap (λ (b : Bool). test first || b) later ∙ or_true (test first))
+among test kept other (first ∷ items) item is passes = elim (cases_Bool (kept first)) [
+  | inl keeps ↦
+      let there = kept_there keeps in
+      elim (among test kept (Some first) items item there passes) [
+        | inl same ↦ inr (this_first test first items item same passes)
+        | inr later ↦ inr (behind_first test first items later)
+      ]
+  | inr skips ↦
+      let there = skipped_there skips in
+      elim (among test kept other items item there passes) [
+        | inl same ↦ inl same
+        | inr later ↦ inr (behind_first test first items later)
+      ]
+] where
+  kept_there : kept first ≡ true → last_or (Some first) (filter kept items) ≡ Some item
+  kept_there keeps =
+      sym (ap (λ (b : Bool). last_or other (cond b (first ∷ filter kept items) (filter kept items))) keeps) ∙ is
 
-  this : ◌≡◌ (Some first) (Some item) → IsTrue (list_any test (first ∷ items))
-  this same =
-      let own : first ≡ item = cc in
-      ap (λ (b : Bool). b || list_any test items) (ap test own ∙ passes)
-
-  either : (b : Bool) → last_or other (cond b (first ∷ filter kept items) (filter kept items)) ≡ Some item
-      → (other ≡ Some item) ⊎ IsTrue (list_any test (first ∷ items))
-  either true there = elim (among test kept (Some first) items item there passes) [
-    | inl same ↦ inr (this same)
-    | inr later ↦ behind later
-  ]
-  either false there = elim (among test kept other items item there passes) [
-    | inl same ↦ inl same
-    | inr later ↦ behind later
-  ]
+  skipped_there : kept first ≡ false → last_or other (filter kept items) ≡ Some item
+  skipped_there skips =
+      sym (ap (λ (b : Bool). last_or other (cond b (first ∷ filter kept items) (filter kept items))) skips) ∙ is
 
 none_some : {A : Type 0} {x : A} → ◌≡◌ None (Some x) → ⊥
 none_some is = cc

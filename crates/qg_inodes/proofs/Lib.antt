@@ -8,3 +8,4 @@ pub mod Last
 pub mod Meeting
 pub mod Judging
 pub mod Answered
+pub mod PiecesRead

@@ -38,7 +38,7 @@ all_some f (x ∷ xs) (y ∷ ys) is =
 as_many : {A B : Type 0} (f : A → Option B) (xs : List A) (ys : List B) → map f xs ≡ map Some ys
     → length xs ≡ length ys
 as_many f xs ys is =
-    sym (length-map f xs) ∙ ap (λ (os : List (Option _)). length os) is ∙ length-map Some ys
+    sym (length-map xs f) ∙ ap (λ (os : List (Option _)). length os) is ∙ length-map ys Some
 
 -- one more on either side, where a test passes
 one_more : {A B : Type 0} (f : A → Option B) (b : Bool) (x : A) (y : B) (xs : List A) (ys : List B) → f x ≡ Some y
@@ -186,27 +186,29 @@ unread_one ino from to item within none =
     was_none None is = refl
     was_none (Some piece) is = absurd cc
 
+module _ (ino from to : ℕ) where
+  abbrev unread_in : List Item → Bool
+  unread_in items = list_any (λ item. is_none (piece_of item)) items
+
+  abbrev there : List Item → List Item
+  there items = items_within (key_with ino 108 from) (key_with ino 108 to) items
+
+  one_unread : (b : Bool) (item : Item) (items : List Item)
+      → is_within (key_with ino 108 from) (key_with ino 108 to) item.key ≡ b
+      → (IsTrue (unread_in (there items)) → has_unread ino items ≡ true)
+      → IsTrue (unread_in (cond b (item ∷ there items) (there items)))
+      → has_unread ino (item ∷ items) ≡ true
+  one_unread true item items within rest is =
+      first_or (is_none (piece_of item)) (unread_in (there items)) (has_unread ino (item ∷ items))
+      (λ none. ap (λ (b : Bool). b || has_unread ino items) (unread_one ino from to item within none))
+      (λ later. ap (λ (b : Bool). is_unread ino item || b) (rest later) ∙ or_true (is_unread ino item)) is
+  one_unread false item items within rest is =
+      ap (λ (b : Bool). is_unread ino item || b) (rest is) ∙ or_true (is_unread ino item)
+
 pub unread-within : (ino from to : ℕ) (items : List Item)
     → IsTrue (list_any (λ item. is_none (piece_of item)) (items_within (key_with ino 108 from) (key_with ino 108 to) items))
     → IsTrue (has_unread ino items)
 unread-within ino from to [] unread = unread
 unread-within ino from to (item ∷ items) unread =
-    here (is_within (key_with ino 108 from) (key_with ino 108 to) item.key) refl unread
-  where
-    rest : List Item
-    rest = items_within (key_with ino 108 from) (key_with ino 108 to) items
-
-    later : IsTrue (list_any (λ item. is_none (piece_of item)) rest) → has_unread ino (item ∷ items) ≡ true
-    unfolding rest
-    later h =
-        ap (λ (b : Bool). is_unread ino item || b) (unread-within ino from to items h) ∙ or_true (is_unread ino item)
-
-    here : (b : Bool) → is_within (key_with ino 108 from) (key_with ino 108 to) item.key ≡ b
-        → IsTrue (list_any (λ item. is_none (piece_of item)) (cond b (item ∷ rest) rest))
-        → has_unread ino (item ∷ items) ≡ true
-    unfolding rest
-    here true within is =
-        first_or (is_none (piece_of item)) (list_any (λ item. is_none (piece_of item)) rest) (has_unread ino (item ∷ items))
-        (λ none. ap (λ (b : Bool). b || has_unread ino items) (unread_one ino from to item within none))
-        later is
-    here false outside is = later is
+    one_unread ino from to (is_within (key_with ino 108 from) (key_with ino 108 to) item.key) item items refl
+    (unread-within ino from to items) unread
