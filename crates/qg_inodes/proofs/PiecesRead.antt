@@ -1,6 +1,6 @@
 -- What the reading of pieces answers. Positions and lengths are in bytes.
 use Rattle.std.proofs.Common.{◌≡◌, ℕ, ◌+◌, ◌*◌, ◌-◌, ◌<◌, ◌≤◌, true, List, [], ◌++◌, length, Some, None, refl, sym, ap, subst, ◌∙◌, arith, append-nil, length-append, inl, inr}
-use Rattle.std.specs.Prelude.{◌&&◌, Err, IfOk, IsErrAnd, IsTrue, Ok, Option, Result, is_none, nat_lt}
+use Rattle.std.specs.Prelude.{◌&&◌, ⊤, Err, IfOk, IsErrAnd, IsTrue, Ok, Option, Result, is_none, nat_lt}
 use Rattle.std.specs.List.{filter_map, list_any}
 use Rattle.std.proofs.Math.Nat.{mul-add, mul-le-mul_left}
 use Rattle.qg_device.specs.History.{Event}
@@ -272,23 +272,37 @@ unread-begun root draft history ino from to items none found whole tells =
     (subst (λ (xs : List Item). IsTrue (list_any (λ item. is_none (piece_of item)) xs)) (found whole tells) none)
 
 -- what is answered then
-pub added-sound : (A B : Type 0) (root : Root) (draft : Draft) (history : Option (List Event)) (ino : ℕ)
-    (items : List Item) (old new : List Piece) (fault : BlockFault) → AreAdded {A = A} root items old new (Err fault)
+added_sound : (B : Type 0) (root : Root) (draft : Draft) (history : Option (List Event)) (ino : ℕ) (items : List Item)
+    (old new : List Piece) (fault : BlockFault) → AreAdded {A = ⊤} root items old new (Err fault)
     → (IsTrue (list_any (λ item. is_none (piece_of item)) items) → SaysUnread root draft history ino)
     → (files : List (ℕ × File)) → TellsFiles root draft history files
     → BreaksNone {A = B} (Err fault)
-added-sound A B root draft history ino items old new NoMemory added unread files tells = tt
-added-sound A B root draft history ino items old new Disk added unread files tells = tt
-added-sound A B root draft history ino items old new (Image broken at) added unread files tells =
+added_sound B root draft history ino items old new NoMemory added unread files tells = tt
+added_sound B root draft history ino items old new Disk added unread files tells = tt
+added_sound B root draft history ino items old new (Image broken at) added unread files tells =
     misread-sound B root draft history ino (Err (Image broken at)) (unread added.2) files tells
 
-pub added-broken : (A B : Type 0) (root : Root) (draft : Draft) (history : Option (List Event)) (events : List Event)
+added_broken : (B : Type 0) (root : Root) (draft : Draft) (history : Option (List Event)) (events : List Event)
     (ino : ℕ) (items : List Item) (old new : List Piece) (fault : BlockFault) → history ≡ Some events
-    → AreAdded {A = A} root items old new (Err fault)
+    → AreAdded {A = ⊤} root items old new (Err fault)
     → (IsTrue (list_any (λ item. is_none (piece_of item)) items) → SaysUnread root draft history ino)
     → FailsOnPieces {A = B} root draft events ino (Err fault)
-added-broken A B root draft history events ino items old new NoMemory is added unread = inl (inl tt)
-added-broken A B root draft history events ino items old new Disk is added unread = absurd added
-added-broken A B root draft history events ino items old new (Image broken at) is added unread =
+added_broken B root draft history events ino items old new NoMemory is added unread = inl (inl tt)
+added_broken B root draft history events ino items old new Disk is added unread = absurd added
+added_broken B root draft history events ino items old new (Image broken at) is added unread =
     misread-broken B root draft history events ino (Err (Image broken at)) is
     (λ i. Err (Image (added.0 i) (added.1 i))) (unread added.2)
+
+module _ {B : Type 0} (root : Root) (draft : Draft) (history : Option (List Event)) (ino : ℕ) (items : List Item)
+    (old new : List Piece) (result : Result B BlockFault) (fault : BlockFault) (is : result ≡ Err fault)
+    (added : AreAdded {A = ⊤} root items old new (Err fault))
+    (unread : IsTrue (list_any (λ item. is_none (piece_of item)) items) → SaysUnread root draft history ino) where
+  pub added-sound : (files : List (ℕ × File)) → TellsFiles root draft history files → BreaksNone result
+  added-sound files tells =
+      subst (λ (r : Result B BlockFault). BreaksNone r) (sym is)
+      (added_sound B root draft history ino items old new fault added unread files tells)
+
+  pub added-broken : (events : List Event) → history ≡ Some events → FailsOnPieces root draft events ino result
+  added-broken events told =
+      subst (λ (r : Result B BlockFault). FailsOnPieces root draft events ino r) (sym is)
+      (added_broken B root draft history events ino items old new fault told added unread)

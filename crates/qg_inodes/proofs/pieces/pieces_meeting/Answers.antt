@@ -1,15 +1,13 @@
-use Rattle.std.proofs.Common.{◌≡◌, ◌+◌, ◌-◌, ◌<◌, ◌≤◌, List, sym, ap, subst, ◌∙◌, arith}
-use Rattle.std.specs.Prelude.{Err, IsTrue, Result, is_none}
+use Rattle.std.proofs.Common.{◌≡◌, ◌+◌, ◌-◌, ◌<◌, ◌≤◌, List, sym, ap, ◌∙◌, arith}
+use Rattle.std.specs.Prelude.{Err, IsTrue, is_none}
 use Rattle.std.specs.List.{list_any}
 use Rattle.qg_num.specs.declared.fault.BlockFault.{BlockFault}
 use Rattle.qg_num.specs.declared.key.Key.{Key}
 use Rattle.qg_num.specs.declared.piece.Piece.{Piece}
 use Rattle.qg_node.specs.declared.item.Item.{Item}
 use Rattle.qg_parts.specs.Keys.{key_with}
-use Rattle.qg_blocks.specs.Told.{BreaksNone}
 use Rattle.qg_descent.specs.Reading.{last_upto}
 use Rattle.qg_inodes.specs.Items.{piece_of}
-use Rattle.qg_inodes.specs.Told.{FailsOnPieces}
 use Rattle.qg_inodes.proofs.PiecesRead.{added-broken, added-sound, are-met-long, are-met-short, found-after, handed, judged-broken, judged-found, judged-sound, misread-broken, misread-sound, steps-met, unread-before, unread-begun}
 use Rattle.qg_inodes.proofs.pieces.pieces_meeting.Goals.{then-to-from-via-then-to-from, then-to-from-via-else-to-from+then-to-from-eq1}
 use Rattle.qg_inodes.proofs.pieces.pieces_meeting.Goals as goal
@@ -123,7 +121,7 @@ returns-clause-reads g c =
     (omega (arith, c.in_ok-last.ensures.reads)) c.in_ok-items.ensures.reads
 
 pub returns-in_err-add_pieces-clause-sound : goal.returns-in_err-add_pieces-clause-sound
-returns-in_err-add_pieces-clause-sound g c files tells =
+returns-in_err-add_pieces-clause-sound g c =
     let root = c.args.tree.now in
     let draft = c.args.blocks.now.draft in
     let history = g.D.Disk.history c.args.disk.now in
@@ -138,12 +136,11 @@ returns-in_err-add_pieces-clause-sound g c files tells =
     unread-begun root draft history c.args.ino (c.args.from + 1) (c.args.to - 1) c.as_slice.result.now none begun
     in
     let result = handed c.from_residual-in_err-add_pieces.result _ c.from_residual-in_err-add_pieces.ensures.1 in
-    subst (λ (r : Result _ BlockFault). BreaksNone r) (sym result)
-    (added-sound _ _ root draft history c.args.ino c.as_slice.result.now c.in_ok-pieces.pieces c.add_pieces.new.pieces
-    c.in_err-add_pieces.field-0.0 c.in_err-add_pieces.ensures unread files tells)
+    added-sound root draft history c.args.ino c.as_slice.result.now c.in_ok-pieces.pieces c.add_pieces.new.pieces
+    c.from_residual-in_err-add_pieces.result c.in_err-add_pieces.field-0.0 result c.in_err-add_pieces.ensures unread
 
 pub returns-in_err-add_pieces-clause-broken : goal.returns-in_err-add_pieces-clause-broken
-returns-in_err-add_pieces-clause-broken g c events is =
+returns-in_err-add_pieces-clause-broken g c =
     let root = c.args.tree.now in
     let draft = c.args.blocks.now.draft in
     let history = g.D.Disk.history c.args.disk.now in
@@ -158,9 +155,8 @@ returns-in_err-add_pieces-clause-broken g c events is =
     unread-begun root draft history c.args.ino (c.args.from + 1) (c.args.to - 1) c.as_slice.result.now none begun
     in
     let result = handed c.from_residual-in_err-add_pieces.result _ c.from_residual-in_err-add_pieces.ensures.1 in
-    subst (λ (r : Result _ BlockFault). FailsOnPieces root draft events c.args.ino r) (sym result)
-    (added-broken _ _ root draft history events c.args.ino c.as_slice.result.now c.in_ok-pieces.pieces
-    c.add_pieces.new.pieces c.in_err-add_pieces.field-0.0 is c.in_err-add_pieces.ensures unread)
+    added-broken root draft history c.args.ino c.as_slice.result.now c.in_ok-pieces.pieces c.add_pieces.new.pieces
+    c.from_residual-in_err-add_pieces.result c.in_err-add_pieces.field-0.0 result c.in_err-add_pieces.ensures unread
 
 pub returns-clause-found : goal.returns-clause-found
 returns-clause-found g c =
@@ -182,8 +178,8 @@ returns-clause-found g c =
     c.in_ok-reaching.ensures c.in_ok-pieces.ensures (omega arith) c.as_slice.result.now c.add_pieces.new.pieces begun
     c.in_ok-add_pieces.ensures
     in
-    judged-found root draft c.args.ino c.args.from c.args.to c.add_pieces.new.pieces history c.judged.result
-    c.judged.ensures met
+    judged-found root draft c.args.ino c.args.from c.args.to c.add_pieces.new.pieces history c.judged-2.result
+    c.judged-2.ensures met
 
 pub returns-clause-sound : goal.returns-clause-sound
 returns-clause-sound g c =
@@ -205,8 +201,8 @@ returns-clause-sound g c =
     c.in_ok-reaching.ensures c.in_ok-pieces.ensures (omega arith) c.as_slice.result.now c.add_pieces.new.pieces begun
     c.in_ok-add_pieces.ensures
     in
-    judged-sound root draft c.args.ino c.args.from c.args.to c.add_pieces.new.pieces history c.judged.result
-    c.judged.ensures met
+    judged-sound root draft c.args.ino c.args.from c.args.to c.add_pieces.new.pieces history c.judged-2.result
+    c.judged-2.ensures met
 
 pub returns-clause-broken : goal.returns-clause-broken
 returns-clause-broken g c events is =
@@ -228,5 +224,5 @@ returns-clause-broken g c events is =
     c.in_ok-reaching.ensures c.in_ok-pieces.ensures (omega arith) c.as_slice.result.now c.add_pieces.new.pieces begun
     c.in_ok-add_pieces.ensures
     in
-    judged-broken root draft c.args.ino c.args.from c.args.to c.add_pieces.new.pieces history events c.judged.result is
-    c.judged.ensures met
+    judged-broken root draft c.args.ino c.args.from c.args.to c.add_pieces.new.pieces history events c.judged-2.result is
+    c.judged-2.ensures met
