@@ -9,3 +9,4 @@ pub mod Meeting
 pub mod Judging
 pub mod Answered
 pub mod PiecesRead
+pub mod Whole
