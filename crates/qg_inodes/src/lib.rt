@@ -10,3 +10,6 @@ mod pieces;
 pub use file::file_of;
 pub use inode::inode_of;
 pub use pieces::pieces_meeting;
+
+#[cfg(test)]
+mod tests;
