@@ -122,7 +122,7 @@ module _ (ino from : ℕ) where
         ap (λ (n : ℕ). nat_le n from) first.position ∙ sym (own-upto ino from item.key own)
         in
         let chosen : last_begun before from (first.piece ∷ pieces)
-            ≡ last_begun (if upto item then Some first.piece else before) from pieces =
+        ≡ last_begun (if upto item then Some first.piece else before) from pieces =
         ap (λ (b : Bool). last_begun (if b then Some first.piece else before) from pieces) test
         in
         let this : own_piece ino (Some item) ≡ Some first.piece =

@@ -170,7 +170,7 @@ module _ (root : Root) (draft : Draft) (ino from to : ℕ) (pieces : List Piece)
 module _ (root : Root) (draft : Draft) (history : Option (List Event)) (ino from to bytes : ℕ)
     (placed : ArePlaced draft bytes) (last : Option Item) (reaching : Option Piece) (pieces : List Piece)
     (found : (items : List Item) → TellsTree Files root draft history items
-      → last ≡ last_upto (key_with ino 108 from) items)
+    → last ≡ last_upto (key_with ino 108 from) items)
     (own : reaching ≡ own_piece ino last) (met : pieces ≡ piece_met from to reaching) where
   before_met : (files : List (ℕ × File)) → TellsFiles root draft history files
       → pieces ≡ piece_met from to (last_begun None from (pieces_at ino files))
@@ -185,7 +185,7 @@ module _ (root : Root) (draft : Draft) (history : Option (List Event)) (ino from
 
   pub are-met-long : 0 < to → (items : List Item) (all : List Piece)
       → ((whole : List Item) → TellsTree Files root draft history whole
-        → items ≡ items_within (key_with ino 108 (from + 1)) (key_with ino 108 (to - 1)) whole)
+      → items ≡ items_within (key_with ino 108 (from + 1)) (key_with ino 108 (to - 1)) whole)
       → all ≡ pieces ++ filter_map piece_of items → AreMet root draft history ino from to all
   are-met-long some items all begun are files tells =
       are
@@ -209,7 +209,7 @@ pub steps-met : (root : Root) (old new : Held) (before after : Option (List Even
     → low ≡ key_with ino 108 (from + 1) → high ≡ key_with ino 108 (to - 1) → 0 < to
     → second ≤ first + (root.height + 1)
     → ((whole : List Item) → TellsTree Files root new.draft after whole
-      → third ≤ second + (root.height + 1) * (1 + length (items_within low high whole)))
+    → third ≤ second + (root.height + 1) * (1 + length (items_within low high whole)))
     → (files : List (ℕ × File)) → TellsFiles root old.draft before files
     → third ≤ first + (root.height + 1) * (2 + length (pieces_met from to (pieces_at ino files)))
 steps-met root old new before after bytes left read ino from to first second third low high is_low is_high some one more files
@@ -265,7 +265,7 @@ unread-before root draft history ino key (Some item) none found items tells =
 pub unread-begun : (root : Root) (draft : Draft) (history : Option (List Event)) (ino from to : ℕ) (items : List Item)
     → IsTrue (list_any (λ item. is_none (piece_of item)) items)
     → ((whole : List Item) → TellsTree Files root draft history whole
-      → items ≡ items_within (key_with ino 108 from) (key_with ino 108 to) whole)
+    → items ≡ items_within (key_with ino 108 from) (key_with ino 108 to) whole)
     → SaysUnread root draft history ino
 unread-begun root draft history ino from to items none found whole tells =
     unread-within ino from to whole

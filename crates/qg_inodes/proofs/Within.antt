@@ -149,12 +149,12 @@ are-begun generation ino from to items each some =
     let there = items_within (key_with ino 108 from) (key_with ino 108 last) items in
     let read = are_read ino from last generation items each in
     let test : (piece : Piece)
-        → (nat_le from piece.position && nat_le piece.position last)
-        ≡ (nat_le from piece.position && nat_lt piece.position to) =
+    → (nat_le from piece.position && nat_le piece.position last)
+    ≡ (nat_le from piece.position && nat_lt piece.position to) =
     λ piece. ap (λ (b : Bool). nat_le from piece.position && b) (in_front to piece.position some)
     in
     let same : filter (λ piece. nat_le from piece.position && nat_le piece.position last) pieces
-        ≡ pieces_begun from to pieces =
+    ≡ pieces_begun from to pieces =
     filter_agree (λ (piece : Piece). nat_le from piece.position && nat_le piece.position last)
     (λ (piece : Piece). nat_le from piece.position && nat_lt piece.position to) test pieces
     in

@@ -74,11 +74,7 @@ pub(crate) fn own_piece(
 }
 
 /// Puts the pieces that items tell behind others. An item that says nothing is answered as `Image`.
-pub(crate) fn add_pieces(
-    tree: &Tree,
-    items: &[Item],
-    pieces: &mut Pieces,
-) -> Result<(), BlockFault>
+pub(crate) fn add_pieces(tree: &Tree, items: &[Item], pieces: &mut Pieces) -> Result<(), BlockFault>
     ensures { AreAdded tree.now items.now pieces.old pieces.new result }
 {
     for item in items {

@@ -13,7 +13,9 @@ use qg_items::{
     EXTENT_DATA_BYTES, ExtentData, INODE_ITEM_BYTES, InodeItem, write_extent_data, write_inode,
 };
 use qg_node::{Body, Header, Item, Items, Node, write_node};
-use qg_num::{Address, BlockFault, Generation, Ino, Key, NoMemory, Piece, Pieces, RootId, Rule, Steps};
+use qg_num::{
+    Address, BlockFault, Generation, Ino, Key, NoMemory, Piece, Pieces, RootId, Rule, Steps,
+};
 use std::alloc::Global;
 use std::marker::Brand;
 use std::process::Abort;
@@ -201,9 +203,25 @@ fn read_files<D: Disk, L: Ledger>(
     let none = file_of(&tree(), alloc, blocks, disk, Ino::new(259), reads);
     assert!(rt; matches!(&none, Ok(None)));
     let unread = file_of(&tree(), alloc, blocks, disk, Ino::new(260), reads);
-    assert!(rt; matches!(&unread, Err(BlockFault::Image { rule: Rule::Item, .. })));
+    assert!(rt;
+        matches!(
+            &unread,
+            Err(BlockFault::Image {
+                rule: Rule::Item,
+                ..
+            })
+        )
+    );
     let unfit = file_of(&tree(), alloc, blocks, disk, Ino::new(261), reads);
-    assert!(rt; matches!(&unfit, Err(BlockFault::Image { rule: Rule::File, .. })));
+    assert!(rt;
+        matches!(
+            &unfit,
+            Err(BlockFault::Image {
+                rule: Rule::File,
+                ..
+            })
+        )
+    );
     Ok(())
 }
 
