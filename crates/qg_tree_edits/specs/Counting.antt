@@ -230,7 +230,7 @@ IsRootTold before after old new history instead tellings =
 
 -- A tree was edited, and this was told meanwhile: what was copied was not fresh before, and is what stood there. By the
 -- time that a node was copied or left, no node that the last commit holds leads to it, as it stood before. At most
--- 2·height + 3 nodes came, copies and new ones together; at most height + 2 were made, and height + 2 left
+-- 2·height + 3 nodes came, of which height + 2 were made, and height + 2 were left
 abbrev pub IsTreeTold : Root → Root → Ground → Ground → Option (List Event) → List Telling → Type 0
 IsTreeTold before after old new history tellings =
     IsTold old (clean_at old history) (committed_at old history)
