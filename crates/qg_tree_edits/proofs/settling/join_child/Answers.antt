@@ -256,7 +256,7 @@ returns-clause-kept g c settled =
     (g.D.Disk.history c.unite.new.disk) (own_pointers node) c.args.to c.args.level c.args.place c.args.child c.in_ok-pair.pair c.in_ok-instead.instead (c.in_ok-pair.ensures.paired node c.requires.parent.here)
     c.own_neighbour.ensures.rests c.requires.child c.requires.thin c.in_ok-instead.ensures.united after c.args.at node c.requires.parent.here (omega (arith, high)) in
     let rewritten = c.lead_to.ensures.rewritten node here in
-    let united = c.in_ok-instead.ensures.settled (c.in_ok-pair.ensures.settled settled) in
+    let united = c.in_ok-instead.ensures.settled c.args.tree.now.next c.own_neighbour.ensures.rests.drafted (c.in_ok-pair.ensures.settled settled) in
     IfOk-weaker c.lead_to.result _ _
     (λ rest cut. g.met.B.Book.keeps c.unite.new.book c.unite.new.land c.lead_to.new.land c.unite.new.disk c.unite.new.disk refl (rewritten-space c.unite.new.land c.lead_to.new.land c.args.at node here rewritten)
     (rewritten-levels c.unite.new.land c.lead_to.new.land c.args.at node here rewritten cut.stays) united)
