@@ -1,6 +1,6 @@
 -- Nodes that the last commit holds: no call writes there, so they are told as they were.
 use Rattle.std.proofs.Common.{◌≡◌, ℕ, Bool, true, false, List, refl, sym, ap, subst, ◌∙◌, Option, Some, None}
-use Rattle.std.specs.Prelude.{◌==◌, if◌then◌else◌, Contains, IsSome}
+use Rattle.std.specs.Prelude.{◌==◌, if◌then◌else◌, Contains}
 use Rattle.std.specs.List.{list_any}
 use Rattle.std.proofs.lemmas.Bool.{eq-eqb, eqb-true}
 use Rattle.qg_device.specs.History.{Event}
@@ -11,7 +11,6 @@ use Rattle.qg_space.proofs.Members.{one_passes, passes_one}
 use Rattle.qg_ground.specs.declared.ground.Ground.{Ground}
 use Rattle.qg_ground.specs.Land.{IsDrafted, Rests}
 use Rattle.qg_tree_edits.specs.Counting.{AreCommitted, committed_at}
-use Rattle.qg_tree_edits.proofs.Clean.{none-unless}
 
 -- no fresh node lies at such an address
 pub unheld-fresh : (land : Ground) (generation at : ℕ) (node : Node) → IsDrafted land generation

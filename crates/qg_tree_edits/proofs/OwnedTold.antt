@@ -148,7 +148,8 @@ module _ (tree : Tree) (root : Root) (land new : Ground) (history : Option (List
           omega (arith, a, b) in
           subst (λ (ts : List Telling). IsTold land nodes clean Reached before after 1 0 0 ts)
           (sym (tellings-copied owned.node at now differ))
-          (told-copied land nodes clean Reached before after owned.node at now owned.kept.placed (same_there (none-unless (fresh_at land.blocks.draft at) (λ some. differ (owned.stays some))) ∙ there)
+          (told-copied land nodes clean Reached before after owned.node at now owned.kept.placed
+          (same_there (none-unless (fresh_at land.blocks.draft at) (λ some. differ (owned.stays some))) ∙ there)
           is_free
           (leads-none tree (super_of root land.blocks.draft) (told land.blocks.draft history) clean
           (committed-told land history clean committed) level at items branch at top_there.0 top_there.1 high)

@@ -1,5 +1,5 @@
 -- What ways lead to is reached.
-use Rattle.std.proofs.Common.{◌≡◌, ◌≢◌, ◌⊎◌, ℕ, zero, suc, ◌+◌, ◌<◌, List, [], ◌∷◌, take, drop, arith, refl, inl, inr, Option, Some, None}
+use Rattle.std.proofs.Common.{◌≡◌, ◌⊎◌, ℕ, zero, suc, ◌+◌, ◌<◌, List, [], ◌∷◌, take, drop, arith, refl, inl, inr, Option, Some, None}
 use Rattle.std.specs.Prelude.{MatchOption, slice_get}
 use Rattle.std.specs.List.{sum_by}
 use Rattle.std.proofs.lemmas.Bool.Decides.{eqb_tells}
@@ -9,7 +9,7 @@ use Rattle.qg_node.specs.declared.node.Node.{Node}
 use Rattle.qg_node.specs.Nodes.{own_pointers}
 use Rattle.qg_tree_edits.specs.declared.instead.Instead.{Instead}
 use Rattle.qg_descent.specs.Tree.{Reaches}
-use Rattle.qg_tree_edits.specs.Counting.{one, pointers_there, ways, ways_each, ways_instead, ways_more, ways_parts}
+use Rattle.qg_tree_edits.specs.Counting.{pointers_there, ways, ways_each, ways_instead, ways_more, ways_parts}
 use Rattle.qg_tree_edits.specs.Editing.{ReachesInstead, ReachesParts}
 use Rattle.qg_tree_edits.proofs.Spliced.{drop-get, take-get}
 use Rattle.qg_tree_edits.proofs.Ways.{one-other}

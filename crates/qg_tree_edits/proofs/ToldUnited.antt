@@ -63,7 +63,8 @@ told-left old nodes clean Reached before after node at named bare apart down som
 pub united-lost : (right : ℕ) (instead : Instead) (tellings : List Telling) → TellsUnited right instead tellings
     → (q : ℕ) → 0 < sum_by (λ telling. losses telling q) tellings → q ≡ right
 united-lost right instead tellings (inl parted) q lost =
-    absurd (let none = ap (λ (ts : List Telling). sum_by (λ (t : Telling). losses t q) ts) parted.1 in omega (arith, none, lost))
+    let none = ap (λ (ts : List Telling). sum_by (λ (t : Telling). losses t q) ts) parted.1 in
+    absurd (omega (arith, none, lost))
 united-lost right instead tellings (inr (none, (node, are, named, bare))) q lost =
     elim (eqb_tells q (header_of node).address) [
       | inl (equal, same) ↦ same ∙ named

@@ -10,7 +10,7 @@ use Rattle.qg_space.specs.Holding.{is_free_slot}
 use Rattle.qg_ground.specs.declared.ground.Ground.{Ground}
 use Rattle.qg_ground.specs.Tellings.{Telling}
 use Rattle.qg_ground.specs.Tellings.Telling.{Copied, Made, Left}
-use Rattle.qg_tree_edits.specs.Counting.{IsAsWas, IsBare, IsTimely, IsTold, IsUnheld, Turns, copied_in, gains, left_in, losses, made_in, one}
+use Rattle.qg_tree_edits.specs.Counting.{IsAsWas, IsBare, IsTimely, IsTold, IsUnheld, Turns, copied_in, gains, left_in, losses, made_in}
 use Rattle.qg_tree_edits.proofs.Downward.{IsClosed, downward-append, downward-framed, downward-same, lost-known, timely-few}
 use Rattle.qg_tree_edits.proofs.Reached.{either-some}
 use Rattle.qg_tree_edits.proofs.Ways.{one-here}
