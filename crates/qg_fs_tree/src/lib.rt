@@ -1,4 +1,3 @@
-see NOTE-FROM-LEAD.md in the root of this clone, then remove this line
 //! A subvolume's tree, edited together with the references that it owes.
 #![tactic(auto)]
 
