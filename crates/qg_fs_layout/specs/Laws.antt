@@ -1,0 +1,38 @@
+-- What a subvolume's tree is in a state of the machine (this project's own).
+use Rattle.std.specs.Prelude.{◌≡◌, ◌↔◌, ℕ, ◌<◌, List, Option, Some, Contains, IsTrue}
+use Rattle.qg_device.specs.History.{Event}
+use Rattle.qg_num.specs.declared.piece.Piece.{Piece}
+use Rattle.qg_node.specs.declared.item.Item.{Item}
+use Rattle.qg_super.specs.Places.{is_slot}
+use Rattle.qg_image.specs.FilesOf.{files_of}
+use Rattle.qg_machine.specs.Layout.{IsTreeOf, IsWhole}
+use Rattle.qg_state.specs.State.{State, Subvolume}
+use Rattle.qg_fs_tree.specs.declared.fs_tree.FsTree.{FsTree}
+use Rattle.qg_fs_tree.specs.Standing.{IsReached, IsSubvolume, Stands}
+use Rattle.qg_fs_layout.specs.Laying.{AreFit, AreThoseReached, CopiesNodes, FreshFit, HoldsBytes, HoldsSlots, IsLaidOut, IsLaidOutAlone, IsMoved}
+
+-- the nodes of a tree as a layout are those that it reaches
+abbrev pub NodesAreThoseReached : Type 0
+NodesAreThoseReached = (fs : FsTree) (history : Option (List Event))
+    → 0 < fs.land.space.sizes.nodesize
+    → ((q : ℕ) → IsReached fs history q → IsTrue (is_slot fs.land.space.sizes q))
+    → AreThoseReached fs history
+
+-- a tree that stands, and whose items are those of a subvolume's files, is that subvolume's tree in the state
+abbrev pub TreeIsWalked : Type 0
+TreeIsWalked = (fs : FsTree) (history : Option (List Event)) (bytes : ℕ) (items : List Item) (names : List (ℕ × Piece))
+    (state : State) (subvolume : Subvolume)
+    → IsSubvolume fs history bytes → Stands fs history items names → IsLaidOut state subvolume fs history
+    → files_of fs.tree.next items ≡ Some subvolume.files → IsTreeOf state subvolume
+
+-- the nodes that a tree reaches fit, where the disk holds bytes and fresh nodes fit
+abbrev pub NodesFit : Type 0
+NodesFit = (fs : FsTree) (history : Option (List Event)) (bytes : ℕ) → IsSubvolume fs history bytes
+    → HoldsBytes history → FreshFit fs.land → AreFit fs history
+
+-- and where they fit, and the subvolume is the only one, the state's layout is that of its files
+abbrev pub StateIsWhole : Type 0
+StateIsWhole = (fs : FsTree) (history : Option (List Event)) (bytes : ℕ) (items : List Item) (names : List (ℕ × Piece))
+    (state : State) (subvolume : Subvolume)
+    → IsSubvolume fs history bytes → Stands fs history items names → IsLaidOutAlone state subvolume fs history
+    → files_of fs.tree.next items ≡ Some subvolume.files → AreFit fs history → IsWhole state

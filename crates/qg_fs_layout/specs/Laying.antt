@@ -1,0 +1,96 @@
+-- A subvolume's tree, as it stands between two edits, and the layout of a state of the machine (this project's own).
+-- Addresses are in bytes.
+use Rattle.std.specs.Prelude.{◌≡◌, ◌↔◌, ℕ, ◌<◌, List, [], ◌∷◌, Option, Some, None, Contains, IsTrue}
+use Rattle.std.specs.List.{list_all, AllByRecursion}
+use Rattle.std.specs.List.Sorted.{IsStrictlyIncreasing}
+use Rattle.qg_device.specs.History.{Event, content}
+use Rattle.qg_bytes.specs.Fields.{IsBytes}
+use Rattle.qg_node.specs.declared.node.Node.{Node}
+use Rattle.qg_node.specs.Fits.{NodeFits}
+use Rattle.qg_node.specs.NodeText.{IsNode}
+use Rattle.qg_image.specs.Table.{keys_of, value_at}
+use Rattle.qg_machine.specs.Layout.{KeepsNode, is_made_node, made_nodes}
+use Rattle.qg_state.specs.State.{Placed, State, Subvolume, next_generation}
+use Rattle.qg_refs.specs.Book.{full_in}
+use Rattle.qg_extents.specs.Table.{book_of}
+use Rattle.qg_blocks.specs.Told.{fresh_at}
+use Rattle.qg_ground.specs.declared.ground.Ground.{Ground}
+use Rattle.qg_tree_edits.specs.Counting.{ways}
+use Rattle.qg_fs_tree.specs.declared.fs_tree.FsTree.{FsTree}
+use Rattle.qg_fs_tree.specs.Standing.{IsReached, Moves, layout_in, nodes_of}
+
+-- ---- the nodes of the layout
+
+-- the nodes that a tree reaches, each with its address
+abbrev pub nodes_in : FsTree → Option (List Event) → List (ℕ × Placed)
+nodes_in fs history = (layout_in fs history).nodes
+
+-- a tree reaches an address, and this node is told there, with the mark that is kept of it
+pub record IsReachedAs (fs : FsTree) (history : Option (List Event)) (q : ℕ) (placed : Placed) : Type 0 where
+  pub reached : IsReached fs history q
+  pub told : nodes_of fs history q ≡ Some placed.node
+  pub full : placed.full ≡ full_in (book_of fs.refs.refs q)
+
+-- The nodes of a tree as a layout are a table by address: what the tree reaches and is told there, and nothing else. It
+-- reaches what ways lead to
+pub record AreThoseReached (fs : FsTree) (history : Option (List Event)) : Type 0 where
+  pub ascending : IsStrictlyIncreasing (keys_of (nodes_in fs history))
+  pub among : (q : ℕ) (placed : Placed) → value_at q (nodes_in fs history) ≡ Some placed ↔ IsReachedAs fs history q placed
+  pub ways : (q : ℕ) → IsReached fs history q ↔ 0 < ways (nodes_of fs history) fs.tree.height fs.tree.address q
+
+-- ---- nodes that fit
+
+-- a node has a text of so many bytes, and its numbers fit their fields
+pub record IsFit (nodesize : ℕ) (node : Node) : Type 0 where
+  pub sound : IsNode nodesize node
+  pub fits : NodeFits node
+
+-- what a disk holds are bytes, where it tells
+abbrev pub HoldsBytes : Option (List Event) → Type 0
+HoldsBytes history = (events : List Event) → history ≡ Some events → IsBytes (content events)
+
+-- the numbers of fresh nodes fit their fields
+abbrev pub FreshFit : Ground → Type 0
+FreshFit land = (q : ℕ) (node : Node) → fresh_at land.blocks.draft q ≡ Some node → NodeFits node
+
+-- so it is of each node that a tree reaches
+abbrev pub AreFit : FsTree → Option (List Event) → Type 0
+AreFit fs history = (q : ℕ) (node : Node) → IsReached fs history q → nodes_of fs history q ≡ Some node
+    → IsFit fs.land.space.sizes.nodesize node
+
+-- ---- the state
+
+-- the layout of a state is a tree, as it stands, and it is one of a subvolume
+pub record IsLaidOut (state : State) (subvolume : Subvolume) (fs : FsTree) (history : Option (List Event)) : Type 0 where
+  pub sizes : state.sizes ≡ fs.land.space.sizes
+  pub generation : next_generation state ≡ fs.tree.next
+  pub layout : state.layout ≡ nodes_in fs history
+  pub root : subvolume.root ≡ fs.tree.address
+
+-- and there is no other subvolume
+pub record IsLaidOutAlone (state : State) (subvolume : Subvolume) (fs : FsTree) (history : Option (List Event)) : Type 0
+  where
+    pub laid : IsLaidOut state subvolume fs history
+    pub alone : state.subvolumes ≡ (fs.tree.owner, subvolume) ∷ []
+
+-- ---- edits, one after the other
+
+-- What edits of a tree make of it between two commits: number, generation to come and sizes stay, and so does what the
+-- last commit holds. A node that stays and that the last commit holds keeps its mark
+pub record IsMoved (old new : FsTree) (history : Option (List Event)) : Type 0 where
+  pub moves : Moves old new history
+  pub owner : new.tree.owner ≡ old.tree.owner
+  pub next : new.tree.next ≡ old.tree.next
+  pub sizes : new.land.space.sizes ≡ old.land.space.sizes
+  pub held_slots : new.land.space.held_slots ≡ old.land.space.held_slots
+  pub marks : (q : ℕ) → IsReached old history q → IsReached new history q → Contains new.land.space.held_slots q
+      → full_in (book_of new.refs.refs q) ≡ full_in (book_of old.refs.refs q)
+
+-- the last commit of a state holds these slots
+abbrev pub HoldsSlots : State → List ℕ → Type 0
+HoldsSlots state slots = (slot : ℕ) → Contains slots slot ↔ Contains state.held.nodes slot
+
+-- a state's layout follows another's by copy on write: nodes that stay are as they may be, and so are new ones
+pub record CopiesNodes (old new : State) (sub : ℕ) : Type 0 where
+  pub kept : AllByRecursion (KeepsNode old new sub) old.layout
+  pub made : IsTrue (list_all (is_made_node old sub) (made_nodes old new))

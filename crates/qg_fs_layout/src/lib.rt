@@ -1,0 +1,6 @@
+//! Laws: what a subvolume's tree is in the state of the machine. It has no code.
+#![tactic(auto)]
+
+mod laws;
+
+pub use laws::{nodes_are_those_reached, state_is_whole, tree_is_walked};
