@@ -6,3 +6,5 @@ pub mod Trees
 pub mod Sound
 pub mod Reach
 pub mod Whole
+pub mod Moved
+pub mod Copied

@@ -36,8 +36,8 @@ layout_alike a b size roots nodes =
 
 module _ (fs : FsTree) (history : Option (List Event)) (state : State) (mine : Subvolume)
     (alone : IsLaidOutAlone state mine fs history) where
-  root_alone : (layout_of state).roots ≡ (fs.tree.owner, fs.tree.address) ∷ []
-  root_alone =
+  pub root-alone : (layout_of state).roots ≡ (fs.tree.owner, fs.tree.address) ∷ []
+  root-alone =
       ap (λ (table : List (ℕ × Subvolume)). map (λ entry. (entry.0, entry.1.root)) table) alone.alone
       ∙ ap (λ (root : ℕ). (fs.tree.owner, root) ∷ []) alone.laid.root
 
@@ -52,7 +52,7 @@ module _ (fs : FsTree) (history : Option (List Event)) (state : State) (mine : S
   -- it is the tree as a layout of its own
   pub layout-laid : layout_of state ≡ layout_in fs history
   layout-laid = layout_alike (layout_of state) (layout_in fs history)
-      (ap (λ (sizes : Sizes). sizes.nodesize) alone.laid.sizes ∙ sym size_in) (root_alone ∙ sym roots_in)
+      (ap (λ (sizes : Sizes). sizes.nodesize) alone.laid.sizes ∙ sym size_in) (root-alone ∙ sym roots_in)
       alone.laid.layout
 
   module _ (bytes : ℕ) (items : List Item) (names : List (ℕ × Piece)) (subvolume : IsSubvolume fs history bytes)
@@ -73,7 +73,7 @@ module _ (fs : FsTree) (history : Option (List Event)) (state : State) (mine : S
     pub owner-reaches : (q : ℕ) (placed : Placed) → IsReachedAs fs history q placed
         → reaches (layout_of state) fs.tree.owner q ≡ true
     owner-reaches q placed as =
-        reaches-one (layout_of state) fs.tree.owner fs.tree.address fs.tree.height root_alone
+        reaches-one (layout_of state) fs.tree.owner fs.tree.address fs.tree.height root-alone
         (root-level fs history bytes items names subvolume stands state mine alone.laid) q placed.node
         (reaches-laid q as.reached) (node-laid q placed as)
 
@@ -96,7 +96,7 @@ module _ (fs : FsTree) (history : Option (List Event)) (state : State) (mine : S
           fits = sound.fits;
           placed = (told-at fs.land history fs.tree.next
               (drafted fs history bytes items names subvolume stands) entry.0 entry.1.node as.told).placed;
-          reached = is_reached-one (layout_of state) fs.tree.owner fs.tree.address fs.tree.height root_alone
+          reached = is_reached-one (layout_of state) fs.tree.owner fs.tree.address fs.tree.height root-alone
               (root-level fs history bytes items names subvolume stands state mine alone.laid) entry.0 entry.1.node
               (reaches-laid entry.0 as.reached) (node-laid entry.0 entry.1 as);
         }

@@ -36,3 +36,18 @@ StateIsWhole = (fs : FsTree) (history : Option (List Event)) (bytes : ℕ) (item
     (state : State) (subvolume : Subvolume)
     → IsSubvolume fs history bytes → Stands fs history items names → IsLaidOutAlone state subvolume fs history
     → files_of fs.tree.next items ≡ Some subvolume.files → AreFit fs history → IsWhole state
+
+-- edits, one after the other, make of a tree what they make of it together
+pub record MovesCompose : Type 0 where
+  pub none : (fs : FsTree) (history : Option (List Event)) → IsMoved fs fs history
+  pub both : (a b c : FsTree) (history : Option (List Event)) → IsMoved a b history → IsMoved b c history
+      → IsMoved a c history
+
+-- edits between two commits leave a layout that follows the one before by copy on write
+abbrev pub CommandsCopy : Type 0
+CommandsCopy = (old new : FsTree) (history : Option (List Event)) (bytes left : ℕ) (items items_new : List Item)
+    (names names_new : List (ℕ × Piece)) (before after : State) (mine mine_new : Subvolume)
+    → IsSubvolume old history bytes → Stands old history items names
+    → IsSubvolume new history left → Stands new history items_new names_new → IsMoved old new history
+    → IsLaidOutAlone before mine old history → IsLaidOutAlone after mine_new new history
+    → HoldsSlots before old.land.space.held_slots → CopiesNodes before after old.tree.owner

@@ -1,5 +1,7 @@
 // What a subvolume's tree, as it stands between two edits, is in the state of the machine.
 ghost use Rattle.qg_fs_layout.specs.Laws.{
+  CommandsCopy,
+  MovesCompose,
   NodesAreThoseReached,
   NodesFit,
   StateIsWhole,
@@ -22,4 +24,11 @@ pub fn tree_is_walked()
 pub fn state_is_whole()
     ensures fit { NodesFit }
     ensures whole { StateIsWhole }
+{}
+
+/// A law: edits of a tree between two commits, one after the other, leave a layout that follows the one before by copy on
+/// write (this project's own).
+pub fn commands_copy()
+    ensures compose { MovesCompose }
+    ensures copy { CommandsCopy }
 {}
