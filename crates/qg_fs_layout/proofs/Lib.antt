@@ -8,3 +8,6 @@ pub mod Reach
 pub mod Whole
 pub mod Moved
 pub mod Copied
+pub mod Leaves
+pub mod Extents
+pub mod Counted

@@ -74,7 +74,7 @@ module _ (fs : FsTree) (history : Option (List Event)) (bytes : ℕ) (items : Li
 
   -- ---- the root
 
-  branch : IsBranch Files (super_of fs.tree fs.land.blocks.draft) (nodes_of fs history) fs.tree.height fs.tree.address
+  pub branch : IsBranch Files (super_of fs.tree fs.land.blocks.draft) (nodes_of fs history) fs.tree.height fs.tree.address
       items
   branch = branch-under Files (super_of fs.tree fs.land.blocks.draft) (nodes_of fs history) fs.tree.height
       (root_expected (Some fs.tree.height) None) fs.tree.address items

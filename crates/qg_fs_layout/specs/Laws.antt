@@ -9,7 +9,7 @@ use Rattle.qg_machine.specs.Layout.{IsTreeOf, IsWhole}
 use Rattle.qg_state.specs.State.{State, Subvolume}
 use Rattle.qg_fs_tree.specs.declared.fs_tree.FsTree.{FsTree}
 use Rattle.qg_fs_tree.specs.Standing.{IsReached, IsSubvolume, Stands}
-use Rattle.qg_fs_layout.specs.Laying.{AreFit, AreThoseReached, CopiesNodes, FreshFit, HoldsBytes, HoldsSlots, IsLaidOut, IsLaidOutAlone, IsMoved}
+use Rattle.qg_fs_layout.specs.Laying.{AreFit, AreThoseReached, CopiesNodes, FreshFit, HoldsBytes, HoldsSlots, IsCounted, IsLaidOut, IsLaidOutAlone, IsMoved, names_in}
 
 -- the nodes of a tree as a layout are those that it reaches
 abbrev pub NodesAreThoseReached : Type 0
@@ -51,3 +51,11 @@ CommandsCopy = (old new : FsTree) (history : Option (List Event)) (bytes left : 
     → IsSubvolume new history left → Stands new history items_new names_new → IsMoved old new history
     → IsLaidOutAlone before mine old history → IsLaidOutAlone after mine_new new history
     → HoldsSlots before old.land.space.held_slots → CopiesNodes before after old.tree.owner
+
+-- where the pieces that are named are those of the items, what is owed is counted
+abbrev pub OwedIsCounted : Type 0
+OwedIsCounted = (fs : FsTree) (history : Option (List Event)) (bytes : ℕ) (items : List Item) (state : State)
+    (subvolume : Subvolume)
+    → IsSubvolume fs history bytes → Stands fs history items (names_in items)
+    → IsLaidOutAlone state subvolume fs history → files_of fs.tree.next items ≡ Some subvolume.files
+    → IsCounted state fs history

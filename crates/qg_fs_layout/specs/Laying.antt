@@ -1,23 +1,33 @@
 -- A subvolume's tree, as it stands between two edits, and the layout of a state of the machine (this project's own).
 -- Addresses are in bytes.
 use Rattle.std.specs.Prelude.{◌≡◌, ◌↔◌, ℕ, ◌<◌, List, [], ◌∷◌, Option, Some, None, Contains, IsTrue}
-use Rattle.std.specs.List.{list_all, AllByRecursion}
+use Rattle.std.specs.List.{filter_map, list_all, AllByRecursion}
 use Rattle.std.specs.List.Sorted.{IsStrictlyIncreasing}
 use Rattle.qg_device.specs.History.{Event, content}
 use Rattle.qg_bytes.specs.Fields.{IsBytes}
+use Rattle.qg_num.specs.declared.piece.Piece.{Piece}
+use Rattle.qg_node.specs.declared.item.Item.{Item}
 use Rattle.qg_node.specs.declared.node.Node.{Node}
 use Rattle.qg_node.specs.Fits.{NodeFits}
+use Rattle.qg_node.specs.Nodes.{header_of}
 use Rattle.qg_node.specs.NodeText.{IsNode}
+use Rattle.qg_items.specs.declared.extent.Reference.{Reference}
+use Rattle.qg_super.specs.declared.sizes.Sizes.{Sizes}
+use Rattle.qg_super.specs.Places.{is_run}
 use Rattle.qg_image.specs.Table.{keys_of, value_at}
 use Rattle.qg_machine.specs.Layout.{KeepsNode, is_made_node, made_nodes}
-use Rattle.qg_state.specs.State.{Placed, State, Subvolume, next_generation}
-use Rattle.qg_refs.specs.Book.{full_in}
+use Rattle.qg_state.specs.declared.element.Element.{Element}
+use Rattle.qg_state.specs.Owed.{layout_extents, owed_count}
+use Rattle.qg_state.specs.Space.{present_extents}
+use Rattle.qg_state.specs.State.{Placed, State, Subvolume, layout_of, next_generation}
+use Rattle.qg_refs.specs.Book.{AgreesWithOwed, Book, full_in, what_in}
 use Rattle.qg_extents.specs.Table.{book_of}
 use Rattle.qg_blocks.specs.Told.{fresh_at}
 use Rattle.qg_ground.specs.declared.ground.Ground.{Ground}
 use Rattle.qg_tree_edits.specs.Counting.{ways}
+use Rattle.qg_tree_refs.specs.Settled.{what_of}
 use Rattle.qg_fs_tree.specs.declared.fs_tree.FsTree.{FsTree}
-use Rattle.qg_fs_tree.specs.Standing.{IsReached, Moves, layout_in, nodes_of}
+use Rattle.qg_fs_tree.specs.Standing.{IsReached, Moves, layout_in, name_told, nodes_of}
 
 -- ---- the nodes of the layout
 
@@ -94,3 +104,31 @@ HoldsSlots state slots = (slot : ℕ) → Contains slots slot ↔ Contains state
 pub record CopiesNodes (old new : State) (sub : ℕ) : Type 0 where
   pub kept : AllByRecursion (KeepsNode old new sub) old.layout
   pub made : IsTrue (list_all (is_made_node old sub) (made_nodes old new))
+
+-- ---- what is owed
+
+-- the pieces that items tell, each with the number of its file
+abbrev pub names_in : List Item → List (ℕ × Piece)
+names_in items = filter_map name_told items
+
+-- a run lies in the data area, and its length is known
+pub record IsKnownRun (sizes : Sizes) (book : Book) (run : Element) : Type 0 where
+  pub lies : IsTrue (is_run sizes run.address run.bytes)
+  pub generation : ℕ
+  pub known : what_in (book run.address)
+      ≡ Some (record { bytes = run.bytes; level = None; generation = generation })
+
+-- What a state's layout owes is what the tree owes, and exactly that is counted. Of each node level, generation and mark
+-- are known; the extents that leaves name are those of the present files, and their lengths are known
+pub record IsCounted (state : State) (fs : FsTree) (history : Option (List Event)) : Type 0 where
+  pub owed : (at : ℕ) (reference : Reference)
+      → owed_count (layout_of state) at reference ≡ owed_count (layout_in fs history) at reference
+  pub agrees : AgreesWithOwed (layout_of state) (book_of fs.refs.refs)
+  pub nodes : (q : ℕ) (placed : Placed) → value_at q state.layout ≡ Some placed
+      → what_in (book_of fs.refs.refs q)
+      ≡ Some (what_of fs.land.space.sizes.nodesize (header_of placed.node).generation placed.node)
+  pub marks : (q : ℕ) (placed : Placed) → value_at q state.layout ≡ Some placed
+      → full_in (book_of fs.refs.refs q) ≡ placed.full
+  pub extents : (run : Element) → Contains (layout_extents (layout_of state)) run ↔ Contains (present_extents state) run
+  pub known : (run : Element) → Contains (layout_extents (layout_of state)) run
+      → IsKnownRun fs.land.space.sizes (book_of fs.refs.refs) run

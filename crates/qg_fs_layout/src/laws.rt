@@ -4,6 +4,7 @@ ghost use Rattle.qg_fs_layout.specs.Laws.{
   MovesCompose,
   NodesAreThoseReached,
   NodesFit,
+  OwedIsCounted,
   StateIsWhole,
   TreeIsWalked,
 };
@@ -31,4 +32,10 @@ pub fn state_is_whole()
 pub fn commands_copy()
     ensures compose { MovesCompose }
     ensures copy { CommandsCopy }
+{}
+
+/// A law: where the pieces that are named are those of the items, what the state's layout owes is what is counted, and of
+/// each node and extent the book knows what it is (this project's own).
+pub fn owed_is_counted()
+    ensures counted { OwedIsCounted }
 {}
