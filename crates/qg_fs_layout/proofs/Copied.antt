@@ -49,6 +49,10 @@ only_one x y has = elim (contains_cases x [] y has) [
   | inr none ↦ absurd (none_contained y none)
 ]
 
+owners_are : (layout : Layout) (q : ℕ) → owners layout q ≡ filter (λ sub. reaches layout sub q) (keys_of layout.roots)
+unfolding owners
+owners_are layout q = refl
+
 same_maker : (a b : Node) → (header_of a).owner ≡ (header_of b).owner
     → (header_of a).generation ≡ (header_of b).generation → has_same_maker a b ≡ true
 same_maker a b owner generation =
@@ -73,13 +77,13 @@ module _ (old new : FsTree) (history : Option (List Event)) (bytes left : ℕ) (
 
   -- no other subvolume reaches it
   no_other : (q : ℕ) → list_any (λ other. not (other == old.tree.owner)) (owners (layout_of before) q) ≡ false
-  unfolding owners
   no_other q = none_true (list_any (λ other. not (other == old.tree.owner)) (owners (layout_of before) q)) wrong where
     wrong : list_any (λ other. not (other == old.tree.owner)) (owners (layout_of before) q) ≡ true → ⊥
     wrong passes =
         let found = one_passes (λ (other : ℕ). not (other == old.tree.owner)) (owners (layout_of before) q) passes in
+        let listed = subst (λ (subs : List ℕ). Contains subs found.0) (owners_are (layout_of before) q) found.1 in
         let has = filter_contains (λ (sub : ℕ). reaches (layout_of before) sub q) (keys_of (layout_of before).roots)
-        found.0 found.1 in
+        found.0 listed in
         let one = only_one old.tree.owner found.0
         (subst (λ (table : List (ℕ × ℕ)). Contains (keys_of table) found.0) (root-alone old history before mine laid)
         has.0) in

@@ -13,18 +13,21 @@ use Rattle.qg_node.specs.declared.node.Node.{Node}
 use Rattle.qg_node.specs.Nodes.{header_of}
 use Rattle.qg_super.specs.declared.sizes.Sizes.{Sizes}
 use Rattle.qg_super.specs.Places.{is_slot}
+use Rattle.qg_state.specs.declared.element.Element.{Element}
 use Rattle.qg_state.specs.State.{Placed}
 use Rattle.qg_space.specs.Holding.{Holding, is_free_slot}
 use Rattle.qg_space.proofs.Members.{passes_one}
+use Rattle.qg_blocks.specs.Held.{Held}
 use Rattle.qg_blocks.specs.Standing.{has_slot, standing}
 use Rattle.qg_blocks.specs.Told.{fresh_at, told, told_or}
 use Rattle.qg_ground.specs.declared.ground.Ground.{Ground}
 use Rattle.qg_ground.specs.Land.{IsDrafted}
 use Rattle.qg_refs.specs.Book.{full_in}
 use Rattle.qg_extents.specs.Table.{book_of}
+use Rattle.qg_descent.specs.Tree.{Reaches, Root}
 use Rattle.qg_tree_edits.proofs.Ways.{ways-some}
 use Rattle.qg_fs_tree.specs.declared.fs_tree.FsTree.{FsTree}
-use Rattle.qg_fs_tree.specs.Standing.{IsReached, Moves, Stands, nodes_of}
+use Rattle.qg_fs_tree.specs.Standing.{IsReached, KeepsTree, Moves, Stands, nodes_of}
 use Rattle.qg_fs_tree.proofs.Before.{held}
 use Rattle.qg_fs_layout.specs.Laying.{IsMoved, IsReachedAs}
 
@@ -56,6 +59,41 @@ moves-itself fs history = record {
   held_slots = refl;
   marks = λ q old new has. refl;
 }
+
+runs_free : (space : Holding) (runs : List Element) (q : ℕ)
+    → is_free_slot (record space { runs = runs }) q ≡ is_free_slot space q
+unfolding is_free_slot
+runs_free space runs q = refl
+
+module _ (old new : FsTree) (history : Option (List Event)) (keeps : KeepsTree old new)
+    (marks : (q : ℕ) → full_in (book_of new.refs.refs q) ≡ full_in (book_of old.refs.refs q)) where
+  blocks_same : new.land.blocks ≡ old.land.blocks
+  blocks_same = ap (λ (land : Ground). land.blocks) keeps.land
+
+  named_reach : (q : ℕ) → IsReached new history q → IsReached old history q
+  named_reach q reached =
+      subst (λ (held : Held). Reaches (told held.draft history) old.tree.height old.tree.address q) blocks_same
+      (subst (λ (root : Root). Reaches (nodes_of new history) root.height root.address q) keeps.tree reached)
+
+  named_free : (q : ℕ) → is_free_slot new.land.space q ≡ true → is_free_slot old.land.space q ≡ true
+  named_free q free =
+      sym (ap (λ (land : Ground). is_free_slot land.space q) keeps.land
+      ∙ runs_free old.land.space new.land.space.runs q)
+      ∙ free
+
+  pub moves-named : IsMoved old new history
+  moves-named = record {
+    moves = record {
+      reach = λ q reached. inl (named_reach q reached);
+      others = λ q taken apart. ap (λ (held : Held). told held.draft history q) blocks_same;
+      freed = λ q free. inl (named_free q free);
+    };
+    owner = ap (λ (root : Root). root.owner) keeps.tree;
+    next = ap (λ (root : Root). root.next) keeps.tree;
+    sizes = ap (λ (land : Ground). land.space.sizes) keeps.land;
+    held_slots = ap (λ (land : Ground). land.space.held_slots) keeps.land;
+    marks = λ q before after has. marks q;
+  }
 
 module _ (a b c : FsTree) (history : Option (List Event)) (first : IsMoved a b history) (later : IsMoved b c history)
   where

@@ -1,5 +1,5 @@
 -- What a tree reaches is met from its root.
-use Rattle.std.proofs.Common.{◌≡◌, ℕ, zero, suc, Bool, true, false, List, [], ◌∷◌, ◌++◌, Option, Some, None, refl, sym, ap, subst, ◌∙◌, inl, inr}
+use Rattle.std.proofs.Common.{◌≡◌, ℕ, zero, suc, Bool, true, false, List, [], ◌∷◌, ◌++◌, map, Option, Some, None, refl, sym, ap, subst, ◌∙◌, inl, inr}
 use Rattle.std.specs.Prelude.{◌||◌, ◌==◌, if◌then◌else◌, slice_get}
 use Rattle.std.specs.List.{filter, flat_map, list_any}
 use Rattle.std.proofs.lemmas.Bool.{eq-eqb, or_left, or_right}
@@ -32,7 +32,7 @@ module _ (nodes : ℕ → Option Node) (nodesize q : ℕ) (node : Node) where
   own_met : (at : ℕ) → q ≡ at → nodes q ≡ Some node → is_among q (own_elements nodesize at (nodes at)) ≡ true
   own_met at same is =
       ap (λ (o : Option Node). is_among q (own_elements nodesize at o)) (ap nodes (sym same) ∙ is)
-      ∙ or_left (at == q) (is_among q _) (eq-eqb at q (sym same))
+      ∙ or_left (at == q) (is_among q (map extent_of (pieces_of node))) (eq-eqb at q (sym same))
 
   below_met : (level at : ℕ) (o : Option Node) → (other : Node) → o ≡ Some other → (place : ℕ) (pointer : Pointer)
       → slice_get (own_pointers other) place ≡ Some pointer

@@ -37,6 +37,13 @@ use Rattle.qg_fs_layout.proofs.Nodes.{value-reached}
 use Rattle.qg_fs_layout.proofs.Told.{told-at}
 use Rattle.qg_fs_layout.proofs.Walks.{tree-items, tree-walked}
 
+-- ---- the node from which all is reached
+
+reaches_itself : (nodes : ℕ → Option Node) (level at : ℕ) → Reaches nodes level at at
+unfolding Reaches
+reaches_itself nodes zero at = refl
+reaches_itself nodes (suc level) at = inl refl
+
 -- ---- items of files
 
 passed : {A : Type 0} (a b : Bool) (x y : A) → then_some (a && b) x ≡ Some y → a ≡ true
@@ -93,11 +100,7 @@ module _ (fs : FsTree) (history : Option (List Event)) (bytes : ℕ) (items : Li
       omega (arith, low, is)
 
   pub root-reached : IsReached fs history fs.tree.address
-  root-reached = reaches_itself fs.tree.height fs.tree.address where
-    reaches_itself : (level at : ℕ) → Reaches (nodes_of fs history) level at at
-    unfolding Reaches
-    reaches_itself zero at = refl
-    reaches_itself (suc level) at = inl refl
+  root-reached = reaches_itself (nodes_of fs history) fs.tree.height fs.tree.address
 
   -- ---- the state
 

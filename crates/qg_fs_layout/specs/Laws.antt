@@ -7,8 +7,10 @@ use Rattle.qg_super.specs.Places.{is_slot}
 use Rattle.qg_image.specs.FilesOf.{files_of}
 use Rattle.qg_machine.specs.Layout.{IsTreeOf, IsWhole}
 use Rattle.qg_state.specs.State.{State, Subvolume}
+use Rattle.qg_refs.specs.Book.{full_in}
+use Rattle.qg_extents.specs.Table.{book_of}
 use Rattle.qg_fs_tree.specs.declared.fs_tree.FsTree.{FsTree}
-use Rattle.qg_fs_tree.specs.Standing.{IsReached, IsSubvolume, Stands}
+use Rattle.qg_fs_tree.specs.Standing.{IsReached, IsSubvolume, KeepsTree, Stands}
 use Rattle.qg_fs_layout.specs.Laying.{AreFit, AreThoseReached, CopiesNodes, FreshFit, HoldsBytes, HoldsSlots, IsCounted, IsLaidOut, IsLaidOutAlone, IsMoved, names_in}
 
 -- the nodes of a tree as a layout are those that it reaches
@@ -37,9 +39,11 @@ StateIsWhole = (fs : FsTree) (history : Option (List Event)) (bytes : ℕ) (item
     → IsSubvolume fs history bytes → Stands fs history items names → IsLaidOutAlone state subvolume fs history
     → files_of fs.tree.next items ≡ Some subvolume.files → AreFit fs history → IsWhole state
 
--- edits, one after the other, make of a tree what they make of it together
+-- edits, one after the other, make of a tree what they make of it together; to name pieces makes nothing of it
 pub record MovesCompose : Type 0 where
   pub none : (fs : FsTree) (history : Option (List Event)) → IsMoved fs fs history
+  pub named : (old new : FsTree) (history : Option (List Event)) → KeepsTree old new
+      → ((q : ℕ) → full_in (book_of new.refs.refs q) ≡ full_in (book_of old.refs.refs q)) → IsMoved old new history
   pub both : (a b c : FsTree) (history : Option (List Event)) → IsMoved a b history → IsMoved b c history
       → IsMoved a c history
 
