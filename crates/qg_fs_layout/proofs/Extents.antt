@@ -201,6 +201,6 @@ pub present-one : (state : State) (owner : ℕ) (mine : Subvolume) → state.sub
     → present_extents state ≡ flat_map (λ (file : ℕ × File). map extent_of file.1.pieces) mine.files
 unfolding present_extents
 present-one state owner mine alone =
-    ap (λ (table : List (ℕ × Subvolume)). flat_map (λ entry. flat_map (λ file. map extent_of file.1.pieces)
-    entry.1.files) table) alone
+    ap (λ (table : List (ℕ × Subvolume)). flat_map (λ (entry : ℕ × Subvolume).
+    flat_map (λ (file : ℕ × File). map extent_of file.1.pieces) entry.1.files) table) alone
     ∙ append-nil (flat_map (λ (file : ℕ × File). map extent_of file.1.pieces) mine.files)

@@ -154,9 +154,6 @@ module _ (fs : FsTree) (history : Option (List Event)) where
   unfolding layout_in
   nodes-are = refl
 
-  way_to : ℕ → ℕ
-  way_to q = ways (nodes_of fs history) fs.tree.height fs.tree.address q
-
   entry_as : (s : ℕ) (entry : ℕ × Placed) → placed_at fs history s ≡ Some entry
       → IsPlacedAs (ways (nodes_of fs history) fs.tree.height fs.tree.address s) s (nodes_of fs history s)
       (full_in (book_of fs.refs.refs s)) entry

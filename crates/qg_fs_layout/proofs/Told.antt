@@ -8,6 +8,7 @@ use Rattle.qg_bytes.specs.Fields.{is_zero, u64_at}
 use Rattle.qg_num.specs.declared.rule.Rule.{Rule}
 use Rattle.qg_num.specs.declared.rule.Rule.TheVariants as rule
 use Rattle.qg_node.specs.declared.item.Item.{Item}
+use Rattle.qg_node.specs.declared.pointer.Pointer.{Pointer}
 use Rattle.qg_node.specs.declared.node.Header.{Header}
 use Rattle.qg_node.specs.declared.node.Node.{Node}
 use Rattle.qg_node.specs.declared.node.Node.TheVariants.{Leaf, Inner}
@@ -64,7 +65,7 @@ unfolding inner_at
 inner_header bytes node is =
     let end = 101 + 33 * count_at bytes in
     let inner = Inner (header_at bytes) (pointers_at (count_at bytes) 101 bytes) in
-    let order = is_ascending (map (λ pointer. pointer.key) (pointers_at (count_at bytes) 101 bytes)) in
+    let order = is_ascending (map (λ (pointer : Pointer). pointer.key) (pointers_at (count_at bytes) 101 bytes)) in
     let slack = has_empty_fields bytes && is_zero end (length bytes) bytes in
     let first = check_ok (nat_le end (length bytes)) Bounds (check order Order (check slack Slack (Ok inner))) node
     is in

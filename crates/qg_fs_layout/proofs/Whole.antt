@@ -38,7 +38,7 @@ module _ (fs : FsTree) (history : Option (List Event)) (state : State) (mine : S
     (alone : IsLaidOutAlone state mine fs history) where
   pub root-alone : (layout_of state).roots ≡ (fs.tree.owner, fs.tree.address) ∷ []
   root-alone =
-      ap (λ (table : List (ℕ × Subvolume)). map (λ entry. (entry.0, entry.1.root)) table) alone.alone
+      ap (λ (table : List (ℕ × Subvolume)). map (λ (entry : ℕ × Subvolume). (entry.0, entry.1.root)) table) alone.alone
       ∙ ap (λ (root : ℕ). (fs.tree.owner, root) ∷ []) alone.laid.root
 
   roots_in : (layout_in fs history).roots ≡ (fs.tree.owner, fs.tree.address) ∷ []
