@@ -211,12 +211,12 @@ module _ (old new : FsTree) (history : Option (List Event)) (bytes left : ℕ) (
   makes entry has =
       let both = filter_contains (λ (e : ℕ × Placed). not (has_key e.0 before.layout)) after.layout entry has in
       let none = not_true (has_key entry.0 before.layout) both.1 in
-      let as = entry-laid new history after mine_new laid_new left items_new names_new subvolume_new stands_new entry
+      let its = entry-laid new history after mine_new laid_new left items_new names_new subvolume_new stands_new entry
       both.0 in
-      elim (moved.moves.reach entry.0 as.reached) [
+      elim (moved.moves.reach entry.0 its.reached) [
         | inl reached ↦ absurd (not_reached entry.0 none reached)
         | inr free ↦ elim (either-there new history items_new names_new
-            (drafted new history left items_new names_new subvolume_new stands_new) stands_new entry.0 entry.1 as) [
+            (drafted new history left items_new names_new subvolume_new stands_new) stands_new entry.0 entry.1 its) [
           | inl own ↦ made_own entry free none own
           | inr held ↦
               absurd (free-apart old.land.space entry.0 free

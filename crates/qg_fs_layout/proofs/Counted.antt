@@ -66,7 +66,7 @@ module _ (fs : FsTree) (history : Option (List Event)) (bytes : ℕ) (items : Li
   known_node : (q : ℕ) (placed : Placed) → IsReachedAs fs history q placed
       → what_in (book_of fs.refs.refs q)
       ≡ Some (what_of fs.land.space.sizes.nodesize (header_of placed.node).generation placed.node)
-  known_node q placed as = from (fresh_at fs.land.blocks.draft q) refl where
+  known_node q placed its = from (fresh_at fs.land.blocks.draft q) refl where
     sized_so : (generation : ℕ) → Some (what_of fs.refs.nodesize generation placed.node)
         ≡ Some (what_of fs.land.space.sizes.nodesize generation placed.node)
     sized_so generation = ap (λ (n : ℕ). Some (what_of n generation placed.node)) stands.book.nodesize
@@ -75,7 +75,7 @@ module _ (fs : FsTree) (history : Option (List Event)) (bytes : ℕ) (items : Li
         → what_in (book_of fs.refs.refs q)
         ≡ Some (what_of fs.land.space.sizes.nodesize (header_of placed.node).generation placed.node)
     from (Some node) is =
-        let told_so = sym (fresh-told fs.land history q node is) ∙ as.told in
+        let told_so = sym (fresh-told fs.land history q node is) ∙ its.told in
         let same : node ≡ placed.node = let e : Some node ≡ Some placed.node = told_so in cc in
         let dated = ((drafted fs history bytes items (names_in items) subvolume stands).each q node is).dated in
         stands.settled.fresh q node is
@@ -84,8 +84,8 @@ module _ (fs : FsTree) (history : Option (List Event)) (bytes : ℕ) (items : Li
         (stands.book.next ∙ sym dated ∙ ap (λ (n : Node). (header_of n).generation) same)
         ∙ sized_so (header_of placed.node).generation
     from None none =
-        let one = stands.alone q as.reached in
-        stands.settled.clean q placed.node none as.told (omega (arith, one))
+        let one = stands.alone q its.reached in
+        stands.settled.clean q placed.node none its.told (omega (arith, one))
         ∙ sized_so (header_of placed.node).generation
 
   -- ---- extents
@@ -95,11 +95,11 @@ module _ (fs : FsTree) (history : Option (List Event)) (bytes : ℕ) (items : Li
       → (item : Item) × Contains items item × TellsExtent item run
   layout_item run has =
       let found = from-layout (layout_of state) run has in
-      let as = entry-laid fs history state mine laid bytes items (names_in items) subvolume stands found.0 found.1 in
+      let its = entry-laid fs history state mine laid bytes items (names_in items) subvolume stands found.0 found.1 in
       (found.2,
       from-leaf Files (super_of fs.tree fs.land.blocks.draft) (nodes_of fs history) found.2 fs.tree.height
-      fs.tree.address items (branch fs history bytes items (names_in items) subvolume stands) found.0.0 as.reached
-      found.0.1.node as.told found.3,
+      fs.tree.address items (branch fs history bytes items (names_in items) subvolume stands) found.0.0 its.reached
+      found.0.1.node its.told found.3,
       found.4)
 
   -- and so it is the other way round

@@ -53,6 +53,10 @@ name_part (Some (PieceOf ino own)) name is =
     let same : (ino, own) ≡ name = let e : Some (ino, own) ≡ Some name = is in cc in
     (ap (λ (n : ℕ × Piece). Some n.1) same, ap (λ (n : ℕ × Piece). Some (PieceOf n.0 n.1)) same)
 
+told_by : (part : Option FilePart) (own : FilePart) (ino : ℕ) (piece : Piece) → part ≡ Some own
+    → own ≡ PieceOf ino piece → piece_in part ≡ Some (ino, piece)
+told_by part own ino piece is same = rw (is, same) refl
+
 -- ---- one node
 
 own_extent : (node : Node) (run : Element) → Contains (map extent_of (pieces_of node)) run
@@ -174,7 +178,7 @@ module _ (generation : ℕ) (items : List Item) (read : List (ℕ × File))
       let item = from-some file_part items part.0 part.1 in
       (item.0, item.1, record {
         name = (number.0, piece.0);
-        told = ap piece_in (item.2 ∙ ap (λ (p : FilePart). Some p) number.1);
+        told = told_by (file_part item.0) part.0 number.0 piece.0 item.2 number.1;
         is = piece.2;
       })
 

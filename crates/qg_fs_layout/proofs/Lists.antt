@@ -11,17 +11,13 @@ use Rattle.qg_state.proofs.Contained.{contains_cases, contains_here, contains_la
 pub from-some : {X Y : Type 0} (f : X → Option Y) (xs : List X) (y : Y) → Contains (filter_map f xs) y
     → (x : X) × Contains xs x × (f x ≡ Some y)
 from-some f [] y has = absurd (none_contained y has)
-from-some {X} {Y} f (x ∷ xs) y has = first_or (f x) refl has where
-  first_or : (o : Option Y) → f x ≡ o → Contains (cons_option o (filter_map f xs)) y
-      → (z : X) × Contains (x ∷ xs) z × (f z ≡ Some y)
-  first_or None is has =
-      let found = from-some f xs y has in
-      (found.0, contains_later x xs found.0 found.1, found.2)
-  first_or (Some first) is has = elim (contains_cases first (filter_map f xs) y has) [
+from-some {X} {Y} f (x ∷ xs) y has = first_or (from-some f xs y) (f x) refl has where
+  first_or : (Contains (filter_map f xs) y → (z : X) × Contains xs z × (f z ≡ Some y)) → (o : Option Y) → f x ≡ o
+      → Contains (cons_option o (filter_map f xs)) y → (z : X) × Contains (x ∷ xs) z × (f z ≡ Some y)
+  first_or rest None is has = let found = rest has in (found.0, contains_later x xs found.0 found.1, found.2)
+  first_or rest (Some first) is has = elim (contains_cases first (filter_map f xs) y has) [
     | inl same ↦ (x, contains_here x xs, is ∙ ap Some same)
-    | inr later ↦
-        let found = from-some f xs y later in
-        (found.0, contains_later x xs found.0 found.1, found.2)
+    | inr later ↦ let found = rest later in (found.0, contains_later x xs found.0 found.1, found.2)
   ]
 
 -- and what is in it is made

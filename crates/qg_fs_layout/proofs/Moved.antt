@@ -210,25 +210,25 @@ module _ (fs : FsTree) (history : Option (List Event)) (items : List Item) (name
     (drafted : IsDrafted fs.land fs.tree.next) (stands : Stands fs history items names) where
   own_there : (q : ℕ) (placed : Placed) → IsReachedAs fs history q placed → (node : Node)
       → fresh_at fs.land.blocks.draft q ≡ Some node → IsOwn fs q placed
-  own_there q placed as node is =
-      let told_so = sym (fresh-told fs.land history q node is) ∙ as.told in
+  own_there q placed its node is =
+      let told_so = sym (fresh-told fs.land history q node is) ∙ its.told in
       let same : node ≡ placed.node = let e : Some node ≡ Some placed.node = told_so in cc in
       let draft = drafted.each q node is in
-      let bare = stands.young q as.reached (ap (λ (o : Option Node). is_some o) is) in
+      let bare = stands.young q its.reached (ap (λ (o : Option Node). is_some o) is) in
       record {
         generation = ap (λ (n : Node). (header_of n).generation) (sym same) ∙ draft.dated;
-        owner = stands.home q placed.node as.reached as.told bare;
-        bare = as.full ∙ bare;
+        owner = stands.home q placed.node its.reached its.told bare;
+        bare = its.full ∙ bare;
         apart = draft.apart;
       }
 
   pub either-there : (q : ℕ) (placed : Placed) → IsReachedAs fs history q placed
       → IsOwn fs q placed ⊎ IsHeldThere fs q
-  either-there q placed as = from (fresh_at fs.land.blocks.draft q) refl where
+  either-there q placed its = from (fresh_at fs.land.blocks.draft q) refl where
     from : (o : Option Node) → fresh_at fs.land.blocks.draft q ≡ o → IsOwn fs q placed ⊎ IsHeldThere fs q
-    from (Some node) is = inl (own_there q placed as node is)
+    from (Some node) is = inl (own_there q placed its node is)
     from None none = inr (record {
       held = held fs history items names stands drafted q
-          (ways-some (nodes_of fs history) fs.tree.height fs.tree.address q as.reached) none;
+          (ways-some (nodes_of fs history) fs.tree.height fs.tree.address q its.reached) none;
       clean = none;
     })

@@ -66,45 +66,48 @@ module _ (sizes : Sizes) (some : 0 < sizes.nodesize) where
   module _ (placed : ℕ → Option (ℕ × Placed))
       (own : (s : ℕ) (entry : ℕ × Placed) → placed s ≡ Some entry → entry.0 ≡ s) where
     -- each lies no lower than the first slot
+    lower_later : (from m : ℕ) (rest : List (ℕ × Placed))
+        → (Contains (keys_of rest) m → slot_at sizes (from + 1) ≤ m) → (o : Option (ℕ × Placed))
+        → placed (slot_at sizes from) ≡ o → Contains (keys_of (cons_option o rest)) m → slot_at sizes from ≤ m
+    lower_later from m rest later None is has =
+        let above = later has in
+        let next = next_slot from in
+        omega (arith, above, next)
+    lower_later from m rest later (Some entry) is has = elim (contains_cases entry.0 (keys_of rest) m has) [
+      | inl same ↦
+          let there = own (slot_at sizes from) entry is in
+          omega (arith, same, there)
+      | inr behind ↦
+          let above = later behind in
+          let next = next_slot from in
+          omega (arith, above, next)
+    ]
+
     no_lower : (from count m : ℕ) → Contains (keys_of (filter_map placed (slots_from sizes from count))) m
         → slot_at sizes from ≤ m
     no_lower from zero m has = absurd (none_contained m has)
-    no_lower from (suc count) m has = first_or (placed (slot_at sizes from)) refl has where
-      rest : List (ℕ × Placed)
-      rest = filter_map placed (slots_from sizes (from + 1) count)
+    no_lower from (suc count) m has =
+        lower_later from m (filter_map placed (slots_from sizes (from + 1) count)) (no_lower (from + 1) count m)
+        (placed (slot_at sizes from)) refl has
 
-      later : Contains (keys_of rest) m → slot_at sizes from ≤ m
-      later has =
-          let above = no_lower (from + 1) count m has in
-          let next = next_slot from in
-          omega (arith, above, next)
-
-      first_or : (o : Option (ℕ × Placed)) → placed (slot_at sizes from) ≡ o → Contains (keys_of (cons_option o rest)) m
-          → slot_at sizes from ≤ m
-      first_or None is has = later has
-      first_or (Some entry) is has = elim (contains_cases entry.0 (keys_of rest) m has) [
-        | inl same ↦
-            let there = own (slot_at sizes from) entry is in
-            omega (arith, same, there)
-        | inr behind ↦ later behind
-      ]
+    ascend_later : (from : ℕ) (rest : List (ℕ × Placed))
+        → ((m : ℕ) → Contains (keys_of rest) m → slot_at sizes (from + 1) ≤ m) → IsStrictlyIncreasing (keys_of rest)
+        → (o : Option (ℕ × Placed)) → placed (slot_at sizes from) ≡ o
+        → IsStrictlyIncreasing (keys_of (cons_option o rest))
+    ascend_later from rest later up None is = up
+    ascend_later from rest later up (Some entry) is = increasing_cons entry.0 (keys_of rest)
+        (λ m has.
+        let above = later m has in
+        let next = next_slot from in
+        let there = own (slot_at sizes from) entry is in
+        omega (arith, above, next, there))
+        up
 
     ascend_from : (from count : ℕ) → IsStrictlyIncreasing (keys_of (filter_map placed (slots_from sizes from count)))
     ascend_from from zero = λ k short. absurd (omega (arith, short))
-    ascend_from from (suc count) = first_or (placed (slot_at sizes from)) refl where
-      rest : List (ℕ × Placed)
-      rest = filter_map placed (slots_from sizes (from + 1) count)
-
-      first_or : (o : Option (ℕ × Placed)) → placed (slot_at sizes from) ≡ o
-          → IsStrictlyIncreasing (keys_of (cons_option o rest))
-      first_or None is = ascend_from (from + 1) count
-      first_or (Some entry) is = increasing_cons entry.0 (keys_of rest)
-          (λ m has.
-          let above = no_lower (from + 1) count m has in
-          let next = next_slot from in
-          let there = own (slot_at sizes from) entry is in
-          omega (arith, above, next, there))
-          (ascend_from (from + 1) count)
+    ascend_from from (suc count) =
+        ascend_later from (filter_map placed (slots_from sizes (from + 1) count)) (no_lower (from + 1) count)
+        (ascend_from (from + 1) count) (placed (slot_at sizes from)) refl
 
     pub slots-ascend : IsStrictlyIncreasing (keys_of (filter_map placed (every_slot sizes)))
     slots-ascend = ascend_from 0 sizes.slots
@@ -166,13 +169,13 @@ module _ (fs : FsTree) (history : Option (List Event)) where
       let there = subst (λ (table : List (ℕ × Placed)). Contains table (q, placed)) nodes-are
       (entry_of_value q placed (nodes_in fs history) is) in
       let found = from-some (placed_at fs history) (every_slot fs.land.space.sizes) (q, placed) there in
-      let as = entry_as found.0 (q, placed) found.2 in
-      let same : found.0 ≡ q = sym as.here in
+      let there_as = entry_as found.0 (q, placed) found.2 in
+      let same : found.0 ≡ q = sym there_as.here in
       record {
         reached = subst (λ (s : ℕ). IsReached fs history s) same
-            (reached-some (nodes_of fs history) fs.tree.height fs.tree.address found.0 as.some);
-        told = ap (nodes_of fs history) as.here ∙ as.node;
-        full = as.mark ∙ ap (λ (s : ℕ). full_in (book_of fs.refs.refs s)) same;
+            (reached-some (nodes_of fs history) fs.tree.height fs.tree.address found.0 there_as.some);
+        told = ap (nodes_of fs history) there_as.here ∙ there_as.node;
+        full = there_as.mark ∙ ap (λ (s : ℕ). full_in (book_of fs.refs.refs s)) same;
       }
 
   module _ (some : 0 < fs.land.space.sizes.nodesize)
@@ -183,12 +186,12 @@ module _ (fs : FsTree) (history : Option (List Event)) where
 
     pub value-reached : (q : ℕ) (placed : Placed) → IsReachedAs fs history q placed
         → value_at q (nodes_in fs history) ≡ Some placed
-    value-reached q placed as =
-        let way = ways-some (nodes_of fs history) fs.tree.height fs.tree.address q as.reached in
+    value-reached q placed is =
+        let way = ways-some (nodes_of fs history) fs.tree.height fs.tree.address q is.reached in
         let entry = as_placed (ways (nodes_of fs history) fs.tree.height fs.tree.address q) q (nodes_of fs history q)
-        (full_in (book_of fs.refs.refs q)) placed way as.told as.full in
+        (full_in (book_of fs.refs.refs q)) placed way is.told is.full in
         let has = made-some (placed_at fs history) (every_slot fs.land.space.sizes) q (q, placed)
-        (slot-there fs.land.space.sizes some q (slots q as.reached)) entry in
+        (slot-there fs.land.space.sizes some q (slots q is.reached)) entry in
         value_of_entry (nodes_in fs history) (q, placed) nodes-ascend
         (subst (λ (table : List (ℕ × Placed)). Contains table (q, placed)) (sym nodes-are) has)
 

@@ -1,5 +1,5 @@
 -- A state whose layout is a tree that stands is whole.
-use Rattle.std.proofs.Common.{◌≡◌, ℕ, ◌<◌, List, [], ◌∷◌, Option, Some, None, refl, sym, ap, subst, ◌∙◌}
+use Rattle.std.proofs.Common.{◌≡◌, ℕ, ◌<◌, true, List, [], ◌∷◌, Option, Some, None, refl, sym, ap, subst, ◌∙◌}
 use Rattle.std.specs.Prelude.{IsTrue, map}
 use Rattle.std.specs.List.{AllByRecursion, Contains}
 use Rattle.std.specs.List.Sorted.{IsStrictlyIncreasing}
@@ -66,16 +66,16 @@ module _ (fs : FsTree) (history : Option (List Event)) (state : State) (mine : S
 
     pub node-laid : (q : ℕ) (placed : Placed) → IsReachedAs fs history q placed
         → node_at state.layout q ≡ Some placed.node
-    node-laid q placed as = laid-there fs history bytes items names subvolume stands state mine alone.laid q as.reached
-        ∙ as.told
+    node-laid q placed its = laid-there fs history bytes items names subvolume stands state mine alone.laid q its.reached
+        ∙ its.told
 
     -- the subvolume reaches it
     pub owner-reaches : (q : ℕ) (placed : Placed) → IsReachedAs fs history q placed
         → reaches (layout_of state) fs.tree.owner q ≡ true
-    owner-reaches q placed as =
+    owner-reaches q placed its =
         reaches-one (layout_of state) fs.tree.owner fs.tree.address fs.tree.height root-alone
         (root-level fs history bytes items names subvolume stands state mine alone.laid) q placed.node
-        (reaches-laid q as.reached) (node-laid q placed as)
+        (reaches-laid q its.reached) (node-laid q placed its)
 
     -- each entry is one of the tree
     pub entry-laid : (entry : ℕ × Placed) → Contains state.layout entry → IsReachedAs fs history entry.0 entry.1
@@ -88,17 +88,17 @@ module _ (fs : FsTree) (history : Option (List Event)) (state : State) (mine : S
     entry_sound : AreFit fs history → (entry : ℕ × Placed) → Contains state.layout entry
         → machine.IsReached state entry
     entry_sound fit entry has =
-        let as = entry-laid entry has in
-        let sound = fit entry.0 entry.1.node as.reached as.told in
+        let its = entry-laid entry has in
+        let sound = fit entry.0 entry.1.node its.reached its.told in
         record {
           node_of_format = subst (λ (n : ℕ). IsNode n entry.1.node)
               (sym (ap (λ (sizes : Sizes). sizes.nodesize) alone.laid.sizes)) sound.sound;
           fits = sound.fits;
           placed = (told-at fs.land history fs.tree.next
-              (drafted fs history bytes items names subvolume stands) entry.0 entry.1.node as.told).placed;
+              (drafted fs history bytes items names subvolume stands) entry.0 entry.1.node its.told).placed;
           reached = is_reached-one (layout_of state) fs.tree.owner fs.tree.address fs.tree.height root-alone
               (root-level fs history bytes items names subvolume stands state mine alone.laid) entry.0 entry.1.node
-              (reaches-laid entry.0 as.reached) (node-laid entry.0 entry.1 as);
+              (reaches-laid entry.0 its.reached) (node-laid entry.0 entry.1 its);
         }
 
     pub IsWhole-laid : files_of fs.tree.next items ≡ Some mine.files → AreFit fs history → IsWhole state
