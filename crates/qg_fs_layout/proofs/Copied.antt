@@ -1,7 +1,7 @@
 -- Edits of a tree between two commits copy on write.
-use Rattle.std.proofs.Common.{◌≡◌, ℕ, ◌+◌, ◌<◌, Bool, true, false, List, [], ◌∷◌, Option, Some, None, refl, sym, ap, subst, ◌∙◌, inl, inr}
-use Rattle.std.specs.Prelude.{◌⊎◌, IsTrue, ◌&&◌, ◌||◌, ◌==◌, not, is_some, map}
-use Rattle.std.specs.List.{AllByRecursion, Contains, filter, list_all, list_any}
+use Rattle.std.proofs.Common.{◌≡◌, ℕ, Bool, true, false, List, [], ◌∷◌, Option, Some, refl, sym, ap, subst, ◌∙◌, inl, inr}
+use Rattle.std.specs.Prelude.{◌⊎◌, ◌&&◌, ◌||◌, ◌==◌, not, is_some}
+use Rattle.std.specs.List.{Contains, filter, list_all, list_any}
 use Rattle.std.proofs.lemmas.Bool.{and_from, eq-eqb, eqb-true as number_is, not_from_false, or_cases}
 use Rattle.qg_device.specs.History.{Event}
 use Rattle.qg_num.specs.declared.piece.Piece.{Piece}
@@ -11,7 +11,7 @@ use Rattle.qg_node.specs.Nodes.{header_of}
 use Rattle.qg_super.specs.declared.sizes.Sizes.{Sizes}
 use Rattle.qg_super.specs.Places.{is_slot}
 use Rattle.qg_image.specs.Table.{has_key, keys_of, value_at}
-use Rattle.qg_machine.specs.Layout.{KeepsNode, StaysAs, has_same_maker, is_fixed, is_full_after, is_made_node, made_nodes}
+use Rattle.qg_machine.specs.Layout.{KeepsNode, StaysAs, has_same_maker, is_fixed, is_made_node, made_nodes}
 use Rattle.qg_state.specs.Reach.{owners, reaches}
 use Rattle.qg_state.specs.Space.{is_free_slot}
 use Rattle.qg_state.specs.State.{Layout, Placed, State, Subvolume, layout_of, next_generation}
@@ -19,11 +19,9 @@ use Rattle.qg_state.proofs.Contained.{contains_cases, contains_here, contains_la
 use Rattle.qg_space.specs.Holding as holding
 use Rattle.qg_space.proofs.Free.{free_is_slot}
 use Rattle.qg_space.proofs.Members.{filter_contains, one_passes}
-use Rattle.qg_refs.specs.Book.{full_in}
-use Rattle.qg_extents.specs.Table.{book_of}
 use Rattle.qg_fs_tree.specs.declared.fs_tree.FsTree.{FsTree}
-use Rattle.qg_fs_tree.specs.Standing.{IsReached, IsSubvolume, Stands, nodes_of}
-use Rattle.qg_fs_layout.specs.Laying.{CopiesNodes, HoldsSlots, IsLaidOutAlone, IsMoved, IsReachedAs, nodes_in}
+use Rattle.qg_fs_tree.specs.Standing.{IsReached, IsSubvolume, Stands}
+use Rattle.qg_fs_layout.specs.Laying.{CopiesNodes, HoldsSlots, IsLaidOutAlone, IsMoved, IsReachedAs}
 use Rattle.qg_fs_layout.proofs.Lists.{all-contained}
 use Rattle.qg_fs_layout.proofs.Moved.{IsHeldThere, IsOwn, clean-told, either-there, free-apart, none_true}
 use Rattle.qg_fs_layout.proofs.Nodes.{reached-by, value-reached}
@@ -162,7 +160,8 @@ module _ (old new : FsTree) (history : Option (List Event)) (bytes left : ℕ) (
 
   keeps : (entry : ℕ × Placed) → Contains before.layout entry → KeepsNode before after old.tree.owner entry
   keeps entry has placed there =
-      stays entry.0 entry.1 placed (entry-laid old history before mine laid bytes items names subvolume stands entry has)
+      stays entry.0 entry.1 placed
+      (entry-laid old history before mine laid bytes items names subvolume stands entry has)
       (reached-by new history entry.0 placed
       (ap (λ (table : List (ℕ × Placed)). value_at entry.0 table) (sym laid_new.laid.layout) ∙ there))
 
@@ -217,11 +216,11 @@ module _ (old new : FsTree) (history : Option (List Event)) (bytes left : ℕ) (
         | inl reached ↦ absurd (not_reached entry.0 none reached)
         | inr free ↦ elim (either-there new history items_new names_new
             (drafted new history left items_new names_new subvolume_new stands_new) stands_new entry.0 entry.1 its) [
-          | inl own ↦ made_own entry free none own
-          | inr held ↦
-              absurd (free-apart old.land.space entry.0 free
-              (subst (λ (slots : List ℕ). Contains slots entry.0) moved.held_slots held.held))
-        ]
+              | inl own ↦ made_own entry free none own
+              | inr held ↦
+                  absurd (free-apart old.land.space entry.0 free
+                  (subst (λ (slots : List ℕ). Contains slots entry.0) moved.held_slots held.held))
+            ]
       ]
 
   pub CopiesNodes-moved : CopiesNodes before after old.tree.owner

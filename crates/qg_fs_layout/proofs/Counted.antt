@@ -1,15 +1,12 @@
 -- What a state's layout owes is counted, and of each node and extent the book knows what it is.
-use Rattle.std.proofs.Common.{◌≡◌, ℕ, ◌+◌, ◌<◌, Bool, true, List, [], ◌∷◌, map, length, get_or, Option, Some, None, arith, refl, sym, ap, subst, ◌∙◌, ◌↔◌, inl, inr}
-use Rattle.std.specs.Prelude.{IsTrue}
+use Rattle.std.proofs.Common.{◌≡◌, ℕ, List, map, Option, Some, None, arith, refl, sym, ap, subst, ◌∙◌, ◌↔◌}
 use Rattle.std.specs.List.{All, Contains, flat_map}
-use Rattle.std.proofs.lemmas.Bool.{eqb-true}
 use Rattle.qg_device.specs.History.{Event}
 use Rattle.qg_num.specs.declared.piece.Piece.{Piece}
 use Rattle.qg_node.specs.declared.item.Item.{Item}
 use Rattle.qg_node.specs.declared.node.Node.{Node}
 use Rattle.qg_node.specs.Nodes.{header_of, own_items}
 use Rattle.qg_items.specs.declared.extent.Reference.{Reference}
-use Rattle.qg_super.specs.Places.{is_run}
 use Rattle.qg_image.specs.declared.file.File.{File}
 use Rattle.qg_image.specs.FilesOf.{files_of}
 use Rattle.qg_image.specs.Table.{value_at}
@@ -21,14 +18,12 @@ use Rattle.qg_state.specs.State.{Layout, Placed, State, Subvolume, layout_of}
 use Rattle.qg_home.proofs.Reaching.{entry_of_value}
 use Rattle.qg_verdict.specs.declared.tree.Tree.TheVariants.{Files}
 use Rattle.qg_blocks.specs.Told.{fresh_at}
-use Rattle.qg_refs.specs.Book.{count_at, full_in, what_in}
-use Rattle.qg_refs.specs.declared.kept.What.{What}
+use Rattle.qg_refs.specs.Book.{count_at, what_in}
 use Rattle.qg_extents.specs.Table.{book_of}
 use Rattle.qg_descent.specs.Tree.{super_of}
-use Rattle.qg_tree_refs.specs.Following.{references_to}
 use Rattle.qg_tree_refs.specs.Settled.{what_of}
 use Rattle.qg_fs_tree.specs.declared.fs_tree.FsTree.{FsTree}
-use Rattle.qg_fs_tree.specs.Standing.{IsKnownExtent, IsReached, IsSubvolume, Stands, layout_in, name_told, names_times, nodes_of}
+use Rattle.qg_fs_tree.specs.Standing.{IsKnownExtent, IsSubvolume, Stands, layout_in, nodes_of}
 use Rattle.qg_fs_layout.specs.Laying.{IsCounted, IsKnownRun, IsLaidOutAlone, IsReachedAs, names_in, nodes_in}
 use Rattle.qg_fs_layout.proofs.Extents.{TellsExtent, from-files, from-layout, in-files, in-layout, in-names, present-one}
 use Rattle.qg_fs_layout.proofs.Leaves.{from-leaf, in-leaf}
@@ -95,12 +90,13 @@ module _ (fs : FsTree) (history : Option (List Event)) (bytes : ℕ) (items : Li
       → (item : Item) × Contains items item × TellsExtent item run
   layout_item run has =
       let found = from-layout (layout_of state) run has in
-      let its = entry-laid fs history state mine laid bytes items (names_in items) subvolume stands found.0 found.1 in
-      (found.2,
-      from-leaf Files (super_of fs.tree fs.land.blocks.draft) (nodes_of fs history) found.2 fs.tree.height
-      fs.tree.address items (branch fs history bytes items (names_in items) subvolume stands) found.0.0 its.reached
-      found.0.1.node its.told found.3,
-      found.4)
+      let its = entry-laid fs history state mine laid bytes items (names_in items) subvolume stands found.0 found.1 in (
+        found.2,
+        from-leaf Files (super_of fs.tree fs.land.blocks.draft) (nodes_of fs history) found.2 fs.tree.height
+            fs.tree.address items (branch fs history bytes items (names_in items) subvolume stands) found.0.0
+            its.reached found.0.1.node its.told found.3,
+        found.4,
+      )
 
   -- and so it is the other way round
   item_layout : (run : Element) (item : Item) → Contains items item → TellsExtent item run
@@ -144,7 +140,7 @@ module _ (fs : FsTree) (history : Option (List Event)) (bytes : ℕ) (items : Li
           let found = from-files fs.tree.next items mine.files files run
           (subst (λ (extents : List Element). Contains extents run) (present-one state fs.tree.owner mine laid.alone)
           has) in
-          item_layout run found.0 found.1 found.2
+          item_layout run found.0 found.1 found.2,
     )
 
     pub IsCounted-laid : IsCounted state fs history

@@ -1,10 +1,10 @@
 -- The extents that leaves name are those of the pieces of files.
-use Rattle.std.proofs.Common.{◌≡◌, ℕ, Bool, true, false, List, [], ◌∷◌, ◌++◌, map, Option, Some, None, refl, sym, ap, subst, ◌∙◌, ◌↔◌, inl, inr}
-use Rattle.std.specs.Prelude.{◌&&◌, ◌==◌, is_some, if◌then◌else◌}
+use Rattle.std.proofs.Common.{◌≡◌, ℕ, Bool, true, false, List, [], ◌∷◌, map, Option, Some, None, refl, sym, ap, subst, ◌∙◌, inl, inr}
+use Rattle.std.specs.Prelude.{◌&&◌, ◌==◌, is_some}
 use Rattle.std.specs.Bool.{then_some}
-use Rattle.std.specs.List.{Contains, filter_map, flat_map, list_all}
+use Rattle.std.specs.List.{Contains, flat_map, list_all}
 use Rattle.std.specs.Option.{option_and_then}
-use Rattle.std.proofs.lemmas.Bool.{and_parts, eq-eqb, eqb-true}
+use Rattle.std.proofs.lemmas.Bool.{and_parts, eq-eqb}
 use Rattle.std.proofs.lemmas.List.{append-nil}
 use Rattle.qg_num.specs.declared.piece.Piece.{Piece}
 use Rattle.qg_node.specs.declared.item.Item.{Item}
@@ -175,12 +175,15 @@ module _ (generation : ℕ) (items : List Item) (read : List (ℕ × File))
       let own = subst (λ (f : ℕ × File). Contains f.1.pieces piece.0) (sym inode.2) piece.1 in
       let part = from-some (files.piece_in inode.0.0) all piece.0 own in
       let number = of_number inode.0.0 part.0 piece.0 part.2 in
-      let item = from-some file_part items part.0 part.1 in
-      (item.0, item.1, record {
-        name = (number.0, piece.0);
-        told = told_by (file_part item.0) part.0 number.0 piece.0 item.2 number.1;
-        is = piece.2;
-      })
+      let item = from-some file_part items part.0 part.1 in (
+        item.0,
+        item.1,
+        record {
+          name = (number.0, piece.0);
+          told = told_by (file_part item.0) part.0 number.0 piece.0 item.2 number.1;
+          is = piece.2;
+        },
+      )
 
   pub in-files : (item : Item) → Contains items item → TellsExtent item run
       → Contains (flat_map (λ (file : ℕ × File). map extent_of file.1.pieces) read) run

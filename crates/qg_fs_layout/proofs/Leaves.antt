@@ -1,5 +1,5 @@
 -- The items of a tree are those of the leaves that it reaches.
-use Rattle.std.proofs.Common.{◌≡◌, ℕ, zero, suc, List, [], ◌∷◌, ◌++◌, Option, Some, None, refl, sym, ap, subst, ◌∙◌, inl, inr}
+use Rattle.std.proofs.Common.{◌≡◌, ℕ, zero, suc, List, [], ◌∷◌, ◌++◌, Option, Some, refl, sym, ap, subst, ◌∙◌, inl, inr}
 use Rattle.std.specs.Prelude.{slice_get}
 use Rattle.std.specs.List.{Contains}
 use Rattle.std.proofs.lemmas.List.Elements.{Contains-append_cases, Contains-append_left, Contains-append_right}
@@ -11,7 +11,7 @@ use Rattle.qg_node.specs.Nodes.{own_items}
 use Rattle.qg_super.specs.declared.superblock.Super.{Super}
 use Rattle.qg_state.proofs.Contained.{none_contained}
 use Rattle.qg_verdict.specs.declared.tree.Tree.{Tree}
-use Rattle.qg_descent.specs.Branch.{AreBranches, IsBranch, UnderEach}
+use Rattle.qg_descent.specs.Branch.{IsBranch, UnderEach}
 use Rattle.qg_descent.specs.Tree.{Reaches}
 use Rattle.qg_descent.proofs.Branches.{branch-below}
 

@@ -1,5 +1,5 @@
 -- What lists contain that are made of others.
-use Rattle.std.proofs.Common.{◌≡◌, List, [], ◌∷◌, ◌++◌, map, Option, Some, None, refl, sym, ap, subst, ◌∙◌, inl, inr}
+use Rattle.std.proofs.Common.{◌≡◌, List, [], ◌∷◌, map, Option, Some, None, refl, sym, ap, subst, ◌∙◌, inl, inr}
 use Rattle.std.specs.List.{AllByRecursion, Contains, cons_option, filter_map, flat_map}
 use Rattle.std.proofs.lemmas.List.Concat.{flat_map-cons}
 use Rattle.std.proofs.lemmas.List.Elements.{Contains-append_cases, Contains-append_left, Contains-append_right}
@@ -34,7 +34,6 @@ made-some f (z ∷ xs) x y has is = elim (contains_cases z xs x has) [
       (contains_here y (filter_map f xs))
   | inr later ↦ made_later (f z) (filter_map f xs) y (made-some f xs x y later is)
 ]
-
 
 -- ---- each made into one
 

@@ -1,13 +1,12 @@
 -- A tree moved by several edits: what stays and what is new.
-use Rattle.std.proofs.Common.{◌≡◌, ℕ, ◌+◌, ◌<◌, ◌≤◌, Bool, true, false, List, [], ◌∷◌, ◌++◌, Option, Some, None, Result, arith, refl, sym, ap, subst, ◌∙◌, inl, inr}
-use Rattle.std.specs.Prelude.{◌⊎◌, IsSome, IsTrue, ◌&&◌, ◌==◌, not, is_some}
+use Rattle.std.proofs.Common.{◌≡◌, ℕ, Bool, true, false, List, ◌++◌, Option, Some, None, refl, sym, ap, subst, ◌∙◌, inl, inr}
+use Rattle.std.specs.Prelude.{◌⊎◌, IsTrue, ◌==◌, not, is_some}
 use Rattle.std.specs.List.{Contains, list_any}
 use Rattle.std.specs.Result.{result_ok}
 use Rattle.std.proofs.lemmas.Bool.{and_parts, eq-eqb}
 use Rattle.std.proofs.lemmas.List.Elements.{Contains-append_right}
 use Rattle.qg_device.specs.History.{Event, content}
 use Rattle.qg_num.specs.declared.piece.Piece.{Piece}
-use Rattle.qg_num.specs.declared.rule.Rule.{Rule}
 use Rattle.qg_node.specs.declared.item.Item.{Item}
 use Rattle.qg_node.specs.declared.node.Node.{Node}
 use Rattle.qg_node.specs.Nodes.{header_of}
@@ -27,7 +26,7 @@ use Rattle.qg_extents.specs.Table.{book_of}
 use Rattle.qg_descent.specs.Tree.{Reaches, Root}
 use Rattle.qg_tree_edits.proofs.Ways.{ways-some}
 use Rattle.qg_fs_tree.specs.declared.fs_tree.FsTree.{FsTree}
-use Rattle.qg_fs_tree.specs.Standing.{IsReached, KeepsTree, Moves, Stands, nodes_of}
+use Rattle.qg_fs_tree.specs.Standing.{IsReached, KeepsTree, Stands, nodes_of}
 use Rattle.qg_fs_tree.proofs.Before.{held}
 use Rattle.qg_fs_layout.specs.Laying.{IsMoved, IsReachedAs}
 

@@ -1,7 +1,7 @@
 -- The nodes of a tree as a layout: a table by slot.
-use Rattle.std.proofs.Common.{◌≡◌, ℕ, zero, suc, ◌+◌, ◌-◌, ◌*◌, ◌/◌, ◌<◌, ◌≤◌, Bool, true, false, List, [], ◌∷◌, length, get_or, map, Option, Some, None, arith, refl, sym, ap, subst, ◌∙◌, ◌↔◌, inl, inr}
+use Rattle.std.proofs.Common.{◌≡◌, ℕ, zero, suc, ◌+◌, ◌-◌, ◌/◌, ◌<◌, ◌≤◌, Bool, true, false, List, [], ◌∷◌, length, get_or, Option, Some, None, arith, refl, sym, ap, subst, ◌∙◌, inl, inr}
 use Rattle.std.specs.Prelude.{IsTrue, nat_lt, if◌then◌else◌}
-use Rattle.std.specs.List.{Contains, cons_option, filter_map, range_with_len}
+use Rattle.std.specs.List.{Contains, cons_option, filter_map}
 use Rattle.std.specs.List.Sorted.{IsStrictlyIncreasing}
 use Rattle.std.specs.Option.{option_map}
 use Rattle.std.proofs.Math.Nat.{add-mul}
@@ -13,7 +13,7 @@ use Rattle.qg_super.specs.declared.sizes.Sizes.{Sizes}
 use Rattle.qg_super.specs.Places.{is_slot, slot_at, slots_begin}
 use Rattle.qg_super.proofs.Slots.{IsSlotAt-is_slot}
 use Rattle.qg_image.specs.Table.{keys_of, value_at}
-use Rattle.qg_state.specs.State.{Placed}
+use Rattle.qg_state.specs.State.{Placed, node_at}
 use Rattle.qg_state.proofs.Contained.{contains_cases, contains_here, contains_later, none_contained}
 use Rattle.qg_home.proofs.Reaching.{entry_of_value, value_of_entry}
 use Rattle.qg_refs.specs.Book.{full_in}
@@ -195,12 +195,29 @@ module _ (fs : FsTree) (history : Option (List Event)) where
         value_of_entry (nodes_in fs history) (q, placed) nodes-ascend
         (subst (λ (table : List (ℕ × Placed)). Contains table (q, placed)) (sym nodes-are) has)
 
+    told_by : (q : ℕ) (node : Node) (o : Option Placed) → value_at q (nodes_in fs history) ≡ o
+        → option_map (λ (placed : Placed). placed.node) o ≡ Some node
+        → IsReached fs history q × (nodes_of fs history q ≡ Some node)
+    told_by q node None is there = absurd cc
+    told_by q node (Some placed) is there =
+        let same : placed.node ≡ node = cc in
+        let found = reached-by q placed is in
+        (found.reached, found.told ∙ ap (λ (n : Node). Some n) same)
+
+    by_told : (q : ℕ) (node : Node) → IsReached fs history q × (nodes_of fs history q ≡ Some node)
+        → node_at (nodes_in fs history) q ≡ Some node
+    by_told q node is =
+        ap (option_map (λ (placed : Placed). placed.node))
+        (value-reached q (record { node = node; full = full_in (book_of fs.refs.refs q) })
+        (record { reached = is.0; told = is.1; full = refl }))
+
     pub those-reached : AreThoseReached fs history
     those-reached = record {
       ascending = nodes-ascend;
       among = λ q placed. (reached-by q placed, value-reached q placed);
+      told = λ q node. (told_by q node (value_at q (nodes_in fs history)) refl, by_told q node);
       ways = λ q. (
         ways-some (nodes_of fs history) fs.tree.height fs.tree.address q,
-        reached-some (nodes_of fs history) fs.tree.height fs.tree.address q
+        reached-some (nodes_of fs history) fs.tree.height fs.tree.address q,
       );
     }

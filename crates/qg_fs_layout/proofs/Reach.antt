@@ -1,15 +1,15 @@
 -- What a tree reaches is met from its root.
 use Rattle.std.proofs.Common.{◌≡◌, ℕ, zero, suc, Bool, true, false, List, [], ◌∷◌, ◌++◌, map, Option, Some, None, refl, sym, ap, subst, ◌∙◌, inl, inr}
-use Rattle.std.specs.Prelude.{◌||◌, ◌==◌, if◌then◌else◌, slice_get}
-use Rattle.std.specs.List.{filter, flat_map, list_any}
+use Rattle.std.specs.Prelude.{◌==◌, slice_get}
+use Rattle.std.specs.List.{flat_map, list_any}
 use Rattle.std.proofs.lemmas.Bool.{eq-eqb, or_left, or_right}
 use Rattle.std.proofs.lemmas.List.Folds.{list_any-append}
 use Rattle.qg_node.specs.declared.pointer.Pointer.{Pointer}
 use Rattle.qg_node.specs.declared.node.Node.{Node}
-use Rattle.qg_node.specs.Nodes.{header_of, own_pointers}
+use Rattle.qg_node.specs.Nodes.{own_pointers}
 use Rattle.qg_image.specs.Table.{keys_of}
 use Rattle.qg_state.specs.declared.element.Element.{Element}
-use Rattle.qg_state.specs.Reach.{extent_of, is_among, is_reached, level_of, own_elements, pieces_of, pointers_at, reach, reach_of, reach_of_root, reach_under, reaches}
+use Rattle.qg_state.specs.Reach.{extent_of, is_among, is_reached, level_of, own_elements, pieces_of, pointers_at, reach, reach_of_root, reach_under, reaches}
 use Rattle.qg_state.specs.State.{Layout, node_at}
 use Rattle.qg_descent.specs.Tree.{Reaches}
 
@@ -76,8 +76,15 @@ unfolding Reaches
 reach-on nodes nodes' zero at same q reaches = reaches
 reach-on nodes nodes' (suc level) at same q (inl here) = inl here
 reach-on nodes nodes' (suc level) at same q (inr (node, is, place, pointer, there, below)) =
-    inr (node, same at (inl refl) ∙ is, place, pointer, there, reach-on nodes nodes' level pointer.child
-    (λ r reaches. same r (inr (node, is, place, pointer, there, reaches))) q below)
+    inr (
+      node,
+      same at (inl refl) ∙ is,
+      place,
+      pointer,
+      there,
+      reach-on nodes nodes' level pointer.child
+          (λ r reaches. same r (inr (node, is, place, pointer, there, reaches))) q below,
+    )
 
 -- ---- a layout of one subvolume
 
@@ -85,7 +92,8 @@ module _ (layout : Layout) (owner root level : ℕ) (roots : layout.roots ≡ (o
     (high : level_of (node_at layout.nodes root) ≡ level) where
   met_is : reach layout owner ≡ reach_under (node_at layout.nodes) layout.nodesize level root
   unfolding reach reach_of_root
-  met_is = rw roots (rw (eq-eqb owner owner refl) (ap (λ (n : ℕ). reach_under (node_at layout.nodes) layout.nodesize n root) high))
+  met_is = rw roots (rw (eq-eqb owner owner refl)
+      (ap (λ (n : ℕ). reach_under (node_at layout.nodes) layout.nodesize n root) high))
 
   pub reaches-one : (q : ℕ) (node : Node) → Reaches (node_at layout.nodes) level root q
       → node_at layout.nodes q ≡ Some node → reaches layout owner q ≡ true

@@ -1,7 +1,6 @@
 -- Nodes that are told have a text, and their numbers fit their fields, where a disk holds bytes and fresh nodes fit.
-use Rattle.std.proofs.Common.{◌≡◌, ℕ, ◌+◌, ◌≤◌, Bool, true, false, List, length, drop, take, Option, Some, None, arith, refl, sym, ap, subst, ◌∙◌, length-drop}
+use Rattle.std.proofs.Common.{◌≡◌, ℕ, ◌≤◌, Bool, true, false, List, length, drop, Option, Some, None, arith, refl, sym, subst, length-drop}
 use Rattle.std.specs.Prelude.{Result, Ok, Err, if◌then◌else◌}
-use Rattle.std.specs.Result.{result_ok}
 use Rattle.std.proofs.lemmas.List.{length-take}
 use Rattle.qg_device.specs.History.{Event, content, range}
 use Rattle.qg_bytes.specs.Fields.{IsBytes}
@@ -9,13 +8,11 @@ use Rattle.qg_bytes.proofs.Numbers.{IsBytes-drop, IsBytes-take}
 use Rattle.qg_num.specs.declared.rule.Rule.{Rule}
 use Rattle.qg_num.specs.declared.rule.Rule.TheVariants as rule
 use Rattle.qg_node.specs.declared.node.Node.{Node}
-use Rattle.qg_node.specs.Fits.{NodeFits}
-use Rattle.qg_node.specs.Nodes.{header_of}
 use Rattle.qg_node.specs.NodeText.{IsNode}
 use Rattle.qg_node.specs.Reading.{node_read}
 use Rattle.qg_node.proofs.Found.{node_found}
 use Rattle.qg_super.specs.declared.sizes.Sizes.{Sizes}
-use Rattle.qg_super.proofs.Served.{SizesFit, SizesFit-is_served}
+use Rattle.qg_super.proofs.Served.{SizesFit-is_served}
 use Rattle.qg_blocks.specs.Standing.{has_slot, ruled, standing}
 use Rattle.qg_blocks.specs.Told.{fresh_at, told, told_or}
 use Rattle.qg_blocks.proofs.Stands.{HasSlot-has_slot}

@@ -1,5 +1,5 @@
 -- What a node says that is told: its level, and the address where it lies.
-use Rattle.std.proofs.Common.{◌≡◌, ℕ, ◌+◌, ◌*◌, ◌≤◌, Bool, true, false, cond, List, length, map, Option, Some, None, Result, Ok, Err, arith, refl, sym, ap, subst, ◌∙◌}
+use Rattle.std.proofs.Common.{◌≡◌, ℕ, ◌+◌, ◌*◌, ◌≤◌, Bool, true, false, cond, List, length, map, Option, Some, None, Result, Ok, Err, arith, refl, sym, ap, ◌∙◌}
 use Rattle.std.specs.Prelude.{◌&&◌, ◌||◌, ◌==◌, not, nat_le, if◌then◌else◌, slice_index}
 use Rattle.std.specs.Result.{result_ok}
 use Rattle.std.proofs.lemmas.Bool.{eqb-true, leb-true}
@@ -45,7 +45,8 @@ items_header : (header : Header) (order slack : List Item × ℕ → Bool) (read
     (node : Node)
     → (read >>= λ items. check (order items) Order (check (slack items) Slack (Ok (Leaf header items.0)))) ≡ Ok node
     → header_of node ≡ header
-items_header header order slack (Ok items) node is = behind_same (order items) (slack items) (Leaf header items.0) node is
+items_header header order slack (Ok items) node is =
+    behind_same (order items) (slack items) (Leaf header items.0) node is
 items_header header order slack (Err fault) node is = absurd cc
 
 leaf_header : (bytes : List ℕ) (node : Node) → leaf_at bytes ≡ Ok node → header_of node ≡ header_at bytes

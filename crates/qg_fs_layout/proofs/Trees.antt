@@ -1,10 +1,9 @@
 -- A tree that stands is the tree of a subvolume in a state.
-use Rattle.std.proofs.Common.{◌≡◌, ℕ, zero, suc, ◌+◌, ◌<◌, ◌≤◌, Bool, true, false, List, Option, Some, None, arith, refl, sym, ap, subst, ◌∙◌, inl}
-use Rattle.std.specs.Prelude.{◌&&◌, IsTrue}
+use Rattle.std.proofs.Common.{◌≡◌, ℕ, zero, suc, ◌<◌, ◌≤◌, Bool, true, false, List, Option, Some, None, arith, refl, sym, ap, subst, ◌∙◌, inl}
+use Rattle.std.specs.Prelude.{◌&&◌}
 use Rattle.std.specs.Bool.{then_some}
 use Rattle.std.specs.List.{list_all}
 use Rattle.std.specs.Option.{option_map}
-use Rattle.std.proofs.lemmas.Bool.{and_parts}
 use Rattle.qg_device.specs.History.{Event}
 use Rattle.qg_num.specs.declared.piece.Piece.{Piece}
 use Rattle.qg_node.specs.declared.item.Item.{Item}
@@ -69,9 +68,10 @@ module _ (fs : FsTree) (history : Option (List Event)) (bytes : ℕ) (items : Li
   pub entry-there : (q : ℕ) → IsReached fs history q → (placed : Placed) × IsReachedAs fs history q placed
   entry-there q reached =
       let node = node-there fs history items stands.rooted drafted q
-      (ways-some (nodes_of fs history) fs.tree.height fs.tree.address q reached) in
-      (record { node = node.0; full = full_in (book_of fs.refs.refs q) },
-      record { reached = reached; told = node.1; full = refl })
+      (ways-some (nodes_of fs history) fs.tree.height fs.tree.address q reached) in (
+        record { node = node.0; full = full_in (book_of fs.refs.refs q) },
+        record { reached = reached; told = node.1; full = refl },
+      )
 
   pub found-there : (q : ℕ) → IsReached fs history q → node_at (nodes_in fs history) q ≡ nodes_of fs history q
   found-there q reached =
@@ -81,8 +81,8 @@ module _ (fs : FsTree) (history : Option (List Event)) (bytes : ℕ) (items : Li
 
   -- ---- the root
 
-  pub branch : IsBranch Files (super_of fs.tree fs.land.blocks.draft) (nodes_of fs history) fs.tree.height fs.tree.address
-      items
+  pub branch : IsBranch Files (super_of fs.tree fs.land.blocks.draft) (nodes_of fs history) fs.tree.height
+      fs.tree.address items
   branch = branch-under Files (super_of fs.tree fs.land.blocks.draft) (nodes_of fs history) fs.tree.height
       (root_expected (Some fs.tree.height) None) fs.tree.address items
       (record { levelled = refl; walked = stands.rooted.tells.walked; items_are = stands.rooted.tells.items_are })

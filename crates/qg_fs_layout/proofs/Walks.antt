@@ -1,5 +1,5 @@
 -- A tree that stands is walked in a state without a failure.
-use Rattle.std.proofs.Common.{◌≡◌, ℕ, zero, suc, ◌-◌, ◌≤◌, true, false, List, [], ◌∷◌, ◌++◌, Option, Some, None, arith, refl, sym, ap, subst, ◌∙◌}
+use Rattle.std.proofs.Common.{◌≡◌, ℕ, zero, suc, ◌-◌, ◌≤◌, true, false, List, [], ◌∷◌, Option, Some, None, arith, refl, sym, ap, ◌∙◌}
 use Rattle.std.specs.Prelude.{Bool, ◌&&◌, ◌==◌, Result, Ok, Err}
 use Rattle.std.specs.List.{list_all}
 use Rattle.std.proofs.lemmas.Bool.{and_parts}
@@ -21,12 +21,12 @@ use Rattle.qg_verdict.specs.declared.tree.Tree.{Tree}
 use Rattle.qg_verdict.specs.Among.{found_there}
 use Rattle.qg_verdict.specs.Failure.{first_failure, unless}
 use Rattle.qg_verdict.specs.ItemsUnder.{is_way, items_under, nodes_of}
-use Rattle.qg_verdict.specs.Walk.{begins_at, deepest, ends_before, found_failure, is_generation, is_item_of, is_owner, is_told, node_failure, pointers_failure, root_expected, shape_failure, walk_failure, way_failure}
+use Rattle.qg_verdict.specs.Walk.{begins_at, deepest, ends_before, found_failure, is_generation, is_item_of, is_owner, node_failure, pointers_failure, root_expected, shape_failure, walk_failure, way_failure}
 use Rattle.qg_walk.specs.Standing.{expected_below, form_failure}
 use Rattle.qg_walk.proofs.Failures.{neither, none_of_two, pointers-passed, walk-inner, walk-leaf}
 use Rattle.qg_descent.specs.Tree.{IsTree, found_in}
 use Rattle.qg_descent.proofs.Frames.{items-same}
-use Rattle.qg_descent.proofs.Under.{AreUnder, IsUnder, both-under, none-under, under-inner, under-leaf}
+use Rattle.qg_descent.proofs.Under.{AreUnder, IsUnder, both-under, under-inner, under-leaf}
 
 -- ---- a walk by fewer rules
 
@@ -57,7 +57,8 @@ module _ (judge less : Expected → ℕ → Node → Option Failure) (found : �
       (weaker expected address node parts.0)
       (pointers_weaker walk other each level expected.to (own_pointers node) parts.1)
 
-  pub walk-weaker : (depth : ℕ) (expected : Expected) (address : ℕ) → walk_failure judge found depth expected address ≡ None
+  pub walk-weaker : (depth : ℕ) (expected : Expected) (address : ℕ)
+      → walk_failure judge found depth expected address ≡ None
       → walk_failure less found depth expected address ≡ None
   unfolding walk_failure
   walk-weaker zero expected address none =
@@ -145,8 +146,8 @@ module _ (tree : Tree) (super other : Super) (generation : other.generation ≡ 
     leaf_none items address are = ap (λ (b : Bool). unless b rule.Item address) are
 
     pointers_none : (level depth : ℕ)
-        → ((expected : Expected) (address : ℕ) (items : List Item) → IsUnder tree super nodes level expected address items
-        → AreItems items → whole_walk depth expected address ≡ None)
+        → ((expected : Expected) (address : ℕ) (items : List Item)
+        → IsUnder tree super nodes level expected address items → AreItems items → whole_walk depth expected address ≡ None)
         → (to : Option Key) (pointers : List Pointer) (items : List Item)
         → AreUnder tree super nodes level to pointers items → AreItems items
         → pointers_failure (whole_walk depth) level to pointers ≡ None

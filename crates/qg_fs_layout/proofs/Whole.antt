@@ -1,25 +1,24 @@
 -- A state whose layout is a tree that stands is whole.
-use Rattle.std.proofs.Common.{◌≡◌, ℕ, ◌<◌, true, List, [], ◌∷◌, Option, Some, None, refl, sym, ap, subst, ◌∙◌}
-use Rattle.std.specs.Prelude.{IsTrue, map}
+use Rattle.std.proofs.Common.{◌≡◌, ℕ, true, List, [], ◌∷◌, Option, Some, refl, sym, ap, subst, ◌∙◌}
+use Rattle.std.specs.Prelude.{map}
 use Rattle.std.specs.List.{AllByRecursion, Contains}
 use Rattle.std.specs.List.Sorted.{IsStrictlyIncreasing}
 use Rattle.qg_device.specs.History.{Event}
 use Rattle.qg_num.specs.declared.piece.Piece.{Piece}
 use Rattle.qg_node.specs.declared.item.Item.{Item}
-use Rattle.qg_node.specs.declared.node.Node.{Node}
 use Rattle.qg_node.specs.NodeText.{IsNode}
 use Rattle.qg_super.specs.declared.sizes.Sizes.{Sizes}
 use Rattle.qg_image.specs.FilesOf.{files_of}
-use Rattle.qg_image.specs.Table.{keys_of, value_at}
+use Rattle.qg_image.specs.Table.{keys_of}
 use Rattle.qg_machine.specs.Layout.{IsTreeOf, IsWhole}
 use Rattle.qg_machine.specs.Layout as machine
-use Rattle.qg_state.specs.Reach.{is_reached, level_of, reaches}
+use Rattle.qg_state.specs.Reach.{reaches}
 use Rattle.qg_state.specs.State.{Layout, Placed, State, Subvolume, layout_of, node_at}
 use Rattle.qg_home.proofs.Reaching.{value_of_entry}
 use Rattle.qg_descent.specs.Tree.{Reaches}
 use Rattle.qg_fs_tree.specs.declared.fs_tree.FsTree.{FsTree}
 use Rattle.qg_fs_tree.specs.Standing.{IsReached, IsSubvolume, Stands, layout_in, nodes_of}
-use Rattle.qg_fs_layout.specs.Laying.{AreFit, IsLaidOut, IsLaidOutAlone, IsReachedAs, nodes_in}
+use Rattle.qg_fs_layout.specs.Laying.{AreFit, IsLaidOutAlone, IsReachedAs, nodes_in}
 use Rattle.qg_fs_layout.proofs.Lists.{all-contained}
 use Rattle.qg_fs_layout.proofs.Nodes.{nodes-ascend, reached-by}
 use Rattle.qg_fs_layout.proofs.Reach.{is_reached-one, reach-on, reaches-one}
@@ -66,8 +65,8 @@ module _ (fs : FsTree) (history : Option (List Event)) (state : State) (mine : S
 
     pub node-laid : (q : ℕ) (placed : Placed) → IsReachedAs fs history q placed
         → node_at state.layout q ≡ Some placed.node
-    node-laid q placed its = laid-there fs history bytes items names subvolume stands state mine alone.laid q its.reached
-        ∙ its.told
+    node-laid q placed its =
+        laid-there fs history bytes items names subvolume stands state mine alone.laid q its.reached ∙ its.told
 
     -- the subvolume reaches it
     pub owner-reaches : (q : ℕ) (placed : Placed) → IsReachedAs fs history q placed

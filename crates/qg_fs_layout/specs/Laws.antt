@@ -1,5 +1,5 @@
 -- What a subvolume's tree is in a state of the machine (this project's own).
-use Rattle.std.specs.Prelude.{◌≡◌, ◌↔◌, ℕ, ◌<◌, List, Option, Some, Contains, IsTrue}
+use Rattle.std.specs.Prelude.{◌≡◌, ℕ, ◌<◌, ◌≤◌, List, Option, Some, IsTrue}
 use Rattle.qg_device.specs.History.{Event}
 use Rattle.qg_num.specs.declared.piece.Piece.{Piece}
 use Rattle.qg_node.specs.declared.item.Item.{Item}
@@ -9,6 +9,7 @@ use Rattle.qg_machine.specs.Layout.{IsTreeOf, IsWhole}
 use Rattle.qg_state.specs.State.{State, Subvolume}
 use Rattle.qg_refs.specs.Book.{full_in}
 use Rattle.qg_extents.specs.Table.{book_of}
+use Rattle.qg_verdict.specs.Walk.{deepest}
 use Rattle.qg_fs_tree.specs.declared.fs_tree.FsTree.{FsTree}
 use Rattle.qg_fs_tree.specs.Standing.{IsReached, IsSubvolume, KeepsTree, Stands}
 use Rattle.qg_fs_layout.specs.Laying.{AreFit, AreThoseReached, CopiesNodes, FreshFit, HoldsBytes, HoldsSlots, IsCounted, IsLaidOut, IsLaidOutAlone, IsMoved, names_in}
@@ -19,6 +20,11 @@ NodesAreThoseReached = (fs : FsTree) (history : Option (List Event))
     → 0 < fs.land.space.sizes.nodesize
     → ((q : ℕ) → IsReached fs history q → IsTrue (is_slot fs.land.space.sizes q))
     → AreThoseReached fs history
+
+-- a tree that stands is no higher than the walk goes
+abbrev pub IsLow : Type 0
+IsLow = (fs : FsTree) (history : Option (List Event)) (bytes : ℕ) (items : List Item) (names : List (ℕ × Piece))
+    → IsSubvolume fs history bytes → Stands fs history items names → fs.tree.height ≤ deepest
 
 -- a tree that stands, and whose items are those of a subvolume's files, is that subvolume's tree in the state
 abbrev pub TreeIsWalked : Type 0

@@ -19,7 +19,7 @@ use Rattle.qg_machine.specs.Layout.{KeepsNode, is_made_node, made_nodes}
 use Rattle.qg_state.specs.declared.element.Element.{Element}
 use Rattle.qg_state.specs.Owed.{layout_extents, owed_count}
 use Rattle.qg_state.specs.Space.{present_extents}
-use Rattle.qg_state.specs.State.{Placed, State, Subvolume, layout_of, next_generation}
+use Rattle.qg_state.specs.State.{Placed, State, Subvolume, layout_of, next_generation, node_at}
 use Rattle.qg_refs.specs.Book.{AgreesWithOwed, Book, full_in, what_in}
 use Rattle.qg_extents.specs.Table.{book_of}
 use Rattle.qg_blocks.specs.Told.{fresh_at}
@@ -45,7 +45,10 @@ pub record IsReachedAs (fs : FsTree) (history : Option (List Event)) (q : ℕ) (
 -- reaches what ways lead to
 pub record AreThoseReached (fs : FsTree) (history : Option (List Event)) : Type 0 where
   pub ascending : IsStrictlyIncreasing (keys_of (nodes_in fs history))
-  pub among : (q : ℕ) (placed : Placed) → value_at q (nodes_in fs history) ≡ Some placed ↔ IsReachedAs fs history q placed
+  pub among : (q : ℕ) (placed : Placed)
+      → value_at q (nodes_in fs history) ≡ Some placed ↔ IsReachedAs fs history q placed
+  pub told : (q : ℕ) (node : Node)
+      → node_at (nodes_in fs history) q ≡ Some node ↔ (IsReached fs history q × (nodes_of fs history q ≡ Some node))
   pub ways : (q : ℕ) → IsReached fs history q ↔ 0 < ways (nodes_of fs history) fs.tree.height fs.tree.address q
 
 -- ---- nodes that fit
@@ -71,11 +74,12 @@ AreFit fs history = (q : ℕ) (node : Node) → IsReached fs history q → nodes
 -- ---- the state
 
 -- the layout of a state is a tree, as it stands, and it is one of a subvolume
-pub record IsLaidOut (state : State) (subvolume : Subvolume) (fs : FsTree) (history : Option (List Event)) : Type 0 where
-  pub sizes : state.sizes ≡ fs.land.space.sizes
-  pub generation : next_generation state ≡ fs.tree.next
-  pub layout : state.layout ≡ nodes_in fs history
-  pub root : subvolume.root ≡ fs.tree.address
+pub record IsLaidOut (state : State) (subvolume : Subvolume) (fs : FsTree) (history : Option (List Event)) : Type 0
+  where
+    pub sizes : state.sizes ≡ fs.land.space.sizes
+    pub generation : next_generation state ≡ fs.tree.next
+    pub layout : state.layout ≡ nodes_in fs history
+    pub root : subvolume.root ≡ fs.tree.address
 
 -- and there is no other subvolume
 pub record IsLaidOutAlone (state : State) (subvolume : Subvolume) (fs : FsTree) (history : Option (List Event)) : Type 0
@@ -118,8 +122,8 @@ pub record IsKnownRun (sizes : Sizes) (book : Book) (run : Element) : Type 0 whe
   pub known : what_in (book run.address)
       ≡ Some (record { bytes = run.bytes; level = None; generation = generation })
 
--- What a state's layout owes is what the tree owes, and exactly that is counted. Of each node level, generation and mark
--- are known; the extents that leaves name are those of the present files, and their lengths are known
+-- What a state's layout owes is what the tree owes, and exactly that is counted. Of each node level, generation and
+-- mark are known; the extents that leaves name are those of the present files, and their lengths are known
 pub record IsCounted (state : State) (fs : FsTree) (history : Option (List Event)) : Type 0 where
   pub owed : (at : ℕ) (reference : Reference)
       → owed_count (layout_of state) at reference ≡ owed_count (layout_in fs history) at reference

@@ -3,4 +3,6 @@
 
 mod laws;
 
-pub use laws::{commands_copy, nodes_are_those_reached, owed_is_counted, state_is_whole, tree_is_walked};
+pub use laws::{
+    commands_copy, nodes_are_those_reached, owed_is_counted, state_is_whole, tree_is_walked,
+};
