@@ -3,6 +3,7 @@ use Rattle.std.proofs.Common.{◌≡◌, ℕ, List, [], ◌∷◌, map, refl, ap
 use Rattle.std.specs.Prelude.{Option, Some, None}
 use Rattle.std.specs.List.{filter_map}
 use Rattle.qg_node.specs.declared.item.Item.{Item}
+use Rattle.qg_node.specs.declared.node.Node.{Node}
 use Rattle.qg_items.specs.declared.root.RootItem.{RootItem}
 use Rattle.qg_super.specs.declared.superblock.Super.{Super}
 use Rattle.qg_image.specs.ItemMeaning.{root_part, quota_part}
@@ -24,14 +25,14 @@ filter_map_said {P} meaning (item ∷ items) (part ∷ parts) h =
     rw first (ap (λ (all : List P). part ∷ all) (filter_map_said meaning items parts rest))
 
 -- so a walk of the root tree finds the trees that it names
-pub roots_read : (super : Super) (image : List ℕ) (parts : List (ℕ × RootItem)) (nodes : List ℕ)
-    → IsWalk Roots root_part super image (root_expected None None) super.root parts nodes → roots_in super image ≡ parts
+pub roots_read : {N : Type 0} {keeps : N → List Node → Type 0} (super : Super) (image : List ℕ) (parts : List (ℕ × RootItem)) (nodes : N)
+    → IsWalk Roots root_part keeps super image (root_expected None None) super.root parts nodes → roots_in super image ≡ parts
 unfolding roots_in
 roots_read super image parts nodes walk = filter_map_said root_part (tree_items Roots super image (root_expected None None) super.root) parts walk.said
 
 -- and one of another tree what its items say
-pub tree_read : {P : Type 0} (tree : Tree) (meaning : Item → Option P) (super : Super) (image : List ℕ) (root : RootItem) (parts : List P) (nodes : List ℕ)
-    → IsWalk tree meaning super image (root_told root) root.bytenr parts nodes → filter_map meaning (items_of_root tree super image root) ≡ parts
+pub tree_read : {P N : Type 0} {keeps : N → List Node → Type 0} (tree : Tree) (meaning : Item → Option P) (super : Super) (image : List ℕ) (root : RootItem) (parts : List P) (nodes : N)
+    → IsWalk tree meaning keeps super image (root_told root) root.bytenr parts nodes → filter_map meaning (items_of_root tree super image root) ≡ parts
 tree_read tree meaning super image root parts nodes walk = filter_map_said meaning (tree_items tree super image (root_told root) root.bytenr) parts walk.said
 
 -- the quota tree's, where the root tree names it

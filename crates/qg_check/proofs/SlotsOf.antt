@@ -3,11 +3,13 @@ use Rattle.std.proofs.Common.{◌≡◌, ℕ, Bool, true, List, [], ◌∷◌, g
 use Rattle.std.specs.Prelude.{IsTrue}
 use Rattle.std.specs.List.{All, Contains, list_all}
 use Rattle.std.proofs.lemmas.Bool.{and_parts}
+use Rattle.std.proofs.lemmas.List.Folds.{list_all-map}
 use Rattle.std.proofs.lemmas.List.Elements.{Contains-get_or}
 use Rattle.qg_super.specs.declared.sizes.Sizes.{Sizes}
 use Rattle.qg_super.specs.Places.{is_slot}
 use Rattle.qg_state.proofs.Contained.{none_contained, contains_cases}
 use Rattle.qg_reach.specs.Sets.{HaveSame}
+use Rattle.qg_walk.specs.Held.{AreAddressesOf, AreInSlots}
 
 -- what all pass, each passes
 passes : {A : Type 0} (p : A → Bool) (xs : List A) (x : A) → list_all p xs ≡ true → Contains xs x → p x ≡ true
@@ -21,3 +23,7 @@ passes p (y ∷ ys) x all has =
 
 pub same_slots : (sizes : Sizes) (slots given : List ℕ) → HaveSame slots given → list_all (is_slot sizes) given ≡ true → All (λ slot. IsTrue (is_slot sizes slot)) slots
 same_slots sizes slots given same all = λ k d below. passes (is_slot sizes) given (get_or slots k d) all (same.into (get_or slots k d) (Contains-get_or slots k d below))
+
+-- where nodes lie that lie in slots
+pub slots_of_addresses : (sizes : Sizes) (addresses : List ℕ) → AreInSlots sizes AreAddressesOf addresses → list_all (is_slot sizes) addresses ≡ true
+slots_of_addresses sizes addresses in_slots = rw (in_slots.kept, list_all-map) in_slots.slots

@@ -1,20 +1,17 @@
 -- The verdict on an image, by the parts that it looks at.
 use Rattle.std.proofs.Common.{◌≡◌, ℕ, List, [], ◌∷◌, map, length, refl, sym, ap, ◌∙◌}
-use Rattle.std.specs.Prelude.{Option, Some, None, nat_le}
+use Rattle.std.specs.Prelude.{Option, Some, None}
 use Rattle.qg_num.specs.declared.rule.Rule.TheVariants as rule
 use Rattle.qg_items.specs.declared.root.RootItem.{RootItem}
 use Rattle.qg_super.specs.declared.superblock.Super.{Super}
-use Rattle.qg_super.specs.Places.{first_place, second_place, total_bytes}
-use Rattle.qg_super.specs.SuperText.{sizes_of}
+use Rattle.qg_super.specs.Places.{first_place, second_place}
 use Rattle.qg_image.specs.Table.{value_at}
-use Rattle.qg_state.specs.Space.{present_extents}
 use Rattle.qg_verdict.specs.declared.failure.Failure.{Failure}
 use Rattle.qg_verdict.specs.declared.failure.Failure.TheVariants.{Broken}
-use Rattle.qg_verdict.specs.declared.tree.Tree.TheVariants.{Roots, Extents}
-use Rattle.qg_verdict.specs.Failure.{first_failure, unless}
-use Rattle.qg_verdict.specs.Walk.{root_expected, tree_failure}
-use Rattle.qg_verdict.specs.ImageState.{super_in, super_of, state_in, roots_in, subvolume_roots}
-use Rattle.qg_verdict.specs.Verdict.{verdict, image_failure, are_mirrored, are_roots, most_subvolumes, root_failure, quota_failure, subvolume_failure, space_failure, counts_failure, extent_set, places_failure, roots_failure, together_failure}
+use Rattle.qg_verdict.specs.declared.tree.Tree.TheVariants.{Extents}
+use Rattle.qg_verdict.specs.Failure.{first_failure}
+use Rattle.qg_verdict.specs.ImageState.{super_in, super_of, roots_in, subvolume_roots}
+use Rattle.qg_verdict.specs.Verdict.{verdict, image_failure, root_failure, quota_failure, subvolume_failure, places_failure, roots_failure, together_failure}
 use Rattle.qg_check.specs.declared.trees.Trees.{Trees}
 use Rattle.qg_check.specs.Stages.{extents_failure, trees_failure}
 use Rattle.qg_check.specs.Trees.{AreTrees}

@@ -2,7 +2,7 @@
 use Rattle.std.specs.Prelude.{◌≡◌, ◌≤◌, ◌<◌, ℕ, true, All, List, [], ◌∷◌, map, None, Some, IsTrue}
 use Rattle.std.specs.List.{filter_map, flat_map}
 use Rattle.std.specs.List.Sorted.{IsStrictlyIncreasing}
-use Rattle.qg_node.specs.Nodes.{header_of, own_items}
+use Rattle.qg_node.specs.Nodes.{own_items}
 use Rattle.qg_items.specs.declared.root.RootItem.{RootItem}
 use Rattle.qg_items.specs.declared.tree.TheConstants.{EXTENT_TREE, QUOTA_TREE, TOP_LEVEL}
 use Rattle.qg_super.specs.declared.superblock.Super.{Super}
@@ -16,7 +16,6 @@ use Rattle.qg_state.specs.declared.quota.Quota.{Quota}
 use Rattle.qg_rules.specs.Writable.{IsFileBy}
 use Rattle.qg_verdict.specs.declared.tree.Tree.TheVariants.{Extents, Quotas, Files}
 use Rattle.qg_verdict.specs.ImageState.{addresses_of, root_nodes, roots_in, subvolume_roots, items_of_root, nodes_of_root, quota_told}
-use Rattle.qg_node.specs.declared.node.Node.{Node}
 use Rattle.qg_verdict.specs.Walk.{node_found, root_told}
 use Rattle.qg_verdict.specs.ImageState.{level_in}
 use Rattle.qg_verdict.specs.ItemsUnder.{nodes_under}

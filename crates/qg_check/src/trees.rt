@@ -89,12 +89,13 @@ pub(crate) fn read_roots<D: Disk>(
         from: None,
         to: None,
     };
-    let walked = walk_tree::<RootPart, Sequence<RootPart>, D>(
+    let walked = walk_tree::<RootPart, Sequence<RootPart>, Sequence<Address>, D>(
         alloc,
         disk,
         superblock,
         &expected,
         superblock.root,
+        Sequence::new(alloc),
     )?;
     let Some(named) = name_trees(walked.parts.as_slice()) else {
         return Err(OpenFault::Broken {
@@ -152,12 +153,13 @@ pub(crate) fn read_extents<D: Disk>(
     ensures size { D.size disk.new ≡ D.size disk.old }
     ensures cause { HasCause OpenFault.Disk (D.faults disk.old) (D.faults disk.new) result }
 {
-    let walked = walk_tree::<ExtentPart, Sequence<ExtentPart>, D>(
+    let walked = walk_tree::<ExtentPart, Sequence<ExtentPart>, Sequence<Address>, D>(
         alloc,
         disk,
         superblock,
         &root_told(root),
         root.bytenr,
+        Sequence::new(alloc),
     )?;
     Ok(walked.nodes)
 }
@@ -183,12 +185,13 @@ pub(crate) fn read_quotas<D: Disk>(
     ensures size { D.size disk.new ≡ D.size disk.old }
     ensures cause { HasCause OpenFault.Disk (D.faults disk.old) (D.faults disk.new) result }
 {
-    let walked = walk_tree::<QuotaPart, Sequence<QuotaPart>, D>(
+    let walked = walk_tree::<QuotaPart, Sequence<QuotaPart>, Sequence<Address>, D>(
         alloc,
         disk,
         superblock,
         &root_told(root),
         root.bytenr,
+        Sequence::new(alloc),
     )?;
     let subvolumes = [(RootId::new(TOP_LEVEL), *files)];
     match read_quota(alloc, &subvolumes, walked.parts.as_slice()) {
@@ -223,12 +226,13 @@ pub(crate) fn read_subvolume<D: Disk>(
     ensures size { D.size disk.new ≡ D.size disk.old }
     ensures cause { HasCause OpenFault.Disk (D.faults disk.old) (D.faults disk.new) result }
 {
-    let walked = walk_tree::<FilePart, FileParts, D>(
+    let walked = walk_tree::<FilePart, FileParts, Sequence<Address>, D>(
         alloc,
         disk,
         superblock,
         &root_told(root),
         root.bytenr,
+        Sequence::new(alloc),
     )?;
     let Some(files) = read_files(alloc, walked.parts)? else {
         return Err(OpenFault::Broken {

@@ -45,11 +45,12 @@ use Rattle.qg_fs_tree.proofs.Reached.{reached-some}
 use Rattle.qg_fs_tree.proofs.SlotSums.{IsOnce}
 use Rattle.qg_fs_tree.proofs.Turned.{IsNewNode, StandsFor, Stays, keyed_sum, shared_sum}
 
--- each fresh node is of this owner, or of the one that a fresh node at its address had before
+-- each fresh node is of this owner, or of the one that some fresh node had before
 abbrev pub AreOwned : ℕ → Ground → Ground → Type 0
 AreOwned owner old new = (at : ℕ) (node : Node) → fresh_at new.blocks.draft at ≡ Some node
     → ((header_of node).owner ≡ owner)
-    ⊎ ((was : Node) × (fresh_at old.blocks.draft at ≡ Some was) × ((header_of was).owner ≡ (header_of node).owner))
+    ⊎ ((from : ℕ) × (was : Node) × (fresh_at old.blocks.draft from ≡ Some was)
+    × ((header_of was).owner ≡ (header_of node).owner))
 
 -- ---- one node
 
@@ -146,12 +147,12 @@ module _ (old new : FsTree) (history : Option (List Event)) (items left_items : 
       → (header_of mine).owner ≡ old.tree.owner
   fresh_own q mine way is = elim (owned q mine is) [
     | inl own ↦ own
-    | inr (was, there, same) ↦
-        let draft = drafted.each q was there in
-        let some = way_old q was there draft.slot draft.taken in
-        let bare = stands.young q (reached old history items names stands drafted q some)
-        (ap (λ (o : Option Node). is_some o) there) in
-        sym same ∙ stands.home q was (reached old history items names stands drafted q some) (told_old q was there) bare
+    | inr (from, was, there, same) ↦
+        let draft = drafted.each from was there in
+        let some = way_old from was there draft.slot draft.taken in
+        let reaches = reached old history items names stands drafted from some in
+        let bare = stands.young from reaches (ap (λ (o : Option Node). is_some o) there) in
+        sym same ∙ stands.home from was reaches (told_old from was there) bare
   ] where
     -- a fresh node lay where a way led
     way_old : (q : ℕ) (was : Node) → fresh_at old.land.blocks.draft q ≡ Some was

@@ -1,6 +1,6 @@
 -- What one telling makes of a book that stands for ways and names, and what a list of them does.
 use Rattle.std.proofs.Common.{◌≡◌, ◌≢◌, ℕ, zero, suc, ◌+◌, ◌-◌, ◌<◌, ◌≤◌, Bool, true, false, List, [], ◌∷◌, ◌++◌, length, map, Option, Some, None, arith, refl, sym, ap, subst, ◌∙◌, inl, inr}
-use Rattle.std.specs.Prelude.{◌⊎◌, is_some}
+use Rattle.std.specs.Prelude.{◌⊎◌, ◌&&◌, is_some, nat_lt, not, if◌then◌else◌}
 use Rattle.std.specs.List.{All, sum_by}
 use Rattle.std.specs.Option.{option_or}
 use Rattle.std.proofs.lemmas.Bool.Decides.{eqb_tells}
@@ -17,11 +17,11 @@ use Rattle.qg_refs.specs.declared.kept.Kept.{Kept}
 use Rattle.qg_refs.specs.Book.{Book, IsBook, count_at, full_in, references_at, references_in, what_in}
 use Rattle.qg_refs.specs.Counts.{greatest_count}
 use Rattle.qg_extents.specs.Table.{book_of}
-use Rattle.qg_tree_edits.specs.Counting.{IsBare, IsTimely, Turns, gains, losses, one}
+use Rattle.qg_tree_edits.specs.Counting.{IsBare, IsTimely, LeadsNone, Turns, gains, losses, one}
 use Rattle.qg_tree_edits.proofs.Ways.{one-here, one-other}
 use Rattle.qg_tree_refs.specs.declared.tree_refs.TreeRefs.{TreeRefs}
 use Rattle.qg_tree_refs.specs.Exchange.{CanExchange, Exchange, Exchanges, IsKnown, IsNew, times, what_comes, ways_to}
-use Rattle.qg_tree_refs.specs.Following.{Follows, IsProper, Step, coming_of, exchange_of, references_to}
+use Rattle.qg_tree_refs.specs.Following.{Follows, IsProper, KeepsLevel, Step, coming_of, exchange_of, is_of_level, references_to}
 use Rattle.qg_tree_refs.proofs.Times.{times-append, times-nil}
 use Rattle.qg_tree_refs.proofs.Counted.{many, total}
 use Rattle.qg_fs_tree.proofs.Keyed.{keyed-less, keyed-most, keyed-moved, keyed-none, keyed-same, keyed_ways}
@@ -29,7 +29,7 @@ use Rattle.qg_tree_refs.proofs.Owings.{known-alike}
 use Rattle.qg_fs_tree.proofs.Owings.{names-no_block, names-no_shared_block, names-no_shared_data, names_of}
 use Rattle.qg_tree_refs.proofs.Single.{count-total, length-none, length-one}
 use Rattle.qg_fs_tree.proofs.SlotSums.{IsOnce, over, over-alike, over-moved, over-none, over-one, over-same, over-some}
-use Rattle.qg_fs_tree.proofs.Turned.{AreCounted, AreTrueTo, IsNewNode, IsTrueTo, LeadsNone, StandsFor, Stays, copies, full-come, full-stays, full-within, full_then, gains-new, in_alike, keyed_in, keyed_no_child, keyed_no_shared_block, keyed_no_shared_data, keyed_sum, kept_come, kept_mark, kept_nothing, kept_same, leaves, losses-few, moving, none_or_none, shared_in, shared_no_block, shared_no_data, shared_sum, sum_no_block, sum_no_data, sum_no_shared_block, sum_no_shared_data, times_come, times_lost, total-is, true-within, turned_by, turning, way_lost, what_come}
+use Rattle.qg_fs_tree.proofs.Turned.{AreCounted, AreTrueTo, IsNewNode, IsTrueTo, StandsFor, Stays, copies, full-come, full-stays, full-within, full_then, gains-new, in_alike, keyed_in, keyed_no_child, keyed_no_shared_block, keyed_no_shared_data, keyed_sum, kept_come, kept_mark, kept_nothing, kept_same, leaves, losses-few, moving, none_or_none, shared_in, shared_no_block, shared_no_data, shared_sum, sum_no_block, sum_no_data, sum_no_shared_block, sum_no_shared_data, times_come, times_lost, total-is, true-within, turned_by, turning, way_lost, what_come}
 
 -- ---- one kind of reference is lost to one address
 
@@ -234,9 +234,10 @@ module _ (owner : ℕ) (names : List (ℕ × Piece)) (slots : List ℕ) (IsPlace
         none_there address (new address (omega (arith, here))) timely
     is_new (Left node) timely new = tt
 
-    pub proper : (telling : Telling) → IsTimely telling w → IsBare telling → IsTrueTo full w telling
-        → ((q : ℕ) → 0 < gains telling q → IsPlace q) → IsProper telling book
-    proper telling timely bare is new =
+    can_exchange : (telling : Telling) → IsTimely telling w → IsBare telling → IsTrueTo full w telling
+        → ((q : ℕ) → 0 < gains telling q → IsPlace q)
+        → CanExchange (book_of book.refs) (exchange_of book telling) (coming_of book 0 telling)
+    can_exchange telling timely bare is new =
         subst (λ (exchange : Exchange). CanExchange (book_of book.refs) exchange (coming_of book 0 telling))
         (sym (exchange-is telling timely bare is)) (record {
           there = record {
@@ -254,6 +255,20 @@ module _ (owner : ℕ) (names : List (ℕ × Piece)) (slots : List ℕ) (IsPlace
           };
           first = is_new telling timely new;
         })
+
+    -- what is left does not stay: it has the one reference
+    level_kept : (telling : Telling) → IsTimely telling w → KeepsLevel (book_of book.refs) telling
+    level_kept (Copied node copy) timely = tt
+    level_kept (Made address) timely = tt
+    level_kept (Left node) timely =
+        let known = is_of_level (what_in (book_of book.refs (header_of node).address)) (header_of node).level in
+        ap {B = Option ℕ} (λ (n : ℕ). if nat_lt 1 n && not known then Some (header_of node).address else None)
+        (references-one (header_of node).address timely)
+
+    pub proper : (telling : Telling) → IsTimely telling w → IsBare telling → IsTrueTo full w telling
+        → ((q : ℕ) → 0 < gains telling q → IsPlace q) → IsProper telling book
+    proper telling timely bare is new =
+        record { can = can_exchange telling timely bare is new; level = level_kept telling timely }
 
   -- ---- what it makes of the book
 

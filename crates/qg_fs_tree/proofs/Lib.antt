@@ -16,3 +16,5 @@ pub mod Named
 pub mod Ordered
 pub mod Edited
 pub mod Kept
+pub mod Told
+pub mod Called

@@ -28,7 +28,7 @@ use Rattle.qg_refs.specs.declared.kept.Kept.{Kept}
 use Rattle.qg_refs.specs.Book.{Book, IsBook, count_at, full_in, references_at, references_in, what_in}
 use Rattle.qg_refs.specs.Counts.{count_of, greatest_count}
 use Rattle.qg_extents.specs.Table.{book_of}
-use Rattle.qg_tree_edits.specs.Counting.{IsBare, IsTimely, Turns, gains, losses, one}
+use Rattle.qg_tree_edits.specs.Counting.{IsBare, IsTimely, LeadsNone, Turns, gains, losses, one}
 use Rattle.qg_tree_edits.proofs.Ways.{one-here, one-other}
 use Rattle.qg_tree_refs.specs.declared.tree_refs.TreeRefs.{TreeRefs}
 use Rattle.qg_tree_refs.specs.Exchange.{CanExchange, Exchange, Exchanges, IsNew, times, what_comes, ways_to}
@@ -122,10 +122,6 @@ full-within (Left old) full q node is = is
 -- what is told is true to the full nodes: what is copied of them is as it was, none is left, and none that ways lead to
 -- leads to what is
 -- copied or left
-abbrev pub LeadsNone : (ℕ → Option Node) → (ℕ → ℕ) → ℕ → Type 0
-LeadsNone full w at = (q : ℕ) (parent : Node) → full q ≡ Some parent → 0 < w q
-    → Contains (map (λ pointer. pointer.child) (own_pointers parent)) at → ⊥
-
 abbrev pub IsTrueTo : (ℕ → Option Node) → (ℕ → ℕ) → Telling → Type 0
 IsTrueTo full w (Copied node copy) =
     ((other : Node) → full (header_of node).address ≡ Some other → other ≡ node)

@@ -109,6 +109,7 @@ Rests-edited land history generation at node some kept dated backed is = record 
   node_sizes = refl;
   bound = refl;
   sizes = refl;
+  runs = refl;
   held_slots = refl;
   held_runs = refl;
 }

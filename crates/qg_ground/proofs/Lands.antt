@@ -224,6 +224,7 @@ Rests-after old mid new first second generation one two = record {
   node_sizes = two.node_sizes ∙ one.node_sizes;
   bound = two.bound ∙ one.bound;
   sizes = two.sizes ∙ one.sizes;
+  runs = two.runs ∙ one.runs;
   held_slots = two.held_slots ∙ one.held_slots;
   held_runs = two.held_runs ∙ one.held_runs;
 }
@@ -238,6 +239,7 @@ Rests-draft old new history generation draft bound space backed is = record {
   node_sizes = ap (λ (d : Draft). d.sizes) draft;
   bound = bound;
   sizes = ap (λ (h : Holding). h.sizes) space;
+  runs = ap (λ (h : Holding). h.runs) space;
   held_slots = ap (λ (h : Holding). h.held_slots) space;
   held_runs = ap (λ (h : Holding). h.held_runs) space;
 }
@@ -251,6 +253,7 @@ Rests-spares old new history generation spares bound backed is = record {
   node_sizes = spares.sizes;
   bound = bound;
   sizes = ap (λ (h : Holding). h.sizes) spares.space;
+  runs = ap (λ (h : Holding). h.runs) spares.space;
   held_slots = ap (λ (h : Holding). h.held_slots) spares.space;
   held_runs = ap (λ (h : Holding). h.held_runs) spares.space;
 }
@@ -292,6 +295,7 @@ Rests-given old new history at generation nodes bound space none same backed is 
       node_sizes = nodes;
       bound = bound;
       sizes = ap (λ (h : Holding). h.sizes) space;
+      runs = ap (λ (h : Holding). h.runs) space;
       held_slots = ap (λ (h : Holding). h.held_slots) space;
       held_runs = ap (λ (h : Holding). h.held_runs) space;
     }

@@ -2,3 +2,4 @@ pub mod Slots
 pub mod Lands
 pub mod Editing
 pub mod Settling
+pub mod Owners

@@ -46,10 +46,22 @@ pub record Owned (old new : Ground) (history : Option (List Event)) (at now owne
 -- one slot is taken, which was free, and a fresh node lies there, where none did. All else of space and fresh nodes is as it was
 pub record PutsFresh (old new : Ground) (now : ℕ) : Type 0 where
   pub free : IsTrue (is_free_slot old.space now)
+  pub sizes : new.blocks.draft.sizes ≡ old.blocks.draft.sizes
   pub none : fresh_at old.blocks.draft now ≡ None
   pub here : IsSome (fresh_at new.blocks.draft now)
   pub others : (at : ℕ) → at ≢ now → fresh_at new.blocks.draft at ≡ fresh_at old.blocks.draft at
   pub space : new.space ≡ record old.space { slots = with_number now old.space.slots }
+
+-- ---- owners
+
+-- a node has this owner, or the one of some fresh node
+abbrev pub HasOwner : ℕ → Ground → Node → Type 0
+HasOwner owner land node =
+    ((header_of node).owner ≡ owner) ⊎ ((from : ℕ) × (was : Node) × (fresh_at land.blocks.draft from ≡ Some was) × ((header_of was).owner ≡ (header_of node).owner))
+
+-- each fresh node has this owner, or one that some fresh node had before
+pub record IsOwnedBy (owner : ℕ) (old new : Ground) : Type 0 where
+  pub each : (at : ℕ) (node : Node) → fresh_at new.blocks.draft at ≡ Some node → HasOwner owner old node
 
 -- ---- slots in all
 

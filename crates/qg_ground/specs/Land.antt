@@ -30,12 +30,13 @@ pub record IsDrafted (land : Ground) (generation : ℕ) : Type 0 where
   pub each : (at : ℕ) (node : Node) → fresh_at land.blocks.draft at ≡ Some node → IsDraftAt land.space generation at node
 
 -- what a call leaves so, whatever it answers: clean nodes are those of the disk, fresh ones may be written, sizes and the bound on clean
--- nodes are as they were, and so is what the last commit holds
+-- nodes are as they were, and so are the runs of the present state and what the last commit holds
 pub record Rests (old new : Ground) (history : Option (List Event)) (generation : ℕ) : Type 0 where
   pub backed : IsBacked new.blocks history
   pub drafted : IsDrafted new generation
   pub node_sizes : new.blocks.draft.sizes ≡ old.blocks.draft.sizes
   pub bound : new.blocks.bound ≡ old.blocks.bound
   pub sizes : new.space.sizes ≡ old.space.sizes
+  pub runs : new.space.runs ≡ old.space.runs
   pub held_slots : new.space.held_slots ≡ old.space.held_slots
   pub held_runs : new.space.held_runs ≡ old.space.held_runs

@@ -64,18 +64,23 @@ pub record Spares (old new : Ground) : Type 0 where
   pub taken : (at : ℕ) → IsTrue (has_slot old.space at) → IsTrue (has_slot new.space at)
   pub space : new.space ≡ record old.space { slots = new.space.slots }
 
--- each fresh node lies where a fresh node of the same level lay
+-- nodes are fresh where nodes were, each of the level that the one before had
 pub record KeepsLevels (old new : Ground) : Type 0 where
+  pub sizes : new.blocks.draft.sizes ≡ old.blocks.draft.sizes
   pub each : (at : ℕ) (node : Node) → fresh_at new.blocks.draft at ≡ Some node
       → (was : Node) × (fresh_at old.blocks.draft at ≡ Some was) × ((header_of was).level ≡ (header_of node).level)
+  pub stays : (at : ℕ) → IsSome (fresh_at old.blocks.draft at) → IsSome (fresh_at new.blocks.draft at)
 
 -- a node has no items and no pointers
 abbrev pub HoldsNothing : Node → Type 0
 HoldsNothing node = (own_items node ≡ []) × (own_pointers node ≡ [])
 
--- a fresh node may be emptied before it is left, and is then of any level. Each other one lies where a fresh node of the same level lay,
--- and space is as it was
+-- a fresh node was emptied before it is left, and is then of any level. Nodes are fresh where nodes were, each other one of the level that
+-- the one before had, and space is as it was
 pub record Empties (old new : Ground) (at : ℕ) : Type 0 where
   pub space : new.space ≡ old.space
+  pub sizes : new.blocks.draft.sizes ≡ old.blocks.draft.sizes
   pub each : (q : ℕ) (node : Node) → fresh_at new.blocks.draft q ≡ Some node
       → (was : Node) × (fresh_at old.blocks.draft q ≡ Some was) × (((header_of was).level ≡ (header_of node).level) ⊎ ((q ≡ at) × HoldsNothing node))
+  pub stays : (q : ℕ) → IsSome (fresh_at old.blocks.draft q) → IsSome (fresh_at new.blocks.draft q)
+  pub here : (node : Node) × (fresh_at new.blocks.draft at ≡ Some node) × HoldsNothing node

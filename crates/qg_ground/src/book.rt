@@ -16,7 +16,7 @@ use qg_num::{Address, BlockFault, Steps};
 use std::sync::ledger::Ledger;
 
 /// Who keeps count of the references to a tree's nodes, and is told of each node that the tree copies, makes or leaves (this project's
-/// own). It may give back slots and runs that nothing refers to any more.
+/// own). It may give back slots that nothing refers to any more.
 pub trait Book<D: Disk, L: Ledger> {
     /// The book after it was told these, in this order, from another state on.
     ghost follows: { Self → List Telling → Self → Type 0 };
@@ -24,9 +24,9 @@ pub trait Book<D: Disk, L: Ledger> {
     /// What a call asks of book, land and disk, and leaves so where it answers Ok.
     ghost stands: { Self → Land → D → Type 0 };
 
-    /// What stands of book and land between two edits, where all was told: for a book of references, that the present state has a slot
-    /// exactly where references lead to it.
-    ghost settled: { Self → Land → Type 0 };
+    /// What stands of book, land and disk between two edits, where all was told: for a book of references, that the present state has a
+    /// slot exactly where references lead to it.
+    ghost settled: { Self → Land → D → Type 0 };
 
     /// Whether several references lead to the node at an address.
     ghost shares: { Self → Land → D → ℕ → Bool };
@@ -49,7 +49,7 @@ pub trait Book<D: Disk, L: Ledger> {
         ensures takes { OnOk result (TakesNone land.old land.new) }
         ensures rests { (generation : ℕ) → IsDrafted land.old generation → Rests land.old land.new (D.history disk.new) generation }
         ensures stands { OnOk result (stands self.new land.new disk.new) }
-        ensures settled { settled self.old land.old → OnOk result (settled self.new land.new) }
+        ensures settled { settled self.old land.old disk.old → OnOk result (settled self.new land.new disk.new) }
         ensures no_image { (events : List Event) → D.history disk.old ≡ Some events → BreaksNone result }
         ensures disk { (D.history disk.new ≡ D.history disk.old) × (D.size disk.new ≡ D.size disk.old) }
         ensures cause { HasCause BlockFault.Disk (D.faults disk.old) (D.faults disk.new) result }
@@ -72,7 +72,7 @@ pub trait Book<D: Disk, L: Ledger> {
         ensures gives { OnOk result (GivesBack land.old land.new at) }
         ensures rests { (generation : ℕ) → IsDrafted land.old generation → Rests land.old land.new (D.history disk.new) generation }
         ensures stands { OnOk result (stands self.new land.new disk.new) }
-        ensures settled { (before : Land) → PutsFresh before land.old copy → settled self.old before → OnOk result (settled self.new land.new) }
+        ensures settled { (before : Land) → PutsFresh before land.old copy → settled self.old before disk.old → OnOk result (settled self.new land.new disk.new) }
         ensures no_image { (events : List Event) → D.history disk.old ≡ Some events → BreaksNone result }
         ensures disk { (D.history disk.new ≡ D.history disk.old) × (D.size disk.new ≡ D.size disk.old) }
         ensures cause { HasCause BlockFault.Disk (D.faults disk.old) (D.faults disk.new) result }
@@ -93,7 +93,7 @@ pub trait Book<D: Disk, L: Ledger> {
         ensures takes { OnOk result (TakesNone land.old land.new) }
         ensures rests { (generation : ℕ) → IsDrafted land.old generation → Rests land.old land.new (D.history disk.new) generation }
         ensures stands { OnOk result (stands self.new land.new disk.new) }
-        ensures settled { (before : Land) → PutsFresh before land.old at → settled self.old before → OnOk result (settled self.new land.new) }
+        ensures settled { (before : Land) → PutsFresh before land.old at → settled self.old before disk.old → OnOk result (settled self.new land.new disk.new) }
         ensures no_image { (events : List Event) → D.history disk.old ≡ Some events → BreaksNone result }
         ensures disk { (D.history disk.new ≡ D.history disk.old) × (D.size disk.new ≡ D.size disk.old) }
         ensures cause { HasCause BlockFault.Disk (D.faults disk.old) (D.faults disk.new) result }
@@ -115,7 +115,8 @@ pub trait Book<D: Disk, L: Ledger> {
         ensures gone { OnOk result (LetsGo land.old land.new at) }
         ensures rests { (generation : ℕ) → IsDrafted land.old generation → Rests land.old land.new (D.history disk.new) generation }
         ensures stands { OnOk result (stands self.new land.new disk.new) }
-        ensures settled { (before : Land) → Empties before land.old at → settled self.old before → OnOk result (settled self.new land.new) }
+        ensures settled { (before : Land) (generation : ℕ) → IsDrafted land.old generation → Empties before land.old at → settled self.old before disk.old
+            → OnOk result (settled self.new land.new disk.new) }
         ensures no_image { (events : List Event) → D.history disk.old ≡ Some events → BreaksNone result }
         ensures disk { (D.history disk.new ≡ D.history disk.old) × (D.size disk.new ≡ D.size disk.old) }
         ensures cause { HasCause BlockFault.Disk (D.faults disk.old) (D.faults disk.new) result }
@@ -125,6 +126,7 @@ pub trait Book<D: Disk, L: Ledger> {
     ghost lasts: { (book : Self) (old new : Land) (before after : D) → D.history after ≡ D.history before → D.size after ≡ D.size before
         → IsBacked new.blocks (D.history after) → Spares old new → stands book old before → stands book new after };
 
-    /// What stands between two edits outlasts what a tree does to fresh nodes in place.
-    ghost keeps: { (book : Self) (old new : Land) → new.space ≡ old.space → KeepsLevels old new → settled book old → settled book new };
+    /// What stands between two edits outlasts what a tree does to fresh nodes in place, and what is read of the disk.
+    ghost keeps: { (book : Self) (old new : Land) (before after : D) → D.history after ≡ D.history before → new.space ≡ old.space → KeepsLevels old new
+        → settled book old before → settled book new after };
 }

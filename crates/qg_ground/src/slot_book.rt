@@ -64,7 +64,7 @@ impl<D: Disk, L: Ledger> Book<D, L> for SlotBook {
 
     ghost stands = { λ book land disk. ⊤ };
 
-    ghost settled = { λ book land. ⊤ };
+    ghost settled = { λ book land disk. ⊤ };
 
     ghost shares = { λ book land disk at. false };
 
@@ -119,5 +119,5 @@ impl<D: Disk, L: Ledger> Book<D, L> for SlotBook {
 
     ghost lasts = { λ book old new before after history size backed spares stands. tt };
 
-    ghost keeps = { λ book old new space levels settled. tt };
+    ghost keeps = { λ book old new before after history space levels settled. tt };
 }

@@ -1,5 +1,5 @@
 -- A node that an edit goes on from to one of its children.
-use Rattle.std.proofs.Common.{◌≡◌, ℕ, suc, ◌+◌, List, ◌++◌, map, take, drop, sym, subst, ◌∙◌, Option, Some}
+use Rattle.std.proofs.Common.{◌≡◌, ℕ, suc, ◌+◌, ◌-◌, List, ◌++◌, map, take, drop, sym, subst, ◌∙◌, Option, Some}
 use Rattle.qg_device.specs.History.{Event}
 use Rattle.qg_node.specs.declared.item.Item.{Item}
 use Rattle.qg_node.specs.declared.pointer.Pointer.{Pointer}
@@ -22,8 +22,8 @@ use Rattle.qg_descent.specs.declared.way.Way.{Way}
 use Rattle.qg_descent.specs.Tree.{Root, super_of}
 use Rattle.qg_tree_edits.specs.First.{first_leaf, least, leaves, leaves_behind}
 use Rattle.qg_descent.specs.Branch.{IsMember}
-use Rattle.qg_tree_edits.specs.Editing.{CanMake, IsLeafEdited, IsOwned, IsPartEdited, IsPartFit, IsPlacedBehind, IsSettled, IsUnsettled, IsWayAt, KeepsAbove, KeepsLeaves, ReachesBeside, ReachesParts}
-use Rattle.qg_tree_edits.specs.Counting.{IsPartTold, IsTold, TellSame, tellings_made, tellings_owned, ways_each, ways_parts}
+use Rattle.qg_tree_edits.specs.Editing.{CanMake, IsLeafEdited, IsOwned, IsPartEdited, IsPartFit, IsPlacedBehind, IsSettled, IsUnsettled, IsWayAt, KeepsAbove, KeepsLeaves, ReachesBeside, ReachesParts, slots_for}
+use Rattle.qg_tree_edits.specs.Counting.{AreCommitted, IsPartTold, IsTold, TellSame, tellings_made, tellings_owned, ways_each, ways_parts}
 use Rattle.qg_tree_edits.proofs.Around.{IsAround}
 use Rattle.qg_tree_edits.proofs.AroundEdited.{edited-leaf, edited-whole, unsettled}
 use Rattle.qg_tree_edits.proofs.PartBelow.{IsParted, around, first-below, first-place, fit-inner, owned-here, part, part-below}
@@ -124,9 +124,9 @@ module _ (tree : Tree) (root : Root) (land mid : Ground) (history : Option (List
 
       -- and this was told
       pub descended-told : (low_log set_log : List Telling) → IsPartTold mid low history level below.address child low_log
-          → ((nodes : ℕ → Option Node) → TellSame (ReachesBeside (told low.blocks.draft history) level descended-unsettled.pointers place) nodes low history
-          → IsTold low nodes (ReachesParts (told low.blocks.draft history) level descended-unsettled.pointers place child)
-          (ways_parts (told low.blocks.draft history) level descended-unsettled.pointers place child) (ways_each (told set.blocks.draft history) level settled.pointers_new) 1 1 0 set_log)
+          → ((nodes clean : ℕ → Option Node) → TellSame (ReachesBeside (told low.blocks.draft history) level descended-unsettled.pointers place) nodes low history
+          → AreCommitted low history clean → IsTold low nodes clean (ReachesParts (told low.blocks.draft history) level descended-unsettled.pointers place child)
+          (ways_parts (told low.blocks.draft history) level descended-unsettled.pointers place child) (ways_each (told set.blocks.draft history) level settled.pointers_new) (1 - slots_for rest) 1 0 set_log)
           → IsPartTold land end history (suc level) at instead (tellings_owned owned.node at now ++ (low_log ++ (set_log ++ tellings_made instead.more)))
       descended-told =
           part-told-unsettled tree root land mid low set end history own_later child_later set_later end_later level expected at now edit place descended-pointers whole.front descended-mine whole.back items

@@ -178,9 +178,11 @@ module _ (tree : Tree) (root : Root) (land : Ground) (history : Option (List Eve
 
     told_up : IsRootTold root (record root { address = top; height = suc root.height }) land new history (two now more) (Made top ∷ [])
     unfolding before_ways
-    told_up = told-more land (told land.blocks.draft history) (ReachesInstead (told land.blocks.draft history) root.height (two now more)) before_ways (ways (told new.blocks.draft history) (suc root.height) top) 0 0 1 0 1 1 (Made top ∷ [])
-        (omega arith) (omega arith) (omega arith)
-        (told-made land (told land.blocks.draft history) (ReachesInstead (told land.blocks.draft history) root.height (two now more)) before_ways (ways (told new.blocks.draft history) (suc root.height) top) top made.puts.free none_before after_ways)
+    told_up nodes clean committed =
+        let Old = ReachesInstead (told land.blocks.draft history) root.height (two now more) in
+        let after = ways (told new.blocks.draft history) (suc root.height) top in
+        told-more land nodes clean Old before_ways after 1 0 1 1 1 1 (Made top ∷ []) (omega arith) (omega arith) (omega arith)
+        (told-made land nodes clean Old before_ways after top made.puts.free none_before after_ways)
 
     -- and the book is told of the new root
     pub told-grown : IsRootTold root (record root { address = top; height = root.height + 1 }) land new history (two now more) (Made top ∷ [])

@@ -25,7 +25,7 @@ use Rattle.qg_tree_edits.specs.declared.instead.Instead.{Instead}
 use Rattle.qg_descent.specs.Tree.{Reaches, Root, super_of}
 use Rattle.qg_descent.specs.Branch.{IsBranch, IsMember}
 use Rattle.qg_tree_edits.specs.Editing.{CanMake, FillsThere, HoldInstead, IsCutThere, IsOwned, IsPartEdited, IsPartFit, IsPlacedBehind, IsRewritten, ReachesInstead, alone}
-use Rattle.qg_tree_edits.specs.Counting.{IsPartTold, IsTold, one, tellings_made, tellings_owned, ways, ways_instead}
+use Rattle.qg_tree_edits.specs.Counting.{AreCommitted, IsPartTold, IsTold, one, tellings_made, tellings_owned, ways, ways_instead}
 use Rattle.qg_descent.proofs.BranchFrames.{reach-top}
 use Rattle.qg_descent.proofs.BranchWalk.{branch-under}
 use Rattle.qg_tree_edits.proofs.FirstLeaf.{first-alone}
@@ -233,15 +233,15 @@ module _ (tree : Tree) (root : Root) (land mid set end : Ground) (history later 
   Old q = Reaches (told land.blocks.draft history) 0 at q
 
   -- the rest was made behind the leaf
-  rest_told : (nodes : ℕ → Option Node) → IsTold set nodes (λ q. ⊥) (λ q. one now q) (ways_instead (told end.blocks.draft history) 0 instead) 0 0 1 (tellings_made instead.more)
-  rest_told nodes = elim parts [
+  rest_told : (nodes clean : ℕ → Option Node) → IsTold set nodes clean (λ q. ⊥) (λ q. one now q) (ways_instead (told end.blocks.draft history) 0 instead) 1 0 1 (tellings_made instead.more)
+  rest_told nodes clean = elim parts [
     | inl one_leaf ↦
-        subst (λ (i : Instead). IsTold set nodes (λ q. ⊥) (λ q. one now q) (ways_instead (told end.blocks.draft history) 0 i) 0 0 1 (tellings_made i.more)) (sym one_leaf.instead_is)
-        (told-more set nodes (λ q. ⊥) (λ q. one now q) (ways_instead (told end.blocks.draft history) 0 (alone now)) 0 0 0 0 0 1 [] (omega arith) (omega arith) (omega arith)
-        (told-none set nodes (λ q. ⊥) (λ q. one now q) (ways_instead (told end.blocks.draft history) 0 (alone now)) (λ q. let a = ways-leaf (told end.blocks.draft history) now q in omega (arith, a))))
+        subst (λ (i : Instead). IsTold set nodes clean (λ q. ⊥) (λ q. one now q) (ways_instead (told end.blocks.draft history) 0 i) 1 0 1 (tellings_made i.more)) (sym one_leaf.instead_is)
+        (told-more set nodes clean (λ q. ⊥) (λ q. one now q) (ways_instead (told end.blocks.draft history) 0 (alone now)) 0 0 0 1 0 1 [] (omega arith) (omega arith) (omega arith)
+        (told-none set nodes clean (λ q. ⊥) (λ q. one now q) (ways_instead (told end.blocks.draft history) 0 (alone now)) (λ q. let a = ways-leaf (told end.blocks.draft history) now q in omega (arith, a))))
     | inr two ↦
-        subst (λ (i : Instead). IsTold set nodes (λ q. ⊥) (λ q. one now q) (ways_instead (told end.blocks.draft history) 0 i) 0 0 1 (tellings_made i.more)) (sym two.instead_is)
-        (told-made set nodes (λ q. ⊥) (λ q. one now q) (ways_instead (told end.blocks.draft history) 0 (record { now = now; more = Some two.more })) two.more two.makes.puts.free
+        subst (λ (i : Instead). IsTold set nodes clean (λ q. ⊥) (λ q. one now q) (ways_instead (told end.blocks.draft history) 0 i) 1 0 1 (tellings_made i.more)) (sym two.instead_is)
+        (told-made set nodes clean (λ q. ⊥) (λ q. one now q) (ways_instead (told end.blocks.draft history) 0 (record { now = now; more = Some two.more })) two.more two.makes.puts.free
         (one-other now two.more two.differ) (λ q.
         let a = ways-leaf (told end.blocks.draft history) now q in
         let b = ways-leaf (told end.blocks.draft history) two.more q in
@@ -249,28 +249,31 @@ module _ (tree : Tree) (root : Root) (land mid set end : Ground) (history later 
   ]
 
   -- the leaf was owned
-  own_told : (nodes : ℕ → Option Node) → (fresh_at land.blocks.draft at ≡ None → nodes at ≡ told land.blocks.draft history at)
-      → IsTold land nodes Old (ways (told land.blocks.draft history) 0 at) (λ q. one now q) 1 0 0 (tellings_owned owned.node at now)
+  own_told : (nodes clean : ℕ → Option Node) → AreCommitted land history clean → (fresh_at land.blocks.draft at ≡ None → nodes at ≡ told land.blocks.draft history at)
+      → IsTold land nodes clean Old (ways (told land.blocks.draft history) 0 at) (λ q. one now q) 1 0 0 (tellings_owned owned.node at now)
   unfolding Old
-  own_told nodes same =
-      told-same land nodes Old (ways (told land.blocks.draft history) 0 at) (ways (told land.blocks.draft history) 0 at) (ways (told mid.blocks.draft history) 0 now) (λ q. one now q) 1 0 0
+  own_told nodes clean committed same =
+      told-same land nodes clean Old (ways (told land.blocks.draft history) 0 at) (ways (told land.blocks.draft history) 0 at) (ways (told mid.blocks.draft history) 0 now) (λ q. one now q) 1 0 0
       (tellings_owned owned.node at now) (λ q. refl) (λ q. sym (ways-leaf (told mid.blocks.draft history) now q))
-      (owned-told tree root land mid history expected at now owned makes 0 items (top tree root land mid history expected at now edit items owned makes fit) fit.apart nodes same)
+      (owned-told tree root land mid history expected at now owned makes 0 items (top tree root land mid history expected at now edit items owned makes fit) fit.apart nodes clean committed same)
 
   set_within : (q : ℕ) → IsTrue (is_free_slot set.space q) ⊎ ⊥ → IsTrue (is_free_slot land.space q) ⊎ Old q
   unfolding Old Reaches
   set_within q (inl free) = free_set q free
   set_within q (inr none) = absurd none
 
+  held_set : set.space.held_slots ≡ land.space.held_slots
+  held_set = ap (λ (h : Holding). h.held_slots) space_is ∙ rests.held_slots
+
   pub leaf-told : IsPartTold land end history 0 at instead (tellings_owned owned.node at now ++ tellings_made instead.more)
   unfolding Old
-  leaf-told nodes same =
+  leaf-told nodes clean same committed =
       let before = ways (told land.blocks.draft history) 0 at in
       let after = ways_instead (told end.blocks.draft history) 0 instead in
-      let made = told-within land nodes Old set (λ q. ⊥) (λ q. one now q) after 0 0 1 (tellings_made instead.more) set_within (rest_told nodes) in
-      told-more land nodes Old before after 1 0 1 2 1 1 (tellings_owned owned.node at now ++ tellings_made instead.more) (omega arith) (omega arith) (omega arith)
-      (told-append land nodes Old before (λ q. one now q) after 1 0 0 0 0 1 (tellings_owned owned.node at now) (tellings_made instead.more)
-      (own_told nodes (same at (reach-top (told land.blocks.draft history) 0 at))) made)
+      let made = told-within land nodes clean Old set (λ q. ⊥) (λ q. one now q) after 1 0 1 (tellings_made instead.more) held_set set_within (rest_told nodes clean) in
+      told-more land nodes clean Old before after 2 0 1 2 1 1 (tellings_owned owned.node at now ++ tellings_made instead.more) (omega arith) (omega arith) (omega arith)
+      (told-append land nodes clean Old before (λ q. one now q) after 1 0 0 1 0 1 (tellings_owned owned.node at now) (tellings_made instead.more)
+      (own_told nodes clean committed (same at (reach-top (told land.blocks.draft history) 0 at))) made)
 
 pub header-with_items : (node : Node) (items : List Item) → header_of (with_items node items) ≡ header_of node
 header-with_items (Leaf header old) items = refl

@@ -1,5 +1,6 @@
 -- What edits in place make of the levels of fresh nodes, over any disk.
-use Rattle.std.proofs.Common.{◌≡◌, ◌≢◌, ◌⊎◌, ℕ, refl, sym, ap, subst, ◌∙◌, inl, inr, Option, Some, None}
+use Rattle.std.proofs.Common.{◌≡◌, ◌≢◌, ◌⊎◌, ℕ, refl, sym, ap, subst, ◌∙◌, inl, inr, Some, None}
+use Rattle.std.specs.Prelude.{IsSome}
 use Rattle.std.proofs.lemmas.Bool.Decides.{eqb_tells}
 use Rattle.qg_node.specs.declared.node.Header.{Header}
 use Rattle.qg_node.specs.declared.node.Node.{Node}
@@ -10,11 +11,12 @@ use Rattle.qg_shape.specs.declared.joining.Joined.{Joined}
 use Rattle.qg_shape.specs.declared.joining.Joined.TheVariants.{Whole, Parted}
 use Rattle.qg_blocks.specs.Told.{fresh_at}
 use Rattle.qg_ground.specs.declared.ground.Ground.{Ground}
-use Rattle.qg_ground.specs.Tellings.{Empties, HoldsNothing, KeepsLevels}
+use Rattle.qg_ground.specs.Tellings.{Empties, HoldsNothing, KeepsLevels, Spares}
 use Rattle.qg_ground.proofs.Lands.{fresh_at-told}
 use Rattle.qg_edit.specs.Outcome.{cleared}
 use Rattle.qg_tree_edits.specs.Editing.{ArePair, AreRewritten, IsFreshOn, IsJoinedAs, IsJoinedThere, IsRewritten}
-use Rattle.qg_tree_edits.proofs.United.{both-told, rewritten-fresh}
+use Rattle.qg_tree_edits.proofs.Cutting.{rewritten-spares}
+use Rattle.qg_tree_edits.proofs.United.{both-told, first-spares, later-spares, rewritten-fresh}
 
 -- ---- one node
 
@@ -23,9 +25,14 @@ module _ (old new : Ground) (at : ℕ) (node : Node) (here : fresh_at old.blocks
   pub rewritten-space : new.space ≡ old.space
   rewritten-space = ap (λ (g : Ground). g.space) is.is
 
+  spared : Spares old new
+  spared = rewritten-spares old new at 0 node here is
+
   -- where it stays of its level
   pub rewritten-levels : IsFreshOn new (header_of node).level at → KeepsLevels old new
   rewritten-levels stays = record {
+    sizes = spared.sizes;
+    stays = spared.fresh;
     each = λ q other there. elim (eqb_tells q at) [
       | inl (equal, same) ↦
           let that : Some other ≡ Some stays.node =
@@ -42,6 +49,9 @@ module _ (old new : Ground) (at : ℕ) (node : Node) (here : fresh_at old.blocks
   pub rewritten-empties : fresh_at new.blocks.draft at ≡ Some (cleared node) → Empties old new at
   rewritten-empties empty = record {
     space = rewritten-space;
+    sizes = spared.sizes;
+    stays = spared.fresh;
+    here = (cleared node, empty, (refl, refl));
     each = λ q other there. elim (eqb_tells q at) [
       | inl (equal, same) ↦
           let that : Some other ≡ Some (cleared node) =
@@ -81,6 +91,18 @@ module _ (old mid : Ground) (left right : ℕ) (differ : left ≢ right) (pair :
       ap (λ (g : Ground). g.space) (are.later pair.a pair.left_here).is
       ∙ ap (λ (g : Ground). g.space) (are.first pair.b pair.right_here).is
 
+  first : Spares old are.mid
+  first = first-spares old mid left right differ pair are
+
+  later : Spares are.mid mid
+  later = later-spares old mid left right differ pair are
+
+  both-sizes : mid.blocks.draft.sizes ≡ old.blocks.draft.sizes
+  both-sizes = later.sizes ∙ first.sizes
+
+  both-stay : (q : ℕ) → IsSome (fresh_at old.blocks.draft q) → IsSome (fresh_at mid.blocks.draft q)
+  both-stay q some = later.fresh q (first.fresh q some)
+
   others : (q : ℕ) → q ≢ left → q ≢ right → fresh_at mid.blocks.draft q ≡ fresh_at old.blocks.draft q
   others q not_left not_right =
       fresh_at-told old.blocks.draft mid.blocks.draft q
@@ -115,6 +137,8 @@ module _ (old mid : Ground) (left right : ℕ) (differ : left ≢ right) (pair :
   -- where both share anew
   pub joined-levels : joined ≡ Parted → KeepsLevels old mid
   joined-levels parted = record {
+    sizes = both-sizes;
+    stays = both-stay;
     each = was (λ q n node. (header_of n).level ≡ (header_of node).level)
         (left_level old.space.sizes.nodesize pair.a pair.b there.a there.b joined became)
         (right_level old.space.sizes.nodesize pair.a pair.b there.a there.b joined parted became)
@@ -125,6 +149,13 @@ module _ (old mid : Ground) (left right : ℕ) (differ : left ≢ right) (pair :
   pub joined-empties : joined ≡ Whole → Empties old mid right
   joined-empties whole = record {
     space = both-space;
+    sizes = both-sizes;
+    stays = both-stay;
+    here = (
+      there.b,
+      there.right_there,
+      right_emptied old.space.sizes.nodesize pair.a pair.b there.a there.b joined whole became,
+    );
     each = was (λ q n node. ((header_of n).level ≡ (header_of node).level) ⊎ ((q ≡ right) × HoldsNothing node))
         (inl (left_level old.space.sizes.nodesize pair.a pair.b there.a there.b joined became))
         (inr (refl, right_emptied old.space.sizes.nodesize pair.a pair.b there.a there.b joined whole became))

@@ -42,6 +42,9 @@ pub mod Grown
 pub mod Shrunk
 pub mod Replaced
 pub mod Ways
+pub mod Reached
+pub mod Downward
+pub mod Committed
 pub mod Turning
 pub mod ToldOwned
 pub mod ToldUnited
@@ -53,3 +56,4 @@ pub mod LedTold
 pub mod RejoinedTold
 pub mod Levels
 pub mod Clean
+pub mod Owners

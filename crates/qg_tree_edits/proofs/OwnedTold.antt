@@ -1,5 +1,5 @@
 -- A node that is owned: the ways that lead to its place then lead to its copy's.
-use Rattle.std.proofs.Common.{◌≡◌, ◌≢◌, ◌⊎◌, ℕ, zero, suc, ◌+◌, ◌<◌, true, List, [], ◌∷◌, arith, sym, ap, subst, ◌∙◌, inl, inr, Option, Some, None}
+use Rattle.std.proofs.Common.{◌≡◌, ◌≢◌, ◌⊎◌, ℕ, zero, suc, ◌+◌, ◌≤◌, ◌<◌, true, List, [], ◌∷◌, arith, sym, ap, subst, ◌∙◌, inl, inr, Option, Some, None}
 use Rattle.std.specs.Prelude.{IsTrue}
 use Rattle.std.specs.List.{sum_by}
 use Rattle.std.proofs.lemmas.Bool.Decides.{eqb_tells}
@@ -18,17 +18,19 @@ use Rattle.qg_ground.specs.Tellings.Telling.{Copied}
 use Rattle.qg_descent.specs.Tree.{Reaches, Root, super_of}
 use Rattle.qg_descent.specs.Branch.{IsBranch}
 use Rattle.qg_tree_edits.specs.Editing.{CanMake, IsOwned}
-use Rattle.qg_tree_edits.specs.Counting.{IsAsWas, IsBare, IsTold, gains, one, tellings_owned, ways, ways_each}
-use Rattle.qg_descent.proofs.Branches.{branch-level}
+use Rattle.qg_tree_edits.specs.Counting.{AreCommitted, IsAsWas, IsBare, IsTold, IsUnheld, LeadsNone, gains, one, tellings_owned, ways, ways_each}
+use Rattle.qg_descent.proofs.Branches.{branch-level, branch-top}
 use Rattle.qg_descent.proofs.BranchFrames.{reach-top}
 use Rattle.qg_tree_edits.proofs.Clean.{none-unless}
+use Rattle.qg_tree_edits.proofs.Committed.{committed-told}
+use Rattle.qg_tree_edits.proofs.Downward.{leads-none}
 use Rattle.qg_tree_edits.proofs.OwnedBranch.{below-apart, mine-inner, mine-told}
 use Rattle.qg_tree_edits.proofs.ToldOwned.{tellings-copied, tellings-kept}
 use Rattle.qg_tree_edits.proofs.Turning.{told-more, told-none}
 use Rattle.qg_tree_edits.proofs.Ways.{ways_each-same, one-other, ways-inner, ways-leaf, ways-none, ways-same, ways-top}
 
 -- a node is copied
-module _ (old : Ground) (nodes : ℕ → Option Node) (Reached : ℕ → Type 0) (before after : ℕ → ℕ) (node : Node)
+module _ (old : Ground) (nodes clean : ℕ → Option Node) (Reached : ℕ → Type 0) (before after : ℕ → ℕ) (node : Node)
     (at now : ℕ) where
   new_there : is_free_slot old.space now ≡ true → (q : ℕ) → 0 < sum_by (λ telling. gains telling q)
       (Copied node now ∷ []) → IsTrue (is_free_slot old.space q) ⊎ Reached q
@@ -38,18 +40,21 @@ module _ (old : Ground) (nodes : ℕ → Option Node) (Reached : ℕ → Type 0)
   ]
 
   pub told-copied : (header_of node).address ≡ at → nodes at ≡ Some node → is_free_slot old.space now ≡ true
-      → 0 < before at → before now ≡ 0 → ((q : ℕ) → after q + one at q ≡ before q + one now q)
-      → IsTold old nodes Reached before after 1 0 0 (Copied node now ∷ [])
-  told-copied named stood free some none turns = record {
+      → LeadsNone clean before at → 0 < before at → before now ≡ 0
+      → ((q : ℕ) → after q + one at q ≡ before q + one now q)
+      → IsTold old nodes clean Reached before after 1 0 0 (Copied node now ∷ [])
+  told-copied named stood free down some none turns = record {
     turns = (
       (let same = ap before named in omega (arith, same, some), none),
       λ q. let e = turns q in let same = ap
           (λ (a : ℕ). one a q) named in omega (arith, e, same),
     );
+    down = (subst (λ (a : ℕ). LeadsNone clean before a) (sym named) down, tt);
     new = new_there free;
     as_was = All-from_recursion (IsAsWas nodes) (Copied node now ∷ []) (ap nodes named ∙ stood, tt);
     bare = All-from_recursion IsBare (Copied node now ∷ []) (tt, tt);
-    few_copied = omega arith;
+    unheld = All-from_recursion (IsUnheld old.space.held_slots) (Copied node now ∷ []) (tt, tt);
+    few_come = omega arith;
     few_left = omega arith;
     few_made = omega arith;
   }
@@ -102,10 +107,10 @@ module _ (tree : Tree) (root : Root) (land new : Ground) (history : Option (List
       | inr (is, other) ↦ owned.others history q other
     ]
 
-    module _ (nodes : ℕ → Option Node)
+    module _ (nodes clean : ℕ → Option Node) (committed : AreCommitted land history clean)
         (same_there : fresh_at land.blocks.draft at ≡ None → nodes at ≡ told land.blocks.draft history at) where
       kept_told : owned.mine ≡ owned.node → now ≡ at
-          → IsTold land nodes (Reaches (told land.blocks.draft history) level at)
+          → IsTold land nodes clean (Reaches (told land.blocks.draft history) level at)
           (ways (told land.blocks.draft history) level at) (ways (told new.blocks.draft history) level now) 1 0 0
           (tellings_owned owned.node at now)
       kept_told mine same =
@@ -116,13 +121,13 @@ module _ (tree : Tree) (root : Root) (land new : Ground) (history : Option (List
           ap (λ (a : ℕ). ways (told new.blocks.draft history) level a q) same
           ∙ ways-same (told land.blocks.draft history) (told new.blocks.draft history) level at
           (λ r reaches. stays mine same r) q in
-          subst (λ (ts : List Telling). IsTold land nodes Reached before after 1 0 0 ts)
+          subst (λ (ts : List Telling). IsTold land nodes clean Reached before after 1 0 0 ts)
           (sym (tellings-kept owned.node at now same))
-          (told-more land nodes Reached before after 0 0 0 1 0 0 [] (omega arith) (omega arith) (omega arith)
-          (told-none land nodes Reached before after turns))
+          (told-more land nodes clean Reached before after 0 0 0 1 0 0 [] (omega arith) (omega arith) (omega arith)
+          (told-none land nodes clean Reached before after turns))
 
       copied_told : is_free_slot land.space now ≡ true
-          → IsTold land nodes (Reaches (told land.blocks.draft history) level at)
+          → IsTold land nodes clean (Reaches (told land.blocks.draft history) level at)
           (ways (told land.blocks.draft history) level at) (ways (told new.blocks.draft history) level now) 1 0 0
           (tellings_owned owned.node at now)
       copied_told is_free =
@@ -132,20 +137,27 @@ module _ (tree : Tree) (root : Root) (land new : Ground) (history : Option (List
           let differ : now ≢ at = λ same. free now is_free
           (subst (λ (a : ℕ). Reaches (told land.blocks.draft history) level at a) (sym same)
           (reach-top (told land.blocks.draft history) level at)) in
+          let top_there = branch-top tree (super_of root land.blocks.draft) (told land.blocks.draft history) level at items
+          branch in
+          let levelled = top_there.2 in
+          let high : level ≤ (header_of top_there.0).level = omega (arith, levelled) in
           let turns : (q : ℕ) → after q + one at q ≡ before q + one now q = λ q.
           let both = below_ways level items branch free q in
           let a = both.1 in
           let b = both.2 in
           omega (arith, a, b) in
-          subst (λ (ts : List Telling). IsTold land nodes Reached before after 1 0 0 ts)
+          subst (λ (ts : List Telling). IsTold land nodes clean Reached before after 1 0 0 ts)
           (sym (tellings-copied owned.node at now differ))
-          (told-copied land nodes Reached before after owned.node at now owned.kept.placed (same_there (none-unless (fresh_at land.blocks.draft at) (λ some. differ (owned.stays some))) ∙ there)
+          (told-copied land nodes clean Reached before after owned.node at now owned.kept.placed
+          (same_there (none-unless (fresh_at land.blocks.draft at) (λ some. differ (owned.stays some))) ∙ there)
           is_free
+          (leads-none tree (super_of root land.blocks.draft) (told land.blocks.draft history) clean
+          (committed-told land history clean committed) level at items branch at top_there.0 top_there.1 high)
           (ways-top (told land.blocks.draft history) level at)
           (ways-none (told land.blocks.draft history) level at now (free now is_free)) turns)
 
       -- what is told of it
-      pub owned-told : IsTold land nodes (Reaches (told land.blocks.draft history) level at)
+      pub owned-told : IsTold land nodes clean (Reaches (told land.blocks.draft history) level at)
           (ways (told land.blocks.draft history) level at) (ways (told new.blocks.draft history) level now) 1 0 0
           (tellings_owned owned.node at now)
       owned-told = elim owned.same [ inl kept ↦ kept_told kept.0 kept.1 | inr copied ↦ copied_told copied.1 ]

@@ -1,5 +1,5 @@
 -- A child was edited, the pointers of its node were set, and what was cut off got a place of its own: what stands in the place of the node.
-use Rattle.std.proofs.Common.{◌≡◌, ◌≢◌, ◌⊎◌, ℕ, zero, suc, ◌+◌, ◌*◌, List, [], ◌∷◌, ◌++◌, take, drop, arith, refl, sym, ap, subst, ◌∙◌, append-nil, inl, inr, Option, Some, None}
+use Rattle.std.proofs.Common.{◌≡◌, ◌≢◌, ◌⊎◌, ℕ, zero, suc, ◌+◌, ◌-◌, ◌*◌, List, [], ◌∷◌, ◌++◌, take, drop, arith, refl, sym, ap, subst, ◌∙◌, append-nil, inl, inr, Option, Some, None}
 use Rattle.std.specs.Prelude.{IsTrue, Contains, slice_get}
 use Rattle.qg_device.specs.History.{Event}
 use Rattle.qg_node.specs.declared.item.Item.{Item}
@@ -27,19 +27,23 @@ use Rattle.qg_tree_edits.specs.declared.instead.Instead.{Instead}
 use Rattle.qg_descent.specs.Tree.{Reaches, Root, super_for, super_of}
 use Rattle.qg_descent.specs.Branch.{AreBranches, IsBranch, IsMember, IsPointed}
 use Rattle.qg_tree_edits.specs.First.{first_leaf, least}
-use Rattle.qg_tree_edits.specs.Editing.{CanMake, FillsThere, HoldInstead, IsCutThere, IsLeafEdited, IsOwned, IsPartEdited, IsPartFit, IsPlacedBehind, IsSettled, IsUnsettled, KeepsAbove, ReachesBeside, ReachesEach, ReachesInstead, ReachesParts}
-use Rattle.qg_tree_edits.specs.Counting.{IsPartTold, IsSettledTold, IsTold, TellSame, one, tellings_made, tellings_owned, ways, ways_each, ways_instead, ways_parts}
+use Rattle.qg_tree_edits.specs.Editing.{CanMake, FillsThere, HoldInstead, IsCutThere, IsLeafEdited, IsOwned, IsPartEdited, IsPartFit, IsPlacedBehind, IsSettled, IsUnsettled, KeepsAbove, ReachesBeside, ReachesEach, ReachesInstead, ReachesParts, slots_for}
+use Rattle.qg_tree_edits.specs.Counting.{AreCommitted, IsPartTold, IsSettledTold, IsTold, TellSame, one, tellings_made, tellings_owned, ways, ways_each, ways_instead, ways_parts}
 use Rattle.qg_tree_edits.proofs.Around.{IsAround}
 use Rattle.qg_descent.proofs.Branches.{each-append, each-get}
 use Rattle.qg_descent.proofs.BranchFrames.{branches-same, reach-same, reach-top}
 use Rattle.qg_descent.proofs.BranchWalk.{branch-under}
+use Rattle.qg_tree_edits.proofs.Committed.{committed-after, committed-none, committed-told}
+use Rattle.qg_tree_edits.proofs.Downward.{IsClosed, each-closed, one-closed, plus-closed}
 use Rattle.qg_tree_edits.proofs.Leading.{not-above}
 use Rattle.qg_tree_edits.proofs.OwnedBranch.{owned-branch, owned-reach}
 use Rattle.qg_tree_edits.proofs.OwnedTold.{owned-told}
 use Rattle.qg_tree_edits.proofs.Placed.{KeepsFresh-put, fresh-taken}
-use Rattle.qg_tree_edits.proofs.PlacedTold.{told-made}
+use Rattle.qg_tree_edits.proofs.PlacedTold.{placed-few, told-made}
+use Rattle.qg_tree_edits.proofs.Reached.{parts-reached, ways-reached}
+use Rattle.qg_tree_edits.proofs.Served.{slots-most}
 use Rattle.qg_tree_edits.proofs.Spliced.{drop-get, take-get}
-use Rattle.qg_tree_edits.proofs.Turning.{told-apart, told-append, told-more, told-none, told-same, told-within}
+use Rattle.qg_tree_edits.proofs.Turning.{told-apart, told-append, told-come, told-more, told-none, told-same, told-within}
 use Rattle.qg_tree_edits.proofs.Ways.{one-other, ways-inner, ways_each-append, ways_each-at, ways_each-none, ways_each-same}
 
 -- ---- a part that is fit for an edit
@@ -521,13 +525,13 @@ module _ (tree : Tree) (root : Root) (land mid low set end : Ground) (history ow
       let same = ap (λ (a : ℕ). ways (told mid.blocks.draft history) level a q) leads in
       omega (arith, top, parts, same)
 
-  own_told : (nodes : ℕ → Option Node) → (fresh_at land.blocks.draft at ≡ None → nodes at ≡ told land.blocks.draft history at)
-      → IsTold land nodes FromTop (ways (told land.blocks.draft history) (suc level) at) first_ways 1 0 0 (tellings_owned owned.node at now)
+  own_told : (nodes clean : ℕ → Option Node) → AreCommitted land history clean → (fresh_at land.blocks.draft at ≡ None → nodes at ≡ told land.blocks.draft history at)
+      → IsTold land nodes clean FromTop (ways (told land.blocks.draft history) (suc level) at) first_ways 1 0 0 (tellings_owned owned.node at now)
   unfolding FromTop
-  own_told nodes same =
+  own_told nodes clean committed same =
       let before = ways (told land.blocks.draft history) (suc level) at in
-      told-same land nodes FromTop before before (ways (told mid.blocks.draft history) (suc level) now) first_ways 1 0 0 (tellings_owned owned.node at now) (λ q. refl) first_are
-      (owned-told tree root land mid history expected at now owned makes (suc level) items branch unreached nodes same)
+      told-same land nodes clean FromTop before before (ways (told mid.blocks.draft history) (suc level) now) first_ways 1 0 0 (tellings_owned owned.node at now) (λ q. refl) first_are
+      (owned-told tree root land mid history expected at now owned makes (suc level) items branch unreached nodes clean committed same)
 
   from_old : (q : ℕ) → Old q → IsTrue (is_free_slot land.space q) ⊎ FromTop q
   unfolding Old FromTop
@@ -572,16 +576,43 @@ module _ (tree : Tree) (root : Root) (land mid low set end : Ground) (history ow
       below_same nodes same i p is q was (sym (fresh_at-told mid.blocks.draft low.blocks.draft q (other_same None i p other is q was)) ∙ none)
       ∙ sym (other_stays i p other is q was)
 
-  child_told : (nodes : ℕ → Option Node) → TopSame nodes → (tellings : List Telling) → IsPartTold mid low history level child_at child tellings
-      → IsTold land nodes FromTop first_ways parts_ways (2 * (level + 1)) (level + 1) (level + 1) tellings
+  -- no clean node lies where it was owned, and what is counted besides leads on to nothing else
+  mid_committed : (clean : ℕ → Option Node) → AreCommitted land history clean → AreCommitted mid history clean
+  mid_committed clean committed = committed-after land mid history own_later root.next clean own_rests committed
+
+  now_none : (clean : ℕ → Option Node) → AreCommitted land history clean → clean now ≡ None
+  now_none clean committed = committed-none mid history clean (mid_committed clean committed) now (Inner around.header pointers) around.here
+
+  under_each : (some : List Pointer) (under : List Item) → AreBranches tree (super_of root mid.blocks.draft) (told mid.blocks.draft history) level some under
+      → (i : ℕ) (p : Pointer) → slice_get some i ≡ Some p → (below : List Item) × IsBranch tree (super_of root mid.blocks.draft) (told mid.blocks.draft history) level p.child below
+  under_each some under each i p is =
+      let found = each-get (λ (r : Pointer) (xs : List Item). IsPointed (super_of root mid.blocks.draft) (told mid.blocks.draft history) r
+      × IsBranch tree (super_of root mid.blocks.draft) (told mid.blocks.draft history) level r.child xs) some under each i p is in
+      (found.0, found.2.1)
+
+  else_closed : (clean : ℕ → Option Node) → AreCommitted land history clean → IsClosed clean (λ q. one now q + beside q)
+  unfolding beside
+  else_closed clean committed =
+      let there_told = committed-told mid history clean (mid_committed clean committed) in
+      let map_mid = told mid.blocks.draft history in
+      plus-closed clean (one now) (λ q. ways_each map_mid level (take place pointers) q + ways_each map_mid level (drop (place + 1) pointers) q)
+      (one-closed clean now (now_none clean committed))
+      (plus-closed clean (ways_each map_mid level (take place pointers)) (ways_each map_mid level (drop (place + 1) pointers))
+      (each-closed tree (super_of root mid.blocks.draft) map_mid clean there_told level (take place pointers) (under_each (take place pointers) front around.before))
+      (each-closed tree (super_of root mid.blocks.draft) map_mid clean there_told level (drop (place + 1) pointers) (under_each (drop (place + 1) pointers) back around.after)))
+
+  child_told : (nodes clean : ℕ → Option Node) → TopSame nodes → AreCommitted land history clean → (tellings : List Telling) → IsPartTold mid low history level child_at child tellings
+      → IsTold land nodes clean FromTop first_ways parts_ways (2 * (level + 1)) (level + 1) (level + 1) tellings
   unfolding first_ways FromChild
-  child_told nodes same tellings is =
+  child_told nodes clean same committed tellings is =
       let before = ways (told mid.blocks.draft history) level child_at in
       let after = ways_instead (told low.blocks.draft history) level child in
       let more = λ (q : ℕ). one now q + beside q in
-      let framed = told-apart mid nodes FromChild before after more (2 * (level + 1)) (level + 1) (level + 1) tellings else_none (is nodes (child_same nodes same)) in
-      told-same land nodes FromTop first_ways first_ways (λ q. after q + more q) parts_ways (2 * (level + 1)) (level + 1) (level + 1) tellings (λ q. refl) parts_are
-      (told-within land nodes FromTop mid FromChild first_ways (λ q. after q + more q) (2 * (level + 1)) (level + 1) (level + 1) tellings child_within framed)
+      let framed = told-apart mid nodes clean FromChild before after more (2 * (level + 1)) (level + 1) (level + 1) tellings (else_closed clean committed)
+      (λ q some. else_none q (inr (ways-reached (told mid.blocks.draft history) level child_at q some))) else_none
+      (is nodes clean (child_same nodes same) (mid_committed clean committed)) in
+      told-same land nodes clean FromTop first_ways first_ways (λ q. after q + more q) parts_ways (2 * (level + 1)) (level + 1) (level + 1) tellings (λ q. refl) parts_are
+      (told-within land nodes clean FromTop mid FromChild first_ways (λ q. after q + more q) (2 * (level + 1)) (level + 1) (level + 1) tellings own_rests.held_slots child_within framed)
 
   -- its pointers were set
   parts_within : (q : ℕ) → IsTrue (is_free_slot low.space q) ⊎ FromParts q → IsTrue (is_free_slot land.space q) ⊎ FromTop q
@@ -592,43 +623,52 @@ module _ (tree : Tree) (root : Root) (land mid low set end : Ground) (history ow
   new_ways : ℕ → ℕ
   new_ways q = ways_each (told set.blocks.draft history) level settled.pointers_new q + one now q
 
-  SetTold : (ℕ → Option Node) → List Telling → Type 0
-  SetTold nodes tellings = IsTold low nodes (ReachesParts (told low.blocks.draft history) level pointers place child) (ways_parts (told low.blocks.draft history) level pointers place child)
-      (ways_each (told set.blocks.draft history) level settled.pointers_new) 1 1 0 tellings
+  SetTold : (ℕ → Option Node) → (ℕ → Option Node) → List Telling → Type 0
+  SetTold nodes clean tellings = IsTold low nodes clean (ReachesParts (told low.blocks.draft history) level pointers place child) (ways_parts (told low.blocks.draft history) level pointers place child)
+      (ways_each (told set.blocks.draft history) level settled.pointers_new) (1 - slots_for rest) 1 0 tellings
 
-  set_told : (nodes : ℕ → Option Node) (tellings : List Telling) → SetTold nodes tellings → IsTold land nodes FromTop parts_ways new_ways 1 1 0 tellings
+  low_held : low.space.held_slots ≡ land.space.held_slots
+  low_held = child_rests.held_slots ∙ own_rests.held_slots
+
+  set_held : set.space.held_slots ≡ land.space.held_slots
+  set_held = set_rests.held_slots ∙ low_held
+
+  set_told : (nodes clean : ℕ → Option Node) → AreCommitted land history clean → (tellings : List Telling) → SetTold nodes clean tellings
+      → IsTold land nodes clean FromTop parts_ways new_ways (1 - slots_for rest) 1 0 tellings
   unfolding parts_ways new_ways FromParts SetTold
-  set_told nodes tellings is =
+  set_told nodes clean committed tellings is =
       let before = ways_parts (told low.blocks.draft history) level pointers place child in
       let after = ways_each (told set.blocks.draft history) level settled.pointers_new in
-      let framed = told-apart low nodes FromParts before after (one now) 1 1 0 tellings (λ q from. one-other now q (low_now q from)) is in
-      told-within land nodes FromTop low FromParts (λ q. before q + one now q) (λ q. after q + one now q) 1 1 0 tellings parts_within framed
+      let framed = told-apart low nodes clean FromParts before after (one now) (1 - slots_for rest) 1 0 tellings (one-closed clean now (now_none clean committed))
+      (λ q some. one-other now q (low_now q (inr (parts-reached (told low.blocks.draft history) level pointers place child q some))))
+      (λ q from. one-other now q (low_now q from)) is in
+      told-within land nodes clean FromTop low FromParts (λ q. before q + one now q) (λ q. after q + one now q) (1 - slots_for rest) 1 0 tellings low_held parts_within framed
 
   -- what was cut off was made a node behind it
   set_within : (q : ℕ) → IsTrue (is_free_slot set.space q) ⊎ ⊥ → IsTrue (is_free_slot land.space q) ⊎ FromTop q
   set_within q (inl free) = from_old q (set_old q free)
   set_within q (inr none) = absurd none
 
-  Ends : (ℕ → Option Node) → Instead → Type 0
-  Ends nodes i = IsTold set nodes (λ q. ⊥) new_ways (ways_instead (told end.blocks.draft history) (suc level) i) 0 0 1 (tellings_made i.more)
+  Ends : (ℕ → Option Node) → (ℕ → Option Node) → Instead → Type 0
+  Ends nodes clean i = IsTold set nodes clean (λ q. ⊥) new_ways (ways_instead (told end.blocks.draft history) (suc level) i) 1 0 1 (tellings_made i.more)
 
-  one_ends : (nodes : ℕ → Option Node) → IsInOne set end now instead header settled.pointers_new → Ends nodes (record { now = now; more = None })
+  one_ends : (nodes clean : ℕ → Option Node) → IsInOne set end now instead header settled.pointers_new → Ends nodes clean (record { now = now; more = None })
   unfolding Ends new_ways
-  one_ends nodes one_node =
+  one_ends nodes clean one_node =
       let after = ways_instead (told end.blocks.draft history) (suc level) (record { now = now; more = None }) in
-      told-more set nodes (λ q. ⊥) new_ways after 0 0 0 0 0 1 [] (omega arith) (omega arith) (omega arith)
-      (told-none set nodes (λ q. ⊥) new_ways after (λ q.
+      told-more set nodes clean (λ q. ⊥) new_ways after 0 0 0 1 0 1 [] (omega arith) (omega arith) (omega arith)
+      (told-none set nodes clean (λ q. ⊥) new_ways after (λ q.
       let top = ways-inner (told end.blocks.draft history) level now header settled.pointers_new (one_told one_node) q in
       let same = ap (λ (g : Ground). ways_each (told g.blocks.draft history) level settled.pointers_new q) one_node.same in
       omega (arith, top, same)))
 
-  two_end : (nodes : ℕ → Option Node) (two : AreInTwo low.space.sizes.nodesize set end now instead header settled.pointers_new) → Ends nodes (record { now = now; more = Some two.more })
+  two_end : (nodes clean : ℕ → Option Node) (two : AreInTwo low.space.sizes.nodesize set end now instead header settled.pointers_new) → Ends nodes clean (record { now = now; more = Some two.more })
   unfolding Ends new_ways
-  two_end nodes two =
+  two_end nodes clean two =
       let differ : two.more ≢ now = λ same. fresh-taken set root.next now (Inner header two.first) set_rests.drafted two.here (ap (is_free_slot set.space) (sym same) ∙ two.made.puts.free) in
       let top = one-other now two.more differ in
       let below = ways_each-none (told set.blocks.draft history) level settled.pointers_new two.more (λ i p is reaches. settled.free two.more two.made.puts.free (i, p, is, reaches)) in
-      told-made set nodes (λ q. ⊥) new_ways (ways_instead (told end.blocks.draft history) (suc level) (record { now = now; more = Some two.more })) two.more two.made.puts.free (omega (arith, top, below)) (λ q.
+      told-made set nodes clean (λ q. ⊥) new_ways (ways_instead (told end.blocks.draft history) (suc level) (record { now = now; more = Some two.more })) two.more two.made.puts.free (omega (arith, top, below)) (λ q.
       let a = ways-inner (told end.blocks.draft history) level now header two.first (first_told two) q in
       let b = ways-inner (told end.blocks.draft history) level two.more (record two.other { address = two.more }) two.second (second_told two) q in
       let sum = ways_each-append (told end.blocks.draft history) level two.first two.second q in
@@ -636,31 +676,40 @@ module _ (tree : Tree) (root : Root) (land mid low set end : Ground) (history ow
       let stays = ways_each-same (told set.blocks.draft history) (told end.blocks.draft history) level settled.pointers_new (new_stays two) q in
       omega (arith, a, b, sum, whole, stays))
 
-  end_told : (nodes : ℕ → Option Node) → IsTold land nodes FromTop new_ways (ways_instead (told end.blocks.draft history) (suc level) instead) 0 0 1 (tellings_made instead.more)
+  end_told : (nodes clean : ℕ → Option Node) → IsTold land nodes clean FromTop new_ways (ways_instead (told end.blocks.draft history) (suc level) instead) (slots_for rest) 0 1 (tellings_made instead.more)
   unfolding Ends
-  end_told nodes =
-      told-within land nodes FromTop set (λ q. ⊥) new_ways (ways_instead (told end.blocks.draft history) (suc level) instead) 0 0 1 (tellings_made instead.more) set_within
+  end_told nodes clean =
+      let after = ways_instead (told end.blocks.draft history) (suc level) instead in
+      told-come land nodes clean FromTop new_ways after 1 0 1 (slots_for rest) (tellings_made instead.more) (placed-few set end now rest instead placed)
+      (told-within land nodes clean FromTop set (λ q. ⊥) new_ways after 1 0 1 (tellings_made instead.more) set_held set_within
       (elim ends [
-        | inl one_node ↦ subst (λ (i : Instead). Ends nodes i) (sym one_node.instead_is) (one_ends nodes one_node)
-        | inr two ↦ subst (λ (i : Instead). Ends nodes i) (sym two.instead_is) (two_end nodes two)
-      ])
+        | inl one_node ↦ subst (λ (i : Instead). Ends nodes clean i) (sym one_node.instead_is) (one_ends nodes clean one_node)
+        | inr two ↦ subst (λ (i : Instead). Ends nodes clean i) (sym two.instead_is) (two_end nodes clean two)
+      ]))
 
   pub part-told : (below above : List Telling) → IsPartTold mid low history level child_at child below
-      → ((nodes : ℕ → Option Node) → TellSame (ReachesBeside (told low.blocks.draft history) level pointers place) nodes low history
-      → IsTold low nodes (ReachesParts (told low.blocks.draft history) level pointers place child) (ways_parts (told low.blocks.draft history) level pointers place child)
-      (ways_each (told set.blocks.draft history) level settled.pointers_new) 1 1 0 above)
+      → ((nodes clean : ℕ → Option Node) → TellSame (ReachesBeside (told low.blocks.draft history) level pointers place) nodes low history → AreCommitted low history clean
+      → IsTold low nodes clean (ReachesParts (told low.blocks.draft history) level pointers place child) (ways_parts (told low.blocks.draft history) level pointers place child)
+      (ways_each (told set.blocks.draft history) level settled.pointers_new) (1 - slots_for rest) 1 0 above)
       → IsPartTold land end history (suc level) at instead (tellings_owned owned.node at now ++ (below ++ (above ++ tellings_made instead.more)))
   unfolding FromTop TopSame SetTold
-  part-told below above of_child of_set nodes same =
+  part-told below above of_child of_set nodes clean same committed =
       let log = tellings_owned owned.node at now in
       let made = tellings_made instead.more in
       let start = ways (told land.blocks.draft history) (suc level) at in
       let last = ways_instead (told end.blocks.draft history) (suc level) instead in
-      let third = told-append land nodes FromTop parts_ways new_ways last 1 1 0 0 0 1 above made (set_told nodes above (of_set nodes (beside_same nodes same))) (end_told nodes) in
-      let second = told-append land nodes FromTop first_ways parts_ways last (2 * (level + 1)) (level + 1) (level + 1) (1 + 0) (1 + 0) (0 + 1) below (above ++ made) (child_told nodes same below of_child) third in
-      let all = told-append land nodes FromTop start first_ways last 1 0 0 (2 * (level + 1) + (1 + 0)) (level + 1 + (1 + 0)) (level + 1 + (0 + 1)) log (below ++ (above ++ made)) (own_told nodes (same at (reach-top (told land.blocks.draft history) (suc level) at))) second in
-      told-more land nodes FromTop start last (1 + (2 * (level + 1) + (1 + 0))) (0 + (level + 1 + (1 + 0))) (0 + (level + 1 + (0 + 1))) (2 * (suc level + 1)) (suc level + 1) (suc level + 1)
-      (log ++ (below ++ (above ++ made))) (omega arith) (omega arith) (omega arith) all
+      let set_come = 1 - slots_for rest in
+      let end_come = slots_for rest in
+      let few = slots-most rest in
+      let low_committed = committed-after mid low history child_later root.next clean child_rests (mid_committed clean committed) in
+      let third = told-append land nodes clean FromTop parts_ways new_ways last set_come 1 0 end_come 0 1 above made
+      (set_told nodes clean committed above (of_set nodes clean (beside_same nodes same) low_committed)) (end_told nodes clean) in
+      let second = told-append land nodes clean FromTop first_ways parts_ways last (2 * (level + 1)) (level + 1) (level + 1) (set_come + end_come) (1 + 0) (0 + 1) below (above ++ made)
+      (child_told nodes clean same committed below of_child) third in
+      let all = told-append land nodes clean FromTop start first_ways last 1 0 0 (2 * (level + 1) + (set_come + end_come)) (level + 1 + (1 + 0)) (level + 1 + (0 + 1)) log (below ++ (above ++ made))
+      (own_told nodes clean committed (same at (reach-top (told land.blocks.draft history) (suc level) at))) second in
+      told-more land nodes clean FromTop start last (1 + (2 * (level + 1) + (set_come + end_come))) (0 + (level + 1 + (1 + 0))) (0 + (level + 1 + (0 + 1))) (2 * (suc level + 1)) (suc level + 1) (suc level + 1)
+      (log ++ (below ++ (above ++ made))) (omega (arith, few)) (omega arith) (omega arith) all
 
 -- ---- the same by what is known of the node once its child was edited
 
@@ -690,9 +739,9 @@ module _ (tree : Tree) (root : Root) (land mid low set end : Ground) (history ow
       (subst (λ (ps : List Pointer). IsSettled tree root low set history level now place child ps un.header items_new rest) same_pointers settled) placed own_rests child_rests set_rests end_rests
 
   pub part-told-unsettled : (below above : List Telling) → IsPartTold mid low history level child_at child below
-      → ((nodes : ℕ → Option Node) → TellSame (ReachesBeside (told low.blocks.draft history) level un.pointers place) nodes low history
-      → IsTold low nodes (ReachesParts (told low.blocks.draft history) level un.pointers place child) (ways_parts (told low.blocks.draft history) level un.pointers place child)
-      (ways_each (told set.blocks.draft history) level settled.pointers_new) 1 1 0 above)
+      → ((nodes clean : ℕ → Option Node) → TellSame (ReachesBeside (told low.blocks.draft history) level un.pointers place) nodes low history → AreCommitted low history clean
+      → IsTold low nodes clean (ReachesParts (told low.blocks.draft history) level un.pointers place child) (ways_parts (told low.blocks.draft history) level un.pointers place child)
+      (ways_each (told set.blocks.draft history) level settled.pointers_new) (1 - slots_for rest) 1 0 above)
       → IsPartTold land end history (suc level) at instead (tellings_owned owned.node at now ++ (below ++ (above ++ tellings_made instead.more)))
   part-told-unsettled below above of_child of_set =
       let whole : IsSettledTold tree root low set history level now place child un.pointers un.header items_new rest above = record { settled = settled; told = of_set } in

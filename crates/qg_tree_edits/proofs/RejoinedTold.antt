@@ -1,6 +1,6 @@
 -- A child was joined with its neighbour, and the pointers of their node are set: what a book is told meanwhile.
-use Rattle.std.proofs.Common.{◌≡◌, ◌≢◌, ◌⊎◌, ℕ, suc, ◌+◌, ◌<◌, ◌≤◌, List, [], ◌∷◌, ◌++◌, take, drop, arith, refl, sym, ap, subst, ◌∙◌, inl, inr, Option, Some, None}
-use Rattle.std.specs.Prelude.{IsTrue, slice_get}
+use Rattle.std.proofs.Common.{◌≡◌, ◌≢◌, ◌⊎◌, ℕ, suc, ◌+◌, ◌-◌, ◌<◌, ◌≤◌, List, [], ◌∷◌, ◌++◌, take, drop, arith, refl, sym, ap, subst, ◌∙◌, inl, inr, Option, Some, None}
+use Rattle.std.specs.Prelude.{Contains, IsTrue, slice_get}
 use Rattle.qg_device.specs.History.{Event}
 use Rattle.qg_num.specs.declared.key.Key.{Key}
 use Rattle.qg_node.specs.declared.item.Item.{Item}
@@ -16,20 +16,25 @@ use Rattle.qg_tree_edits.specs.declared.instead.Instead.{Instead}
 use Rattle.qg_tree_edits.specs.declared.pairing.Pair.{Pair}
 use Rattle.qg_descent.specs.Tree.{Reaches, Root, super_of}
 use Rattle.qg_descent.specs.Branch.{IsBranch}
-use Rattle.qg_tree_edits.specs.Editing.{CanMake, HasLed, IsFreshOn, IsUnsettled, ReachesBeside, ReachesParts, alone}
+use Rattle.qg_tree_edits.specs.Editing.{CanMake, HasLed, IsFreshOn, IsUnsettled, ReachesBeside, ReachesParts, alone, slots_for}
 use Rattle.qg_tree_edits.specs.Uniting.{AreUnited, IsPaired}
-use Rattle.qg_tree_edits.specs.Counting.{IsSettledTold, IsTold, TellsUnited, tellings_owned, ways, ways_each, ways_instead, ways_parts}
+use Rattle.qg_tree_edits.specs.Counting.{AreCommitted, IsSettledTold, IsTold, TellsUnited, tellings_owned, ways, ways_each, ways_instead, ways_parts}
 use Rattle.qg_tree_edits.proofs.Beside.{beside-differs, other-branch}
 use Rattle.qg_descent.proofs.BranchFrames.{reach-top}
+use Rattle.qg_tree_edits.proofs.Committed.{committed-after, committed-told, unheld-fresh}
+use Rattle.qg_tree_edits.proofs.Downward.{IsClosed, each-closed, plus-closed, ways-closed}
 use Rattle.qg_tree_edits.proofs.LedTold.{led-ways}
 use Rattle.qg_tree_edits.proofs.OwnedTold.{owned-told}
 use Rattle.qg_tree_edits.proofs.Paired.{IsThinAt}
-use Rattle.qg_tree_edits.proofs.PairedFrames.{pair-free_others, pair-freed}
+use Rattle.qg_tree_edits.proofs.PairedFrames.{pair-apart, pair-free_others, pair-freed}
 use Rattle.qg_tree_edits.proofs.PairedHolds.{child-apart}
-use Rattle.qg_tree_edits.proofs.RejoinedHolds.{aside-beside, aside-child, both, differ, hold, new-stays, rejoined-can, size}
+use Rattle.qg_tree_edits.proofs.RejoinedHolds.{aside-beside, aside-child, aside-place, both, differ, hold, new-stays, rejoined-can, size}
 use Rattle.qg_tree_edits.proofs.RejoinedSettled.{rejoined-pointers, rejoined-settled}
+use Rattle.qg_tree_edits.proofs.Reached.{ways-reached}
+use Rattle.qg_tree_edits.proofs.Served.{slots-none}
 use Rattle.qg_tree_edits.proofs.Spliced.{drop-get, drop-there, take-get, take-there}
-use Rattle.qg_tree_edits.proofs.Turning.{told-apart, told-append, told-same, told-within}
+use Rattle.qg_tree_edits.proofs.ToldUnited.{united-lost}
+use Rattle.qg_tree_edits.proofs.Turning.{told-apart, told-append, told-framed, told-same, told-within}
 use Rattle.qg_tree_edits.proofs.UnitedHolds.{united-tells}
 use Rattle.qg_tree_edits.proofs.Ways.{ways-none, ways-same, ways_each-append, ways_each-cons, ways_each-none, ways_each-same}
 
@@ -63,6 +68,11 @@ module _ (tree : Tree) (root : Root) (land mid new end : Ground) (history later 
   not_beside : (i : ℕ) → Aside i → i ≢ is.is.other
   unfolding Aside
   not_beside = aside-beside tree root land mid new history later last level at to place child items un pair instead is
+      makes drafted rests fresh thin united after
+
+  aside_place : (i : ℕ) → Aside i → (i < place) ⊎ (place + 1 ≤ i)
+  unfolding Aside
+  aside_place = aside-place tree root land mid new history later last level at to place child items un pair instead is
       makes drafted rests fresh thin united after
 
   differs : is.is.other ≢ place
@@ -156,16 +166,16 @@ module _ (tree : Tree) (root : Root) (land mid new end : Ground) (history later 
             a found.0) (sym is.is.way.child) found.2,
       )
 
-  own_told : (nodes : ℕ → Option Node)
+  own_told : (nodes clean : ℕ → Option Node) → AreCommitted land history clean
       → (fresh_at land.blocks.draft is.beside.way.address ≡ None
       → nodes is.beside.way.address ≡ told land.blocks.draft history is.beside.way.address)
-      → IsTold land nodes From (ways (told land.blocks.draft history) level is.beside.way.address)
+      → IsTold land nodes clean From (ways (told land.blocks.draft history) level is.beside.way.address)
       (ways (told mid.blocks.draft history) level is.now) 1 0 0
       (tellings_owned is.owned.node is.beside.way.address is.now)
   unfolding From
-  own_told nodes same =
+  own_told nodes clean committed same =
       owned-told tree root land mid history is.beside.way.expected is.beside.way.address is.now is.owned makes
-      level beside_branch.0 beside_branch.1 beside_free nodes same
+      level beside_branch.0 beside_branch.1 beside_free nodes clean committed same
 
   -- the child and the others are elsewhere
   else_none : (q : ℕ) → IsTrue (is_free_slot land.space q) ⊎ From q
@@ -214,21 +224,56 @@ module _ (tree : Tree) (root : Root) (land mid new end : Ground) (history later 
             omega (arith, mine, left, right)
       ]
 
-  first_told : (nodes : ℕ → Option Node)
+  -- what the child and the others lead on to, none besides does
+  others_closed : (clean : ℕ → Option Node) → AreCommitted land history clean → IsClosed clean others
+  unfolding others Aside
+  others_closed clean committed =
+      let nodes = told land.blocks.draft history in
+      let there = committed-told land history clean committed in
+      let under = λ (i : ℕ) (p : Pointer) (aside : (i < pair.front) ⊎ (pair.front + 2 ≤ i))
+      (is_there : slice_get un.pointers i ≡ Some p).
+      other-branch tree root land history level at to place (alone child) items un i p (aside_place i aside) is_there in
+      plus-closed clean (ways_each nodes level (take pair.front un.pointers))
+      (ways_each nodes level (drop (pair.front + 2) un.pointers))
+      (each-closed tree (super_of root land.blocks.draft) nodes clean there level (take pair.front un.pointers)
+      (λ i p is_there.
+      let found = take-get pair.front un.pointers i p is_there in
+      let below = under i p (inl found.0) found.1 in
+      (below.0, below.2)))
+      (each-closed tree (super_of root land.blocks.draft) nodes clean there level
+      (drop (pair.front + 2) un.pointers)
+      (λ i p is_there.
+      let found = drop-get (pair.front + 2) un.pointers i p is_there in
+      let below = under found.0 p (inr found.1) found.2 in
+      (below.0, below.2)))
+
+  else_closed : (clean : ℕ → Option Node) → AreCommitted land history clean
+      → IsClosed clean (λ q. ways (told land.blocks.draft history) level child q + others q)
+  else_closed clean committed =
+      plus-closed clean (ways (told land.blocks.draft history) level child) others
+      (ways-closed tree (super_of root land.blocks.draft) (told land.blocks.draft history) clean
+      (committed-told land history clean committed) level child un.holds.mine un.holds.here)
+      (others_closed clean committed)
+
+  first_told : (nodes clean : ℕ → Option Node) → AreCommitted land history clean
       → (fresh_at land.blocks.draft is.beside.way.address ≡ None
       → nodes is.beside.way.address ≡ told land.blocks.draft history is.beside.way.address)
-      → IsTold land nodes Parts (ways_parts (told land.blocks.draft history) level un.pointers place (alone child))
+      → IsTold land nodes clean Parts
+      (ways_parts (told land.blocks.draft history) level un.pointers place (alone child))
       both_ways 1 0 0 (tellings_owned is.owned.node is.beside.way.address is.now)
-  first_told nodes same =
+  unfolding From
+  first_told nodes clean committed same =
       let more = λ (q : ℕ). ways (told land.blocks.draft history) level child q + others q in
       let old_beside = ways (told land.blocks.draft history) level is.beside.way.address in
       let new_beside = ways (told mid.blocks.draft history) level is.now in
       let log = tellings_owned is.owned.node is.beside.way.address is.now in
-      let framed = told-apart land nodes From old_beside new_beside more 1 0 0 log else_none
-      (own_told nodes same) in
-      let whole = told-within land nodes Parts land From (λ q. old_beside q + more q) (λ q. new_beside q + more q) 1 0 0
-      log from_parts framed in
-      told-same land nodes Parts (λ q. old_beside q + more q)
+      let framed = told-apart land nodes clean From old_beside new_beside more 1 0 0 log (else_closed clean committed)
+      (λ q some. else_none q
+      (inr (ways-reached (told land.blocks.draft history) level is.beside.way.address q some))) else_none
+      (own_told nodes clean committed same) in
+      let whole = told-within land nodes clean Parts land From (λ q. old_beside q + more q) (λ q. new_beside q + more q)
+      1 0 0 log refl from_parts framed in
+      told-same land nodes clean Parts (λ q. old_beside q + more q)
       (ways_parts (told land.blocks.draft history) level un.pointers place (alone child))
       (λ q. new_beside q + more q) both_ways 1 0 0 log
       before between whole
@@ -250,9 +295,23 @@ module _ (tree : Tree) (root : Root) (land mid new end : Ground) (history later 
   instead_ways : ℕ → ℕ
   instead_ways q = ways_instead (told new.blocks.draft history) level instead q + others q
 
-  later_told : (nodes : ℕ → Option Node) → IsTold land nodes Parts both_ways instead_ways 0 1 0 tellings
+  -- the others do not lead to the right one
+  right_none : others pair.right ≡ 0
+  unfolding Aside
+  right_none = others_none pair.right
+      (λ i p aside there reaches. (pair-apart tree root land mid history later level at to place child items un pair is
+      makes drafted rests i p (not_child i aside) (not_beside i aside) there pair.right reaches).1 refl)
+
+  right_unheld : Contains mid.space.held_slots pair.right → ⊥
+  right_unheld =
+      let joined = both tree root land mid new history later last level at to place child items un pair instead is makes
+      drafted rests fresh thin united after in
+      unheld-fresh mid root.next pair.right joined.b rests.drafted joined.right_here
+
+  later_told : (nodes clean : ℕ → Option Node) → AreCommitted land history clean
+      → IsTold land nodes clean Parts both_ways instead_ways 0 1 0 tellings
   unfolding both_ways instead_ways
-  later_told nodes =
+  later_told nodes clean committed =
       let held = hold tree root land mid new history later last level at to place child items un pair instead is makes
       drafted rests fresh thin united after in
       let joined = united-tells mid new pair.left pair.right instead
@@ -262,12 +321,16 @@ module _ (tree : Tree) (root : Root) (land mid new end : Ground) (history later 
       rests fresh thin united after)
       united tree (super_of root land.blocks.draft) history level held.ls held.rs held.left_holds held.right_holds
       (size tree root land mid new history later last level at to place child items un pair instead is makes drafted
-      rests fresh thin united after) nodes tellings tells in
+      rests fresh thin united after) nodes clean
+      (committed-after land mid history later root.next clean rests committed) right_unheld tellings tells in
       let two = λ (q : ℕ). ways (told mid.blocks.draft history) level pair.left q
       + ways (told mid.blocks.draft history) level pair.right q in
       let one_then = ways_instead (told new.blocks.draft history) level instead in
-      told-within land nodes Parts mid (λ q. ⊥) (λ q. two q + others q) (λ q. one_then q + others q) 0 1 0 tellings
-      mid_parts (told-apart mid nodes (λ q. ⊥) two one_then others 0 1 0 tellings mid_free joined)
+      told-within land nodes clean Parts mid (λ q. ⊥) (λ q. two q + others q) (λ q. one_then q + others q) 0 1 0
+      tellings rests.held_slots mid_parts
+      (told-framed mid nodes clean (λ q. ⊥) two one_then others 0 1 0 tellings (others_closed clean committed)
+      (λ q lost. ap others (united-lost pair.right instead tellings tells q lost) ∙ right_none)
+      (λ q some. mid_free q (joined.new q some)) joined)
 
   -- ---- the pointers were set
 
@@ -298,22 +361,23 @@ module _ (tree : Tree) (root : Root) (land mid new end : Ground) (history later 
       let same = others_new q in
       omega (arith, set, same)
 
-  all_told : (nodes : ℕ → Option Node)
+  all_told : (nodes clean : ℕ → Option Node) → AreCommitted land history clean
       → (fresh_at land.blocks.draft is.beside.way.address ≡ None
       → nodes is.beside.way.address ≡ told land.blocks.draft history is.beside.way.address)
-      → IsTold land nodes Parts (ways_parts (told land.blocks.draft history) level un.pointers place (alone child))
+      → IsTold land nodes clean Parts
+      (ways_parts (told land.blocks.draft history) level un.pointers place (alone child))
       (ways_each (told end.blocks.draft history) level (take pair.front un.pointers ++ (led.now ∷ led.more)
       ++ drop (pair.front + 2) un.pointers)) 1 1 0
       (tellings_owned is.owned.node is.beside.way.address is.now ++ tellings)
-  all_told nodes same =
+  all_told nodes clean committed same =
       let start = ways_parts (told land.blocks.draft history) level un.pointers place (alone child) in
       let log = tellings_owned is.owned.node is.beside.way.address is.now ++ tellings in
-      told-same land nodes Parts start start instead_ways (ways_each (told end.blocks.draft history) level
+      told-same land nodes clean Parts start start instead_ways (ways_each (told end.blocks.draft history) level
       (take pair.front un.pointers ++ (led.now ∷ led.more) ++ drop (pair.front + 2) un.pointers)) 1 1 0 log
       (λ q. refl) then
-      (told-append land nodes Parts start both_ways instead_ways 1 0 0 0 1 0
-      (tellings_owned is.owned.node is.beside.way.address is.now) tellings (first_told nodes same)
-      (later_told nodes))
+      (told-append land nodes clean Parts start both_ways instead_ways 1 0 0 0 1 0
+      (tellings_owned is.owned.node is.beside.way.address is.now) tellings (first_told nodes clean committed same)
+      (later_told nodes clean committed))
 
   -- the neighbour is another child
   beside_there : ReachesBeside (told land.blocks.draft history) level un.pointers place is.beside.way.address
@@ -325,19 +389,28 @@ module _ (tree : Tree) (root : Root) (land mid new end : Ground) (history later 
     from_beside is.beside.way.address from_top,
   )
 
-  pub rejoined-told : IsSettledTold tree root land end history level at place (alone child) un.pointers un.header items
+  pub rejoined-told : rest ≡ None
+      → IsSettledTold tree root land end history level at place (alone child) un.pointers un.header items
       rest (tellings_owned is.owned.node is.beside.way.address is.now ++ tellings)
   unfolding Parts
-  rejoined-told = record {
+  rejoined-told whole = record {
     settled = rejoined-settled tree root land mid new end history later last level at to place child items rest un pair
         instead is makes drafted rests fresh thin united after led;
-    told = λ nodes same. subst
-        (λ (ps : List Pointer). IsTold land nodes (ReachesParts (told land.blocks.draft history) level un.pointers place
-        (alone child))
+    told = λ nodes clean same committed. subst
+        (λ (ps : List Pointer). IsTold land nodes clean
+        (ReachesParts (told land.blocks.draft history) level un.pointers place (alone child))
         (ways_parts (told land.blocks.draft history) level un.pointers place (alone child))
-        (ways_each (told end.blocks.draft history) level ps) 1 1 0
+        (ways_each (told end.blocks.draft history) level ps) (1 - slots_for rest) 1 0
         (tellings_owned is.owned.node is.beside.way.address is.now ++ tellings))
         (sym (rejoined-pointers tree root land mid new end history later last level at to place child items rest un pair
         instead is makes drafted rests fresh thin united after led))
-        (all_told nodes (same is.beside.way.address beside_there));
+        (subst
+        (λ (n : ℕ). IsTold land nodes clean
+        (ReachesParts (told land.blocks.draft history) level un.pointers place (alone child))
+        (ways_parts (told land.blocks.draft history) level un.pointers place (alone child))
+        (ways_each (told end.blocks.draft history) level (take pair.front un.pointers ++ (led.now ∷ led.more)
+        ++ drop (pair.front + 2) un.pointers)) (1 - n) 1 0
+        (tellings_owned is.owned.node is.beside.way.address is.now ++ tellings))
+        (sym (slots-none rest whole))
+        (all_told nodes clean committed (same is.beside.way.address beside_there)));
   }

@@ -17,7 +17,7 @@ use Rattle.qg_verdict.specs.declared.expected.Expected.{Expected}
 use Rattle.qg_verdict.specs.declared.tree.Tree.{Tree}
 use Rattle.qg_verdict.specs.Walk.{root_expected}
 use Rattle.qg_ground.specs.declared.ground.Ground.{Ground}
-use Rattle.qg_ground.specs.Land.{IsDrafted}
+use Rattle.qg_ground.specs.Land.{IsDrafted, Rests}
 use Rattle.qg_ground.specs.Tellings.{Telling}
 use Rattle.qg_edit.specs.declared.edit.Edit.{Edit}
 use Rattle.qg_edit.specs.declared.edit.Change.{Change}
@@ -27,16 +27,17 @@ use Rattle.qg_tree_edits.specs.declared.instead.Instead.{Instead}
 use Rattle.qg_descent.specs.Tree.{Reaches, Root, super_for, super_of}
 use Rattle.qg_tree_edits.specs.First.{first_leaf, least}
 use Rattle.qg_tree_edits.specs.Editing.{HoldInstead, IsPartEdited, IsPartFit, ReachesInstead}
-use Rattle.qg_tree_edits.specs.Counting.{IsPartTold, IsRootTold, IsTold, IsTreeTold, clean_at, ways, ways_instead}
+use Rattle.qg_tree_edits.specs.Counting.{IsPartTold, IsRootTold, IsTold, IsTreeTold, clean_at, committed_at, ways, ways_instead}
 use Rattle.qg_tree_edits.specs.Rooting.{HasRoot, IsEdited, IsReplaced, IsRooted, StandsForRoot}
 use Rattle.qg_tree_edits.proofs.AroundEdited.{leaf-ascends, leaf-short}
 use Rattle.qg_descent.proofs.BranchOrder.{ascends-under, keys_of}
 use Rattle.qg_tree_edits.proofs.Clean.{clean-same}
+use Rattle.qg_tree_edits.proofs.Committed.{committed-after, committed-are}
 use Rattle.qg_tree_edits.proofs.FirstLeaf.{none-less}
 use Rattle.qg_tree_edits.proofs.Heights.{height-low}
 use Rattle.qg_tree_edits.proofs.ListEdited.{ClearsNone, leaf-whole}
 use Rattle.qg_tree_edits.proofs.PartBelow.{told-ascends}
-use Rattle.qg_tree_edits.proofs.Turning.{told-anew, told-append, told-more, told-within}
+use Rattle.qg_tree_edits.proofs.Turning.{told-append, told-more, told-within}
 
 module _ (tree : Tree) (root : Root) (land : Ground) (history : Option (List Event)) (edit : Edit) (items : List Item) (rooted : IsRooted tree root land history items) (can : CanEdit edit items)
     (expected : Expected) (at : ℕ) (expects : expected ≡ root_expected (Some root.height) None) (there : at ≡ root.address) where
@@ -106,25 +107,27 @@ module _ (tree : Tree) (root : Root) (land : Ground) (history : Option (List Eve
       }
 
       -- and all is told
-      pub told-root : (below above : List Telling) → IsPartTold land mid history root.height at instead below → IsRootTold root after mid new history instead above
+      pub told-root : (later : Option (List Event)) → Rests land mid later root.next → (below above : List Telling) → IsPartTold land mid history root.height at instead below → IsRootTold root after mid new history instead above
           → IsTreeTold root after land new history (below ++ above)
       unfolding Old
-      told-root below above of_part of_root =
+      told-root later rests below above of_part of_root =
           let nodes = told land.blocks.draft history in
           let clean = clean_at land history in
+          let held = committed_at land history in
+          let are = committed-are land history root.next drafted in
           let start = ways (told land.blocks.draft history) root.height root.address in
           let between = ways_instead (told mid.blocks.draft history) root.height instead in
           let last = ways (told new.blocks.draft history) after.height after.address in
           let first =
-          subst (λ (a : ℕ). IsTold land clean (Reaches nodes root.height a) (ways nodes root.height a) between (2 * (root.height + 1)) (root.height + 1) (root.height + 1) below)
-          there (of_part clean (λ q reaches none. clean-same land history q none)) in
-          let then = told-within land clean Old mid (ReachesInstead (told mid.blocks.draft history) root.height instead) between last 0 1 1 above
+          subst (λ (a : ℕ). IsTold land clean held (Reaches nodes root.height a) (ways nodes root.height a) between (2 * (root.height + 1)) (root.height + 1) (root.height + 1) below)
+          there (of_part clean held (λ q reaches none. clean-same land history q none) are) in
+          let then = told-within land clean held Old mid (ReachesInstead (told mid.blocks.draft history) root.height instead) between last 1 1 1 above rests.held_slots
           (λ q either. elim either [
             | inl free ↦ elim (free_from q free) [ inl old ↦ inr old | inr still ↦ inl still ]
             | inr low ↦ elim (from q low) [ inl old ↦ inr old | inr still ↦ inl still ]
-          ]) (told-anew mid (told mid.blocks.draft history) clean (ReachesInstead (told mid.blocks.draft history) root.height instead) between last 1 1 above of_root) in
-          let all = told-append land clean Old start between last (2 * (root.height + 1)) (root.height + 1) (root.height + 1) 0 1 1 below above first then in
-          told-more land clean Old start last (2 * (root.height + 1) + 0) (root.height + 1 + 1) (root.height + 1 + 1) (2 * root.height + 3) (2 * root.height + 3) (2 * root.height + 3) (below ++ above)
+          ]) (of_root clean held (committed-after land mid history later root.next held rests are)) in
+          let all = told-append land clean held Old start between last (2 * (root.height + 1)) (root.height + 1) (root.height + 1) 1 1 1 below above first then in
+          told-more land clean held Old start last (2 * (root.height + 1) + 1) (root.height + 1 + 1) (root.height + 1 + 1) (2 * root.height + 3) (root.height + 2) (root.height + 2) (below ++ above)
           (omega arith) (omega arith) (omega arith) all
 
 -- a root may get a node above it

@@ -1,5 +1,5 @@
 -- A child was edited, and the pointers of its node are set.
-use Rattle.std.proofs.Common.{◌≡◌, ◌⊎◌, ℕ, ◌+◌, ◌≤◌, ◌<◌, List, [], ◌∷◌, ◌++◌, take, drop, arith, subst, inl, inr, Option, Some}
+use Rattle.std.proofs.Common.{◌≡◌, ◌⊎◌, ℕ, ◌+◌, ◌-◌, ◌≤◌, ◌<◌, List, [], ◌∷◌, ◌++◌, take, drop, arith, subst, inl, inr, Option, Some}
 use Rattle.std.specs.Prelude.{IsTrue, slice_get}
 use Rattle.qg_device.specs.History.{Event}
 use Rattle.qg_num.specs.declared.key.Key.{Key}
@@ -12,7 +12,7 @@ use Rattle.qg_space.specs.Holding.{Holding, is_free_slot}
 use Rattle.qg_ground.specs.declared.ground.Ground.{Ground}
 use Rattle.qg_tree_edits.specs.declared.instead.Instead.{Instead}
 use Rattle.qg_descent.specs.Tree.{Reaches, Root, super_of}
-use Rattle.qg_tree_edits.specs.Editing.{CanLead, HasLed, IsSettled, IsUnsettled, ReachesEach, ReachesParts}
+use Rattle.qg_tree_edits.specs.Editing.{CanLead, HasLed, IsSettled, IsUnsettled, ReachesEach, ReachesParts, slots_for}
 use Rattle.qg_tree_edits.specs.Counting.{IsSettledTold, ways_each, ways_parts}
 use Rattle.qg_tree_edits.proofs.Beside.{other-branch}
 use Rattle.qg_tree_edits.proofs.Led.{led-back, led-comes}
@@ -61,11 +61,11 @@ module _ (tree : Tree) (root : Root) (land new : Ground) (history : Option (List
   unfolding settled
   settled-told = record {
     settled = settled;
-    told = λ nodes same.
+    told = λ nodes clean same committed.
         let Parts = ReachesParts (told land.blocks.draft history) level un.pointers place child in
         let before = ways_parts (told land.blocks.draft history) level un.pointers place child in
         let after = ways_each (told new.blocks.draft history) level (take place un.pointers ++ (led.now ∷ led.more) ++ drop (place + 1) un.pointers) in
-        told-more land nodes Parts before after 0 0 0 1 1 0 [] (omega arith) (omega arith) (omega arith)
-        (told-none land nodes Parts before after
+        told-more land nodes clean Parts before after 0 0 0 (1 - slots_for rest) 1 0 [] (omega arith) (omega arith) (omega arith)
+        (told-none land nodes clean Parts before after
         (led-ways tree (super_of root land.blocks.draft) land new history level at place (place + 1) child un.pointers un.header items rest can led));
   }

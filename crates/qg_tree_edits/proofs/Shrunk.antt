@@ -1,8 +1,7 @@
 -- A root that is one node, or the child of a node with one pointer.
-use Rattle.std.proofs.Common.{◌≡◌, ◌≢◌, ◌⊎◌, ℕ, zero, suc, ◌+◌, ◌-◌, ◌≤◌, ◌<◌, true, List, [], ◌∷◌, length, append-nil, arith, refl, sym, ap, subst, ◌∙◌, inl, inr, Option, Some, None}
+use Rattle.std.proofs.Common.{◌≡◌, ◌≢◌, ◌⊎◌, ℕ, zero, suc, ◌+◌, ◌-◌, ◌≤◌, true, List, [], ◌∷◌, length, append-nil, arith, refl, sym, ap, subst, ◌∙◌, inl, inr, Option, Some, None}
 use Rattle.std.specs.Prelude.{IsTrue}
 use Rattle.std.proofs.lemmas.Bool.{le-leb}
-use Rattle.std.proofs.lemmas.List.Elements.{All-from_recursion}
 use Rattle.qg_device.specs.History.{Event}
 use Rattle.qg_node.specs.declared.item.Item.{Item}
 use Rattle.qg_node.specs.declared.pointer.Pointer.{Pointer}
@@ -28,14 +27,17 @@ use Rattle.qg_descent.specs.Tree.{IsTree, Reaches, Root, super_of}
 use Rattle.qg_descent.specs.Branch.{AreBranches, IsBranch}
 use Rattle.qg_tree_edits.specs.First.{leaves}
 use Rattle.qg_tree_edits.specs.Editing.{IsRewritten, ReachesInstead, alone}
-use Rattle.qg_tree_edits.specs.Counting.{IsAsWas, IsBare, IsRootTold, one, ways, ways_instead}
+use Rattle.qg_tree_edits.specs.Counting.{IsRootTold, one, ways, ways_instead}
 use Rattle.qg_tree_edits.specs.Rooting.{HasRoot, StandsForRoot, lone_child, lone_of}
 use Rattle.qg_descent.proofs.BranchFrames.{reach-same, reach-top}
 use Rattle.qg_descent.proofs.Frames.{IsTree-same}
+use Rattle.qg_tree_edits.proofs.Committed.{committed-told, unheld-fresh}
+use Rattle.qg_tree_edits.proofs.Downward.{leads-none}
 use Rattle.qg_tree_edits.proofs.Leading.{not-above}
 use Rattle.qg_tree_edits.proofs.LeafLists.{leaves-inner, leaves-same}
 use Rattle.qg_tree_edits.proofs.RootEdited.{root-alone, root-below}
 use Rattle.qg_tree_edits.proofs.Served.{node-drafted, size-blocks}
+use Rattle.qg_tree_edits.proofs.ToldUnited.{told-left}
 use Rattle.qg_tree_edits.proofs.Turning.{told-more, told-none}
 use Rattle.qg_tree_edits.proofs.United.{rewritten-told}
 use Rattle.qg_tree_edits.proofs.Ways.{ways-inner, ways-same, ways-top, ways_each-cons}
@@ -89,11 +91,12 @@ module _ (tree : Tree) (root : Root) (land : Ground) (history : Option (List Eve
 
   -- and nothing is told
   pub told-stood : IsRootTold root (record root { address = now }) land land history (alone now) []
-  told-stood =
-      told-more land (told land.blocks.draft history) (ReachesInstead (told land.blocks.draft history) root.height (alone now)) (ways_instead (told land.blocks.draft history) root.height (alone now)) (ways (told land.blocks.draft history) root.height now)
-      0 0 0 0 1 1 [] (omega arith) (omega arith) (omega arith)
-      (told-none land (told land.blocks.draft history) (ReachesInstead (told land.blocks.draft history) root.height (alone now)) (ways_instead (told land.blocks.draft history) root.height (alone now)) (ways (told land.blocks.draft history) root.height now)
-      (λ q. omega arith))
+  told-stood nodes clean committed =
+      let Old = ReachesInstead (told land.blocks.draft history) root.height (alone now) in
+      let before = ways_instead (told land.blocks.draft history) root.height (alone now) in
+      let after = ways (told land.blocks.draft history) root.height now in
+      told-more land nodes clean Old before after 0 0 0 1 1 1 [] (omega arith) (omega arith) (omega arith)
+      (told-none land nodes clean Old before after (λ q. omega arith))
 
   module _ (mid new : Ground) (later : Option (List Event)) (child low : ℕ) (header : Header) (pointer : Pointer) (lone : node ≡ Inner header (pointer ∷ [])) (is_child : pointer.child ≡ child)
       (height : root.height ≡ suc low) (rewritten : IsRewritten land mid now node) (space : mid.space ≡ land.space) (gone : LetsGo mid new now) (rests : Rests land new later root.next) where
@@ -177,26 +180,20 @@ module _ (tree : Tree) (root : Root) (land : Ground) (history : Option (List Eve
         omega (arith, high_up, inner, only, stays)
 
     sunk_count : IsRootTold root (record root { address = pointer.child; height = low }) land new history (alone now) (Left (cleared node) ∷ [])
-    sunk_count =
-        let named : (header_of node).address ≡ now = (drafted.each now node here).kept.placed in
+    sunk_count nodes clean committed =
+        let Old = ReachesInstead (told land.blocks.draft history) root.height (alone now) in
+        let before = ways_instead (told land.blocks.draft history) root.height (alone now) in
+        let after = ways (told new.blocks.draft history) low pointer.child in
+        let named : (header_of (cleared node)).address ≡ now = (drafted.each now node here).kept.placed in
         let top = ways-top (told land.blocks.draft history) root.height now in
-        let timely : 0 < ways_instead (told land.blocks.draft history) root.height (alone now) (header_of node).address =
-        subst (λ (q : ℕ). 0 < ways_instead (told land.blocks.draft history) root.height (alone now) q) (sym named) (omega (arith, top)) in
-        record {
-          turns = (
-            timely,
-            λ q.
-                let all = gone_ways q in
-                let at = ap (λ (a : ℕ). one a q) named in
-                omega (arith, all, at),
-          );
-          new = λ q some. absurd (omega (arith, some));
-          as_was = All-from_recursion (IsAsWas (told land.blocks.draft history)) (Left (cleared node) ∷ []) (tt, tt);
-          bare = All-from_recursion IsBare (Left (cleared node) ∷ []) ((refl, refl), tt);
-          few_copied = omega arith;
-          few_left = omega arith;
-          few_made = omega arith;
-        }
+        let high : root.height ≤ (header_of node).level = omega (arith, levelled) in
+        let down = leads-none tree (super_of root land.blocks.draft) (told land.blocks.draft history) clean
+        (committed-told land history clean committed) root.height now stands.holds.mine stands.holds.here now node there high in
+        told-more land nodes clean Old before after 0 1 0 1 1 1 (Left (cleared node) ∷ []) (omega arith) (omega arith) (omega arith)
+        (told-left land nodes clean Old before after (cleared node) now named (refl, refl)
+        (unheld-fresh land root.next now node drafted here)
+        (λ q parent is some child. down q parent is (omega (arith, some)) child) (omega (arith, top))
+        (λ q. let all = gone_ways q in omega (arith, all)))
 
     -- and the book is told that the node is left
     pub told-sunk : IsRootTold root (record root { address = child; height = root.height - 1 }) land new history (alone now) (Left (cleared node) ∷ [])

@@ -36,7 +36,7 @@ module _ (land new : Ground) (at : ℕ) (node : Node) (here : fresh_at land.bloc
 -- ---- both
 
 module _ (old mid : Ground) (left right : ℕ) (differ : left ≢ right) (pair : ArePair old left right) (are : AreRewritten old mid left right) where
-  left_between : fresh_at are.mid.blocks.draft left ≡ Some pair.a
+  pub left_between : fresh_at are.mid.blocks.draft left ≡ Some pair.a
   left_between = rewritten-fresh old are.mid right pair.b pair.right_here (are.first pair.b pair.right_here) left differ ∙ pair.left_here
 
   pub both-rests : (history : Option (List Event)) (generation : ℕ) → IsBacked old.blocks history → IsDrafted old generation → Rests old mid history generation

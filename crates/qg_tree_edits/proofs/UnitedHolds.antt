@@ -1,6 +1,6 @@
 -- What stands of a part of a tree after two fresh neighbours in it were joined.
 use Rattle.std.proofs.Common.{◌≡◌, ◌≢◌, ◌⊎◌, ℕ, zero, suc, ◌+◌, ◌*◌, ◌≤◌, true, List, [], ◌∷◌, ◌++◌, arith, refl, sym, ap, subst, ◌∙◌, inl, inr, Option, Some, None}
-use Rattle.std.specs.Prelude.{IsTrue, slice_get}
+use Rattle.std.specs.Prelude.{Contains, IsTrue, slice_get}
 use Rattle.std.proofs.lemmas.List.{append-nil}
 use Rattle.qg_device.specs.History.{Event}
 use Rattle.qg_node.specs.declared.item.Item.{Item}
@@ -32,9 +32,11 @@ use Rattle.qg_descent.specs.Branch.{AreBranches, IsBranch, IsMember, IsPointed}
 use Rattle.qg_tree_edits.specs.First.{leaves, leaves_joined, leaves_under}
 use Rattle.qg_tree_edits.specs.Editing.{ArePair, FillsThere, HoldInstead, IsFreshOn, IsJoinedThere, ReachesInstead, StandsInstead, alone}
 use Rattle.qg_tree_edits.specs.Uniting.{AreUnited, EndsAs}
-use Rattle.qg_tree_edits.specs.Counting.{IsTold, TellsUnited, one, ways, ways_each, ways_instead}
-use Rattle.qg_descent.proofs.Branches.{each-append, each-get, each-join}
+use Rattle.qg_tree_edits.specs.Counting.{AreCommitted, IsTold, LeadsNone, TellsUnited, one, ways, ways_each, ways_instead}
+use Rattle.qg_descent.proofs.Branches.{branch-top, each-append, each-get, each-join}
 use Rattle.qg_descent.proofs.BranchFrames.{branches-same, reach-same, reach-top}
+use Rattle.qg_tree_edits.proofs.Committed.{committed-told}
+use Rattle.qg_tree_edits.proofs.Downward.{leads-none, leads-plus}
 use Rattle.qg_tree_edits.proofs.Leading.{not-above}
 use Rattle.qg_tree_edits.proofs.LeafLists.{leaves-alone, leaves-inner, leaves-same, leaves_more, under-append, under-same}
 use Rattle.qg_tree_edits.proofs.Spliced.{append-get}
@@ -601,9 +603,22 @@ module _ (old new : Ground) (left right : ℕ) (instead : Instead) (differ : lef
 
       -- ---- what a book is told
 
-      module _ (nodes : ℕ → Option Node) where
+      module _ (nodes clean : ℕ → Option Node) (committed : AreCommitted old history clean)
+          (unheld : Contains old.space.held_slots right → ⊥) where
+        -- none of the clean nodes leads to the right one
+        right_led : LeadsNone clean (λ q. ways (told old.blocks.draft history) level left q + ways (told old.blocks.draft history) level right q) right
+        right_led =
+            let map_old = told old.blocks.draft history in
+            let same = committed-told old history clean committed in
+            let top = branch-top tree super map_old level right rights right_holds in
+            let levelled = top.2 in
+            let high : level ≤ (header_of top.0).level = omega (arith, levelled) in
+            leads-plus clean (ways map_old level left) (ways map_old level right) right
+            (leads-none tree super map_old clean same level left lefts left_holds right top.0 top.1 high)
+            (leads-none tree super map_old clean same level right rights right_holds right top.0 top.1 high)
+
         Tells : Instead → List Telling → Type 0
-        Tells i tellings = IsTold old nodes (λ q. ⊥) (λ q. ways (told old.blocks.draft history) level left q + ways (told old.blocks.draft history) level right q)
+        Tells i tellings = IsTold old nodes clean (λ q. ⊥) (λ q. ways (told old.blocks.draft history) level left q + ways (told old.blocks.draft history) level right q)
             (ways_instead (told new.blocks.draft history) level i) 0 1 0 tellings
 
         -- the right one is left
@@ -613,8 +628,8 @@ module _ (old new : Ground) (left right : ℕ) (instead : Instead) (differ : lef
         one_tells one_node tellings (inr (none, (node, tellings_are, named, bare))) = subst (λ (ts : List Telling). Tells (alone left) ts) (sym tellings_are) left_told where
           left_told : Tells (alone left) (Left node ∷ [])
           left_told =
-              told-left old nodes (λ q. ⊥) (λ q. ways (told old.blocks.draft history) level left q + ways (told old.blocks.draft history) level right q)
-              (ways_instead (told new.blocks.draft history) level (alone left)) node right named bare
+              told-left old nodes clean (λ q. ⊥) (λ q. ways (told old.blocks.draft history) level left q + ways (told old.blocks.draft history) level right q)
+              (ways_instead (told new.blocks.draft history) level (alone left)) node right named bare unheld right_led
               (let top = ways-top (told old.blocks.draft history) level right in omega (arith, top))
               (λ q. let e = one_ways level lefts rights left_holds right_holds one_node q in omega (arith, e))
 
@@ -628,11 +643,11 @@ module _ (old new : Ground) (left right : ℕ) (instead : Instead) (differ : lef
           none_told =
               let before = λ (q : ℕ). ways (told old.blocks.draft history) level left q + ways (told old.blocks.draft history) level right q in
               let after = ways_instead (told new.blocks.draft history) level (record { now = left; more = Some right }) in
-              told-more old nodes (λ q. ⊥) before after 0 0 0 0 1 0 [] (omega arith) (omega arith) (omega arith)
-              (told-none old nodes (λ q. ⊥) before after (λ q. two_ways level lefts rights left_holds right_holds two q))
+              told-more old nodes clean (λ q. ⊥) before after 0 0 0 0 1 0 [] (omega arith) (omega arith) (omega arith)
+              (told-none old nodes clean (λ q. ⊥) before after (λ q. two_ways level lefts rights left_holds right_holds two q))
 
         pub united-tells : (tellings : List Telling) → TellsUnited right instead tellings
-            → IsTold old nodes (λ q. ⊥) (λ q. ways (told old.blocks.draft history) level left q + ways (told old.blocks.draft history) level right q)
+            → IsTold old nodes clean (λ q. ⊥) (λ q. ways (told old.blocks.draft history) level left q + ways (told old.blocks.draft history) level right q)
             (ways_instead (told new.blocks.draft history) level instead) 0 1 0 tellings
         unfolding Tells
         united-tells tellings tells = elim united_ends [

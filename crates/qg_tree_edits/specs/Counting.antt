@@ -1,7 +1,7 @@
 -- What an edit of a tree tells the book of references, by how many ways lead to each address (this project's own).
 -- Addresses are in bytes.
-use Rattle.std.specs.Prelude.{◌≡◌, ⊤, ◌⊎◌, ◌==◌, if◌then◌else◌, ℕ, zero, suc, ◌+◌, ◌-◌, ◌*◌, ◌<◌, ◌≤◌, List, [], ◌∷◌, take, drop, Option, Some, None, IsTrue, is_some}
-use Rattle.std.specs.List.{All, sum_by}
+use Rattle.std.specs.Prelude.{◌≡◌, ⊤, ◌⊎◌, ◌==◌, if◌then◌else◌, ℕ, zero, suc, ◌+◌, ◌-◌, ◌*◌, ◌<◌, ◌≤◌, List, [], ◌∷◌, map, take, drop, Option, Some, None, IsTrue, Contains, is_some}
+use Rattle.std.specs.List.{All, list_any, sum_by}
 use Rattle.qg_device.specs.History.{Event}
 use Rattle.qg_node.specs.declared.item.Item.{Item}
 use Rattle.qg_node.specs.declared.pointer.Pointer.{Pointer}
@@ -16,7 +16,7 @@ use Rattle.qg_ground.specs.Tellings.{Telling}
 use Rattle.qg_ground.specs.Tellings.Telling.{Copied, Made, Left}
 use Rattle.qg_tree_edits.specs.declared.instead.Instead.{Instead}
 use Rattle.qg_descent.specs.Tree.{Reaches, Root}
-use Rattle.qg_tree_edits.specs.Editing.{IsSettled, ReachesBeside, ReachesInstead, ReachesParts}
+use Rattle.qg_tree_edits.specs.Editing.{IsSettled, ReachesBeside, ReachesInstead, ReachesParts, slots_for}
 
 -- ---- ways
 
@@ -81,11 +81,36 @@ Turns before [] after = (q : ℕ) → after q ≡ before q
 Turns before (telling ∷ tellings) after =
     IsTimely telling before × Turns (λ q. (before q + gains telling q) - losses telling q) tellings after
 
+-- no node of these, that ways lead to, has an address as a child
+abbrev pub LeadsNone : (ℕ → Option Node) → (ℕ → ℕ) → ℕ → Type 0
+LeadsNone clean count at = (q : ℕ) (parent : Node) → clean q ≡ Some parent → 0 < count q
+    → Contains (map (λ pointer. pointer.child) (own_pointers parent)) at → ⊥
+
+-- none of these leads to what is copied or left, while so many ways lead to each address
+abbrev pub IsDownward : (ℕ → Option Node) → Telling → (ℕ → ℕ) → Type 0
+IsDownward clean (Copied node copy) count = LeadsNone clean count (header_of node).address
+IsDownward clean (Made address) count = ⊤
+IsDownward clean (Left node) count = LeadsNone clean count (header_of node).address
+
+-- tellings that turn a count of ways go down: by the time that a node is copied or left, whoever leads to it is none of
+-- these
+abbrev pub Downward : (ℕ → Option Node) → (ℕ → ℕ) → List Telling → Type 0
+Downward clean before [] = ⊤
+Downward clean before (telling ∷ tellings) =
+    IsDownward clean telling before
+    × Downward clean (λ q. (before q + gains telling q) - losses telling q) tellings
+
 -- a node that is left has nothing under it
 abbrev pub IsBare : Telling → Type 0
 IsBare (Copied node copy) = ⊤
 IsBare (Made address) = ⊤
 IsBare (Left node) = (own_items node ≡ []) × (own_pointers node ≡ [])
+
+-- and lies in none of these slots
+abbrev pub IsUnheld : List ℕ → Telling → Type 0
+IsUnheld slots (Copied node copy) = ⊤
+IsUnheld slots (Made address) = ⊤
+IsUnheld slots (Left node) = Contains slots (header_of node).address → ⊥
 
 -- what is copied is what these nodes tell at its address
 abbrev pub IsAsWas : (ℕ → Option Node) → Telling → Type 0
@@ -112,16 +137,19 @@ made_in (Made address) = 1
 made_in (Left node) = 0
 
 -- What a book was told in the course of a change: it turns the ways that led to each address before into those that
--- lead there then. A node came only into a slot that was free, or that was reached. What was copied is what stood at
--- its address before, among the nodes that are given. What was left has nothing under it. At most so many nodes were
--- copied, left and made
-pub record IsTold (old : Ground) (nodes : ℕ → Option Node) (Reached : ℕ → Type 0) (before after : ℕ → ℕ)
-    (copied left made : ℕ) (tellings : List Telling) : Type 0 where
+-- lead there then, and goes down from nodes that are copied to those below, by the time none of the clean ones that are
+-- given leads to what is copied or left. A node came only into a slot that was free, or that was reached. What was
+-- copied is what stood at its address before, among the nodes that are given. What was left has nothing under it, and
+-- the last commit does not hold it. At most so many nodes came, by a copy or anew, so many were left, and so many made
+pub record IsTold (old : Ground) (nodes clean : ℕ → Option Node) (Reached : ℕ → Type 0) (before after : ℕ → ℕ)
+    (come left made : ℕ) (tellings : List Telling) : Type 0 where
   pub turns : Turns before tellings after
+  pub down : Downward clean before tellings
   pub new : (q : ℕ) → 0 < sum_by (λ telling. gains telling q) tellings → IsTrue (is_free_slot old.space q) ⊎ Reached q
   pub as_was : All (IsAsWas nodes) tellings
   pub bare : All IsBare tellings
-  pub few_copied : sum_by copied_in tellings ≤ copied
+  pub unheld : All (IsUnheld old.space.held_slots) tellings
+  pub few_come : sum_by copied_in tellings + sum_by made_in tellings ≤ come
   pub few_left : sum_by left_in tellings ≤ left
   pub few_made : sum_by made_in tellings ≤ made
 
@@ -155,42 +183,58 @@ abbrev pub clean_at : Ground → Option (List Event) → ℕ → Option Node
 clean_at land history q =
     if is_some (fresh_at land.blocks.draft q) then None else told land.blocks.draft history q
 
+-- what is told at an address that the last commit holds; no node is fresh there
+abbrev pub committed_at : Ground → Option (List Event) → ℕ → Option Node
+committed_at land history q =
+    if list_any (λ slot. slot == q) land.space.held_slots then told land.blocks.draft history q else None
+
+-- each of these nodes is told at an address that the last commit holds, and where no node is fresh
+abbrev pub AreCommitted : Ground → Option (List Event) → (ℕ → Option Node) → Type 0
+AreCommitted land history clean =
+    (q : ℕ) (node : Node) → clean q ≡ Some node
+    → Contains land.space.held_slots q × (fresh_at land.blocks.draft q ≡ None)
+    × (told land.blocks.draft history q ≡ Some node)
+
 -- the pointers of a node were set to what stands in the place of the child at an index, and this was told meanwhile:
--- a neighbour may have been copied, and left. What was copied was not fresh and is what stood there, and so it is for
--- any nodes that tell the same of the other children where they are not fresh
+-- a neighbour may have been copied, and left, where nothing was cut off the node. What was copied was not fresh and is
+-- what stood there, and so it is for any nodes that tell the same of the other children where they are not fresh
 pub record IsSettledTold (tree : Tree) (root : Root) (old new : Ground) (history : Option (List Event))
     (level at place : ℕ) (child : Instead) (pointers : List Pointer) (header : Header) (items : List Item)
     (rest : Option Node) (tellings : List Telling) : Type 0 where
   pub settled : IsSettled tree root old new history level at place child pointers header items rest
-  pub told : (nodes : ℕ → Option Node)
+  pub told : (nodes clean : ℕ → Option Node)
       → TellSame (ReachesBeside (told old.blocks.draft history) level pointers place) nodes old history
-      → IsTold old nodes (ReachesParts (told old.blocks.draft history) level pointers place child)
+      → AreCommitted old history clean
+      → IsTold old nodes clean (ReachesParts (told old.blocks.draft history) level pointers place child)
       (ways_parts (told old.blocks.draft history) level pointers place child)
-      (ways_each (told new.blocks.draft history) level settled.pointers_new) 1 1 0 tellings
+      (ways_each (told new.blocks.draft history) level settled.pointers_new) (1 - slots_for rest) 1 0 tellings
 
 -- the part of a tree that the node of a level at an address is the top of was edited, and this was told meanwhile.
 -- What was copied was not fresh and is what stood there, and so it is for any nodes that tell the same of the part
 -- where it is not fresh
 abbrev pub IsPartTold : Ground → Ground → Option (List Event) → ℕ → ℕ → Instead → List Telling → Type 0
 IsPartTold old new history level at instead tellings =
-    (nodes : ℕ → Option Node)
-    → TellSame (Reaches (told old.blocks.draft history) level at) nodes old history
-    → IsTold old nodes (Reaches (told old.blocks.draft history) level at)
+    (nodes clean : ℕ → Option Node)
+    → TellSame (Reaches (told old.blocks.draft history) level at) nodes old history → AreCommitted old history clean
+    → IsTold old nodes clean (Reaches (told old.blocks.draft history) level at)
     (ways (told old.blocks.draft history) level at) (ways_instead (told new.blocks.draft history) level instead)
     (2 * (level + 1)) (level + 1) (level + 1) tellings
 
--- what stands in the place of a tree's root became the tree, and this was told meanwhile
+-- what stands in the place of a tree's root became the tree, and this was told meanwhile: nothing was copied
 abbrev pub IsRootTold : Root → Root → Ground → Ground → Option (List Event) → Instead → List Telling → Type 0
 IsRootTold before after old new history instead tellings =
-    IsTold old (told old.blocks.draft history) (ReachesInstead (told old.blocks.draft history) before.height instead)
+    (nodes clean : ℕ → Option Node) → AreCommitted old history clean
+    → IsTold old nodes clean (ReachesInstead (told old.blocks.draft history) before.height instead)
     (ways_instead (told old.blocks.draft history) before.height instead)
-    (ways (told new.blocks.draft history) after.height after.address) 0 1 1 tellings
+    (ways (told new.blocks.draft history) after.height after.address) 1 1 1 tellings
 
--- a tree was edited, and this was told meanwhile: what was copied was not fresh before, and is what stood there. At most
--- 2·height + 3 nodes were copied, and as many left and made
+-- A tree was edited, and this was told meanwhile: what was copied was not fresh before, and is what stood there. By the
+-- time that a node was copied or left, no node that the last commit holds leads to it, as it stood before. At most
+-- 2·height + 3 nodes came, of which height + 2 were made, and height + 2 were left
 abbrev pub IsTreeTold : Root → Root → Ground → Ground → Option (List Event) → List Telling → Type 0
 IsTreeTold before after old new history tellings =
-    IsTold old (clean_at old history) (Reaches (told old.blocks.draft history) before.height before.address)
+    IsTold old (clean_at old history) (committed_at old history)
+    (Reaches (told old.blocks.draft history) before.height before.address)
     (ways (told old.blocks.draft history) before.height before.address)
-    (ways (told new.blocks.draft history) after.height after.address) (2 * before.height + 3) (2 * before.height + 3)
-    (2 * before.height + 3) tellings
+    (ways (told new.blocks.draft history) after.height after.address)
+    (2 * before.height + 3) (before.height + 2) (before.height + 2) tellings

@@ -23,7 +23,7 @@ use Rattle.qg_verdict.specs.declared.tree.Tree.{Tree}
 use Rattle.qg_verdict.specs.Walk.{is_owner, walk_failure}
 use Rattle.qg_walk.specs.Standing.{expected_below, form_failure}
 use Rattle.qg_ground.specs.declared.ground.Ground.{Ground}
-use Rattle.qg_ground.specs.Changes.{Makes}
+use Rattle.qg_ground.specs.Changes.{HasOwner, Makes}
 use Rattle.qg_ground.specs.Land.{IsDrafted}
 use Rattle.qg_ground.specs.Tellings.{node_copy}
 use Rattle.qg_edit.specs.declared.edit.Edit.{Edit}
@@ -181,10 +181,21 @@ abbrev pub RestIsReady : ℕ → ℕ → ℕ → Option Node → Type 0
 RestIsReady nodesize level generation None = ⊤
 RestIsReady nodesize level generation (Some node) = IsNode nodesize node × ((header_of node).level ≡ level) × ((header_of node).generation ≡ generation)
 
--- the node at an address is of its level still, and so is what was cut off it
+-- and it has the owner of a node
+abbrev pub RestIsOf : Node → Option Node → Type 0
+RestIsOf old None = ⊤
+RestIsOf old (Some node) = (header_of node).owner ≡ (header_of old).owner
+
+-- or this owner, or the one of some fresh node
+abbrev pub RestHasOwner : ℕ → Ground → Option Node → Type 0
+RestHasOwner owner land None = ⊤
+RestHasOwner owner land (Some node) = HasOwner owner land node
+
+-- the node at an address is of its level still, and so is what was cut off it, which has its owner
 pub record StaysCut (nodesize : ℕ) (old : Node) (land : Ground) (at : ℕ) (rest : Option Node) : Type 0 where
   pub stays : IsFreshOn land (header_of old).level at
   pub ready : RestIsReady nodesize (header_of old).level (header_of old).generation rest
+  pub owned : RestIsOf old rest
 
 -- it lies in a slot that was free, if there is any; all other nodes are told as before, and no other slot is taken or given back
 abbrev pub IsPlacedBehind : Ground → Ground → ℕ → Option Node → Instead → Type 0

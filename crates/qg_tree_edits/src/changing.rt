@@ -4,6 +4,7 @@ ghost use Rattle.qg_device.specs.Cause.{HasCause};
 ghost use Rattle.qg_device.specs.History.{Event};
 ghost use Rattle.qg_node.specs.declared.item.Item.{Item as ItemValue};
 ghost use Rattle.qg_blocks.specs.Told.{BreaksNone, told};
+ghost use Rattle.qg_ground.specs.Changes.{IsOwnedBy};
 ghost use Rattle.qg_ground.specs.Tellings.{Telling};
 ghost use Rattle.qg_edit.specs.Edits.{CanEdit, IsShort, growth_of, has_key, with_item, without_key};
 ghost use Rattle.qg_tree_edits.specs.Counting.{IsTreeTold};
@@ -58,7 +59,8 @@ pub fn insert<P: TreePart, D: Disk, L: Ledger, B: Book<D, L>>(
     ensures tree { MatchResult result (λ done. Grows 1 tree.old tree.new land.old land.new) (λ fault. tree.new ≡ tree.old) }
     ensures rests { LeavesBe land.old land.new (D.history disk.old) (D.history disk.new) (D.size disk.old) (D.size disk.new) tree.old.next }
     ensures stands { OnOk result (B.stands book.new land.new disk.new) }
-    ensures settled { B.settled book.old land.old → OnOk result (B.settled book.new land.new) }
+    ensures settled { B.settled book.old land.old disk.old → OnOk result (B.settled book.new land.new disk.new) }
+    ensures owners { OnOk result (IsOwnedBy tree.old.owner land.old land.new) }
     ensures cause { HasCause BlockFault.Disk (D.faults disk.old) (D.faults disk.new) result }
     ensures reads { (most : ℕ) → ((book : B) (q : ℕ) → B.to_read book q ≤ most)
         → reads.new ≤ reads.old + (5 + 4 * most) * (tree.old.height + 2) }
@@ -94,7 +96,8 @@ pub fn replace<P: TreePart, D: Disk, L: Ledger, B: Book<D, L>>(
     ensures tree { MatchResult result (λ done. Grows 1 tree.old tree.new land.old land.new) (λ fault. tree.new ≡ tree.old) }
     ensures rests { LeavesBe land.old land.new (D.history disk.old) (D.history disk.new) (D.size disk.old) (D.size disk.new) tree.old.next }
     ensures stands { OnOk result (B.stands book.new land.new disk.new) }
-    ensures settled { B.settled book.old land.old → OnOk result (B.settled book.new land.new) }
+    ensures settled { B.settled book.old land.old disk.old → OnOk result (B.settled book.new land.new disk.new) }
+    ensures owners { OnOk result (IsOwnedBy tree.old.owner land.old land.new) }
     ensures cause { HasCause BlockFault.Disk (D.faults disk.old) (D.faults disk.new) result }
     ensures reads { (most : ℕ) → ((book : B) (q : ℕ) → B.to_read book q ≤ most)
         → reads.new ≤ reads.old + (5 + 4 * most) * (tree.old.height + 2) }
@@ -129,7 +132,8 @@ pub fn remove<P: TreePart, D: Disk, L: Ledger, B: Book<D, L>>(
     ensures tree { MatchResult result (λ done. Grows 0 tree.old tree.new land.old land.new) (λ fault. tree.new ≡ tree.old) }
     ensures rests { LeavesBe land.old land.new (D.history disk.old) (D.history disk.new) (D.size disk.old) (D.size disk.new) tree.old.next }
     ensures stands { OnOk result (B.stands book.new land.new disk.new) }
-    ensures settled { B.settled book.old land.old → OnOk result (B.settled book.new land.new) }
+    ensures settled { B.settled book.old land.old disk.old → OnOk result (B.settled book.new land.new disk.new) }
+    ensures owners { OnOk result (IsOwnedBy tree.old.owner land.old land.new) }
     ensures cause { HasCause BlockFault.Disk (D.faults disk.old) (D.faults disk.new) result }
     ensures reads { (most : ℕ) → ((book : B) (q : ℕ) → B.to_read book q ≤ most)
         → reads.new ≤ reads.old + (5 + 4 * most) * (tree.old.height + 2) }
@@ -168,7 +172,8 @@ pub fn drop_first_leaf<P: TreePart, D: Disk, L: Ledger, B: Book<D, L>>(
     ensures tree { MatchResult result (λ done. Grows 0 tree.old tree.new land.old land.new) (λ fault. tree.new ≡ tree.old) }
     ensures rests { LeavesBe land.old land.new (D.history disk.old) (D.history disk.new) (D.size disk.old) (D.size disk.new) tree.old.next }
     ensures stands { OnOk result (B.stands book.new land.new disk.new) }
-    ensures settled { B.settled book.old land.old → OnOk result (B.settled book.new land.new) }
+    ensures settled { B.settled book.old land.old disk.old → OnOk result (B.settled book.new land.new disk.new) }
+    ensures owners { OnOk result (IsOwnedBy tree.old.owner land.old land.new) }
     ensures cause { HasCause BlockFault.Disk (D.faults disk.old) (D.faults disk.new) result }
     ensures reads { (most : ℕ) → ((book : B) (q : ℕ) → B.to_read book q ≤ most)
         → reads.new ≤ reads.old + (5 + 4 * most) * (tree.old.height + 2) }
@@ -207,7 +212,8 @@ fn edit_tree<P: TreePart, D: Disk, L: Ledger, B: Book<D, L>>(
     ensures tree { MatchResult result (λ done. Grows (growth_of edit.change) tree.old tree.new land.old land.new) (λ fault. tree.new ≡ tree.old) }
     ensures rests { LeavesBe land.old land.new (D.history disk.old) (D.history disk.new) (D.size disk.old) (D.size disk.new) tree.old.next }
     ensures stands { OnOk result (B.stands book.new land.new disk.new) }
-    ensures settled { B.settled book.old land.old → OnOk result (B.settled book.new land.new) }
+    ensures settled { B.settled book.old land.old disk.old → OnOk result (B.settled book.new land.new disk.new) }
+    ensures owners { OnOk result (IsOwnedBy tree.old.owner land.old land.new) }
     ensures cause { HasCause BlockFault.Disk (D.faults disk.old) (D.faults disk.new) result }
     ensures reads { (most : ℕ) → ((book : B) (q : ℕ) → B.to_read book q ≤ most)
         → reads.new ≤ reads.old + (5 + 4 * most) * (tree.old.height + 2) }

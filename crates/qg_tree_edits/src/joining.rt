@@ -90,7 +90,7 @@ pub(crate) fn unite<D: Disk, L: Ledger, B: Book<D, L>>(
     ensures told { (generation : ℕ) → IsDrafted land.old generation → (before : B) (log : List Telling) → B.follows before log book.old
         → IfOk result (λ instead. (tellings : List Telling) × B.follows before (log ++ tellings) book.new × TellsUnited right instead tellings) }
     ensures stands { OnOk result (B.stands book.new land.new disk.new) }
-    ensures settled { B.settled book.old land.old → OnOk result (B.settled book.new land.new) }
+    ensures settled { (generation : ℕ) → IsDrafted land.old generation → B.settled book.old land.old disk.old → OnOk result (B.settled book.new land.new disk.new) }
     ensures disk { (D.history disk.new ≡ D.history disk.old) × (D.size disk.new ≡ D.size disk.old) }
     ensures cause { HasCause BlockFault.Disk (D.faults disk.old) (D.faults disk.new) result }
     ensures reads { (most : ℕ) → ((book : B) (q : ℕ) → B.to_read book q ≤ most) → reads.new ≤ reads.old + (1 + most) }

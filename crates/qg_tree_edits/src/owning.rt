@@ -6,6 +6,7 @@ ghost use Rattle.qg_node.specs.declared.node.Node.{Node as NodeValue};
 ghost use Rattle.qg_walk.specs.Standing.{form_failure};
 ghost use Rattle.qg_blocks.specs.Told.{BreaksNone, told};
 ghost use Rattle.qg_space.specs.Holding.{free_slots, is_free_slot};
+ghost use Rattle.qg_ground.specs.Changes.{IsOwnedBy};
 ghost use Rattle.qg_ground.specs.Land.{Rests};
 ghost use Rattle.qg_ground.specs.Tellings.{Telling};
 ghost use Rattle.qg_descent.specs.Tree.{super_of};
@@ -40,7 +41,8 @@ pub(crate) fn own<P: TreePart, D: Disk, L: Ledger, B: Book<D, L>>(
         → is_free_slot land.old.space way.now.address ≡ false → (before : B) (log : List Telling) → B.follows before log book.old
         → IfOk result (λ now. B.follows before (log ++ tellings_owned node way.now.address now) book.new) }
     ensures stands { OnOk result (B.stands book.new land.new disk.new) }
-    ensures settled { B.settled book.old land.old → OnOk result (B.settled book.new land.new) }
+    ensures settled { B.settled book.old land.old disk.old → OnOk result (B.settled book.new land.new disk.new) }
+    ensures owners { OnOk result (IsOwnedBy tree.now.owner land.old land.new) }
     ensures sound { (node : NodeValue) → told land.old.blocks.draft (D.history disk.old) way.now.address ≡ Some node
         → form_failure P.tree (super_of tree.now land.old.blocks.draft) way.now.expected way.now.address node ≡ None → BreaksNone result }
     ensures disk { (D.history disk.new ≡ D.history disk.old) × (D.size disk.new ≡ D.size disk.old) }

@@ -8,6 +8,7 @@ ghost use Rattle.qg_node.specs.Nodes.{own_pointers};
 ghost use Rattle.qg_num.specs.declared.fault.BlockFault.TheVariants as block;
 ghost use Rattle.qg_blocks.specs.Told.{BreaksNone, fresh_at};
 ghost use Rattle.qg_space.specs.Holding.{free_slots};
+ghost use Rattle.qg_ground.specs.Changes.{IsOwnedBy};
 ghost use Rattle.qg_ground.specs.Land.{Rests};
 ghost use Rattle.qg_ground.specs.Tellings.{Telling};
 ghost use Rattle.qg_tree_edits.specs.Editing.{IsEditable, IsFreshOn, IsUnsettled, alone};
@@ -62,7 +63,8 @@ pub(crate) fn own_neighbour<P: TreePart, D: Disk, L: Ledger, B: Book<D, L>>(
         → IfOk result (λ pair. (is : IsPaired P.tree tree.now land.old land.new (D.history disk.old) un.pointers to level place child pair)
         × B.follows before (log ++ tellings_owned is.owned.node is.beside.way.address is.now) book.new) }
     ensures stands { OnOk result (B.stands book.new land.new disk.new) }
-    ensures settled { B.settled book.old land.old → OnOk result (B.settled book.new land.new) }
+    ensures settled { B.settled book.old land.old disk.old → OnOk result (B.settled book.new land.new disk.new) }
+    ensures owners { OnOk result (IsOwnedBy tree.now.owner land.old land.new) }
     ensures disk { (D.history disk.new ≡ D.history disk.old) × (D.size disk.new ≡ D.size disk.old) }
     ensures cause { HasCause BlockFault.Disk (D.faults disk.old) (D.faults disk.new) result }
     ensures reads { (most : ℕ) → ((book : B) (q : ℕ) → B.to_read book q ≤ most) → reads.new ≤ reads.old + (2 + most) }

@@ -12,6 +12,7 @@ ghost use Rattle.qg_node.specs.NodeText.{IsNode, IsNodeSize};
 ghost use Rattle.qg_shape.specs.Pointing.{pointer_to};
 ghost use Rattle.qg_blocks.specs.Told.{BreaksNone, fresh_at, told};
 ghost use Rattle.qg_space.specs.Holding.{free_slots};
+ghost use Rattle.qg_ground.specs.Changes.{IsOwnedBy};
 ghost use Rattle.qg_ground.specs.Land.{Rests};
 ghost use Rattle.qg_ground.specs.Tellings.{Telling};
 ghost use Rattle.qg_edit.specs.Outcome.{cleared};
@@ -66,7 +67,8 @@ pub(crate) fn set_root<P: TreePart, D: Disk, L: Ledger, B: Book<D, L>>(
         → StandsForRoot P.tree tree.old land.old (D.history disk.old) instead items → tree.old.height < 7 → BreaksNone result }
     ensures rests { Rests land.old land.new (D.history disk.new) tree.old.next }
     ensures stands { OnOk result (B.stands book.new land.new disk.new) }
-    ensures settled { B.settled book.old land.old → OnOk result (B.settled book.new land.new) }
+    ensures settled { B.settled book.old land.old disk.old → OnOk result (B.settled book.new land.new disk.new) }
+    ensures owners { OnOk result (IsOwnedBy tree.old.owner land.old land.new) }
     ensures disk { (D.history disk.new ≡ D.history disk.old) × (D.size disk.new ≡ D.size disk.old) }
     ensures cause { HasCause BlockFault.Disk (D.faults disk.old) (D.faults disk.new) result }
     ensures reads { (most : ℕ) → ((book : B) (q : ℕ) → B.to_read book q ≤ most) → reads.new ≤ reads.old + (1 + most) }
@@ -111,7 +113,8 @@ fn grow<P: TreePart, D: Disk, L: Ledger, B: Book<D, L>>(
         → tree.old.height < 7 → BreaksNone result }
     ensures rests { Rests land.old land.new (D.history disk.new) tree.old.next }
     ensures stands { OnOk result (B.stands book.new land.new disk.new) }
-    ensures settled { B.settled book.old land.old → OnOk result (B.settled book.new land.new) }
+    ensures settled { B.settled book.old land.old disk.old → OnOk result (B.settled book.new land.new disk.new) }
+    ensures owners { OnOk result (IsOwnedBy tree.old.owner land.old land.new) }
     ensures disk { (D.history disk.new ≡ D.history disk.old) × (D.size disk.new ≡ D.size disk.old) }
     ensures cause { HasCause BlockFault.Disk (D.faults disk.old) (D.faults disk.new) result }
     ensures reads { (most : ℕ) → ((book : B) (q : ℕ) → B.to_read book q ≤ most) → reads.new ≤ reads.old + most }
@@ -161,7 +164,8 @@ fn shrink<P: TreePart, D: Disk, L: Ledger, B: Book<D, L>>(
     ensures sound { (events : List Event) → D.history disk.old ≡ Some events → BreaksNone result }
     ensures rests { Rests land.old land.new (D.history disk.new) tree.old.next }
     ensures stands { OnOk result (B.stands book.new land.new disk.new) }
-    ensures settled { B.settled book.old land.old → OnOk result (B.settled book.new land.new) }
+    ensures settled { B.settled book.old land.old disk.old → OnOk result (B.settled book.new land.new disk.new) }
+    ensures owners { OnOk result (IsOwnedBy tree.old.owner land.old land.new) }
     ensures disk { (D.history disk.new ≡ D.history disk.old) × (D.size disk.new ≡ D.size disk.old) }
     ensures cause { HasCause BlockFault.Disk (D.faults disk.old) (D.faults disk.new) result }
     ensures reads { (most : ℕ) → ((book : B) (q : ℕ) → B.to_read book q ≤ most) → reads.new ≤ reads.old + (1 + most) }

@@ -14,9 +14,10 @@ ghost use Rattle.qg_shape.specs.Filled.{IsThin};
 ghost use Rattle.qg_shape.specs.Parts.{IsInner};
 ghost use Rattle.qg_blocks.specs.Told.{BreaksNone, fresh_at};
 ghost use Rattle.qg_space.specs.Holding.{free_slots};
+ghost use Rattle.qg_ground.specs.Changes.{IsOwnedBy};
 ghost use Rattle.qg_ground.specs.Land.{Rests};
 ghost use Rattle.qg_ground.specs.Tellings.{Telling};
-ghost use Rattle.qg_tree_edits.specs.Editing.{CanLead, CanMake, HasLed, IsEditable, IsEmptyIfLeaf, IsFreshOn, IsNamed, IsRewritten, IsSettled, IsUnsettled, KeepsLeaves, Moves, OfEach, RestIsReady, StandsInstead, StaysCut, alone, slots_for};
+ghost use Rattle.qg_tree_edits.specs.Editing.{CanLead, CanMake, HasLed, IsEditable, IsEmptyIfLeaf, IsFreshOn, IsNamed, IsRewritten, IsSettled, IsUnsettled, KeepsLeaves, Moves, OfEach, RestHasOwner, RestIsReady, StandsInstead, StaysCut, alone, slots_for};
 ghost use Rattle.qg_tree_edits.specs.Counting.{IsSettledTold};
 
 use crate::instead::Instead;
@@ -72,7 +73,8 @@ pub(crate) fn settle<P: TreePart, D: Disk, L: Ledger, B: Book<D, L>>(
         → IfOk result (λ rest. (tellings : List Telling) × B.follows before (log ++ tellings) book.new
         × IsSettledTold P.tree tree.now land.old land.new (D.history disk.old) level at place child un.pointers un.header items rest tellings) }
     ensures stands { OnOk result (B.stands book.new land.new disk.new) }
-    ensures kept { B.settled book.old land.old → OnOk result (B.settled book.new land.new) }
+    ensures kept { B.settled book.old land.old disk.old → OnOk result (B.settled book.new land.new disk.new) }
+    ensures owners { IfOk result (λ rest. IsOwnedBy tree.now.owner land.old land.new × RestHasOwner tree.now.owner land.old rest) }
     ensures disk { (D.history disk.new ≡ D.history disk.old) × (D.size disk.new ≡ D.size disk.old) }
     ensures cause { HasCause BlockFault.Disk (D.faults disk.old) (D.faults disk.new) result }
     ensures reads { (most : ℕ) → ((book : B) (q : ℕ) → B.to_read book q ≤ most) → reads.new ≤ reads.old + (3 + 2 * most) }
@@ -124,7 +126,8 @@ fn join_child<P: TreePart, D: Disk, L: Ledger, B: Book<D, L>>(
         → IfOk result (λ rest. (tellings : List Telling) × B.follows before (log ++ tellings) book.new
         × IsSettledTold P.tree tree.now land.old land.new (D.history disk.old) level at place (alone child) un.pointers un.header items rest tellings) }
     ensures stands { OnOk result (B.stands book.new land.new disk.new) }
-    ensures kept { B.settled book.old land.old → OnOk result (B.settled book.new land.new) }
+    ensures kept { B.settled book.old land.old disk.old → OnOk result (B.settled book.new land.new disk.new) }
+    ensures owners { IfOk result (λ rest. IsOwnedBy tree.now.owner land.old land.new × RestHasOwner tree.now.owner land.old rest) }
     ensures disk { (D.history disk.new ≡ D.history disk.old) × (D.size disk.new ≡ D.size disk.old) }
     ensures cause { HasCause BlockFault.Disk (D.faults disk.old) (D.faults disk.new) result }
     ensures reads { (most : ℕ) → ((book : B) (q : ℕ) → B.to_read book q ≤ most) → reads.new ≤ reads.old + (3 + 2 * most) }

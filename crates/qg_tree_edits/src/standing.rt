@@ -43,7 +43,7 @@ pub(crate) fn place_rest<D: Disk, L: Ledger, B: Book<D, L>>(
     ensures told { (before : B) (log : List Telling) → B.follows before log book.old
         → IfOk result (λ instead. B.follows before (log ++ tellings_made instead.more) book.new) }
     ensures stands { OnOk result (B.stands book.new land.new disk.new) }
-    ensures settled { B.settled book.old land.old → OnOk result (B.settled book.new land.new) }
+    ensures settled { B.settled book.old land.old disk.old → OnOk result (B.settled book.new land.new disk.new) }
     ensures sound { (events : List Event) → D.history disk.old ≡ Some events → BreaksNone result }
     ensures disk { (D.history disk.new ≡ D.history disk.old) × (D.size disk.new ≡ D.size disk.old) }
     ensures cause { HasCause BlockFault.Disk (D.faults disk.old) (D.faults disk.new) result }

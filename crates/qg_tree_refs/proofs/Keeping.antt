@@ -266,8 +266,8 @@ bare_owes : (placed : Placed) → own_items placed.node ≡ [] → own_pointers 
 unfolding owed_by_node
 bare_owes placed no_items no_pointers = simp (no_items, no_pointers)
 
-bare_keyed : (node : Node) (tree : ℕ) → own_items node ≡ [] → own_pointers node ≡ [] → keyed_children node tree ≡ []
-bare_keyed node tree no_items no_pointers =
+pub bare-keyed : (node : Node) (tree : ℕ) → own_items node ≡ [] → own_pointers node ≡ [] → keyed_children node tree ≡ []
+bare-keyed node tree no_items no_pointers =
     let header : Header = record (header_of node) { owner = tree } in
     sym (keyed-under header node tree refl)
     ∙ ap (λ (pointers : List Pointer). map (λ (pointer : Pointer). owed_to_child header false pointer.child) pointers
@@ -277,7 +277,7 @@ bare_keyed node tree no_items no_pointers =
 bare_loses : (leaving : Leaving) (placed : Placed) → own_items placed.node ≡ [] → own_pointers placed.node ≡ []
     → leaving_losses leaving placed ≡ []
 bare_loses Goes placed no_items no_pointers = bare_owes placed no_items no_pointers
-bare_loses TurnsFull placed no_items no_pointers = bare_keyed placed.node (owner_of placed) no_items no_pointers
+bare_loses TurnsFull placed no_items no_pointers = bare-keyed placed.node (owner_of placed) no_items no_pointers
 bare_loses Stays placed no_items no_pointers = refl
 
 -- the level that is known

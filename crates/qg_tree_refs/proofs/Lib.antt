@@ -11,3 +11,5 @@ pub mod Going
 pub mod Settling
 pub mod Placing
 pub mod Keeping
+pub mod Leaving
+pub mod Settles

@@ -121,9 +121,9 @@ module _ (old new : Book) (exchange : Exchange) (coming : Option Coming) (sound 
       subst (λ (k : Option Kept). 0 < length (references_in k)) (sym was.1) (sound.some q was.0 was.1)
 
   -- all that is lost is gained and lost
-  total_moved : (q : ℕ) → total (references_at new q) + many exchange.losses q
+  pub total-moved : (q : ℕ) → total (references_at new q) + many exchange.losses q
       ≡ total (references_at old q) + many (ways_to coming ++ exchange.gains) q
-  total_moved q =
+  total-moved q =
       IsCounted-same (λ (r : Reference). count_at new q r + times exchange.losses q r)
       (λ (r : Reference). count_at old q r + times (ways_to coming ++ exchange.gains) q r)
       (total (references_at new q) + many exchange.losses q)
@@ -141,7 +141,7 @@ module _ (old new : Book) (exchange : Exchange) (coming : Option Coming) (sound 
   pub led-still : (q : ℕ) → many exchange.losses q ≤ many exchange.gains q → 0 < references_to old q
       → 0 < references_to new q
   led-still q few some =
-      let moved = total_moved q in
+      let moved = total-moved q in
       let gained = many-append (ways_to coming) exchange.gains q in
       let least = length-total (references_at old q) (sound.sound q) in
       long_total (references_at new q) (omega (arith, moved, gained, least, few, some))

@@ -24,14 +24,14 @@ proper-level before (Copied node copy) level can = can
 proper-level before (Made address) level can = record { there = can.there; room = can.room; first = can.first }
 proper-level before (Left node) level can = can
 
-pub Step-at : (before after : TreeRefs) (telling : Telling) (refs : List (ℕ × Kept)) (level : ℕ)
+pub Step-whole : (before after : TreeRefs) (telling : Telling) (refs : List (ℕ × Kept)) (level : ℕ)
     (misfit : Option ℕ) (exchange : Exchange) (coming : Option Coming)
     → exchange ≡ exchange_of before telling → coming ≡ coming_of before level telling
     → (misfit ≡ None → Exchanges (book_of before.refs) (book_of refs) exchange coming)
     → (CanExchange (book_of before.refs) exchange coming → KeepsLevel (book_of before.refs) telling → misfit ≡ None)
     → after ≡ record before { refs = refs; misfit = option_or before.misfit misfit }
-    → (step : Step before telling after) × (step.level ≡ level)
-Step-at before after telling refs level misfit exchange coming is comes done can noted =
+    → (step : Step before telling after) × (step.level ≡ level) × (step.misfit ≡ misfit)
+Step-whole before after telling refs level misfit exchange coming is comes done can noted =
     let now : after.refs ≡ refs = ap (λ (book : TreeRefs). book.refs) noted in
     let step : Step before telling after = record {
       level = level;
@@ -51,7 +51,18 @@ Step-at before after telling refs level misfit exchange coming is comes done can
           let first = option_or before.misfit misfit in
           noted ∙ ap (λ (table : List (ℕ × Kept)). record before { refs = table; misfit = first }) (sym now);
     } in
-    (step, refl)
+    (step, refl, refl)
+
+pub Step-at : (before after : TreeRefs) (telling : Telling) (refs : List (ℕ × Kept)) (level : ℕ)
+    (misfit : Option ℕ) (exchange : Exchange) (coming : Option Coming)
+    → exchange ≡ exchange_of before telling → coming ≡ coming_of before level telling
+    → (misfit ≡ None → Exchanges (book_of before.refs) (book_of refs) exchange coming)
+    → (CanExchange (book_of before.refs) exchange coming → KeepsLevel (book_of before.refs) telling → misfit ≡ None)
+    → after ≡ record before { refs = refs; misfit = option_or before.misfit misfit }
+    → (step : Step before telling after) × (step.level ≡ level)
+Step-at before after telling refs level misfit exchange coming is comes done can noted =
+    let whole = Step-whole before after telling refs level misfit exchange coming is comes done can noted in
+    (whole.0, whole.1)
 
 pub Step-exchanged : (before after : TreeRefs) (telling : Telling) (refs : List (ℕ × Kept)) (level : ℕ)
     (misfit : Option ℕ) (exchange : Exchange) (coming : Option Coming)
@@ -60,7 +71,7 @@ pub Step-exchanged : (before after : TreeRefs) (telling : Telling) (refs : List 
     → (CanExchange (book_of before.refs) exchange coming → KeepsLevel (book_of before.refs) telling → misfit ≡ None)
     → after ≡ record before { refs = refs; misfit = option_or before.misfit misfit } → Step before telling after
 Step-exchanged before after telling refs level misfit exchange coming is comes done can noted =
-    (Step-at before after telling refs level misfit exchange coming is comes done can noted).0
+    (Step-whole before after telling refs level misfit exchange coming is comes done can noted).0
 
 -- a misfit that was met before, or is
 pub or-none : (first last : Option ℕ) → option_or first last ≡ None → (first ≡ None) × (last ≡ None)

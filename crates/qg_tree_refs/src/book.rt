@@ -3,6 +3,7 @@ ghost use Rattle.std.specs.Prelude.{◌≡◌, ◌+◌, ◌<◌, ◌≤◌, ℕ,
 ghost use Rattle.qg_device.specs.Cause.{HasCause};
 ghost use Rattle.qg_device.specs.History.{Event};
 ghost use Rattle.qg_node.specs.declared.node.Node.{Node as NodeValue};
+ghost use Rattle.qg_node.specs.Nodes.{header_of};
 ghost use Rattle.qg_blocks.specs.Told.{BreaksNone, IsBacked, fresh_at, held_at, told};
 ghost use Rattle.qg_space.specs.Holding.{without_slot};
 ghost use Rattle.qg_ground.specs.Land.{IsDrafted, Rests};
@@ -74,17 +75,35 @@ fn let_go(refs: &Extents, land: &mut Ground, at: Address)
     give_back(&mut land.space, at);
 }
 
+/// Notes a misfit where a copy is of another level than the node. Both are in memory.
+fn note_level(refs: &mut TreeRefs, blocks: &Blocks, at: Address, copy: Address)
+    requires node { IsSome (held_at blocks.now at) }
+    requires copy { IsSome (held_at blocks.now copy) }
+    ensures same { (node mine : NodeValue) → held_at blocks.now at ≡ Some node → held_at blocks.now copy ≡ Some mine
+        → (header_of mine).level ≡ (header_of node).level → refs.new ≡ refs.old }
+    ensures fits { refs.new.misfit ≡ None → (refs.new ≡ refs.old)
+        × ((node mine : NodeValue) → held_at blocks.now at ≡ Some node → held_at blocks.now copy ≡ Some mine
+        → (header_of mine).level ≡ (header_of node).level) }
+{
+    if blocks.peek(copy).level() != blocks.peek(at).level() {
+        refs.note(Some(copy));
+    }
+}
+
 impl<D: Disk, L: Ledger> Book<D, L> for TreeRefs {
-    ghost use Rattle.std.specs.Prelude.{⊤, length, nat_lt};
+    ghost use Rattle.std.specs.Prelude.{◌≡◌, ⊤, None, length, nat_lt};
+    ghost use Rattle.std.proofs.Common.{subst, sym};
     ghost use Rattle.qg_refs.specs.Book.{references_at};
     ghost use Rattle.qg_extents.specs.Table.{book_of};
     ghost use Rattle.qg_tree_refs.specs.Following.{Follows};
+    ghost use Rattle.qg_tree_refs.specs.Settled.{IsSettled};
+    ghost use Rattle.qg_tree_refs.specs.Lasting.{settled_still};
 
     ghost follows = { λ before log after. Follows before log after };
 
     ghost stands = { λ book land disk. ⊤ };
 
-    ghost settled = { λ book land. ⊤ };
+    ghost settled = { λ book land disk. book.misfit ≡ None → IsSettled book land (D.history disk) };
 
     ghost shares = { λ book land disk at. nat_lt 1 (length (references_at (book_of book.refs) at)) };
 
@@ -112,7 +131,9 @@ impl<D: Disk, L: Ledger> Book<D, L> for TreeRefs {
             self.note(Some(at));
             return Ok(());
         }
+        let _ascending = self.refs().len();
         self.copy(land.blocks.peek(at), copy)?;
+        note_level(self, &land.blocks, at, copy);
         let_go(self.refs(), land, at);
         Ok(())
     }
@@ -124,6 +145,7 @@ impl<D: Disk, L: Ledger> Book<D, L> for TreeRefs {
         at: Address,
         _reads: &mut Steps<L>,
     ) -> Result<(), BlockFault> {
+        let _ascending = self.refs().len();
         let level = land.blocks.peek(at).level();
         self.make(at, level)?;
         Ok(())
@@ -136,6 +158,7 @@ impl<D: Disk, L: Ledger> Book<D, L> for TreeRefs {
         at: Address,
         _reads: &mut Steps<L>,
     ) -> Result<(), BlockFault> {
+        let _ascending = self.refs().len();
         self.leave(land.blocks.peek(at))?;
         let_go(self.refs(), land, at);
         Ok(())
@@ -143,5 +166,7 @@ impl<D: Disk, L: Ledger> Book<D, L> for TreeRefs {
 
     ghost lasts = { λ book old new before after history size backed spares stands. tt };
 
-    ghost keeps = { λ book old new space levels settled. tt };
+    ghost keeps = { λ book old new before after history space levels settled fits.
+        subst (λ (h : Option (List Event)). IsSettled book new h) (sym history)
+        (settled_still book old new (D.history before) space levels (settled fits)) };
 }

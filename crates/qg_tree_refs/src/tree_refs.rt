@@ -127,7 +127,8 @@ impl TreeRefs {
 
     /// The node is reached no more.
     pub(crate) fn leave(&mut self, node: &Node) -> Result<(), NoMemory>
-        ensures { OnOk result (Step self.old (Left node.now) self.new) }
+        ensures { OnOk result ((step : Step self.old (Left node.now) self.new)
+            × (step.misfit ≡ None → other_level (book_of self.old.refs) node.now ≡ None)) }
     {
         let level = self.other_level(node);
         let lists = lists_of_leaving(&self.refs, node, self.tree)?;

@@ -52,12 +52,13 @@ inner_stands super image address level header pointers items nodes is above own 
 
 -- ---- one node
 
-pub HasAdded-leaf : {P : Type 0} (tree : Tree) (meaning : Item → Option P) (super : Super) (history : Option (List Event)) (expected : Expected) (address : ℕ)
-    (header : Header) (items : List Item) (old new : Found P) → IsJudged tree super expected address (Leaf header items)
+pub HasAdded-leaf : {P N : Type 0} (tree : Tree) (meaning : Item → Option P) (keeps : N → List Node → Type 0) (super : Super) (history : Option (List Event)) (expected : Expected) (address : ℕ)
+    (header : Header) (items : List Item) (old new : Found P N) → IsJudged tree super expected address (Leaf header items)
     → ((events : List Event) → history ≡ Some events → node_found super (content events) address ≡ Ok (Leaf header items))
-    → list_all (is_item_of tree super.generation) items ≡ true → AddsSaid meaning items old.parts new.parts → new.nodes ≡ old.nodes ++ address ∷ []
-    → HasAdded tree meaning super history expected.from expected.to (below_node super address) old new
-HasAdded-leaf tree meaning super history expected address header items old new judged found held said nodes =
+    → list_all (is_item_of tree super.generation) items ≡ true → AddsSaid meaning items old.parts new.parts
+    → ((before : List Node) → keeps old.nodes before → keeps new.nodes (before ++ Leaf header items ∷ []))
+    → HasAdded tree meaning keeps super history expected.from expected.to (below_node super address) old new
+HasAdded-leaf tree meaning keeps super history expected address header items old new judged found held said nodes =
     let stands = judged.stands in
     let formed = IsFormed-form tree super expected address (Leaf header items) judged.formed in
     record {
@@ -69,21 +70,20 @@ HasAdded-leaf tree meaning super history expected address header items old new j
       said = said.said;
       slots = and_from (is_slot (sizes_of super) header.address) true (rw stands.placed stands.slot) refl;
       more_parts = said.more;
-      more_nodes = rw stands.placed nodes;
+      more_nodes = nodes;
       items_stand = λ events told. (leaf_stands super (content events) address header items (found events told) stands.sound.levelled).0;
       nodes_stand = λ events told. (leaf_stands super (content events) address header items (found events told) stands.sound.levelled).1;
     }
 
-pub HasAdded-inner : {P : Type 0} (tree : Tree) (meaning : Item → Option P) (super : Super) (history : Option (List Event)) (expected : Expected) (address : ℕ)
-    (header : Header) (pointers : List Pointer) (old middle new : Found P) → IsJudged tree super expected address (Inner header pointers)
+pub HasAdded-inner : {P N : Type 0} (tree : Tree) (meaning : Item → Option P) (keeps : N → List Node → Type 0) (super : Super) (history : Option (List Event)) (expected : Expected) (address : ℕ)
+    (header : Header) (pointers : List Pointer) (old middle new : Found P N) → IsJudged tree super expected address (Inner header pointers)
     → ((events : List Event) → history ≡ Some events → node_found super (content events) address ≡ Ok (Inner header pointers))
-    → middle.parts ≡ old.parts → middle.nodes ≡ old.nodes ++ address ∷ []
-    → HasAdded tree meaning super history expected.from expected.to (below_pointers super (header.level - 1) pointers) middle new
-    → HasAdded tree meaning super history expected.from expected.to (below_node super address) old new
-HasAdded-inner tree meaning super history expected address header pointers old middle new judged found same first added =
+    → middle.parts ≡ old.parts → ((before : List Node) → keeps old.nodes before → keeps middle.nodes (before ++ Inner header pointers ∷ []))
+    → HasAdded tree meaning keeps super history expected.from expected.to (below_pointers super (header.level - 1) pointers) middle new
+    → HasAdded tree meaning keeps super history expected.from expected.to (below_node super address) old new
+HasAdded-inner tree meaning keeps super history expected address header pointers old middle new judged found same first added =
     let stands = judged.stands in
     let level : header.level ≡ suc (header.level - 1) = omega (arith, stands.sound.levelled.0) in
-    let address_of : Node → ℕ = λ node. (header_of node).address in
     record {
       items = added.items;
       nodes = Inner header pointers ∷ added.nodes;
@@ -93,8 +93,8 @@ HasAdded-inner tree meaning super history expected address header pointers old m
       said = added.said;
       slots = and_from (is_slot (sizes_of super) header.address) (list_all (λ node. is_slot (sizes_of super) (header_of node).address) added.nodes) (rw stands.placed stands.slot) added.slots;
       more_parts = added.more_parts ∙ ap (λ front. front ++ added.parts) same;
-      more_nodes = added.more_nodes ∙ ap (λ front. front ++ map address_of added.nodes) first ∙ append_assoc old.nodes (address ∷ []) (map address_of added.nodes)
-          ∙ ap (λ own. old.nodes ++ own ∷ map address_of added.nodes) (sym stands.placed);
+      more_nodes = λ before kept.
+          subst (keeps new.nodes) (append_assoc before (Inner header pointers ∷ []) added.nodes) (added.more_nodes (before ++ Inner header pointers ∷ []) (first before kept));
       items_stand = λ events told.
           (inner_stands super (content events) address (header.level - 1) header pointers added.items added.nodes (found events told) level (added.items_stand events told) (added.nodes_stand events told)).0;
       nodes_stand = λ events told.
@@ -104,10 +104,10 @@ HasAdded-inner tree meaning super history expected address header pointers old m
 -- ---- the nodes that pointers lead to
 
 -- those in front of the rest were walked
-pub record HasPassed {P : Type 0} (tree : Tree) (meaning : Item → Option P) (super : Super) (history : Option (List Event)) (from to : Option Key) (level : ℕ) (pointers rest : List Pointer) (old new : Found P) : Type 0 where
+pub record HasPassed {P N : Type 0} (tree : Tree) (meaning : Item → Option P) (keeps : N → List Node → Type 0) (super : Super) (history : Option (List Event)) (from to : Option Key) (level : ℕ) (pointers rest : List Pointer) (old new : Found P N) : Type 0 where
   pub front : List Pointer
   pub whole : pointers ≡ front ++ rest
-  pub added : HasAdded tree meaning super history from (next_key to rest) (below_pointers super level front) old new
+  pub added : HasAdded tree meaning keeps super history from (next_key to rest) (below_pointers super level front) old new
 
 -- two lists one after the other, where both are defined
 abbrev both_lists : {A : Type 0} → Option (List A) → Option (List A) → Option (List A)
@@ -127,9 +127,9 @@ joined-more {A} under [] pointer first more h k =
 joined-more under (next ∷ front) pointer first more h k =
     both_lists-more (under next) (joined under front) (joined under (front ++ pointer ∷ [])) first more (λ own is. joined-more under front pointer own more is k) h
 
-pub HasPassed-none : {P : Type 0} (tree : Tree) (meaning : Item → Option P) (super : Super) (history : Option (List Event)) (from to : Option Key) (level : ℕ) (pointers : List Pointer) (old : Found P)
-    → HasPassed tree meaning super history from to level pointers pointers old old
-HasPassed-none tree meaning super history from to level pointers old = record {
+pub HasPassed-none : {P N : Type 0} (tree : Tree) (meaning : Item → Option P) (keeps : N → List Node → Type 0) (super : Super) (history : Option (List Event)) (from to : Option Key) (level : ℕ) (pointers : List Pointer) (old : Found P N)
+    → HasPassed tree meaning keeps super history from to level pointers pointers old old
+HasPassed-none tree meaning keeps super history from to level pointers old = record {
   front = [];
   whole = refl;
   added = record {
@@ -141,22 +141,21 @@ HasPassed-none tree meaning super history from to level pointers old = record {
     said = refl;
     slots = refl;
     more_parts = sym (append-nil old.parts);
-    more_nodes = sym (append-nil old.nodes);
+    more_nodes = λ before kept. subst (keeps old.nodes) (sym (append-nil before)) kept;
     items_stand = λ events told. refl;
     nodes_stand = λ events told. refl;
   };
 }
 
-pub HasPassed-more : {P : Type 0} (tree : Tree) (meaning : Item → Option P) (super : Super) (history : Option (List Event)) (from to : Option Key) (level : ℕ) (pointers : List Pointer)
-    (pointer : Pointer) (others : List Pointer) (old middle new : Found P) → HasPassed tree meaning super history from to level pointers (pointer ∷ others) old middle
-    → HasAdded tree meaning super history (Some pointer.key) (next_key to others) (below_node super pointer.child) middle new
+pub HasPassed-more : {P N : Type 0} (tree : Tree) (meaning : Item → Option P) (keeps : N → List Node → Type 0) (super : Super) (history : Option (List Event)) (from to : Option Key) (level : ℕ) (pointers : List Pointer)
+    (pointer : Pointer) (others : List Pointer) (old middle new : Found P N) → HasPassed tree meaning keeps super history from to level pointers (pointer ∷ others) old middle
+    → HasAdded tree meaning keeps super history (Some pointer.key) (next_key to others) (below_node super pointer.child) middle new
     → ((events : List Event) → history ≡ Some events → level_in super (content events) pointer.child ≡ level)
     → is_from from pointer.key ≡ true → is_to (next_key to others) pointer.key ≡ true
-    → HasPassed tree meaning super history from to level pointers others old new
-HasPassed-more tree meaning super history from to level pointers pointer others old middle new passed more told_level first last =
+    → HasPassed tree meaning keeps super history from to level pointers others old new
+HasPassed-more tree meaning keeps super history from to level pointers pointer others old middle new passed more told_level first last =
     let added = passed.added in
     let key_of : Item → Key = λ item. item.key in
-    let address_of : Node → ℕ = λ node. (header_of node).address in
     record {
       front = passed.front ++ pointer ∷ [];
       whole = passed.whole ∙ sym (append_assoc passed.front (pointer ∷ []) others);
@@ -170,8 +169,8 @@ HasPassed-more tree meaning super history from to level pointers pointer others 
             ∙ ap (λ back. map (λ part. Some part) added.parts ++ back) more.said ∙ sym (map-append (λ part. Some part) added.parts more.parts);
         slots = list_all-both (λ node. is_slot (sizes_of super) (header_of node).address) added.nodes more.nodes added.slots more.slots;
         more_parts = more.more_parts ∙ ap (λ front. front ++ more.parts) added.more_parts ∙ append_assoc old.parts added.parts more.parts;
-        more_nodes = more.more_nodes ∙ ap (λ front. front ++ map address_of more.nodes) added.more_nodes ∙ append_assoc old.nodes (map address_of added.nodes) (map address_of more.nodes)
-            ∙ ap (λ back. old.nodes ++ back) (sym (map-append address_of added.nodes more.nodes));
+        more_nodes = λ before kept.
+            subst (keeps new.nodes) (append_assoc before added.nodes more.nodes) (more.more_nodes (before ++ added.nodes) (added.more_nodes before kept));
         items_stand = λ events told.
             joined-more (λ pointer. items_below (nodes_of (node_found super (content events))) level pointer.child) passed.front pointer added.items more.items (added.items_stand events told)
             (rw (told_level events told) at (more.items_stand events told));
@@ -181,24 +180,24 @@ HasPassed-more tree meaning super history from to level pointers pointer others 
       };
     }
 
-pub HasPassed-all : {P : Type 0} (tree : Tree) (meaning : Item → Option P) (super : Super) (history : Option (List Event)) (from to : Option Key) (level : ℕ) (pointers rest : List Pointer) (old new : Found P)
-    → rest ≡ [] → HasPassed tree meaning super history from to level pointers rest old new → HasAdded tree meaning super history from to (below_pointers super level pointers) old new
-HasPassed-all tree meaning super history from to level pointers rest old new none passed =
+pub HasPassed-all : {P N : Type 0} (tree : Tree) (meaning : Item → Option P) (keeps : N → List Node → Type 0) (super : Super) (history : Option (List Event)) (from to : Option Key) (level : ℕ) (pointers rest : List Pointer) (old new : Found P N)
+    → rest ≡ [] → HasPassed tree meaning keeps super history from to level pointers rest old new → HasAdded tree meaning keeps super history from to (below_pointers super level pointers) old new
+HasPassed-all tree meaning keeps super history from to level pointers rest old new none passed =
     let whole : pointers ≡ passed.front = passed.whole ∙ ap (λ back. passed.front ++ back) none ∙ append-nil passed.front in
     let end : next_key to rest ≡ to = ap (next_key to) none in
-    rw whole (subst (λ last. HasAdded tree meaning super history from last (below_pointers super level passed.front) old new) end passed.added)
+    rw whole (subst (λ last. HasAdded tree meaning keeps super history from last (below_pointers super level passed.front) old new) end passed.added)
 
 -- where a leaf's items were said and none broke its rule
-pub HasAdded-said : {P : Type 0} (tree : Tree) (meaning : Item → Option P) (super : Super) (history : Option (List Event)) (expected : Expected) (address : ℕ)
-    (header : Header) (items : List Item) (old new : Found P) (result : Result Unit OpenFault) → IsJudged tree super expected address (Leaf header items)
+pub HasAdded-said : {P N : Type 0} (tree : Tree) (meaning : Item → Option P) (keeps : N → List Node → Type 0) (super : Super) (history : Option (List Event)) (expected : Expected) (address : ℕ)
+    (header : Header) (items : List Item) (old new : Found P N) (result : Result Unit OpenFault) → IsJudged tree super expected address (Leaf header items)
     → ((events : List Event) → history ≡ Some events → node_found super (content events) address ≡ Ok (Leaf header items))
     → FailsAs result (unless (list_all (is_item_of tree super.generation) items) rule.Item address) → OnOk result (AddsSaid meaning items old.parts new.parts)
-    → new.nodes ≡ old.nodes ++ address ∷ []
-    → OnOk result (HasAdded tree meaning super history expected.from expected.to (below_node super address) old new)
-HasAdded-said tree meaning super history expected address header items old new (Ok done) judged found fails said nodes =
-    HasAdded-leaf tree meaning super history expected address header items old new judged found
+    → ((before : List Node) → keeps old.nodes before → keeps new.nodes (before ++ Leaf header items ∷ []))
+    → OnOk result (HasAdded tree meaning keeps super history expected.from expected.to (below_node super address) old new)
+HasAdded-said tree meaning keeps super history expected address header items old new (Ok done) judged found fails said nodes =
+    HasAdded-leaf tree meaning keeps super history expected address header items old new judged found
     (kept-none (list_all (is_item_of tree super.generation) items) rule.Item address fails) said nodes
-HasAdded-said tree meaning super history expected address header items old new (Err fault) judged found fails said nodes = tt
+HasAdded-said tree meaning keeps super history expected address header items old new (Err fault) judged found fails said nodes = tt
 
 pub level_passed : (super : Super) (image : List ℕ) (expected : Expected) (address level : ℕ) → expected.level ≡ Some level → IsPassed expected (node_found super image address)
     → level_in super image address ≡ level

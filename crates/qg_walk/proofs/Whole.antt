@@ -1,8 +1,7 @@
 -- What was found of a whole tree.
-use Rattle.std.proofs.Common.{◌≡◌, ℕ, zero, suc, ◌-◌, true, List, [], ◌∷◌, ◌++◌, map, refl, sym, ap, ◌∙◌, Option, Some, None}
+use Rattle.std.proofs.Common.{◌≡◌, ℕ, zero, suc, ◌-◌, true, List, [], ◌∷◌, ◌++◌, refl, sym, ap, ◌∙◌, Option, Some, None}
 use Rattle.std.specs.Prelude.{Result, Ok, Err, is_none}
 use Rattle.std.specs.List.{list_all}
-use Rattle.std.proofs.lemmas.List.Folds.{list_all-map}
 use Rattle.qg_device.specs.History.{Event, content}
 use Rattle.qg_num.specs.declared.key.Key.{Key}
 use Rattle.qg_num.specs.declared.rule.Rule.TheVariants as rule
@@ -11,7 +10,6 @@ use Rattle.qg_node.specs.declared.pointer.Pointer.{Pointer}
 use Rattle.qg_node.specs.declared.node.Node.{Node}
 use Rattle.qg_node.specs.Nodes.{header_of, own_items, own_pointers}
 use Rattle.qg_super.specs.declared.superblock.Super.{Super}
-use Rattle.qg_super.specs.Places.{is_slot}
 use Rattle.qg_super.specs.SuperText.{sizes_of}
 use Rattle.qg_verdict.specs.declared.failure.Failure.{Failure}
 use Rattle.qg_verdict.specs.declared.tree.Tree.{Tree}
@@ -22,7 +20,7 @@ use Rattle.qg_verdict.specs.ItemsUnder.{is_way, items_under, nodes_under}
 use Rattle.qg_verdict.specs.ImageState.{level_in, tree_items, tree_nodes}
 use Rattle.qg_walk.specs.IsWalk.{IsWalk}
 use Rattle.qg_walk.specs.Added.{below_node, Found, HasAdded}
-use Rattle.qg_walk.specs.Held.{AreHeld}
+use Rattle.qg_walk.specs.Held.{AreHeld, AreInSlots}
 use Rattle.qg_walk.specs.Standing.{expected_below}
 use Rattle.qg_walk.proofs.Failures.{first_none, neither, none_of_two}
 
@@ -85,11 +83,11 @@ tree_nodes-is : (tree : Tree) (super : Super) (image : List ℕ) (expected : Exp
 unfolding tree_nodes
 tree_nodes-is tree super image expected root nodes is = rw is refl
 
-pub IsWalk-added : {P : Type 0} (tree : Tree) (meaning : Item → Option P) (super : Super) (history : Option (List Event)) (events : List Event) (from to : Option Key) (expected : Expected) (root : ℕ)
-    (old new : Found P) → history ≡ Some events → old.parts ≡ [] → old.nodes ≡ [] → tree_failure tree super (content events) expected root ≡ None
-    → HasAdded tree meaning super history from to (below_node super root) old new
-    → IsWalk tree meaning super (content events) expected root new.parts new.nodes
-IsWalk-added tree meaning super history events from to expected root old new told no_parts no_nodes sound added =
+pub IsWalk-added : {P N : Type 0} (tree : Tree) (meaning : Item → Option P) (keeps : N → List Node → Type 0) (super : Super) (history : Option (List Event)) (events : List Event) (from to : Option Key) (expected : Expected) (root : ℕ)
+    (old new : Found P N) → history ≡ Some events → old.parts ≡ [] → keeps old.nodes [] → tree_failure tree super (content events) expected root ≡ None
+    → HasAdded tree meaning keeps super history from to (below_node super root) old new
+    → IsWalk tree meaning keeps super (content events) expected root new.parts new.nodes
+IsWalk-added tree meaning keeps super history events from to expected root old new told no_parts no_nodes sound added =
     let image = content events in
     let items = items_under-below tree super image expected root added.items sound (added.items_stand events told) in
     let nodes = nodes_under-below tree super image expected root added.nodes sound (added.nodes_stand events told) in
@@ -99,22 +97,19 @@ IsWalk-added tree meaning super history events from to expected root old new tol
     record {
       sound = sound;
       items = items ∙ ap Some (sym all_items);
-      nodes = nodes ∙ ap Some (sym all_nodes);
+      reached = nodes ∙ ap Some (sym all_nodes);
       held = rw all_items added.held;
       said = rw (all_items, parts) added.said;
-      placed = added.more_nodes ∙ ap (λ front. front ++ map (λ (node : Node). (header_of node).address) added.nodes) no_nodes
-          ∙ ap (λ nodes. map (λ (node : Node). (header_of node).address) nodes) (sym all_nodes);
+      kept = rw all_nodes (added.more_nodes [] no_nodes);
     }
 
-pub slots-added : {P : Type 0} (tree : Tree) (meaning : Item → Option P) (super : Super) (history : Option (List Event)) (from to : Option Key) (root : ℕ) (old new : Found P)
-    → old.nodes ≡ [] → HasAdded tree meaning super history from to (below_node super root) old new → list_all (is_slot (sizes_of super)) new.nodes ≡ true
-slots-added tree meaning super history from to root old new no_nodes added =
-    let nodes : new.nodes ≡ map (λ (node : Node). (header_of node).address) added.nodes =
-    added.more_nodes ∙ ap (λ front. front ++ map (λ (node : Node). (header_of node).address) added.nodes) no_nodes in
-    rw (nodes, list_all-map) added.slots
+pub slots-added : {P N : Type 0} (tree : Tree) (meaning : Item → Option P) (keeps : N → List Node → Type 0) (super : Super) (history : Option (List Event)) (from to : Option Key) (root : ℕ)
+    (old new : Found P N) → keeps old.nodes [] → HasAdded tree meaning keeps super history from to (below_node super root) old new → AreInSlots (sizes_of super) keeps new.nodes
+slots-added tree meaning keeps super history from to root old new no_nodes added =
+    record { nodes = added.nodes; kept = added.more_nodes [] no_nodes; slots = added.slots }
 
-pub held-added : {P : Type 0} (tree : Tree) (meaning : Item → Option P) (super : Super) (history : Option (List Event)) (from to : Option Key) (root : ℕ) (old new : Found P)
-    → old.parts ≡ [] → HasAdded tree meaning super history from to (below_node super root) old new → AreHeld tree meaning super.generation new.parts
-held-added tree meaning super history from to root old new no_parts added =
+pub held-added : {P N : Type 0} (tree : Tree) (meaning : Item → Option P) (keeps : N → List Node → Type 0) (super : Super) (history : Option (List Event)) (from to : Option Key) (root : ℕ) (old new : Found P N)
+    → old.parts ≡ [] → HasAdded tree meaning keeps super history from to (below_node super root) old new → AreHeld tree meaning super.generation new.parts
+held-added tree meaning keeps super history from to root old new no_parts added =
     let parts : new.parts ≡ added.parts = added.more_parts ∙ ap (λ front. front ++ added.parts) no_parts in
     record { items = added.items; held = added.held; said = rw parts added.said }

@@ -62,18 +62,18 @@ below_pointers super level pointers image = record {
   nodes = joined (λ pointer. nodes_below (nodes_of (node_found super image)) level pointer.child) pointers;
 }
 
--- what was found of a tree: what its items say, and where its nodes lie
-pub record Found (P : Type 0) : Type 0 where
+-- what was found of a tree: what its items say, and what is kept of its nodes
+pub record Found (P N : Type 0) : Type 0 where
   pub parts : List P
-  pub nodes : List ℕ
+  pub nodes : N
 
 -- that of a walk, where this is what its parts keep
-abbrev pub found_by : {L P : Type 0} → (L → List P) → Walked L → Found P
+abbrev pub found_by : {L P N : Type 0} → (L → List P) → Walked L N → Found P N
 found_by list walked = record { parts = list walked.parts; nodes = walked.nodes }
 
--- What was found grew by what some items say, which the tree may hold and whose keys ascend within a range, and by where some nodes lie,
--- all in slots. Where the disk tells what it holds, those are the items and nodes that stand there
-pub record HasAdded {P : Type 0} (tree : Tree) (meaning : Item → Option P) (super : Super) (history : Option (List Event)) (from to : Option Key) (below : List ℕ → Below) (old new : Found P) : Type 0 where
+-- What was found grew by what some items say, which the tree may hold and whose keys ascend within a range, and by what is kept of some
+-- nodes, which lie in slots. Where the disk tells what it holds, those are the items and nodes that stand there
+pub record HasAdded {P N : Type 0} (tree : Tree) (meaning : Item → Option P) (keeps : N → List Node → Type 0) (super : Super) (history : Option (List Event)) (from to : Option Key) (below : List ℕ → Below) (old new : Found P N) : Type 0 where
   pub items : List Item
   pub nodes : List Node
   pub parts : List P
@@ -82,7 +82,7 @@ pub record HasAdded {P : Type 0} (tree : Tree) (meaning : Item → Option P) (su
   pub said : map meaning items ≡ map (λ part. Some part) parts
   pub slots : IsTrue (list_all (λ node. is_slot (sizes_of super) (header_of node).address) nodes)
   pub more_parts : new.parts ≡ old.parts ++ parts
-  pub more_nodes : new.nodes ≡ old.nodes ++ map (λ node. (header_of node).address) nodes
+  pub more_nodes : (before : List Node) → keeps old.nodes before → keeps new.nodes (before ++ nodes)
   pub items_stand : (events : List Event) → history ≡ Some events → (below (content events)).items ≡ Some items
   pub nodes_stand : (events : List Event) → history ≡ Some events → (below (content events)).nodes ≡ Some nodes
 

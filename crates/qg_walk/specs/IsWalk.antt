@@ -2,7 +2,7 @@
 use Rattle.std.specs.Prelude.{◌≡◌, ℕ, List, map, Option, Some, None, IsTrue}
 use Rattle.std.specs.List.{list_all}
 use Rattle.qg_node.specs.declared.item.Item.{Item}
-use Rattle.qg_node.specs.Nodes.{header_of}
+use Rattle.qg_node.specs.declared.node.Node.{Node}
 use Rattle.qg_super.specs.declared.superblock.Super.{Super}
 use Rattle.qg_verdict.specs.declared.tree.Tree.{Tree}
 use Rattle.qg_verdict.specs.declared.expected.Expected.{Expected}
@@ -10,12 +10,12 @@ use Rattle.qg_verdict.specs.Walk.{is_item_of, node_found, tree_failure}
 use Rattle.qg_verdict.specs.ItemsUnder.{items_under, nodes_under}
 use Rattle.qg_verdict.specs.ImageState.{level_in, tree_items, tree_nodes}
 
--- In an image the walk of a tree meets no failure. What was found is what the tree's items say, from left to right, and where its nodes
--- lie, each before those below it
-pub record IsWalk {P : Type 0} (tree : Tree) (meaning : Item → Option P) (super : Super) (image : List ℕ) (expected : Expected) (root : ℕ) (parts : List P) (addresses : List ℕ) : Type 0 where
+-- In an image the walk of a tree meets no failure. What was found is what the tree's items say, from left to right, and what is kept of its
+-- nodes, each before those below it
+pub record IsWalk {P N : Type 0} (tree : Tree) (meaning : Item → Option P) (keeps : N → List Node → Type 0) (super : Super) (image : List ℕ) (expected : Expected) (root : ℕ) (parts : List P) (nodes : N) : Type 0 where
   pub sound : tree_failure tree super image expected root ≡ None
   pub items : items_under tree super (node_found super image) (level_in super image root) expected root ≡ Some (tree_items tree super image expected root)
-  pub nodes : nodes_under tree super (node_found super image) (level_in super image root) expected root ≡ Some (tree_nodes tree super image expected root)
+  pub reached : nodes_under tree super (node_found super image) (level_in super image root) expected root ≡ Some (tree_nodes tree super image expected root)
   pub held : IsTrue (list_all (is_item_of tree super.generation) (tree_items tree super image expected root))
   pub said : map meaning (tree_items tree super image expected root) ≡ map (λ part. Some part) parts
-  pub placed : addresses ≡ map (λ node. (header_of node).address) (tree_nodes tree super image expected root)
+  pub kept : keeps nodes (tree_nodes tree super image expected root)

@@ -1,6 +1,7 @@
 // What the way to a node leads to expect of it, and the rules from `depth` to `shape`.
-ghost use Rattle.std.specs.Prelude.{◌≡◌, ◌<◌, ◌≤◌, ◌&&◌, ◌^◌, ℕ, None, IsTrue};
+ghost use Rattle.std.specs.Prelude.{◌≡◌, ◌≤◌, ◌*◌, ◌&&◌, ℕ, None, IsTrue, nat_le};
 ghost use Rattle.qg_node.specs.Nodes.{is_ascending, own_keys, used_bytes};
+ghost use Rattle.qg_super.specs.Places.{capacity};
 ghost use Rattle.qg_image.specs.IsShaped.{is_first, is_shaped};
 ghost use Rattle.qg_verdict.specs.Walk.{begins_at, ends_before, is_told, is_generation, next_key};
 ghost use Rattle.qg_walk.specs.Standing.{expected_below, form_failure};
@@ -45,7 +46,6 @@ pub fn form_failure<P: TreePart>(
     address: Address,
     node: &Node,
 ) -> Option<Failure>
-    requires used { used_bytes node.now < 2 ^ 32 }
     requires ascending { IsTrue (is_ascending (own_keys node.now)) }
     ensures { result ≡ form_failure P.tree superblock.now expected.now address node.now }
 {
@@ -103,13 +103,20 @@ fn is_in_range(from: Option<Key>, to: Option<Key>, node: &Node) -> bool
 /// Whether a node has the shape of a root, or of one that a pointer of this key leads to.
 #[tactic(auto, unfolding(qg_image::specs::IsShaped::is_shaped))]
 fn is_shaped(nodesize: u32, from: Option<Key>, node: &Node) -> bool
-    requires { used_bytes node.now < 2 ^ 32 }
     ensures { result ≡ is_shaped nodesize from node.now }
 {
     let Some(key) = from else {
         return is_root_shaped(node);
     };
-    4 * node.used_bytes() + HEADER_BYTES >= nodesize as usize && is_first(key, node)
+    takes_a_quarter(nodesize as usize, node) && is_first(key, node)
+}
+
+// Whether the items or pointers of a node take a quarter at least of what the header leaves of its bytes. No more of them is added up than
+// that takes.
+fn takes_a_quarter(nodesize: usize, node: &Node) -> bool
+    ensures { result ≡ nat_le (capacity nodesize) (4 * used_bytes node.now) }
+{
+    nodesize <= HEADER_BYTES || !node.has_room(HEADER_BYTES + (nodesize - HEADER_BYTES - 1) / 4)
 }
 
 #[tactic(auto, unfolding(qg_image::specs::IsShaped::is_shaped))]

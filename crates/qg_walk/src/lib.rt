@@ -5,6 +5,7 @@ mod fault;
 mod form;
 mod items;
 mod keys;
+mod nodes;
 mod slot;
 mod visit;
 mod walk;
@@ -12,5 +13,6 @@ mod walked;
 
 pub use fault::OpenFault;
 pub use form::{expected_below, form_failure};
+pub use nodes::NodeList;
 pub use walk::walk_tree;
 pub use walked::Walked;

@@ -1,29 +1,32 @@
 // Reading one node, and judging it.
-ghost use Rattle.std.specs.Prelude.{◌≡◌, ◌≤◌, ◌∷◌, ◌++◌, [], List, length, Some, Ok, IfOk, OnOk, IsTrue};
+ghost use Rattle.std.specs.Prelude.{◌≡◌, ◌≤◌, ◌∷◌, ◌++◌, [], List, length, Some, Ok, IfOk, IsTrue};
 ghost use Rattle.qg_device.specs.Cause.{HasCause};
 ghost use Rattle.qg_device.specs.History.{Event, content};
+ghost use Rattle.qg_node.specs.declared.node.Node.{Node as NodeValue};
 ghost use Rattle.qg_super.specs.Places.{is_served, total_bytes};
 ghost use Rattle.qg_super.specs.SuperText.{sizes_of};
 ghost use Rattle.qg_verdict.specs.Walk.{node_found};
 ghost use Rattle.qg_walk.specs.Fault.{FailsAs};
 ghost use Rattle.qg_walk.specs.Standing.{IsJudged, standing_failure};
 
-use crate::OpenFault;
 use crate::form::form_failure;
 use crate::slot::node_at;
+use crate::{NodeList, OpenFault};
 use qg_disk::Disk;
 use qg_node::Node;
-use qg_num::{Address, Sequence};
+use qg_num::Address;
 use qg_parts::TreePart;
 use qg_super::Super;
 use qg_verdict::Expected;
+use std::alloc::Global;
 
-/// Reads the node at an address, judges it by all rules but those on its items, and puts its address behind those of others.
-pub(crate) fn visit<P: TreePart, D: Disk>(
+/// Reads the node at an address, judges it by all rules but those on its items, and keeps what is wanted of it.
+pub(crate) fn visit<P: TreePart, N: NodeList, D: Disk>(
+    alloc: Global,
     disk: &mut D,
     superblock: &Super,
     buffer: &mut [u8],
-    nodes: &mut Sequence<Address>,
+    nodes: &mut N,
     expected: &Expected,
     address: Address,
 ) -> Result<Node, OpenFault>
@@ -35,15 +38,15 @@ pub(crate) fn visit<P: TreePart, D: Disk>(
     ensures found { (events : List Event) → D.history disk.old ≡ Some events
         → IfOk result (λ node. node_found superblock.now (content events) address ≡ Ok node) }
     ensures judged { IfOk result (λ node. IsJudged P.tree superblock.now expected.now address node) }
-    ensures added { OnOk result (nodes.new ≡ nodes.old ++ address ∷ []) }
+    ensures kept { IfOk result (λ node. (before : List NodeValue) → N.keeps nodes.old before → N.keeps nodes.new (before ++ node ∷ [])) }
     ensures history { D.history disk.new ≡ D.history disk.old }
     ensures size { D.size disk.new ≡ D.size disk.old }
     ensures cause { HasCause OpenFault.Disk (D.faults disk.old) (D.faults disk.new) result }
 {
-    let node = node_at(nodes.allocator(), disk, superblock, buffer, address)?;
+    let node = node_at(alloc, disk, superblock, buffer, address)?;
     if let Some(failure) = form_failure::<P>(superblock, expected, address, &node) {
         return Err(OpenFault::from(failure));
     }
-    nodes.push(address)?;
+    nodes.push(&node)?;
     Ok(node)
 }

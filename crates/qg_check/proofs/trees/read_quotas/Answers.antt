@@ -5,7 +5,7 @@ use Rattle.qg_image.specs.ItemMeaning.{quota_part}
 use Rattle.qg_verdict.specs.declared.tree.Tree.TheVariants.{Quotas}
 use Rattle.qg_verdict.specs.ImageState.{quota_parts, quota_told}
 use Rattle.qg_verdict.specs.declared.expected.Expected.{Expected}
-use Rattle.qg_walk.specs.Held.{AreHeld}
+use Rattle.qg_walk.specs.Held.{AreHeld, AreAddressesOf}
 use Rattle.qg_walk.specs.IsWalk.{IsWalk}
 use Rattle.qg_parts.specs.Said.{AreSaid}
 use Rattle.qg_parts.proofs.Keys.{quotas_ascending}
@@ -20,17 +20,19 @@ use Rattle.qg_check.proofs.trees.read_quotas.Given.{Over}
 use Rattle.qg_walk.specs.Fault.{TellsFailure}
 use Rattle.qg_verdict.specs.Walk.{tree_failure}
 use Rattle.qg_check.proofs.Staging.{fails_handed, tells_first}
+use Rattle.qg_super.specs.SuperText.{sizes_of}
+use Rattle.qg_check.proofs.SlotsOf.{slots_of_addresses}
 use Rattle.qg_check.proofs.trees.read_quotas.Goals as goal
 
 -- the rules are kept by what was read, beside the only subvolume
 kept : (g : Over) (c : goal.After-drop-walked g) → KeepsRules (5 ∷ []) c.as_slice.result.now
-kept g c = quota_rule_kept (5 ∷ []) c.as_slice.result.now (subst (λ (n : ℕ). quota_rule (n ∷ []) c.as_slice.result.now ≡ None) c.new.ensures c.in-Ok.ensures.sound)
+kept g c = quota_rule_kept (5 ∷ []) c.as_slice.result.now (subst (λ (n : ℕ). quota_rule (n ∷ []) c.as_slice.result.now ≡ None) c.new-2.ensures c.in-Ok.ensures.sound)
 
 pub returns-in-Ok-clause-failure : goal.returns-in-Ok-clause-failure
 returns-in-Ok-clause-failure g c = λ events extents told named.
     let super = c.args.superblock.now in
     let root = c.args.root.now in
-    let walk = subst (λ (expected : Expected). IsWalk Quotas quota_part c.args.superblock.now (content events) expected c.args.root.now.bytenr c.in_ok-walked.walked.parts c.in_ok-walked.walked.nodes) c.root_told.ensures (c.in_ok-walked.ensures.found events told) in
+    let walk = subst (λ (expected : Expected). IsWalk Quotas quota_part AreAddressesOf c.args.superblock.now (content events) expected c.args.root.now.bytenr c.in_ok-walked.walked.parts c.in_ok-walked.walked.nodes) c.root_told.ensures (c.in_ok-walked.ensures.found events told) in
     let parts : quota_parts super (content events) ≡ c.as_slice.result.now =
     quota_parts_of super (content events) root named.quota_tree ∙ tree_read Quotas quota_part super (content events) root _ _ walk ∙ sym c.as_slice.ensures in
     let rules = kept g c in
@@ -38,12 +40,12 @@ returns-in-Ok-clause-failure g c = λ events extents told named.
 
 pub returns-in-Ok-clause-tree : goal.returns-in-Ok-clause-tree
 returns-in-Ok-clause-tree g c = λ events told.
-    let walk = subst (λ (expected : Expected). IsWalk Quotas quota_part c.args.superblock.now (content events) expected c.args.root.now.bytenr c.in_ok-walked.walked.parts c.in_ok-walked.walked.nodes) c.root_told.ensures (c.in_ok-walked.ensures.found events told) in
+    let walk = subst (λ (expected : Expected). IsWalk Quotas quota_part AreAddressesOf c.args.superblock.now (content events) expected c.args.root.now.bytenr c.in_ok-walked.walked.parts c.in_ok-walked.walked.nodes) c.root_told.ensures (c.in_ok-walked.ensures.found events told) in
     let root = c.args.root.now in
     let parts = tree_read Quotas quota_part c.args.superblock.now (content events) root _ _ walk in
     record {
       said = c.in-Ok.ensures.told ∙ ap quota_told (c.as_slice.ensures ∙ sym parts);
-      placed = walk.placed;
+      placed = walk.kept;
     }
 
 pub returns-in-Ok-clause-group : goal.returns-in-Ok-clause-group
@@ -58,13 +60,13 @@ pub returns-in-Err-Rule-clause-failure : goal.returns-in-Err-Rule-clause-failure
 returns-in-Err-Rule-clause-failure g c = λ events extents told named.
     let super = c.args.superblock.now in
     let root = c.args.root.now in
-    let walk = subst (λ (expected : Expected). IsWalk Quotas quota_part c.args.superblock.now (content events) expected c.args.root.now.bytenr c.in_ok-walked.walked.parts c.in_ok-walked.walked.nodes) c.root_told.ensures (c.in_ok-walked.ensures.found events told) in
+    let walk = subst (λ (expected : Expected). IsWalk Quotas quota_part AreAddressesOf c.args.superblock.now (content events) expected c.args.root.now.bytenr c.in_ok-walked.walked.parts c.in_ok-walked.walked.nodes) c.root_told.ensures (c.in_ok-walked.ensures.found events told) in
     let parts : quota_parts super (content events) ≡ c.as_slice.result.now =
     quota_parts_of super (content events) root named.quota_tree ∙ tree_read Quotas quota_part super (content events) root _ _ walk ∙ sym c.as_slice.ensures in
-    let refused : quota_rule (c.new.result ∷ []) c.as_slice.result.now ≡ Some c.in-Err-Rule.rule =
-    subst (λ (fault : QuotaFault). IfRule fault (λ rule. quota_rule (c.new.result ∷ []) c.as_slice.result.now ≡ Some rule)) c.in-Err-Rule.field-0-is c.in-Err-Rule.ensures.refused in
+    let refused : quota_rule (c.new-2.result ∷ []) c.as_slice.result.now ≡ Some c.in-Err-Rule.rule =
+    subst (λ (fault : QuotaFault). IfRule fault (λ rule. quota_rule (c.new-2.result ∷ []) c.as_slice.result.now ≡ Some rule)) c.in-Err-Rule.field-0-is c.in-Err-Rule.ensures.refused in
     let broken_rule : quota_rule (5 ∷ []) c.as_slice.result.now ≡ Some c.in-Err-Rule.rule =
-    subst (λ (n : ℕ). quota_rule (n ∷ []) c.as_slice.result.now ≡ Some c.in-Err-Rule.rule) c.new.ensures refused in
+    subst (λ (n : ℕ). quota_rule (n ∷ []) c.as_slice.result.now ≡ Some c.in-Err-Rule.rule) c.new-2.ensures refused in
     rw (walk.sound, named.only, parts) (quota_rule_told (5 ∷ []) c.as_slice.result.now c.in-Err-Rule.rule root.bytenr broken_rule)
 
 pub returns-in_err-walked-clause-failure : goal.returns-in_err-walked-clause-failure
@@ -72,3 +74,6 @@ returns-in_err-walked-clause-failure g c = λ events extents told named.
     let fault = c.in_err-walked.field-0.0 in
     let walk = subst (λ (expected : Expected). TellsFailure fault (tree_failure Quotas c.args.superblock.now (content events) expected c.args.root.now.bytenr)) c.root_told.ensures (c.in_err-walked.ensures.unsound events told) in
     fails_handed c.from_residual.result fault _ c.from_residual.ensures.1 (tells_first fault _ _ walk)
+
+pub returns-in-Ok-clause-slots : goal.returns-in-Ok-clause-slots
+returns-in-Ok-clause-slots g c = slots_of_addresses (sizes_of c.args.superblock.now) c.in_ok-walked.walked.nodes c.in_ok-walked.ensures.slots

@@ -12,6 +12,8 @@ use Rattle.qg_check.specs.Trees.{AreNamed}
 use Rattle.qg_check.proofs.Passing.{copied_by}
 use Rattle.qg_check.proofs.Said.{roots_read}
 use Rattle.qg_check.proofs.Staging.{fails_handed, tells_first}
+use Rattle.qg_super.specs.SuperText.{sizes_of}
+use Rattle.qg_check.proofs.SlotsOf.{slots_of_addresses}
 use Rattle.qg_check.proofs.trees.read_roots.Goals as goal
 
 pub name_trees-requires : goal.name_trees-requires
@@ -38,7 +40,7 @@ returns-clause-trees g c = λ events told.
     let walk = c.in_ok-walked.ensures.found events told in
     let super = c.args.superblock.now in
     let roots : roots_in super (content events) ≡ c.as_slice.result.now = roots_read super (content events) _ _ walk ∙ sym c.as_slice.ensures in
-    record { named = rw roots c.in-Some.ensures.some; placed = walk.placed }
+    record { named = rw roots c.in-Some.ensures.some; placed = walk.kept }
 
 pub returns-clause-copied : goal.returns-clause-copied
 returns-clause-copied g c =
@@ -51,3 +53,6 @@ pub returns-in_err-walked-clause-failure : goal.returns-in_err-walked-clause-fai
 returns-in_err-walked-clause-failure g c = λ events told.
     let fault = c.in_err-walked.field-0.0 in
     fails_handed c.from_residual.result fault _ c.from_residual.ensures.1 (tells_first fault _ _ (c.in_err-walked.ensures.unsound events told))
+
+pub returns-clause-slots : goal.returns-clause-slots
+returns-clause-slots g c = slots_of_addresses (sizes_of c.args.superblock.now) c.in_ok-walked.walked.nodes c.in_ok-walked.ensures.slots

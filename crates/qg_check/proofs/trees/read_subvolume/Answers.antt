@@ -9,6 +9,7 @@ use Rattle.qg_verdict.specs.ImageState.{items_of_root, nodes_of_root, level_in}
 use Rattle.qg_verdict.specs.Walk.{node_found, root_told, tree_failure}
 use Rattle.qg_items.specs.declared.root.RootItem.{RootItem}
 use Rattle.qg_super.specs.declared.superblock.Super.{Super}
+use Rattle.qg_walk.specs.Held.{AreAddressesOf}
 use Rattle.qg_walk.specs.IsWalk.{IsWalk}
 use Rattle.qg_parts.proofs.Keys.{files_ascending}
 use Rattle.qg_check.proofs.Said.{tree_read, is_none}
@@ -18,6 +19,8 @@ use Rattle.qg_check.proofs.Passing.{files_by}
 use Rattle.qg_check.proofs.Held.{files_read, files_none, files_of_held}
 use Rattle.qg_walk.specs.Fault.{TellsFailure}
 use Rattle.qg_check.proofs.Staging.{fails_handed, tells_first}
+use Rattle.qg_super.specs.SuperText.{sizes_of}
+use Rattle.qg_check.proofs.SlotsOf.{slots_of_addresses}
 use Rattle.qg_check.proofs.trees.read_subvolume.Goals as goal
 
 pub read_files-requires : goal.read_files-requires
@@ -29,11 +32,11 @@ read_files-requires g c = record {
 
 -- the walk that was asked for is that of the ROOT_ITEM
 walk_of : (super : Super) (image : List ℕ) (root : RootItem) (expected : Expected) (parts : List FilePart) (nodes : List ℕ) → expected ≡ root_told root
-    → IsWalk Files file_part super image expected root.bytenr parts nodes → IsWalk Files file_part super image (root_told root) root.bytenr parts nodes
-walk_of super image root expected parts nodes is walk = subst (λ (e : Expected). IsWalk Files file_part super image e root.bytenr parts nodes) is walk
+    → IsWalk Files file_part AreAddressesOf super image expected root.bytenr parts nodes → IsWalk Files file_part AreAddressesOf super image (root_told root) root.bytenr parts nodes
+walk_of super image root expected parts nodes is walk = subst (λ (e : Expected). IsWalk Files file_part AreAddressesOf super image e root.bytenr parts nodes) is walk
 
 -- its parts are what the items say
-parts_of : (super : Super) (image : List ℕ) (root : RootItem) (parts : List FilePart) (nodes : List ℕ) → IsWalk Files file_part super image (root_told root) root.bytenr parts nodes
+parts_of : (super : Super) (image : List ℕ) (root : RootItem) (parts : List FilePart) (nodes : List ℕ) → IsWalk Files file_part AreAddressesOf super image (root_told root) root.bytenr parts nodes
     → file_parts (items_of_root Files super image root) ≡ parts
 parts_of super image root parts nodes walk = tree_read Files file_part super image root parts nodes walk
 
@@ -60,9 +63,9 @@ returns-clause-tree g c = λ events told.
     let files = files_read c.in_ok-walked.walked.parts c.in-Some.files (sym c.in-Some.is ∙ c.in_ok-files.ensures) in
     record {
       files = files_of_held super.generation items c.in_ok-walked.walked.parts c.in-Some.files walk.held (parts_of super image root c.in_ok-walked.walked.parts c.in_ok-walked.walked.nodes walk) files;
-      placed = walk.placed;
-      under = walk.nodes;
-      stand = items_under-nodes Files super (node_found super image) (level_in super image root.bytenr) (root_told root) root.bytenr items (nodes_of_root Files super image root) walk.items walk.nodes;
+      placed = walk.kept;
+      under = walk.reached;
+      stand = items_under-nodes Files super (node_found super image) (level_in super image root.bytenr) (root_told root) root.bytenr items (nodes_of_root Files super image root) walk.items walk.reached;
       parts = c.in_ok-walked.walked.parts;
       said = walk.said;
       fit = files.are;
@@ -81,3 +84,6 @@ returns-in_err-walked-clause-failure g c = λ events told.
     let fault = c.in_err-walked.field-0.0 in
     let walk = subst (λ (expected : Expected). TellsFailure fault (tree_failure Files c.args.superblock.now (content events) expected c.args.root.now.bytenr)) c.root_told.ensures (c.in_err-walked.ensures.unsound events told) in
     fails_handed c.from_residual.result fault _ c.from_residual.ensures.1 (tells_first fault _ _ walk)
+
+pub returns-clause-slots : goal.returns-clause-slots
+returns-clause-slots g c = slots_of_addresses (sizes_of c.args.superblock.now) c.in_ok-walked.walked.nodes c.in_ok-walked.ensures.slots

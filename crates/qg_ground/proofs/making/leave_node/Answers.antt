@@ -2,6 +2,7 @@ use Rattle.std.proofs.Common.{refl}
 use Rattle.std.proofs.lemmas.Result.{on_ok_weaker}
 use Rattle.qg_ground.specs.declared.ground.Ground.{Ground}
 use Rattle.qg_ground.proofs.Lands.{LetsGo-draft, Rests-after, Rests-draft, Takes-left}
+use Rattle.qg_ground.proofs.Settling.{Empties-draft, KeepsLevels-draft}
 use Rattle.qg_ground.proofs.making.leave_node.Goals as goal
 
 pub returns-clause-rests : goal.returns-clause-rests
@@ -17,3 +18,10 @@ returns-clause-takes g c generation drafted =
     let rests = returns-clause-rests g c generation drafted in
     on_ok_weaker c.left.result (λ gone. Takes-left c.args.land.now c.left.new.land c.args.at rests.sizes rests.held_slots (LetsGo-draft c.args.land.now mid c.left.new.land c.args.at c.load.ensures.draft refl gone))
     c.left.ensures.gone
+
+pub returns-clause-settled : goal.returns-clause-settled
+returns-clause-settled g c before generation drafted empties settled =
+    let mid : Ground = record { blocks = c.load.new.self; space = c.args.land.now.space } in
+    let first = Rests-draft c.args.land.now mid (g.D.Disk.history c.load.new.disk) generation c.load.ensures.draft c.load.ensures.bound refl c.load.ensures.backed drafted in
+    c.left.ensures.settled before generation first.drafted (Empties-draft before c.args.land.now mid c.args.at c.load.ensures.draft refl empties)
+    (g.met.B.Book.keeps c.args.book.now before before c.args.disk.now c.load.new.disk c.load.ensures.history refl (KeepsLevels-draft before before refl) settled)

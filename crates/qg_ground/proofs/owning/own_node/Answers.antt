@@ -1,10 +1,10 @@
-use Rattle.std.proofs.Common.{◌≡◌, ◌≢◌, nat_eq, sym, ◌∙◌}
+use Rattle.std.proofs.Common.{◌≡◌, ◌≢◌, nat_eq, refl, sym, ◌∙◌}
 use Rattle.std.specs.Prelude.{None}
 use Rattle.std.proofs.lemmas.Bool.{eq-eqb, not-true, true≢false}
 use Rattle.qg_blocks.specs.Told.{fresh_at}
 use Rattle.qg_blocks.proofs.Telling.{none_of}
 use Rattle.qg_ground.proofs.Lands.{Copies-back, GivesBack-none, IsCopied-copies, Rests-after, Takes-copied}
-use Rattle.qg_ground.proofs.Settling.{PutsFresh-puts}
+use Rattle.qg_ground.proofs.Settling.{KeepsLevels-draft, PutsFresh-puts}
 use Rattle.qg_ground.proofs.owning.own_node.Goals.{then-ne+in_ok-copied, else-ne+in_ok-made}
 use Rattle.qg_ground.proofs.owning.own_node.Goals as goal
 
@@ -59,7 +59,9 @@ pub returns-clause-settled : goal.returns-clause-settled
 returns-clause-settled g c settled =
     let put = PutsFresh-puts c.args.land.now c.copy_out.new.land c.in_ok-now.now c.args.next c.in_ok-now.ensures.copied.copy c.in_ok-now.ensures.copied.puts c.copy_out.ensures.spares
     c.in_ok-now.ensures.slots c.requires.drafted in
+    let stood = g.met.B.Book.keeps c.args.book.now c.args.land.now c.args.land.now c.args.disk.now c.copy_out.new.disk c.copy_out.ensures.disk.0 refl
+    (KeepsLevels-draft c.args.land.now c.args.land.now refl) settled in
     elim c.if-ne.branch [
-      | then-ne+in_ok-copied w ↦ rw (w.land-is, w.book-is) (w.in_ok-copied.ensures.settled c.args.land.now put settled)
-      | else-ne+in_ok-made w ↦ rw (w.land-is, w.book-is) (w.in_ok-made.ensures.settled c.args.land.now put settled)
+      | then-ne+in_ok-copied w ↦ rw (w.land-is, w.book-is, w.disk-is) (w.in_ok-copied.ensures.settled c.args.land.now put stood)
+      | else-ne+in_ok-made w ↦ rw (w.land-is, w.book-is, w.disk-is) (w.in_ok-made.ensures.settled c.args.land.now put stood)
     ]

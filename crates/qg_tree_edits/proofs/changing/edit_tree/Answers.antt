@@ -12,6 +12,7 @@ use Rattle.qg_ground.specs.Tellings.{Telling}
 use Rattle.qg_tree_edits.specs.Counting.{IsPartTold, IsRootTold}
 use Rattle.qg_tree_edits.specs.Rooting.{HasRoot, StandsForRoot}
 use Rattle.qg_tree_edits.proofs.Replaced.{done-both, edited-root, fit-root, low-root, stands-root, told-root}
+use Rattle.qg_ground.proofs.Owners.{IsOwnedBy-after}
 use Rattle.qg_tree_edits.proofs.changing.edit_tree.Goals as goal
 
 pub returns-in_err-instead-clause-reads : goal.returns-in_err-instead-clause-reads
@@ -78,7 +79,7 @@ returns-clause-told g c items rooted can before log follows =
       told-root g.P.TreePart.tree c.args.tree.now c.args.land.now history c.args.edit items rooted can c.way-way.result.expected c.way-way.result.address c.way-way.ensures.expected c.way-way.ensures.address
           c.edit_under.new.land c.in_ok-instead.instead part c.requires.ready.0.editable.drafted c.edit_under.ensures.rests.node_sizes c.requires.ready.1 c.set_root.new.land c.set_root.new.tree
           (subst (λ (h : Option (List Event)). HasRoot g.P.TreePart.tree c.args.tree.now c.set_root.new.tree c.edit_under.new.land c.set_root.new.land h c.in_ok-instead.instead part.items_new) c.edit_under.ensures.disk.0 has)
-          below.0 above.0 part_told
+          (g.D.Disk.history c.edit_under.new.disk) c.edit_under.ensures.rests below.0 above.0 part_told
           (subst (λ (h : Option (List Event)). IsRootTold c.args.tree.now c.set_root.new.tree c.edit_under.new.land c.set_root.new.land h c.in_ok-instead.instead above.0) c.edit_under.ensures.disk.0 above.2),
     ))
     (c.set_root.ensures.rooted part.items_new stands_then) (c.set_root.ensures.told part.items_new stands_then before (log ++ below.0) below.1)
@@ -115,3 +116,11 @@ returns-clause-leaves g c items rooted can first clear =
     on_ok_weaker c.set_root.result
     (λ kept. subst (λ (h : Option (List Event)). leaves (told new.blocks.draft h) after.height after.address ≡ leaves (told mid.blocks.draft h) root.height instead.now) same kept ∙ cleared)
     (c.set_root.ensures.leaves part.items_new stands_then none)
+
+-- ---- owners
+
+pub returns-clause-owners : goal.returns-clause-owners
+returns-clause-owners g c =
+    on_ok_weaker c.set_root.result
+    (λ last. IsOwnedBy-after c.args.tree.now.owner c.args.land.now c.edit_under.new.land c.set_root.new.land c.in_ok-instead.ensures.owners last)
+    c.set_root.ensures.owners

@@ -29,6 +29,8 @@ use Rattle.qg_tree_edits.proofs.PlacedTold.{ok-both}
 use Rattle.qg_tree_edits.proofs.Rejoined.{unbroken-other}
 use Rattle.qg_tree_edits.proofs.Served.{node-drafted, slots-most}
 use Rattle.qg_tree_edits.proofs.Turning.{four-in-row}
+use Rattle.qg_ground.proofs.Owners.{IsOwnedBy-after}
+use Rattle.qg_tree_edits.proofs.Owners.{placed-owners}
 use Rattle.qg_tree_edits.proofs.editing.+edit_under.Goals as goal
 
 pub returns-in_err-now-clause-sound : goal.returns-in_err-now-clause-sound
@@ -344,3 +346,20 @@ returns-then-level-eq0-clause-reads g t c most all =
     let reads = c.edit_there.ensures.reads most all in
     let once : (5 + 4 * most) * (c.args.level + 1) ≡ (5 + 4 * most) * 1 = ap (λ (n : ℕ). (5 + 4 * most) * (n + 1)) c.if-level-eq0.true in
     omega (arith, reads, once)
+
+-- ---- owners
+
+pub returns-clause-owners : goal.returns-clause-owners
+returns-clause-owners g t c =
+    let owner = c.args.tree.now.owner in
+    let land = c.args.land.now in
+    let mid = c.own.new.land in
+    let low = c.edit_under.new.land in
+    let set = c.settle.new.land in
+    let end = c.place_rest.new.land in
+    let settled = c.in_ok-rest.ensures.owners in
+    IfOk-weaker c.place_rest.result _ _
+    (λ instead placed. IsOwnedBy-after owner land mid end c.in_ok-now.ensures.owners
+    (IsOwnedBy-after owner mid low end c.in_ok-child.ensures.owners
+    (placed-owners owner low set end c.in_ok-now.now c.in_ok-rest.rest instead settled.0 settled.1 placed)))
+    c.place_rest.ensures.placed

@@ -23,6 +23,8 @@ use Rattle.qg_tree_edits.proofs.Paired.{owned-levelled}
 use Rattle.qg_tree_edits.proofs.Rejoined.{unbroken-other}
 use Rattle.qg_tree_edits.proofs.Served.{fresh-leaf, size-drafted, slots-most}
 use Rattle.qg_descent.proofs.Under.{under-leaf}
+use Rattle.qg_ground.proofs.Owners.{IsOwnedBy-after}
+use Rattle.qg_tree_edits.proofs.Owners.{placed-owners, rest-owner, rewritten-owners}
 use Rattle.qg_tree_edits.proofs.editing.edit_there.Goals as goal
 
 pub returns-in_err-now-clause-sound : goal.returns-in_err-now-clause-sound
@@ -174,5 +176,24 @@ returns-clause-settled g c settled =
     let rewritten = c.rewrite_leaf.ensures.rewritten owned.mine owned.here in
     let stays = stays-cut c.own.new.land.space.sizes.nodesize owned.mine _ c.rewrite_leaf.new.land c.in_ok-now.now c.in_ok-rest.rest (header-with_items owned.mine _) (c.in_ok-rest.ensures.cut owned.mine owned.here) in
     c.place_rest.ensures.settled
-    (g.met.B.Book.keeps c.own.new.book c.own.new.land c.rewrite_leaf.new.land (rewritten-space c.own.new.land c.rewrite_leaf.new.land c.in_ok-now.now owned.mine owned.here rewritten)
+    (g.met.B.Book.keeps c.own.new.book c.own.new.land c.rewrite_leaf.new.land c.own.new.disk c.own.new.disk refl (rewritten-space c.own.new.land c.rewrite_leaf.new.land c.in_ok-now.now owned.mine owned.here rewritten)
     (rewritten-levels c.own.new.land c.rewrite_leaf.new.land c.in_ok-now.now owned.mine owned.here rewritten stays.stays) (c.in_ok-now.ensures.settled settled))
+
+-- ---- owners
+
+pub returns-clause-owners : goal.returns-clause-owners
+returns-clause-owners g c =
+    let owner = c.args.tree.now.owner in
+    let mid = c.own.new.land in
+    let set = c.rewrite_leaf.new.land in
+    let end = c.place_rest.new.land in
+    let now = c.in_ok-now.now in
+    let rest = c.in_ok-rest.rest in
+    let owned = c.in_ok-now.ensures.owned in
+    let rewritten = c.rewrite_leaf.ensures.rewritten owned.mine owned.here in
+    let stays = stays-cut mid.space.sizes.nodesize owned.mine _ set now rest (header-with_items owned.mine _) (c.in_ok-rest.ensures.cut owned.mine owned.here) in
+    let edited = rewritten-owners owner mid set now owned.mine owned.here rewritten in
+    let own = rest-owner owner mid now owned.mine rest owned.here stays.owned in
+    IfOk-weaker c.place_rest.result _ _
+    (λ instead placed. IsOwnedBy-after owner c.args.land.now mid end c.in_ok-now.ensures.owners (placed-owners owner mid set end now rest instead edited own placed))
+    c.place_rest.ensures.placed

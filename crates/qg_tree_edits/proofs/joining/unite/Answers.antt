@@ -73,19 +73,20 @@ returns-in_ok-leave_node-in-Whole-clause-told g c generation drafted before log 
     (Left joined.b ∷ [], c.in_ok-leave_node-in-Whole.ensures.told joined.b there before log follows, inr (refl, (joined.b, refl, cleared.0, cleared.1)))
 
 pub returns-in-Parted-clause-settled : goal.returns-in-Parted-clause-settled
-returns-in-Parted-clause-settled g c settled =
+returns-in-Parted-clause-settled g c generation drafted settled =
     let old = c.args.land.now in
     let new = c.join_nodes.new.land in
     let are = c.join_nodes.ensures.rewritten in
     let joined = c.in_ok-join_nodes.ensures.joined in
-    g.met.B.Book.keeps c.args.book.now old new
+    g.met.B.Book.keeps c.args.book.now old new c.args.disk.now c.args.disk.now refl
     (both-space old new c.args.left c.args.right c.requires.apart c.requires.pair are c.in_ok-join_nodes.field-0 joined)
     (joined-levels old new c.args.left c.args.right c.requires.apart c.requires.pair are c.in_ok-join_nodes.field-0 joined c.in-Parted.is) settled
 
 pub returns-in_ok-leave_node-in-Whole-clause-settled : goal.returns-in_ok-leave_node-in-Whole-clause-settled
-returns-in_ok-leave_node-in-Whole-clause-settled g c settled =
+returns-in_ok-leave_node-in-Whole-clause-settled g c generation drafted settled =
     let old = c.args.land.now in
     let new = c.join_nodes.new.land in
     let are = c.join_nodes.ensures.rewritten in
-    c.in_ok-leave_node-in-Whole.ensures.settled old
+    let one = both-rests old new c.args.left c.args.right c.requires.apart c.requires.pair are (g.D.Disk.history c.args.disk.now) generation c.requires.backed drafted in
+    c.in_ok-leave_node-in-Whole.ensures.settled old generation one.drafted
     (joined-empties old new c.args.left c.args.right c.requires.apart c.requires.pair are c.in_ok-join_nodes.field-0 c.in_ok-join_nodes.ensures.joined c.in-Whole.is) settled

@@ -9,6 +9,7 @@ use Rattle.qg_ground.proofs.Lands.{Rests-draft}
 use Rattle.qg_ground.proofs.Settling.{KeepsLevels-draft}
 use Rattle.qg_tree_edits.proofs.Owned.{IsOwned-visited, owned-unbroken}
 use Rattle.qg_tree_edits.proofs.ToldOwned.{tells-owned}
+use Rattle.qg_ground.proofs.Owners.{IsOwnedBy-after, IsOwnedBy-draft, IsOwnedBy-owned}
 use Rattle.qg_tree_edits.proofs.owning.own.Goals as goal
 
 pub visit-requires : goal.visit-requires
@@ -58,4 +59,17 @@ pub returns-clause-settled : goal.returns-clause-settled
 returns-clause-settled g c settled =
     let mid : Ground = record c.args.land.now { blocks = c.visit.new.blocks } in
     c.own_node.ensures.settled
-    (g.met.B.Book.keeps c.args.book.now c.args.land.now mid refl (KeepsLevels-draft c.args.land.now mid c.visit.ensures.read.draft) settled)
+    (g.met.B.Book.keeps c.args.book.now c.args.land.now mid c.args.disk.now c.visit.new.disk c.visit.ensures.read.history refl
+    (KeepsLevels-draft c.args.land.now mid c.visit.ensures.read.draft) settled)
+
+-- ---- owners
+
+pub returns-clause-owners : goal.returns-clause-owners
+returns-clause-owners g c =
+    let owner = c.args.tree.now.owner in
+    let mid : Ground = record c.args.land.now { blocks = c.visit.new.blocks } in
+    let first = IsOwnedBy-draft owner c.args.land.now mid c.visit.ensures.read.draft in
+    IfOk-weaker c.own_node.result _ _
+    (λ now owned. IsOwnedBy-after owner c.args.land.now mid c.own_node.new.land first
+    (IsOwnedBy-owned mid c.own_node.new.land (g.D.Disk.history c.visit.new.disk) c.args.way.now.address now owner c.args.tree.now.next owned))
+    (rw (c.owner.ensures, c.next.ensures) at c.own_node.ensures.owned)

@@ -1,4 +1,4 @@
-use Rattle.std.proofs.Common.{◌≡◌, ◌+◌, ℕ, [], ◌∷◌, add-one, sym, ap, subst, ◌∙◌}
+use Rattle.std.proofs.Common.{◌≡◌, ◌+◌, ℕ, [], ◌∷◌, add-one, refl, sym, ap, subst, ◌∙◌, inl}
 use Rattle.std.proofs.lemmas.Result.{err_from_is_err_and}
 use Rattle.qg_node.specs.declared.node.Node.{Node}
 use Rattle.qg_node.specs.Nodes.{header_of}
@@ -15,6 +15,7 @@ use Rattle.qg_tree_edits.specs.Counting.{IsRootTold}
 use Rattle.qg_tree_edits.proofs.Grown.{above-ascends, grown-above, told-above, two}
 use Rattle.qg_tree_edits.proofs.Rejoined.{unbroken-other}
 use Rattle.qg_tree_edits.proofs.Served.{size-drafted}
+use Rattle.qg_ground.proofs.Owners.{IsOwnedBy-draft, IsOwnedBy-made}
 use Rattle.qg_tree_edits.proofs.rooting.grow.Goals as goal
 
 pub returns-in_err-node-clause-sound : goal.returns-in_err-node-clause-sound
@@ -64,3 +65,12 @@ returns-clause-told g c items stands before log follows =
           c.in_ok-node.ensures.above first second c.in_ok-root.ensures.made c.requires.makes (ap (λ (n : ℕ). n + 1) c.height-2.ensures ∙ add-one c.args.tree.now.height) c.owner.ensures c.next.ensures
           (subst (λ (n : ℕ). Rests c.args.land.now c.make_node.new.land (g.D.Disk.history c.make_node.new.disk) n) (ap (λ (n : Node). (header_of n).generation) c.in_ok-node.ensures.above ∙ c.next.ensures) c.make_node.ensures.rests)),
     )
+
+-- ---- owners
+
+pub returns-clause-owners : goal.returns-clause-owners
+returns-clause-owners g c =
+    let owner = c.args.tree.now.owner in
+    let land = c.args.land.now in
+    let own : (header_of c.in_ok-node.node).owner ≡ owner = ap (λ (n : Node). (header_of n).owner) c.in_ok-node.ensures.above ∙ c.owner.ensures in
+    IsOwnedBy-made owner land land c.make_node.new.land c.in_ok-root.root c.in_ok-node.node (IsOwnedBy-draft owner land land refl) c.in_ok-root.ensures.made (inl own)

@@ -18,6 +18,8 @@ use Rattle.qg_tree_edits.proofs.Served.{node-drafted, size-drafted}
 use Rattle.qg_tree_edits.specs.Counting.{IsRootTold}
 use Rattle.qg_tree_edits.proofs.Shrunk.{lone-high, lone-is, stood, sunk, sunk-leaves, told-sunk}
 use Rattle.qg_tree_edits.proofs.United.{fresh-unbroken}
+use Rattle.qg_ground.proofs.Owners.{IsOwnedBy-after, IsOwnedBy-draft, IsOwnedBy-left}
+use Rattle.qg_tree_edits.proofs.Owners.{rewritten-owners}
 use Rattle.qg_tree_edits.proofs.rooting.shrink.Goals as goal
 
 pub clear_at-requires-clause-size : goal.clear_at-requires-clause-size
@@ -161,5 +163,23 @@ returns-in_ok-leave_node-in-Some-clause-leaves g c items stands =
 pub returns-in_ok-leave_node-in-Some-clause-settled : goal.returns-in_ok-leave_node-in-Some-clause-settled
 returns-in_ok-leave_node-in-Some-clause-settled g c settled =
     let fresh = c.requires.fresh in
-    c.in_ok-leave_node-in-Some.ensures.settled c.args.land.now
+    let next = c.args.tree.now.next in
+    let first = rewritten-rests c.args.land.now c.clear_at.new.land c.args.now next fresh.node fresh.here (c.clear_at.ensures.cleared fresh.node fresh.here)
+    (g.D.Disk.history c.args.disk.now) c.requires.editable.backed c.requires.editable.drafted in
+    c.in_ok-leave_node-in-Some.ensures.settled c.args.land.now next first.drafted
     (rewritten-empties c.args.land.now c.clear_at.new.land c.args.now fresh.node fresh.here (c.clear_at.ensures.cleared fresh.node fresh.here) (c.clear_at.ensures.here fresh.node fresh.here)) settled
+
+-- ---- owners
+
+pub returns-in-None-clause-owners : goal.returns-in-None-clause-owners
+returns-in-None-clause-owners g c = IsOwnedBy-draft c.args.tree.now.owner c.args.land.now c.args.land.now refl
+
+pub returns-in_ok-leave_node-in-Some-clause-owners : goal.returns-in_ok-leave_node-in-Some-clause-owners
+returns-in_ok-leave_node-in-Some-clause-owners g c =
+    let owner = c.args.tree.now.owner in
+    let land = c.args.land.now in
+    let mid = c.clear_at.new.land in
+    let fresh = c.requires.fresh in
+    IsOwnedBy-after owner land mid c.leave_node.new.land
+    (rewritten-owners owner land mid c.args.now fresh.node fresh.here (c.clear_at.ensures.cleared fresh.node fresh.here))
+    (IsOwnedBy-left owner mid c.leave_node.new.land c.args.now c.in_ok-leave_node-in-Some.ensures.gone)

@@ -17,11 +17,14 @@ use Rattle.qg_tree_edits.proofs.Levels.{rewritten-levels, rewritten-space}
 use Rattle.qg_tree_edits.proofs.LeavesSettled.{ok-both, rejoined-leaves}
 use Rattle.qg_tree_edits.proofs.Paired.{are-pair, pair-differ, pair-inside}
 use Rattle.qg_tree_edits.proofs.PairedHolds.{pair-front}
+use Rattle.qg_tree_edits.proofs.PlacedTold.{ok-both as known-both}
 use Rattle.qg_tree_edits.proofs.Rejoined.{rejoined-above, rejoined-count, rejoined-stands, unbroken-other}
 use Rattle.qg_tree_edits.proofs.RejoinedHolds.{rejoined-can}
 use Rattle.qg_tree_edits.proofs.RejoinedSettled.{rejoined-settled}
 use Rattle.qg_tree_edits.proofs.RejoinedTold.{rejoined-told}
 use Rattle.qg_tree_edits.proofs.Served.{fresh-inner, instead-named, node-drafted, places-few, size-drafted, slots-none}
+use Rattle.qg_ground.proofs.Owners.{IsOwnedBy-after}
+use Rattle.qg_tree_edits.proofs.Owners.{rest-owner, rest-owner-after, rewritten-owners, united-owners}
 use Rattle.qg_tree_edits.proofs.settling.join_child.Goals as goal
 
 pub returns-in_err-pair-clause-sound : goal.returns-in_err-pair-clause-sound
@@ -207,16 +210,17 @@ returns-clause-told g c items un before log follows =
     let can = rejoined-can g.P.TreePart.tree c.args.tree.now c.args.land.now c.own_neighbour.new.land c.unite.new.land (g.D.Disk.history c.args.disk.now) (g.D.Disk.history c.own_neighbour.new.disk)
     (g.D.Disk.history c.unite.new.disk) c.args.level c.args.at c.args.to c.args.place c.args.child items un c.in_ok-pair.pair c.in_ok-instead.instead owned.0 c.requires.makes c.requires.editable.drafted
     c.own_neighbour.ensures.rests c.requires.child c.requires.thin c.in_ok-instead.ensures.united after in
-    IfOk-weaker c.lead_to.result _ _
-    (λ rest led. (
+    known-both c.lead_to.result _ _ _
+    (λ rest led whole. (
       first ++ united.0,
       subst (λ (ts : List Telling). g.B.Book.follows before ts c.unite.new.book) (append_assoc log first united.0) united.1,
       rejoined-told g.P.TreePart.tree c.args.tree.now c.args.land.now c.own_neighbour.new.land c.unite.new.land c.lead_to.new.land (g.D.Disk.history c.args.disk.now) (g.D.Disk.history c.own_neighbour.new.disk)
           (g.D.Disk.history c.unite.new.disk) c.args.level c.args.at c.args.to c.args.place c.args.child items rest
           un c.in_ok-pair.pair c.in_ok-instead.instead owned.0 c.requires.makes c.requires.editable.drafted
-          c.own_neighbour.ensures.rests c.requires.child c.requires.thin c.in_ok-instead.ensures.united after led united.0 united.2,
+          c.own_neighbour.ensures.rests c.requires.child c.requires.thin c.in_ok-instead.ensures.united after led united.0 united.2 whole,
     ))
     (c.lead_to.ensures.led g.P.TreePart.tree (super_of c.args.tree.now c.args.land.now.blocks.draft) (g.D.Disk.history c.args.disk.now) c.args.level un.pointers un.header items can)
+    (c.lead_to.ensures.fits refl)
 
 -- ---- the leaves
 
@@ -252,8 +256,40 @@ returns-clause-kept g c settled =
     (g.D.Disk.history c.unite.new.disk) (own_pointers node) c.args.to c.args.level c.args.place c.args.child c.in_ok-pair.pair c.in_ok-instead.instead (c.in_ok-pair.ensures.paired node c.requires.parent.here)
     c.own_neighbour.ensures.rests c.requires.child c.requires.thin c.in_ok-instead.ensures.united after c.args.at node c.requires.parent.here (omega (arith, high)) in
     let rewritten = c.lead_to.ensures.rewritten node here in
-    let united = c.in_ok-instead.ensures.settled (c.in_ok-pair.ensures.settled settled) in
+    let united = c.in_ok-instead.ensures.settled c.args.tree.now.next c.own_neighbour.ensures.rests.drafted (c.in_ok-pair.ensures.settled settled) in
     IfOk-weaker c.lead_to.result _ _
-    (λ rest cut. g.met.B.Book.keeps c.unite.new.book c.unite.new.land c.lead_to.new.land (rewritten-space c.unite.new.land c.lead_to.new.land c.args.at node here rewritten)
+    (λ rest cut. g.met.B.Book.keeps c.unite.new.book c.unite.new.land c.lead_to.new.land c.unite.new.disk c.unite.new.disk refl (rewritten-space c.unite.new.land c.lead_to.new.land c.args.at node here rewritten)
     (rewritten-levels c.unite.new.land c.lead_to.new.land c.args.at node here rewritten cut.stays) united)
+    (c.lead_to.ensures.rest node here)
+
+-- ---- owners
+
+pub returns-clause-owners : goal.returns-clause-owners
+returns-clause-owners g c =
+    let tree = g.P.TreePart.tree in
+    let root = c.args.tree.now in
+    let owner = root.owner in
+    let land = c.args.land.now in
+    let mid = c.own_neighbour.new.land in
+    let both = c.unite.new.land in
+    let new = c.lead_to.new.land in
+    let history = g.D.Disk.history c.args.disk.now in
+    let later = g.D.Disk.history c.own_neighbour.new.disk in
+    let last = g.D.Disk.history c.unite.new.disk in
+    let node = c.requires.parent.node in
+    let pair = c.in_ok-pair.pair in
+    let instead = c.in_ok-instead.instead in
+    let rests = c.own_neighbour.ensures.rests in
+    let after = c.unite.ensures.rests root.next rests.drafted in
+    let high = c.requires.parent.levelled in
+    let paired = c.in_ok-pair.ensures.paired node c.requires.parent.here in
+    let here = rejoined-above tree root land mid both history later last (own_pointers node) c.args.to c.args.level c.args.place c.args.child pair instead paired
+    rests c.requires.child c.requires.thin c.in_ok-instead.ensures.united after c.args.at node c.requires.parent.here (omega (arith, high)) in
+    let differ = pair-differ tree root land mid history later (own_pointers node) c.args.to c.args.level c.args.place c.args.child pair paired rests c.requires.child c.requires.thin in
+    let are = are-pair tree root land mid history later (own_pointers node) c.args.to c.args.level c.args.place c.args.child pair paired rests c.requires.child c.requires.thin in
+    let united = united-owners owner mid both pair.left pair.right instead differ are c.in_ok-instead.ensures.united in
+    let before = IsOwnedBy-after owner land mid both c.in_ok-pair.ensures.owners united in
+    let edited = rewritten-owners owner both new c.args.at node here (c.lead_to.ensures.rewritten node here) in
+    IfOk-weaker c.lead_to.result _ _
+    (λ rest cut. (IsOwnedBy-after owner land both new before edited, rest-owner-after owner land both rest before (rest-owner owner both c.args.at node rest here cut.owned)))
     (c.lead_to.ensures.rest node here)

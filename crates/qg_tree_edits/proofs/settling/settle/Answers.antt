@@ -16,6 +16,7 @@ use Rattle.qg_tree_edits.proofs.LeavesSettled.{ok-both, settled-high, settled-le
 use Rattle.qg_tree_edits.proofs.Served.{fresh-inner, instead-named, node-drafted, places-few, size-blocks, size-drafted}
 use Rattle.qg_tree_edits.proofs.Settled.{settled, settled-told}
 use Rattle.qg_tree_edits.proofs.Unjoined.{can-lead}
+use Rattle.qg_tree_edits.proofs.Owners.{rest-owner, rewritten-owners}
 use Rattle.qg_tree_edits.proofs.settling.settle.Goals as goal
 
 pub is_too_thin-requires-clause-size : goal.is_too_thin-requires-clause-size
@@ -167,6 +168,17 @@ returns-clause-kept g c stood =
     let here = c.requires.parent.here in
     let rewritten = c.lead_to.ensures.rewritten node here in
     IfOk-weaker c.lead_to.result _ _
-    (λ rest cut. g.met.B.Book.keeps c.args.book.now c.args.land.now c.lead_to.new.land (rewritten-space c.args.land.now c.lead_to.new.land c.args.at node here rewritten)
+    (λ rest cut. g.met.B.Book.keeps c.args.book.now c.args.land.now c.lead_to.new.land c.args.disk.now c.args.disk.now refl (rewritten-space c.args.land.now c.lead_to.new.land c.args.at node here rewritten)
     (rewritten-levels c.args.land.now c.lead_to.new.land c.args.at node here rewritten cut.stays) stood)
     (c.lead_to.ensures.rest node here)
+
+-- ---- owners
+
+pub returns-clause-owners : goal.returns-clause-owners
+returns-clause-owners g c =
+    let owner = c.args.tree.now.owner in
+    let land = c.args.land.now in
+    let node = c.requires.parent.node in
+    let here = c.requires.parent.here in
+    let edited = rewritten-owners owner land c.lead_to.new.land c.args.at node here (c.lead_to.ensures.rewritten node here) in
+    IfOk-weaker c.lead_to.result _ _ (λ rest cut. (edited, rest-owner owner land c.args.at node rest here cut.owned)) (c.lead_to.ensures.rest node here)

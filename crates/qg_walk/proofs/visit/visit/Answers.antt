@@ -1,21 +1,13 @@
-use Rattle.std.proofs.Common.{◌≡◌, Some, arith, sym, ◌∙◌}
+use Rattle.std.proofs.Common.{◌≡◌, Some, sym, ◌∙◌}
 use Rattle.qg_device.specs.History.{content}
-use Rattle.qg_super.specs.SuperText.{sizes_of}
-use Rattle.qg_super.proofs.Served.{SizesFit-is_served}
 use Rattle.qg_verdict.specs.Walk.{node_found}
 use Rattle.qg_walk.specs.declared.fault.OpenFault.TheVariants.{Disk}
 use Rattle.qg_walk.specs.Standing.{standing_failure}
 use Rattle.qg_walk.proofs.Failures.{TellsFailure-of, told-no_disk}
 use Rattle.qg_walk.proofs.visit.visit.Goals as goal
 
-pub form_failure-requires-clause-used : goal.form_failure-requires-clause-used
-form_failure-requires-clause-used g c =
-    let fits = c.in_ok-node.ensures.stands.sound.fits in
-    let served = SizesFit-is_served (sizes_of c.args.superblock.now) c.requires.served in
-    omega (arith, served.nodesize, fits)
-
-pub form_failure-requires-clause-ascending : goal.form_failure-requires-clause-ascending
-form_failure-requires-clause-ascending g c = c.in_ok-node.ensures.stands.sound.ascending
+pub form_failure-requires : goal.form_failure-requires
+form_failure-requires g c = record { ascending = c.in_ok-node.ensures.stands.sound.ascending }
 
 pub returns-in-Some-clause-failure : goal.returns-in-Some-clause-failure
 returns-in-Some-clause-failure g c = λ events told.

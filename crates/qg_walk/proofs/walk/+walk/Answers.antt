@@ -26,22 +26,7 @@ walk-walk_pointers-requires g t c κs within =
     let from = c.args.expected.now.from in
     let to = c.args.expected.now.to in
     let falls : 2 * ((c.in-Inner.header.level - 1) + 1) < t = omega (arith, c.decreases, high, levels.0) in
-    let spaced = AreSpaced-within from to c.in-Inner.pointers (AreWithin-own from to (map (λ pointer. pointer.key) c.in-Inner.pointers) judged.stands.sound.ascending formed.begins formed.ends) in (
-      falls,
-      (
-        within.0,
-        (
-          within.1.0,
-          (
-            within.1.1,
-            (
-              c.requires.served,
-              (rw c.in_ok-node.ensures.size c.requires.inside, (c.visit.auto.buffer ∙ c.requires.buffer, rw c.as_slice-in-Inner.ensures spaced)),
-            ),
-          ),
-        ),
-      ),
-    )
+    let spaced = AreSpaced-within from to c.in-Inner.pointers (AreWithin-own from to (map (λ pointer. pointer.key) c.in-Inner.pointers) judged.stands.sound.ascending formed.begins formed.ends) in (falls, (within.0, (within.1.0, (within.1.1.0, (within.1.1.1, (c.requires.served, (rw c.in_ok-node.ensures.size c.requires.inside, (c.visit.auto.buffer ∙ c.requires.buffer, rw c.as_slice-in-Inner.ensures spaced))))))))
 
 pub walk-returns-in-Leaf-clause-failure : goal.walk-returns-in-Leaf-clause-failure
 walk-returns-in-Leaf-clause-failure g t c events depth told deep =
@@ -52,10 +37,10 @@ walk-returns-in-Leaf-clause-failure g t c events depth told deep =
 pub walk-returns-in-Leaf-clause-added : goal.walk-returns-in-Leaf-clause-added
 walk-returns-in-Leaf-clause-added g t c =
     let judged = rw c.in-Leaf.is at c.in_ok-node.ensures.judged in
-    HasAdded-said g.P.TreePart.tree g.P.TreePart.meaning c.args.superblock.now (g.D.Disk.history c.args.disk.now) c.args.expected.now c.args.address c.in-Leaf.header c.in-Leaf.items
+    HasAdded-said g.P.TreePart.tree g.P.TreePart.meaning g.N.NodeList.keeps c.args.superblock.now (g.D.Disk.history c.args.disk.now) c.args.expected.now c.args.address c.in-Leaf.header c.in-Leaf.items
     (found_by g.L.PartList.list c.args.walked.now) (record { parts = g.L.PartList.list c.add_said.new.parts; nodes = c.visit.new.nodes }) c.add_said.result judged
     (λ events told. rw c.in-Leaf.is at (c.in_ok-node.ensures.found events told))
-    (rw c.as_slice.ensures at c.add_said.ensures.failure) (rw c.as_slice.ensures at c.add_said.ensures.said) c.in_ok-node.ensures.added
+    (rw c.as_slice.ensures at c.add_said.ensures.failure) (rw c.as_slice.ensures at c.add_said.ensures.said) (rw c.in-Leaf.is at c.in_ok-node.ensures.kept)
 
 pub walk-returns-in-Inner-clause-failure : goal.walk-returns-in-Inner-clause-failure
 walk-returns-in-Inner-clause-failure g t c events depth told deep =
@@ -72,9 +57,9 @@ walk-returns-in-Inner-clause-added g t c =
     let judged = rw c.in-Inner.is at c.in_ok-node.ensures.judged in
     let added = rw (c.in_ok-node.ensures.history, c.as_slice-in-Inner.ensures) at c.walk_pointers.ensures.added in
     on_ok_weaker c.walk_pointers.result
-    (HasAdded-inner g.P.TreePart.tree g.P.TreePart.meaning c.args.superblock.now (g.D.Disk.history c.args.disk.now) c.args.expected.now c.args.address c.in-Inner.header c.in-Inner.pointers
+    (HasAdded-inner g.P.TreePart.tree g.P.TreePart.meaning g.N.NodeList.keeps c.args.superblock.now (g.D.Disk.history c.args.disk.now) c.args.expected.now c.args.address c.in-Inner.header c.in-Inner.pointers
     (found_by g.L.PartList.list c.args.walked.now) (record { parts = g.L.PartList.list c.args.walked.now.parts; nodes = c.visit.new.nodes }) (found_by g.L.PartList.list c.walk_pointers.new.walked) judged
-    (λ events told. rw c.in-Inner.is at (c.in_ok-node.ensures.found events told)) refl c.in_ok-node.ensures.added)
+    (λ events told. rw c.in-Inner.is at (c.in_ok-node.ensures.found events told)) refl (rw c.in-Inner.is at c.in_ok-node.ensures.kept))
     added
 
 pub walk_pointers-pointers-init : goal.walk_pointers-pointers-init
@@ -84,7 +69,7 @@ walk_pointers-pointers-init g t c = record {
   count = omega arith;
   spaced = c.requires.spaced;
   failure = λ events depth told low. refl;
-  passed = HasPassed-none g.P.TreePart.tree g.P.TreePart.meaning c.args.superblock.now (g.D.Disk.history c.args.disk.now) c.args.expected.now.from c.args.expected.now.to c.args.level c.args.pointers.now (found_by g.L.PartList.list c.args.walked.now);
+  passed = HasPassed-none g.P.TreePart.tree g.P.TreePart.meaning g.N.NodeList.keeps c.args.superblock.now (g.D.Disk.history c.args.disk.now) c.args.expected.now.from c.args.expected.now.to c.args.level c.args.pointers.now (found_by g.L.PartList.list c.args.walked.now);
 }
 
 pub walk_pointers-pointers-preserved : goal.walk_pointers-pointers-preserved
@@ -103,7 +88,7 @@ walk_pointers-pointers-preserved g t c =
     λ events depth told low. rw c.expected_below-below.ensures at (c.in_ok-walk.ensures.failure events depth (c.pointers.invariant.history ∙ told) (rw c.expected_below-below.ensures (levels_low level depth low))) in
     let below = expected_below level to pointer others in
     let old = g.D.Disk.history c.args.disk.now in
-    let added : HasAdded tree g.P.TreePart.meaning super old (Some pointer.key) (next_key to others) (below_node super pointer.child) (found_by g.L.PartList.list c.pointers.walked) (found_by g.L.PartList.list c.walk.new.walked) =
+    let added : HasAdded tree g.P.TreePart.meaning g.N.NodeList.keeps super old (Some pointer.key) (next_key to others) (below_node super pointer.child) (found_by g.L.PartList.list c.pointers.walked) (found_by g.L.PartList.list c.walk.new.walked) =
     rw (c.expected_below-below.ensures, c.pointers.invariant.history) at c.in_ok-walk.ensures.added in
     record {
       history = c.in_ok-walk.ensures.history ∙ c.pointers.invariant.history;
@@ -114,7 +99,7 @@ walk_pointers-pointers-preserved g t c =
           sym (pointers-passed (walk_failure (node_failure tree super) (node_found super (content events)) depth) level to pointer others (passes events depth told low))
           ∙ (rw rest at (c.pointers.invariant.failure events depth told low));
       passed =
-          HasPassed-more tree g.P.TreePart.meaning super old from to level c.args.pointers.now pointer others (found_by g.L.PartList.list c.args.walked.now) (found_by g.L.PartList.list c.pointers.walked) (found_by g.L.PartList.list c.walk.new.walked)
+          HasPassed-more tree g.P.TreePart.meaning g.N.NodeList.keeps super old from to level c.args.pointers.now pointer others (found_by g.L.PartList.list c.args.walked.now) (found_by g.L.PartList.list c.pointers.walked) (found_by g.L.PartList.list c.walk.new.walked)
           (rw rest at c.pointers.invariant.passed) added
           (λ events told.
           level_passed super (content events) below pointer.child level refl

@@ -1,4 +1,4 @@
-use Rattle.std.proofs.Common.{◌≡◌, Some, None, arith, refl, sym, ap, subst, ◌∙◌}
+use Rattle.std.proofs.Common.{◌≡◌, Some, None, refl, sym, ap, subst, ◌∙◌}
 use Rattle.qg_super.specs.declared.superblock.Super.{Super}
 use Rattle.qg_verdict.specs.declared.failure.Failure.TheVariants.{Broken}
 use Rattle.qg_walk.specs.Standing.{form_failure}
@@ -6,18 +6,10 @@ use Rattle.qg_descent.specs.Tree.{super_of}
 use Rattle.qg_descent.proofs.Visits.{broken-only, fails-formed, loaded-found, loaded-kept, loaded-told}
 use Rattle.qg_descent.proofs.tree.Tree.visit.Goals as goal
 
-pub form_failure-requires-clause-used : goal.form_failure-requires-clause-used
-form_failure-requires-clause-used g c =
+pub form_failure-requires : goal.form_failure-requires
+form_failure-requires g c =
     let kept = loaded-kept c.args.blocks.now.draft (g.D.Disk.size c.args.disk.now) c.args.way.now.address c.load.new.self c.peek.result.now c.requires.readable.placed c.in_ok-load.ensures.draft c.peek.ensures c.in_ok-load.ensures.kept in
-    let fits = kept.sound.fits in
-    let size = ap (λ (s : Super). s.nodesize) (c.superblock-superblock.ensures.asked ∙ ap (super_of c.args.self.now) c.in_ok-load.ensures.draft) in
-    let low = c.superblock-superblock.ensures.fits in
-    omega (arith, fits, size, low)
-
-pub form_failure-requires-clause-ascending : goal.form_failure-requires-clause-ascending
-form_failure-requires-clause-ascending g c =
-    let kept = loaded-kept c.args.blocks.now.draft (g.D.Disk.size c.args.disk.now) c.args.way.now.address c.load.new.self c.peek.result.now c.requires.readable.placed c.in_ok-load.ensures.draft c.peek.ensures c.in_ok-load.ensures.kept in
-    kept.sound.ascending
+    record { ascending = kept.sound.ascending }
 
 pub unreachable-requires : goal.unreachable-requires
 unreachable-requires g c =

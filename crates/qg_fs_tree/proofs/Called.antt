@@ -1,0 +1,87 @@
+-- An edit of a tree that stands, as its contract says what was done: the tree stands then.
+use Rattle.std.proofs.Common.{◌≡◌, ℕ, ◌+◌, ◌<◌, ◌≤◌, List, Option, Some, None, refl, sym, subst, ◌∙◌}
+use Rattle.std.specs.Prelude.{IsTrue}
+use Rattle.qg_device.specs.History.{Event}
+use Rattle.qg_num.specs.declared.piece.Piece.{Piece}
+use Rattle.qg_node.specs.declared.item.Item.{Item}
+use Rattle.qg_super.specs.Places.{second_place}
+use Rattle.qg_verdict.specs.declared.tree.Tree.TheVariants.{Files}
+use Rattle.qg_verdict.specs.Walk.{is_owner}
+use Rattle.qg_ground.specs.Changes.{IsOwnedBy}
+use Rattle.qg_ground.specs.Land.{IsDrafted, Rests}
+use Rattle.qg_ground.specs.Tellings.{Telling}
+use Rattle.qg_ground.proofs.Lands.{Rests-draft}
+use Rattle.qg_extents.specs.Table.{IsTable}
+use Rattle.qg_tree_edits.specs.Counting.{IsTreeTold, committed_at}
+use Rattle.qg_tree_edits.specs.Rooting.{IsReplaced, LeavesBe, StaysTree}
+use Rattle.qg_tree_edits.proofs.Committed.{committed-is}
+use Rattle.qg_tree_refs.specs.Following.{Follows}
+use Rattle.qg_tree_refs.specs.Settled.{IsSettled}
+use Rattle.qg_fs_tree.specs.declared.fs_tree.FsTree.{FsTree}
+use Rattle.qg_fs_tree.specs.Standing.{IsEditedTo, IsSubvolume, Stands}
+use Rattle.qg_fs_tree.proofs.Edited.{IsEditedTo-told, IsToldOf, fits-after}
+use Rattle.qg_fs_tree.proofs.Told.{true-told}
+
+module _ (old new : FsTree) (history : Option (List Event)) (bytes : ℕ) (items left_items : List Item)
+    (names : List (ℕ × Piece)) (tellings : List Telling)
+    (subvolume : IsSubvolume old history bytes) (stands : Stands old history items names)
+    (table : IsTable old.refs.refs)
+    (told : IsTreeTold old.tree new.tree old.land new.land history tellings)
+    (follows : Follows old.refs tellings new.refs) where
+  drafted : IsDrafted old.land old.tree.next
+  drafted = subvolume.editable.drafted
+
+  is_told : IsToldOf old new history tellings
+  is_told = record {
+    turns = told.turns;
+    new_there = told.new;
+    bare = told.bare;
+    truth = true-told old history items names stands drafted (committed_at old.land history)
+        (λ q node held is. committed-is old.land history q held ∙ is) tellings told.as_was told.down told.unheld;
+    few = told.few_made;
+  }
+
+  -- no misfit was met
+  pub fits-called : new.refs.misfit ≡ None
+  fits-called = fits-after old new history items left_items names tellings stands drafted table is_told follows
+
+  module _ (later : Option (List Event)) (left most : ℕ)
+      (replaced : IsReplaced Files old.tree new.tree old.land new.land history left_items)
+      (leaves : LeavesBe old.land new.land history later bytes left old.tree.next)
+      (stays : StaysTree most old.tree new.tree) (owned : IsOwnedBy old.tree.owner old.land new.land)
+      (settled : new.refs.misfit ≡ None → IsSettled new.refs new.land later) where
+    pub IsEditedTo-called : IsEditedTo old new history left_items names (old.tree.height + 2)
+    IsEditedTo-called =
+        let rests = subst (λ (h : Option (List Event)). Rests old.land new.land h old.tree.next) leaves.history
+        leaves.rests in
+        let settled_then = subst (λ (h : Option (List Event)). IsSettled new.refs new.land h) leaves.history
+        (settled fits-called) in
+        IsEditedTo-told old new history items left_items names tellings stands drafted table is_told follows replaced
+        rests stays.owner stays.next owned.each rests.runs settled_then
+
+-- ---- what stands over any disk
+
+pub IsSubvolume-after : (old new : FsTree) (history later : Option (List Event)) (bytes left : ℕ)
+    → IsSubvolume old history bytes → LeavesBe old.land new.land history later bytes left old.tree.next
+    → new.tree.owner ≡ old.tree.owner → new.tree.next ≡ old.tree.next → IsSubvolume new later left
+IsSubvolume-after old new history later bytes left subvolume leaves owner next = record {
+  editable = record {
+    backed = leaves.rests.backed;
+    drafted = subst (λ (n : ℕ). IsDrafted new.land n) (sym next) leaves.rests.drafted;
+    room = subst (λ (n : ℕ). second_place ≤ n) (sym leaves.size) subvolume.editable.room;
+  };
+  makes = record {
+    owner = subst (λ (n : ℕ). IsTrue (is_owner Files n)) (sym owner) subvolume.makes.owner;
+    next = subst (λ (n : ℕ). 0 < n) (sym next) subvolume.makes.next;
+  };
+}
+
+-- a call that does nothing
+pub LeavesBe-none : (fs : FsTree) (history : Option (List Event)) (bytes : ℕ) → IsSubvolume fs history bytes
+    → LeavesBe fs.land fs.land history history bytes bytes fs.tree.next
+LeavesBe-none fs history bytes subvolume = record {
+  rests = Rests-draft fs.land fs.land history fs.tree.next refl refl refl subvolume.editable.backed
+      subvolume.editable.drafted;
+  history = refl;
+  size = refl;
+}

@@ -1,0 +1,104 @@
+-- Who owns the fresh nodes after calls on one node.
+use Rattle.std.proofs.Common.{◌≡◌, ◌≢◌, ℕ, List, refl, sym, ap, ◌∙◌, inl, inr}
+use Rattle.std.specs.Prelude.{Option, Some, None}
+use Rattle.std.proofs.lemmas.Bool.Decides.{eqb_tells}
+use Rattle.qg_device.specs.History.{Event}
+use Rattle.qg_node.specs.declared.node.Node.{Node}
+use Rattle.qg_node.specs.declared.node.Node.TheVariants.{Leaf, Inner}
+use Rattle.qg_node.specs.Nodes.{header_of}
+use Rattle.qg_blocks.specs.Held.{Draft}
+use Rattle.qg_blocks.specs.Told.{fresh_at}
+use Rattle.qg_ground.specs.declared.ground.Ground.{Ground}
+use Rattle.qg_ground.specs.Tellings.{LetsGo}
+use Rattle.qg_ground.specs.Changes.{HasOwner, IsOwnedBy, Makes, Owned, Puts, node_at}
+use Rattle.qg_ground.proofs.Lands.{IsSome-is, fresh_at-told}
+
+-- ---- calls added up
+
+-- an owner that was one of a fresh node
+pub HasOwner-after : (owner : ℕ) (old mid : Ground) (node : Node) → IsOwnedBy owner old mid → HasOwner owner mid node → HasOwner owner old node
+HasOwner-after owner old mid node first (inl own) = inl own
+HasOwner-after owner old mid node first (inr (from, was, there, same)) = elim (first.each from was there) [
+  | inl own ↦ inl (sym same ∙ own)
+  | inr before ↦ inr (before.0, before.1, before.2, before.3 ∙ same)
+]
+
+pub IsOwnedBy-after : (owner : ℕ) (old mid new : Ground) → IsOwnedBy owner old mid → IsOwnedBy owner mid new → IsOwnedBy owner old new
+IsOwnedBy-after owner old mid new first second = record {
+  each = λ at node there. HasOwner-after owner old mid node first (second.each at node there);
+}
+
+-- fresh nodes are as they were
+pub IsOwnedBy-draft : (owner : ℕ) (old new : Ground) → new.blocks.draft ≡ old.blocks.draft → IsOwnedBy owner old new
+IsOwnedBy-draft owner old new draft = record {
+  each = λ at node there. inr (at, node, sym (ap (λ (d : Draft). fresh_at d at) draft) ∙ there, refl);
+}
+
+-- ---- one node
+
+same_owner : (owner : ℕ) (land : Ground) (node other : Node) → other ≡ node → HasOwner owner land node → HasOwner owner land other
+same_owner owner land node other is (inl own) = inl (ap (λ (n : Node). (header_of n).owner) is ∙ own)
+same_owner owner land node other is (inr (from, was, there, same)) =
+    inr (from, was, there, same ∙ sym (ap (λ (n : Node). (header_of n).owner) is))
+
+-- one is fresh at an address, and the others are as they were
+pub IsOwnedBy-one : (owner : ℕ) (old mid new : Ground) (now : ℕ) (node : Node) → IsOwnedBy owner old mid → fresh_at new.blocks.draft now ≡ Some node
+    → ((at : ℕ) → at ≢ now → fresh_at new.blocks.draft at ≡ fresh_at mid.blocks.draft at) → HasOwner owner old node → IsOwnedBy owner old new
+IsOwnedBy-one owner old mid new now node first here others own = record {
+  each = λ at other there. elim (eqb_tells at now) [
+    | inl (equal, same) ↦
+        let that : Some other ≡ Some node = sym there ∙ ap (λ (a : ℕ). fresh_at new.blocks.draft a) same ∙ here in
+        let one : other ≡ node = cc in
+        same_owner owner old node other one own
+    | inr (unequal, differ) ↦ first.each at other (sym (others at differ) ∙ there)
+  ];
+}
+
+-- one is put
+pub IsOwnedBy-put : (owner : ℕ) (old mid new : Ground) (now : ℕ) (node : Node) → IsOwnedBy owner old mid → Puts mid new now node → HasOwner owner old node
+    → IsOwnedBy owner old new
+IsOwnedBy-put owner old mid new now node first puts own =
+    IsOwnedBy-one owner old mid new now node first puts.here (λ at other. fresh_at-told mid.blocks.draft new.blocks.draft at (puts.others None at other)) own
+
+node_at-owner : (node : Node) (address : ℕ) → (header_of (node_at address node)).owner ≡ (header_of node).owner
+node_at-owner (Leaf header items) address = refl
+node_at-owner (Inner header pointers) address = refl
+
+moved_owner : (owner : ℕ) (land : Ground) (now : ℕ) (node : Node) → HasOwner owner land node → HasOwner owner land (node_at now node)
+moved_owner owner land now node (inl own) = inl (node_at-owner node now ∙ own)
+moved_owner owner land now node (inr (from, was, there, same)) = inr (from, was, there, same ∙ sym (node_at-owner node now))
+
+-- one is made
+pub IsOwnedBy-made : (owner : ℕ) (old mid new : Ground) (now : ℕ) (node : Node) → IsOwnedBy owner old mid → Makes mid new now node → HasOwner owner old node
+    → IsOwnedBy owner old new
+IsOwnedBy-made owner old mid new now node first makes own =
+    IsOwnedBy-put owner old mid new now (node_at now node) first makes.puts (moved_owner owner old now node own)
+
+owned_there : (old new : Ground) (history : Option (List Event)) (at now owner generation : ℕ) (o : Option Node) → fresh_at old.blocks.draft at ≡ o
+    → Owned old new history at now owner generation → IsOwnedBy owner old new
+owned_there old new history at now owner generation None is owned =
+    let copies = owned.copied is in
+    IsOwnedBy-put owner old old new now copies.copy (IsOwnedBy-draft owner old old refl) copies.puts (inl copies.owned)
+owned_there old new history at now owner generation (Some node) is owned =
+    IsOwnedBy-draft owner old new (ap (λ (g : Ground). g.blocks.draft) (owned.kept (IsSome-is (fresh_at old.blocks.draft at) node is)).1)
+
+-- one is owned
+pub IsOwnedBy-owned : (old new : Ground) (history : Option (List Event)) (at now owner generation : ℕ) → Owned old new history at now owner generation
+    → IsOwnedBy owner old new
+IsOwnedBy-owned old new history at now owner generation owned =
+    owned_there old new history at now owner generation (fresh_at old.blocks.draft at) refl owned
+
+-- one is left
+pub IsOwnedBy-left : (owner : ℕ) (old new : Ground) (at : ℕ) → LetsGo old new at → IsOwnedBy owner old new
+IsOwnedBy-left owner old new at left = record {
+  each = λ q node there. elim (eqb_tells q at) [
+    | inl (equal, same) ↦
+        let here : fresh_at new.blocks.draft at ≡ Some node = sym (ap (λ (a : ℕ). fresh_at new.blocks.draft a) same) ∙ there in
+        elim left.here [
+          | inl kept ↦ inr (at, node, sym kept ∙ here, refl)
+          | inr none ↦ let no : Some node ≡ None = sym here ∙ none in absurd cc
+        ]
+    | inr (unequal, differ) ↦
+        inr (q, node, sym (fresh_at-told old.blocks.draft new.blocks.draft q (left.others None q differ)) ∙ there, refl)
+  ];
+}

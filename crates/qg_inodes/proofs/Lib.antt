@@ -1,0 +1,12 @@
+pub mod Ascending
+pub mod Says
+pub mod Inodes
+pub mod Files
+pub mod Keys
+pub mod Within
+pub mod Last
+pub mod Meeting
+pub mod Judging
+pub mod Answered
+pub mod PiecesRead
+pub mod Whole

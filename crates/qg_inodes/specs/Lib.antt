@@ -1,0 +1,4 @@
+pub mod Items
+pub mod Pieces
+pub mod Told
+pub mod Judged
