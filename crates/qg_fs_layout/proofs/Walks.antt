@@ -147,7 +147,8 @@ module _ (tree : Tree) (super other : Super) (generation : other.generation ≡ 
 
     pointers_none : (level depth : ℕ)
         → ((expected : Expected) (address : ℕ) (items : List Item)
-        → IsUnder tree super nodes level expected address items → AreItems items → whole_walk depth expected address ≡ None)
+        → IsUnder tree super nodes level expected address items → AreItems items
+        → whole_walk depth expected address ≡ None)
         → (to : Option Key) (pointers : List Pointer) (items : List Item)
         → AreUnder tree super nodes level to pointers items → AreItems items
         → pointers_failure (whole_walk depth) level to pointers ≡ None
