@@ -125,7 +125,7 @@ module _ (old new : FsTree) (history : Option (List Event)) (bytes left : ℕ) (
       (drafted new history left items_new names_new subvolume_new stands_new) moved.sizes q held.clean held_new.clean in
       let told_so = sym as_new.told ∙ told_same ∙ as_old.told in
       let same : placed.node ≡ was.node = let e : Some placed.node ≡ Some was.node = told_so in cc in
-      let mark = moved.marks q as_old.reached as_new.reached held_new.held in
+      let mark = moved.moves.marks q as_old.reached as_new.reached held_new.held in
       record {
         full = full_as placed.full was.full (reaches (layout_of after) (header_of was.node).owner q)
             (as_new.full ∙ mark ∙ sym as_old.full)

@@ -51,12 +51,16 @@ free-apart holding q free has =
 
 pub moves-itself : (fs : FsTree) (history : Option (List Event)) → IsMoved fs fs history
 moves-itself fs history = record {
-  moves = record { reach = λ q reached. inl reached; others = λ q taken apart. refl; freed = λ q free. inl free };
+  moves = record {
+    reach = λ q reached. inl reached;
+    others = λ q taken apart. refl;
+    freed = λ q free. inl free;
+    marks = λ q before after has. refl;
+  };
   owner = refl;
   next = refl;
   sizes = refl;
   held_slots = refl;
-  marks = λ q old new has. refl;
 }
 
 runs_free : (space : Holding) (runs : List Element) (q : ℕ)
@@ -65,7 +69,8 @@ unfolding is_free_slot
 runs_free space runs q = refl
 
 module _ (old new : FsTree) (history : Option (List Event)) (keeps : KeepsTree old new)
-    (marks : (q : ℕ) → full_in (book_of new.refs.refs q) ≡ full_in (book_of old.refs.refs q)) where
+    (marks : (q : ℕ) → IsReached old history q
+    → full_in (book_of new.refs.refs q) ≡ full_in (book_of old.refs.refs q)) where
   blocks_same : new.land.blocks ≡ old.land.blocks
   blocks_same = ap (λ (land : Ground). land.blocks) keeps.land
 
@@ -86,12 +91,12 @@ module _ (old new : FsTree) (history : Option (List Event)) (keeps : KeepsTree o
       reach = λ q reached. inl (named_reach q reached);
       others = λ q taken apart. ap (λ (held : Held). told held.draft history q) blocks_same;
       freed = λ q free. inl (named_free q free);
+      marks = λ q before after has. marks q before;
     };
     owner = ap (λ (root : Root). root.owner) keeps.tree;
     next = ap (λ (root : Root). root.next) keeps.tree;
     sizes = ap (λ (land : Ground). land.space.sizes) keeps.land;
     held_slots = ap (λ (land : Ground). land.space.held_slots) keeps.land;
-    marks = λ q before after has. marks q;
   }
 
 module _ (a b c : FsTree) (history : Option (List Event)) (first : IsMoved a b history) (later : IsMoved b c history)
@@ -137,18 +142,17 @@ module _ (a b c : FsTree) (history : Option (List Event)) (first : IsMoved a b h
     marks_then q before after has =
         let there = subst (λ (slots : List ℕ). Contains slots q) later.held_slots has in
         elim (later.moves.reach q after) [
-          | inl middle ↦ later.marks q middle after has ∙ first.marks q before middle there
+          | inl middle ↦ later.moves.marks q middle after has ∙ first.moves.marks q before middle there
           | inr free ↦ absurd (free-apart b.land.space q free there)
         ]
 
     pub moves-then : IsMoved a c history
     moves-then = record {
-      moves = record { reach = reach_then; others = others_then; freed = freed_then };
+      moves = record { reach = reach_then; others = others_then; freed = freed_then; marks = marks_then };
       owner = later.owner ∙ first.owner;
       next = later.next ∙ first.next;
       sizes = later.sizes ∙ first.sizes;
       held_slots = later.held_slots ∙ first.held_slots;
-      marks = marks_then;
     }
 
 -- ---- what is told

@@ -49,7 +49,8 @@ StateIsWhole = (fs : FsTree) (history : Option (List Event)) (bytes : ℕ) (item
 pub record MovesCompose : Type 0 where
   pub none : (fs : FsTree) (history : Option (List Event)) → IsMoved fs fs history
   pub named : (old new : FsTree) (history : Option (List Event)) → KeepsTree old new
-      → ((q : ℕ) → full_in (book_of new.refs.refs q) ≡ full_in (book_of old.refs.refs q)) → IsMoved old new history
+      → ((q : ℕ) → IsReached old history q → full_in (book_of new.refs.refs q) ≡ full_in (book_of old.refs.refs q))
+      → IsMoved old new history
   pub both : (a b c : FsTree) (history : Option (List Event)) → IsMoved a b history → IsMoved b c history
       → IsMoved a c history
 

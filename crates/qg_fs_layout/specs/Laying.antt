@@ -90,15 +90,13 @@ pub record IsLaidOutAlone (state : State) (subvolume : Subvolume) (fs : FsTree) 
 -- ---- edits, one after the other
 
 -- What edits of a tree make of it between two commits: number, generation to come and sizes stay, and so does what the
--- last commit holds. A node that stays and that the last commit holds keeps its mark
+-- last commit holds
 pub record IsMoved (old new : FsTree) (history : Option (List Event)) : Type 0 where
   pub moves : Moves old new history
   pub owner : new.tree.owner ≡ old.tree.owner
   pub next : new.tree.next ≡ old.tree.next
   pub sizes : new.land.space.sizes ≡ old.land.space.sizes
   pub held_slots : new.land.space.held_slots ≡ old.land.space.held_slots
-  pub marks : (q : ℕ) → IsReached old history q → IsReached new history q → Contains new.land.space.held_slots q
-      → full_in (book_of new.refs.refs q) ≡ full_in (book_of old.refs.refs q)
 
 -- the last commit of a state holds these slots
 abbrev pub HoldsSlots : State → List ℕ → Type 0
