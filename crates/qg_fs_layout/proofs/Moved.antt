@@ -1,5 +1,5 @@
 -- A tree moved by several edits: what stays and what is new.
-use Rattle.std.proofs.Common.{◌≡◌, ℕ, Bool, true, false, List, ◌++◌, Option, Some, None, refl, sym, ap, subst, ◌∙◌, inl, inr}
+use Rattle.std.proofs.Common.{◌≡◌, ◌≢◌, ℕ, ◌≤◌, Bool, true, false, List, ◌++◌, Option, Some, None, arith, refl, sym, ap, subst, ◌∙◌, inl, inr}
 use Rattle.std.specs.Prelude.{◌⊎◌, IsTrue, ◌==◌, not, is_some}
 use Rattle.std.specs.List.{Contains, list_any}
 use Rattle.std.specs.Result.{result_ok}
@@ -11,9 +11,10 @@ use Rattle.qg_node.specs.declared.item.Item.{Item}
 use Rattle.qg_node.specs.declared.node.Node.{Node}
 use Rattle.qg_node.specs.Nodes.{header_of}
 use Rattle.qg_super.specs.declared.sizes.Sizes.{Sizes}
-use Rattle.qg_super.specs.Places.{is_slot}
+use Rattle.qg_super.specs.Places.{data_begin, is_slot}
 use Rattle.qg_state.specs.declared.element.Element.{Element}
 use Rattle.qg_state.specs.State.{Placed}
+use Rattle.qg_reach.proofs.SlotRule.{slot_below}
 use Rattle.qg_space.specs.Holding.{Holding, is_free_slot}
 use Rattle.qg_space.proofs.Members.{passes_one}
 use Rattle.qg_blocks.specs.Held.{Held}
@@ -26,7 +27,7 @@ use Rattle.qg_extents.specs.Table.{book_of}
 use Rattle.qg_descent.specs.Tree.{Reaches, Root}
 use Rattle.qg_tree_edits.proofs.Ways.{ways-some}
 use Rattle.qg_fs_tree.specs.declared.fs_tree.FsTree.{FsTree}
-use Rattle.qg_fs_tree.specs.Standing.{IsReached, KeepsTree, Stands, nodes_of}
+use Rattle.qg_fs_tree.specs.Standing.{IsReached, IsSubvolume, KeepsTree, Stands, nodes_of}
 use Rattle.qg_fs_tree.proofs.Before.{held}
 use Rattle.qg_fs_layout.specs.Laying.{IsMoved, IsReachedAs}
 
@@ -47,7 +48,7 @@ free-apart holding q free has =
     let wrong : not true ≡ true = ap not (sym some) ∙ parts.1 in
     absurd cc
 
--- ---- one change after another
+-- ---- no change
 
 pub moves-itself : (fs : FsTree) (history : Option (List Event)) → IsMoved fs fs history
 moves-itself fs history = record {
@@ -85,8 +86,8 @@ module _ (old new : FsTree) (history : Option (List Event)) (keeps : KeepsTree o
       ∙ runs_free old.land.space new.land.space.runs q)
       ∙ free
 
-  pub moves-named : IsMoved old new history
-  moves-named = record {
+  moves_named : IsMoved old new history
+  moves_named = record {
     moves = record {
       reach = λ q reached. inl (named_reach q reached);
       others = λ q taken apart. ap (λ (held : Held). told held.draft history q) blocks_same;
@@ -98,6 +99,18 @@ module _ (old new : FsTree) (history : Option (List Event)) (keeps : KeepsTree o
     sizes = ap (λ (land : Ground). land.space.sizes) keeps.land;
     held_slots = ap (λ (land : Ground). land.space.held_slots) keeps.land;
   }
+
+-- a slot lies in front of the data area
+pub names-move : (old new : FsTree) (history : Option (List Event)) (bytes at : ℕ) (items : List Item)
+    (names : List (ℕ × Piece)) → IsSubvolume old history bytes → Stands old history items names → KeepsTree old new
+    → data_begin ≤ at → ((q : ℕ) → q ≢ at → full_in (book_of new.refs.refs q) ≡ full_in (book_of old.refs.refs q))
+    → IsMoved old new history
+names-move old new history bytes at items names subvolume stands keeps high marks =
+    moves_named old new history keeps (λ q reached. marks q (λ same.
+    let low = slot_below old.land.space.sizes q subvolume.editable.drafted.sizes.served (stands.placed q reached) in
+    absurd (omega (arith, low, high, same))))
+
+-- ---- two changes
 
 module _ (a b c : FsTree) (history : Option (List Event)) (first : IsMoved a b history) (later : IsMoved b c history)
   where

@@ -1,9 +1,9 @@
 -- What a subvolume's tree is in a state of the machine (this project's own).
-use Rattle.std.specs.Prelude.{◌≡◌, ℕ, ◌<◌, ◌≤◌, List, Option, Some, IsTrue}
+use Rattle.std.specs.Prelude.{◌≡◌, ◌≢◌, ℕ, ◌<◌, ◌≤◌, List, Option, Some, IsTrue}
 use Rattle.qg_device.specs.History.{Event}
 use Rattle.qg_num.specs.declared.piece.Piece.{Piece}
 use Rattle.qg_node.specs.declared.item.Item.{Item}
-use Rattle.qg_super.specs.Places.{is_slot}
+use Rattle.qg_super.specs.Places.{data_begin, is_slot}
 use Rattle.qg_image.specs.FilesOf.{files_of}
 use Rattle.qg_machine.specs.Layout.{IsTreeOf, IsWhole}
 use Rattle.qg_state.specs.State.{State, Subvolume}
@@ -45,11 +45,14 @@ StateIsWhole = (fs : FsTree) (history : Option (List Event)) (bytes : ℕ) (item
     → IsSubvolume fs history bytes → Stands fs history items names → IsLaidOutAlone state subvolume fs history
     → files_of fs.tree.next items ≡ Some subvolume.files → AreFit fs history → IsWhole state
 
--- edits, one after the other, make of a tree what they make of it together; to name pieces makes nothing of it
+-- edits, one after the other, make of a tree what they make of it together; a piece that names an extent in the data
+-- area, or names it no more, makes nothing of it
 pub record MovesCompose : Type 0 where
   pub none : (fs : FsTree) (history : Option (List Event)) → IsMoved fs fs history
-  pub named : (old new : FsTree) (history : Option (List Event)) → KeepsTree old new
-      → ((q : ℕ) → IsReached old history q → full_in (book_of new.refs.refs q) ≡ full_in (book_of old.refs.refs q))
+  pub named : (old new : FsTree) (history : Option (List Event)) (bytes at : ℕ) (items : List Item)
+      (names : List (ℕ × Piece)) → IsSubvolume old history bytes → Stands old history items names → KeepsTree old new
+      → data_begin ≤ at
+      → ((q : ℕ) → q ≢ at → full_in (book_of new.refs.refs q) ≡ full_in (book_of old.refs.refs q))
       → IsMoved old new history
   pub both : (a b c : FsTree) (history : Option (List Event)) → IsMoved a b history → IsMoved b c history
       → IsMoved a c history
