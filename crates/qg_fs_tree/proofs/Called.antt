@@ -1,12 +1,16 @@
 -- An edit of a tree that stands, as its contract says what was done: the tree stands then.
 use Rattle.std.proofs.Common.{◌≡◌, ℕ, ◌+◌, ◌<◌, ◌≤◌, List, Option, Some, None, refl, sym, subst, ◌∙◌}
-use Rattle.std.specs.Prelude.{IsTrue}
+use Rattle.std.specs.Prelude.{IsOk, IsTrue, MatchOption, Result, Ok, Err}
 use Rattle.qg_device.specs.History.{Event}
 use Rattle.qg_num.specs.declared.piece.Piece.{Piece}
+use Rattle.qg_num.specs.declared.fault.BlockFault.{BlockFault}
+use Rattle.qg_num.specs.declared.fault.BlockFault.TheVariants.{Image}
+use Rattle.qg_num.specs.declared.rule.Rule.TheVariants.{Refs}
 use Rattle.qg_node.specs.declared.item.Item.{Item}
 use Rattle.qg_super.specs.Places.{second_place}
 use Rattle.qg_verdict.specs.declared.tree.Tree.TheVariants.{Files}
 use Rattle.qg_verdict.specs.Walk.{is_owner}
+use Rattle.qg_blocks.specs.Told.{BreaksNone}
 use Rattle.qg_ground.specs.Changes.{IsOwnedBy}
 use Rattle.qg_ground.specs.Land.{IsDrafted, Rests}
 use Rattle.qg_ground.specs.Tellings.{Telling}
@@ -85,3 +89,11 @@ LeavesBe-none fs history bytes subvolume = record {
   history = refl;
   size = refl;
 }
+
+-- what is answered at the end
+pub fitting-sound : (misfit : Option ℕ) (result : Result (Unit {0}) BlockFault)
+    → MatchOption misfit (IsOk result) (λ address. result ≡ Err (Image Refs address)) → misfit ≡ None
+    → BreaksNone result
+fitting-sound None (Ok done) met none = tt
+fitting-sound None (Err fault) met none = cc
+fitting-sound (Some at) result met none = cc

@@ -49,6 +49,7 @@ impl FsTree {
         ensures cause { HasCause BlockFault.Disk (D.faults disk.old) (D.faults disk.new) result }
         ensures reads { reads.new ≤ reads.old + 9 * (self.old.tree.height + 2) }
     {
+        let _ascending = self.refs.refs().len();
         self.roomy()?;
         insert::<FilePart, D, L, TreeRefs>(
             &mut self.tree,
@@ -87,6 +88,7 @@ impl FsTree {
         ensures cause { HasCause BlockFault.Disk (D.faults disk.old) (D.faults disk.new) result }
         ensures reads { reads.new ≤ reads.old + 9 * (self.old.tree.height + 2) }
     {
+        let _ascending = self.refs.refs().len();
         self.roomy()?;
         replace::<FilePart, D, L, TreeRefs>(
             &mut self.tree,
@@ -123,6 +125,7 @@ impl FsTree {
         ensures cause { HasCause BlockFault.Disk (D.faults disk.old) (D.faults disk.new) result }
         ensures reads { reads.new ≤ reads.old + 9 * (self.old.tree.height + 2) }
     {
+        let _ascending = self.refs.refs().len();
         self.roomy()?;
         remove::<FilePart, D, L, TreeRefs>(
             &mut self.tree,

@@ -1,5 +1,5 @@
 // A subvolume's tree with what it lies in and what it owes.
-ghost use Rattle.std.specs.Prelude.{◌≡◌, ◌+◌, ◌*◌, ◌<◌, ◌≤◌, Err, IsOk, MatchOption};
+ghost use Rattle.std.specs.Prelude.{◌≡◌, ◌+◌, ◌*◌, ◌<◌, ◌≤◌, Err, IsOk, MatchOption, OnOk};
 ghost use Rattle.qg_num.specs.declared.fault.BlockFault.TheVariants.{Image};
 ghost use Rattle.qg_num.specs.declared.rule.Rule.TheVariants.{Refs, Shape};
 ghost use Rattle.qg_space.specs.Holding.{free_slots};
@@ -34,6 +34,7 @@ impl FsTree {
 
     /// `Image` with `shape` and the root's address where an edit may want more slots than are free.
     pub(crate) fn roomy(&self) -> Result<(), BlockFault>
+        ensures room { OnOk result (3 * (self.now.tree.height + 2) ≤ free_slots self.now.land.space) }
         ensures enough { 3 * (self.now.tree.height + 2) ≤ free_slots self.now.land.space → IsOk result }
         ensures few { free_slots self.now.land.space < 3 * (self.now.tree.height + 2) → result ≡ Err (Image Shape self.now.tree.address) }
     {

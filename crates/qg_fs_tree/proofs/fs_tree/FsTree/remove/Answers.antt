@@ -1,0 +1,46 @@
+use Rattle.std.proofs.Common.{◌≡◌, ℕ, List, [], subst, arith}
+use Rattle.qg_edit.specs.Edits.{without_key}
+use Rattle.qg_edit.proofs.Leaves.{ok-known}
+use Rattle.qg_refs.specs.declared.kept.Kept.{Kept}
+use Rattle.qg_extents.specs.Table.{IsTable}
+use Rattle.qg_tree_refs.proofs.Stepping.{Follows-none}
+use Rattle.qg_fs_tree.specs.declared.fs_tree.FsTree.{FsTree}
+use Rattle.qg_fs_tree.proofs.Called.{IsEditedTo-called, fits-called, fitting-sound}
+use Rattle.qg_fs_tree.proofs.fs_tree.FsTree.remove.Goals as goal
+
+pub returns-in_err-remove-clause-reads : goal.returns-in_err-remove-clause-reads
+returns-in_err-remove-clause-reads g c =
+    let most = c.remove.ensures.reads 1 (λ book q. omega arith) in
+    omega (arith, most)
+
+pub returns-clause-reads : goal.returns-clause-reads
+returns-clause-reads g c =
+    let most = c.remove.ensures.reads 1 (λ book q. omega arith) in
+    omega (arith, most)
+
+pub returns-clause-removed : goal.returns-clause-removed
+returns-clause-removed g c items names stands there =
+    let old = c.args.self.now in
+    let new : FsTree = record { tree = c.remove.new.tree; land = c.remove.new.land; refs = c.remove.new.book } in
+    let history = g.D.Disk.history c.args.disk.now in
+    let bytes = g.D.Disk.size c.args.disk.now in
+    let met = c.in_ok-remove.ensures in
+    let table = subst (λ (refs : List (ℕ × Kept)). IsTable refs) c.refs.ensures c.len-ascending.ensures.table in
+    let told = met.told items stands.rooted there old.refs [] (Follows-none old.refs) in
+    let edited = IsEditedTo-called old new history bytes items (without_key c.args.key items) names told.0
+    c.requires.subvolume stands table told.2 told.1 (g.D.Disk.history c.remove.new.disk) (g.D.Disk.size c.remove.new.disk)
+    0 (met.removed items stands.rooted there) c.remove.ensures.rests met.tree.stays met.owners
+    (met.settled (λ none. stands.settled)) in
+    ok-known _ c.fitting.result edited
+
+pub returns-clause-sound : goal.returns-clause-sound
+returns-clause-sound g c events is items names stands there room =
+    let old = c.args.self.now in
+    let new : FsTree = record { tree = c.remove.new.tree; land = c.remove.new.land; refs = c.remove.new.book } in
+    let history = g.D.Disk.history c.args.disk.now in
+    let bytes = g.D.Disk.size c.args.disk.now in
+    let table = subst (λ (refs : List (ℕ × Kept)). IsTable refs) c.refs.ensures c.len-ascending.ensures.table in
+    let told = c.in_ok-remove.ensures.told items stands.rooted there old.refs [] (Follows-none old.refs) in
+    let fits = fits-called old new history bytes items items names told.0 c.requires.subvolume stands table told.2 told.1
+    in
+    fitting-sound new.refs.misfit c.fitting.result c.fitting.ensures fits
