@@ -33,9 +33,9 @@ use Rattle.qg_tree_refs.specs.Settled.{IsSettled}
 use Rattle.qg_tree_refs.specs.declared.tree_refs.TreeRefs.{TreeRefs}
 use Rattle.qg_fs_tree.specs.declared.fs_tree.FsTree.{FsTree}
 use Rattle.qg_fs_tree.specs.Standing.{IsKnownExtent, IsReached, Stands, every_slot, layout_in, name_of, name_told, names_times, nodes_of, taken_slots}
-use Rattle.qg_fs_tree.proofs.Before.{full-clean, full-held, full-parts, full-some, full_if, full_in_tree, held, none-before, once, reached, single, taken, unnamed}
+use Rattle.qg_fs_tree.proofs.Before.{full-clean, full-held, full-marks, full-parts, full-some, full_if, full_in_tree, held, none-before, once, reached, single, taken, unnamed}
 use Rattle.qg_tree_refs.proofs.Counted.{many}
-use Rattle.qg_fs_tree.proofs.Counts.{mark_of, owed-ways, slots_of, ways_in}
+use Rattle.qg_fs_tree.proofs.Counts.{mark_of, node-there, owed-ways, slots_of, ways_in}
 use Rattle.qg_fs_tree.proofs.Exchanged.{StaysBook, references-one}
 use Rattle.qg_fs_tree.proofs.Keyed.{keyed_ways}
 use Rattle.qg_fs_tree.proofs.Layouts.{full_of}
@@ -297,6 +297,24 @@ module _ (old new : FsTree) (history : Option (List Event)) (items left_items : 
         generation = known.generation;
         known = counted.named (get_or names i d).1.extent (named-there old.tree.owner names i d inside) ∙ known.known;
       }
+
+  -- a node that stays, and that the last commit holds, keeps its mark
+  mark_old : (q : ℕ) → 0 < ways_in old history q → mark_of old q ≡ is_some (full_in_tree old history q)
+  mark_old q some =
+      let node = node-there old history items stands.rooted drafted q some in
+      full-marks node.0 (nodes_of old history q) (mark_of old q) node.1
+      ∙ ap (λ (o : Option Node). is_some o)
+      (sym (full-some (ways_in old history q) (nodes_of old history q) (mark_of old q) some))
+
+  pub marks-kept : (q : ℕ) → IsReached old history q → IsReached new history q → Contains new.land.space.held_slots q
+      → full_in (book_of new.refs.refs q) ≡ full_in (book_of old.refs.refs q)
+  marks-kept q before after has = elim (counted.stays q (way_new q after)) [
+    | inl came ↦
+        absurd (no_some (fresh_at new.land.blocks.draft q)
+        (not_fresh q (subst (λ (slots : List ℕ). Contains slots q) rests.held_slots has)) (new_fresh q came.0))
+    | inr stayed ↦
+        counted.marks q (way_new q after) ∙ ap (λ (o : Option Node). is_some o) stayed.1 ∙ sym (mark_old q stayed.0)
+  ]
 
   pub Stands-after : (runs : new.land.space.runs ≡ old.land.space.runs) → Stands new history left_items names
   Stands-after runs = record {

@@ -21,7 +21,7 @@ use Rattle.qg_tree_refs.specs.Following.{Follows, references_to}
 use Rattle.qg_tree_refs.specs.Settled.{IsSettled}
 use Rattle.qg_fs_tree.specs.declared.fs_tree.FsTree.{FsTree}
 use Rattle.qg_fs_tree.specs.Standing.{IsEditedTo, IsReached, Moves, Stands, every_slot, taken_slots}
-use Rattle.qg_fs_tree.proofs.After.{AreOwned, Stands-after}
+use Rattle.qg_fs_tree.proofs.After.{AreOwned, Stands-after, marks-kept}
 use Rattle.qg_fs_tree.proofs.Before.{StandsFor-before, full_in_tree, none-before, once, placed, single, taken, unnamed}
 use Rattle.qg_fs_tree.proofs.Counts.{slots_of, ways_in}
 use Rattle.qg_fs_tree.proofs.Exchanged.{StandsFor-followed, StaysBook-followed, references-none, references-one}
@@ -131,6 +131,12 @@ module _ (old new : FsTree) (history : Option (List Event)) (items left_items : 
     pub IsEditedTo-told : IsEditedTo old new history left_items names (old.tree.height + 2)
     IsEditedTo-told = record {
       stands = stands_after;
-      moves = record { reach = replaced.reach; others = replaced.others; freed = replaced.freed };
+      moves = record {
+        reach = replaced.reach;
+        others = replaced.others;
+        freed = replaced.freed;
+        marks = marks-kept old new history items left_items names stands drafted replaced.rooted rests same_owner
+            same_next owned settled (StaysBook-followed tellings old.refs new.refs follows) table followed.0 followed.1;
+      };
       few = few_after;
     }

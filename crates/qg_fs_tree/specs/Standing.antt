@@ -134,14 +134,16 @@ pub record Stands (fs : FsTree) (history : Option (List Event)) (items : List It
     pub runs : (run : Element) → Contains fs.land.space.runs run ↔ Contains (map (λ name. extent_of name.1) names) run
 
 -- What an edit makes of a tree and the nodes: what it reaches it reached before, or lies in a slot that was free; only
--- these are told
--- otherwise, and only slots that were free or reached are free
+-- these are told otherwise, and only slots that were free or reached are free. A node that stays, and that the last
+-- commit holds, keeps its mark
 pub record Moves (old new : FsTree) (history : Option (List Event)) : Type 0 where
   pub reach : (q : ℕ) → IsReached new history q → IsReached old history q ⊎ IsTrue (is_free_slot old.land.space q)
   pub others : (q : ℕ) → (IsTrue (is_free_slot old.land.space q) → ⊥) → (IsReached old history q → ⊥)
       → nodes_of new history q ≡ nodes_of old history q
   pub freed : (q : ℕ) → IsTrue (is_free_slot new.land.space q)
       → IsTrue (is_free_slot old.land.space q) ⊎ IsReached old history q
+  pub marks : (q : ℕ) → IsReached old history q → IsReached new history q → Contains new.land.space.held_slots q
+      → full_in (book_of new.refs.refs q) ≡ full_in (book_of old.refs.refs q)
 
 -- What is named changes references, and which runs are taken, alone
 pub record KeepsTree (old new : FsTree) : Type 0 where

@@ -1,5 +1,5 @@
 // Pieces of files name extents, and name them no more.
-ghost use Rattle.std.specs.Prelude.{◌≡◌, ◌∷◌, ◌<◌, ◌≤◌, ◌*◌, ◌/◌, ℕ, ⊤, List, Option, Err, MatchResult, OnOk, IsTrue, map, true};
+ghost use Rattle.std.specs.Prelude.{◌≡◌, ◌≢◌, ◌∷◌, ◌<◌, ◌≤◌, ◌*◌, ◌/◌, ℕ, ⊤, List, Option, Err, MatchResult, OnOk, IsTrue, map, true};
 ghost use Rattle.std.specs.List.{Contains, filter_map};
 ghost use Rattle.qg_device.specs.History.{Event};
 ghost use Rattle.qg_num.specs.declared.piece.Piece.{Piece as PieceValue};
@@ -10,6 +10,8 @@ ghost use Rattle.qg_super.specs.Places.{sector};
 ghost use Rattle.qg_state.specs.Reach.{extent_of};
 ghost use Rattle.qg_blocks.specs.Told.{BreaksNone};
 ghost use Rattle.qg_space.specs.Holding.{free_slots, has_run, is_free_run};
+ghost use Rattle.qg_refs.specs.Book.{full_in};
+ghost use Rattle.qg_extents.specs.Table.{book_of};
 ghost use Rattle.qg_fs_tree.specs.Standing.{IsMisfitAt, IsSubvolume, KeepsTree, Stands, name_of, name_told, names_times};
 
 use crate::FsTree;
@@ -64,6 +66,7 @@ impl FsTree {
             → names_times self.old.tree.owner names piece.now.extent (name_of self.old.tree.owner (ino, piece.now)).reference < 4294967295
             → BreaksNone result }
         ensures tree { KeepsTree self.old self.new }
+        ensures marks { OnOk result ((q : ℕ) → q ≢ piece.now.extent → full_in (book_of self.new.refs.refs q) ≡ full_in (book_of self.old.refs.refs q)) }
         ensures subvolume { (history : Option (List Event)) (bytes : ℕ) → IsSubvolume self.old history bytes → IsSubvolume self.new history bytes }
         ensures slots { free_slots self.new.land.space ≡ free_slots self.old.land.space }
         ensures fault { MatchResult result (λ done. ⊤) (IsMisfitAt piece.now.extent) }
@@ -92,6 +95,7 @@ impl FsTree {
             → IsSubvolume self.old history bytes → Stands self.old history items names
             → BreaksNone result }
         ensures tree { KeepsTree self.old self.new }
+        ensures marks { OnOk result ((q : ℕ) → q ≢ piece.now.extent → full_in (book_of self.new.refs.refs q) ≡ full_in (book_of self.old.refs.refs q)) }
         ensures subvolume { (history : Option (List Event)) (bytes : ℕ) → IsSubvolume self.old history bytes → IsSubvolume self.new history bytes }
         ensures slots { free_slots self.new.land.space ≡ free_slots self.old.land.space }
         ensures fault { MatchResult result (λ done. ⊤) (IsMisfitAt piece.now.extent) }
@@ -124,6 +128,7 @@ impl FsTree {
             ≤ names_times self.old.tree.owner names piece.now.extent (name_of self.old.tree.owner (ino, piece.now)).reference
             → BreaksNone result }
         ensures tree { KeepsTree self.old self.new }
+        ensures marks { OnOk result ((q : ℕ) → q ≢ piece.now.extent → full_in (book_of self.new.refs.refs q) ≡ full_in (book_of self.old.refs.refs q)) }
         ensures subvolume { (history : Option (List Event)) (bytes : ℕ) → IsSubvolume self.old history bytes → IsSubvolume self.new history bytes }
         ensures slots { free_slots self.new.land.space ≡ free_slots self.old.land.space }
         ensures fault { MatchResult result (λ done. ⊤) (IsMisfitAt piece.now.extent) }

@@ -4,7 +4,7 @@ use Rattle.std.proofs.lemmas.Bool.{true≢false}
 use Rattle.qg_items.specs.declared.extent.Reference.{Reference}
 use Rattle.qg_refs.specs.declared.kept.Kept.{Kept}
 use Rattle.qg_refs.specs.declared.kept.What.{What}
-use Rattle.qg_refs.specs.Book.{Adds, references_at}
+use Rattle.qg_refs.specs.Book.{Adds, full_in, references_at}
 use Rattle.qg_extents.specs.Table.{IsTable, book_of}
 use Rattle.qg_fs_tree.proofs.Named.{Stands-named, room-named, some-named, taken-named}
 use Rattle.qg_fs_tree.proofs.fs_tree.FsTree.name.Goals as goal
@@ -47,3 +47,7 @@ returns-clause-named c history bytes items names subvolume stands among few =
     Stands-named fs history items subvolume.editable.drafted c.args.ino piece names stands among
     (record fs { refs = c.name.new.self })
     (record { tree = refl; land = refl; refs = c.name.ensures.others }) what adds refl few
+
+pub returns-clause-marks : goal.returns-clause-marks
+returns-clause-marks c q other =
+    ap full_in ((c.in_ok-name.ensures.given c.if-not-branch.false).elsewhere q other)

@@ -6,7 +6,7 @@ use Rattle.qg_super.specs.Places.{sector}
 use Rattle.qg_state.specs.declared.element.Element.{Element}
 use Rattle.qg_refs.specs.declared.kept.Kept.{Kept}
 use Rattle.qg_refs.specs.declared.kept.What.{What}
-use Rattle.qg_refs.specs.Book.{Adds, references_at}
+use Rattle.qg_refs.specs.Book.{Adds, full_in, references_at}
 use Rattle.qg_space.specs.Holding.{Holding, free_slots, is_free_run, with_run}
 use Rattle.qg_extents.specs.Table.{IsTable, book_of}
 use Rattle.qg_fs_tree.proofs.Kept.{slots-runs, subvolume-space}
@@ -94,3 +94,7 @@ returns-clause-subvolume c history bytes subvolume =
 
 pub returns-clause-slots : goal.returns-clause-slots
 returns-clause-slots c = ap free_slots c.in_ok-take_run.ensures.ok ∙ slots-runs c.args.self.now.land.space _
+
+pub returns-clause-marks : goal.returns-clause-marks
+returns-clause-marks c q other =
+    ap full_in ((c.in_ok-name.ensures.given c.if-not-branch.false).elsewhere q other)

@@ -5,7 +5,7 @@ use Rattle.qg_items.specs.declared.extent.Reference.{Reference}
 use Rattle.qg_super.specs.Places.{sector}
 use Rattle.qg_state.specs.declared.element.Element.{Element}
 use Rattle.qg_refs.specs.declared.kept.Kept.{Kept}
-use Rattle.qg_refs.specs.Book.{Drops, count_at, references_at}
+use Rattle.qg_refs.specs.Book.{Drops, count_at, full_in, references_at}
 use Rattle.qg_space.specs.Holding.{Holding, free_slots, without_run}
 use Rattle.qg_extents.specs.Table.{IsTable, book_of}
 use Rattle.qg_fs_tree.proofs.Kept.{slots-runs, subvolume-space}
@@ -77,3 +77,11 @@ returns-clause-subvolume c history bytes subvolume =
 
 pub returns-clause-slots : goal.returns-clause-slots
 returns-clause-slots c = ap free_slots c.give_run.ensures ∙ slots-runs c.args.self.now.land.space _
+
+pub returns-then-how_many-gt0-clause-marks : goal.returns-then-how_many-gt0-clause-marks
+returns-then-how_many-gt0-clause-marks c q other =
+    ap full_in ((c.unname.ensures.taken c.if-not-unname.false).elsewhere q other)
+
+pub returns-clause-marks : goal.returns-clause-marks
+returns-clause-marks c q other =
+    ap full_in ((c.unname.ensures.taken c.if-not-unname.false).elsewhere q other)

@@ -1,0 +1,13 @@
+pub mod Lists
+pub mod Nodes
+pub mod Told
+pub mod Walks
+pub mod Trees
+pub mod Sound
+pub mod Reach
+pub mod Whole
+pub mod Moved
+pub mod Copied
+pub mod Leaves
+pub mod Extents
+pub mod Counted

@@ -1,0 +1,75 @@
+-- What a subvolume's tree is in a state of the machine (this project's own).
+use Rattle.std.specs.Prelude.{◌≡◌, ◌≢◌, ℕ, ◌<◌, ◌≤◌, List, Option, Some, IsTrue}
+use Rattle.qg_device.specs.History.{Event}
+use Rattle.qg_num.specs.declared.piece.Piece.{Piece}
+use Rattle.qg_node.specs.declared.item.Item.{Item}
+use Rattle.qg_super.specs.Places.{data_begin, is_slot}
+use Rattle.qg_image.specs.FilesOf.{files_of}
+use Rattle.qg_machine.specs.Layout.{IsTreeOf, IsWhole}
+use Rattle.qg_state.specs.State.{State, Subvolume}
+use Rattle.qg_refs.specs.Book.{full_in}
+use Rattle.qg_extents.specs.Table.{book_of}
+use Rattle.qg_verdict.specs.Walk.{deepest}
+use Rattle.qg_fs_tree.specs.declared.fs_tree.FsTree.{FsTree}
+use Rattle.qg_fs_tree.specs.Standing.{IsReached, IsSubvolume, KeepsTree, Stands}
+use Rattle.qg_fs_layout.specs.Laying.{AreFit, AreThoseReached, CopiesNodes, FreshFit, HoldsBytes, HoldsSlots, IsCounted, IsLaidOut, IsLaidOutAlone, IsMoved, names_in}
+
+-- the nodes of a tree as a layout are those that it reaches
+abbrev pub NodesAreThoseReached : Type 0
+NodesAreThoseReached = (fs : FsTree) (history : Option (List Event))
+    → 0 < fs.land.space.sizes.nodesize
+    → ((q : ℕ) → IsReached fs history q → IsTrue (is_slot fs.land.space.sizes q))
+    → AreThoseReached fs history
+
+-- a tree that stands is no higher than the walk goes
+abbrev pub IsLow : Type 0
+IsLow = (fs : FsTree) (history : Option (List Event)) (bytes : ℕ) (items : List Item) (names : List (ℕ × Piece))
+    → IsSubvolume fs history bytes → Stands fs history items names → fs.tree.height ≤ deepest
+
+-- a tree that stands, and whose items are those of a subvolume's files, is that subvolume's tree in the state
+abbrev pub TreeIsWalked : Type 0
+TreeIsWalked = (fs : FsTree) (history : Option (List Event)) (bytes : ℕ) (items : List Item) (names : List (ℕ × Piece))
+    (state : State) (subvolume : Subvolume)
+    → IsSubvolume fs history bytes → Stands fs history items names → IsLaidOut state subvolume fs history
+    → files_of fs.tree.next items ≡ Some subvolume.files → IsTreeOf state subvolume
+
+-- the nodes that a tree reaches fit, where the disk holds bytes and fresh nodes fit
+abbrev pub NodesFit : Type 0
+NodesFit = (fs : FsTree) (history : Option (List Event)) (bytes : ℕ) → IsSubvolume fs history bytes
+    → HoldsBytes history → FreshFit fs.land → AreFit fs history
+
+-- and where they fit, and the subvolume is the only one, the state's layout is that of its files
+abbrev pub StateIsWhole : Type 0
+StateIsWhole = (fs : FsTree) (history : Option (List Event)) (bytes : ℕ) (items : List Item) (names : List (ℕ × Piece))
+    (state : State) (subvolume : Subvolume)
+    → IsSubvolume fs history bytes → Stands fs history items names → IsLaidOutAlone state subvolume fs history
+    → files_of fs.tree.next items ≡ Some subvolume.files → AreFit fs history → IsWhole state
+
+-- edits, one after the other, make of a tree what they make of it together; a piece that names an extent in the data
+-- area, or names it no more, makes nothing of it
+pub record MovesCompose : Type 0 where
+  pub none : (fs : FsTree) (history : Option (List Event)) → IsMoved fs fs history
+  pub named : (old new : FsTree) (history : Option (List Event)) (bytes at : ℕ) (items : List Item)
+      (names : List (ℕ × Piece)) → IsSubvolume old history bytes → Stands old history items names → KeepsTree old new
+      → data_begin ≤ at
+      → ((q : ℕ) → q ≢ at → full_in (book_of new.refs.refs q) ≡ full_in (book_of old.refs.refs q))
+      → IsMoved old new history
+  pub both : (a b c : FsTree) (history : Option (List Event)) → IsMoved a b history → IsMoved b c history
+      → IsMoved a c history
+
+-- edits between two commits leave a layout that follows the one before by copy on write
+abbrev pub CommandsCopy : Type 0
+CommandsCopy = (old new : FsTree) (history : Option (List Event)) (bytes left : ℕ) (items items_new : List Item)
+    (names names_new : List (ℕ × Piece)) (before after : State) (mine mine_new : Subvolume)
+    → IsSubvolume old history bytes → Stands old history items names
+    → IsSubvolume new history left → Stands new history items_new names_new → IsMoved old new history
+    → IsLaidOutAlone before mine old history → IsLaidOutAlone after mine_new new history
+    → HoldsSlots before old.land.space.held_slots → CopiesNodes before after old.tree.owner
+
+-- where the pieces that are named are those of the items, what is owed is counted
+abbrev pub OwedIsCounted : Type 0
+OwedIsCounted = (fs : FsTree) (history : Option (List Event)) (bytes : ℕ) (items : List Item) (state : State)
+    (subvolume : Subvolume)
+    → IsSubvolume fs history bytes → Stands fs history items (names_in items)
+    → IsLaidOutAlone state subvolume fs history → files_of fs.tree.next items ≡ Some subvolume.files
+    → IsCounted state fs history

@@ -1,0 +1,136 @@
+-- A subvolume's tree, as it stands between two edits, and the layout of a state of the machine (this project's own).
+-- Addresses are in bytes.
+use Rattle.std.specs.Prelude.{◌≡◌, ◌↔◌, ℕ, ◌<◌, List, [], ◌∷◌, Option, Some, None, Contains, IsTrue}
+use Rattle.std.specs.List.{filter_map, list_all, AllByRecursion}
+use Rattle.std.specs.List.Sorted.{IsStrictlyIncreasing}
+use Rattle.qg_device.specs.History.{Event, content}
+use Rattle.qg_bytes.specs.Fields.{IsBytes}
+use Rattle.qg_num.specs.declared.piece.Piece.{Piece}
+use Rattle.qg_node.specs.declared.item.Item.{Item}
+use Rattle.qg_node.specs.declared.node.Node.{Node}
+use Rattle.qg_node.specs.Fits.{NodeFits}
+use Rattle.qg_node.specs.Nodes.{header_of}
+use Rattle.qg_node.specs.NodeText.{IsNode}
+use Rattle.qg_items.specs.declared.extent.Reference.{Reference}
+use Rattle.qg_super.specs.declared.sizes.Sizes.{Sizes}
+use Rattle.qg_super.specs.Places.{is_run}
+use Rattle.qg_image.specs.Table.{keys_of, value_at}
+use Rattle.qg_machine.specs.Layout.{KeepsNode, is_made_node, made_nodes}
+use Rattle.qg_state.specs.declared.element.Element.{Element}
+use Rattle.qg_state.specs.Owed.{layout_extents, owed_count}
+use Rattle.qg_state.specs.Space.{present_extents}
+use Rattle.qg_state.specs.State.{Placed, State, Subvolume, layout_of, next_generation, node_at}
+use Rattle.qg_refs.specs.Book.{AgreesWithOwed, Book, full_in, what_in}
+use Rattle.qg_extents.specs.Table.{book_of}
+use Rattle.qg_blocks.specs.Told.{fresh_at}
+use Rattle.qg_ground.specs.declared.ground.Ground.{Ground}
+use Rattle.qg_tree_edits.specs.Counting.{ways}
+use Rattle.qg_tree_refs.specs.Settled.{what_of}
+use Rattle.qg_fs_tree.specs.declared.fs_tree.FsTree.{FsTree}
+use Rattle.qg_fs_tree.specs.Standing.{IsReached, Moves, layout_in, name_told, nodes_of}
+
+-- ---- the nodes of the layout
+
+-- the nodes that a tree reaches, each with its address
+abbrev pub nodes_in : FsTree → Option (List Event) → List (ℕ × Placed)
+nodes_in fs history = (layout_in fs history).nodes
+
+-- a tree reaches an address, and this node is told there, with the mark that is kept of it
+pub record IsReachedAs (fs : FsTree) (history : Option (List Event)) (q : ℕ) (placed : Placed) : Type 0 where
+  pub reached : IsReached fs history q
+  pub told : nodes_of fs history q ≡ Some placed.node
+  pub full : placed.full ≡ full_in (book_of fs.refs.refs q)
+
+-- The nodes of a tree as a layout are a table by address: what the tree reaches and is told there, and nothing else. It
+-- reaches what ways lead to
+pub record AreThoseReached (fs : FsTree) (history : Option (List Event)) : Type 0 where
+  pub ascending : IsStrictlyIncreasing (keys_of (nodes_in fs history))
+  pub among : (q : ℕ) (placed : Placed)
+      → value_at q (nodes_in fs history) ≡ Some placed ↔ IsReachedAs fs history q placed
+  pub told : (q : ℕ) (node : Node)
+      → node_at (nodes_in fs history) q ≡ Some node ↔ (IsReached fs history q × (nodes_of fs history q ≡ Some node))
+  pub ways : (q : ℕ) → IsReached fs history q ↔ 0 < ways (nodes_of fs history) fs.tree.height fs.tree.address q
+
+-- ---- nodes that fit
+
+-- a node has a text of so many bytes, and its numbers fit their fields
+pub record IsFit (nodesize : ℕ) (node : Node) : Type 0 where
+  pub sound : IsNode nodesize node
+  pub fits : NodeFits node
+
+-- what a disk holds are bytes, where it tells
+abbrev pub HoldsBytes : Option (List Event) → Type 0
+HoldsBytes history = (events : List Event) → history ≡ Some events → IsBytes (content events)
+
+-- the numbers of fresh nodes fit their fields
+abbrev pub FreshFit : Ground → Type 0
+FreshFit land = (q : ℕ) (node : Node) → fresh_at land.blocks.draft q ≡ Some node → NodeFits node
+
+-- so it is of each node that a tree reaches
+abbrev pub AreFit : FsTree → Option (List Event) → Type 0
+AreFit fs history = (q : ℕ) (node : Node) → IsReached fs history q → nodes_of fs history q ≡ Some node
+    → IsFit fs.land.space.sizes.nodesize node
+
+-- ---- the state
+
+-- the layout of a state is a tree, as it stands, and it is one of a subvolume
+pub record IsLaidOut (state : State) (subvolume : Subvolume) (fs : FsTree) (history : Option (List Event)) : Type 0
+  where
+    pub sizes : state.sizes ≡ fs.land.space.sizes
+    pub generation : next_generation state ≡ fs.tree.next
+    pub layout : state.layout ≡ nodes_in fs history
+    pub root : subvolume.root ≡ fs.tree.address
+
+-- and there is no other subvolume
+pub record IsLaidOutAlone (state : State) (subvolume : Subvolume) (fs : FsTree) (history : Option (List Event)) : Type 0
+  where
+    pub laid : IsLaidOut state subvolume fs history
+    pub alone : state.subvolumes ≡ (fs.tree.owner, subvolume) ∷ []
+
+-- ---- edits, one after the other
+
+-- What edits of a tree make of it between two commits: number, generation to come and sizes stay, and so does what the
+-- last commit holds
+pub record IsMoved (old new : FsTree) (history : Option (List Event)) : Type 0 where
+  pub moves : Moves old new history
+  pub owner : new.tree.owner ≡ old.tree.owner
+  pub next : new.tree.next ≡ old.tree.next
+  pub sizes : new.land.space.sizes ≡ old.land.space.sizes
+  pub held_slots : new.land.space.held_slots ≡ old.land.space.held_slots
+
+-- the last commit of a state holds these slots
+abbrev pub HoldsSlots : State → List ℕ → Type 0
+HoldsSlots state slots = (slot : ℕ) → Contains slots slot ↔ Contains state.held.nodes slot
+
+-- a state's layout follows another's by copy on write: nodes that stay are as they may be, and so are new ones
+pub record CopiesNodes (old new : State) (sub : ℕ) : Type 0 where
+  pub kept : AllByRecursion (KeepsNode old new sub) old.layout
+  pub made : IsTrue (list_all (is_made_node old sub) (made_nodes old new))
+
+-- ---- what is owed
+
+-- the pieces that items tell, each with the number of its file
+abbrev pub names_in : List Item → List (ℕ × Piece)
+names_in items = filter_map name_told items
+
+-- a run lies in the data area, and its length is known
+pub record IsKnownRun (sizes : Sizes) (book : Book) (run : Element) : Type 0 where
+  pub lies : IsTrue (is_run sizes run.address run.bytes)
+  pub generation : ℕ
+  pub known : what_in (book run.address)
+      ≡ Some (record { bytes = run.bytes; level = None; generation = generation })
+
+-- What a state's layout owes is what the tree owes, and exactly that is counted. Of each node level, generation and
+-- mark are known; the extents that leaves name are those of the present files, and their lengths are known
+pub record IsCounted (state : State) (fs : FsTree) (history : Option (List Event)) : Type 0 where
+  pub owed : (at : ℕ) (reference : Reference)
+      → owed_count (layout_of state) at reference ≡ owed_count (layout_in fs history) at reference
+  pub agrees : AgreesWithOwed (layout_of state) (book_of fs.refs.refs)
+  pub nodes : (q : ℕ) (placed : Placed) → value_at q state.layout ≡ Some placed
+      → what_in (book_of fs.refs.refs q)
+      ≡ Some (what_of fs.land.space.sizes.nodesize (header_of placed.node).generation placed.node)
+  pub marks : (q : ℕ) (placed : Placed) → value_at q state.layout ≡ Some placed
+      → full_in (book_of fs.refs.refs q) ≡ placed.full
+  pub extents : (run : Element) → Contains (layout_extents (layout_of state)) run ↔ Contains (present_extents state) run
+  pub known : (run : Element) → Contains (layout_extents (layout_of state)) run
+      → IsKnownRun fs.land.space.sizes (book_of fs.refs.refs) run

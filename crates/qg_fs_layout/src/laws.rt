@@ -1,0 +1,44 @@
+// What a subvolume's tree, as it stands between two edits, is in the state of the machine.
+ghost use Rattle.qg_fs_layout.specs.Laws.{
+  CommandsCopy,
+  IsLow,
+  MovesCompose,
+  NodesAreThoseReached,
+  NodesFit,
+  OwedIsCounted,
+  StateIsWhole,
+  TreeIsWalked,
+};
+
+/// A law: the nodes of a tree as a layout ascend by address, and are those that the tree reaches (this project's own).
+pub fn nodes_are_those_reached()
+    ensures reached { NodesAreThoseReached }
+{}
+
+/// A law: a tree that stands has eight levels at most, is walked in the state without a failure, and has the items of
+/// the subvolume's files (this project's own).
+pub fn tree_is_walked()
+    ensures low { IsLow }
+    ensures walked { TreeIsWalked }
+{}
+
+/// A law: where each node that the tree reaches has a text, and its numbers fit their fields, the state's layout is
+/// that of its files. So it is of nodes that a disk of bytes tells, and of fresh ones whose numbers fit (this project's
+/// own).
+pub fn state_is_whole()
+    ensures fit { NodesFit }
+    ensures whole { StateIsWhole }
+{}
+
+/// A law: edits of a tree between two commits, one after the other, leave a layout that follows the one before by copy
+/// on write (this project's own).
+pub fn commands_copy()
+    ensures compose { MovesCompose }
+    ensures copy { CommandsCopy }
+{}
+
+/// A law: where the pieces that are named are those of the items, what the state's layout owes is what is counted, and
+/// of each node and extent the book knows what it is (this project's own).
+pub fn owed_is_counted()
+    ensures counted { OwedIsCounted }
+{}
