@@ -50,8 +50,7 @@ module _ (full nodes clean : ℕ → Option Node) (slots : List ℕ)
   true-all [] w as_was down unheld = tt
   true-all (telling ∷ tellings) w as_was down unheld =
       let first : IsAsWas nodes telling = as_was 0 telling (omega arith) in
-      let apart : IsUnheld slots telling = unheld 0 telling (omega arith) in
-      (
+      let apart : IsUnheld slots telling = unheld 0 telling (omega arith) in (
         true_one telling w first down.0 apart,
         true-all tellings (turned_by telling w) (λ i d inside. as_was (suc i) d (omega (arith, inside))) down.1
             (λ i d inside. unheld (suc i) d (omega (arith, inside))),
