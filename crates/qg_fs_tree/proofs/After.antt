@@ -1,9 +1,8 @@
 -- A tree that stood, once it was edited and its book was told: it stands.
-use Rattle.std.proofs.Common.{◌≡◌, ◌≢◌, ℕ, zero, suc, ◌+◌, ◌<◌, ◌≤◌, Bool, true, false, List, [], ◌∷◌, length, get_or, map, Option, Some, None, arith, refl, sym, ap, subst, ◌∙◌, inl, inr}
-use Rattle.std.specs.Prelude.{◌⊎◌, ◌↔◌, ◌==◌, IsSome, IsTrue, Contains, if◌then◌else◌, is_some, nat_lt}
-use Rattle.std.specs.List.{All, filter_map, sum_by}
+use Rattle.std.proofs.Common.{◌≡◌, ℕ, zero, suc, ◌+◌, ◌<◌, ◌≤◌, Bool, true, false, List, [], ◌∷◌, length, get_or, map, Option, Some, None, arith, refl, sym, ap, subst, ◌∙◌, inl, inr}
+use Rattle.std.specs.Prelude.{◌⊎◌, ◌↔◌, IsSome, IsTrue, Contains, if◌then◌else◌, is_some, nat_lt}
+use Rattle.std.specs.List.{filter_map}
 use Rattle.std.proofs.lemmas.Bool.{eq-eqb, ltb-true}
-use Rattle.std.proofs.lemmas.List.Elements.{All-weaker}
 use Rattle.qg_device.specs.History.{Event}
 use Rattle.qg_num.specs.declared.piece.Piece.{Piece}
 use Rattle.qg_node.specs.declared.item.Item.{Item}
@@ -20,20 +19,16 @@ use Rattle.qg_blocks.specs.Told.{fresh_at, told, told_or}
 use Rattle.qg_space.specs.Holding.{has_slot}
 use Rattle.qg_ground.specs.declared.ground.Ground.{Ground}
 use Rattle.qg_ground.specs.Land.{IsDrafted, Rests}
-use Rattle.qg_ground.specs.Tellings.{Telling}
-use Rattle.qg_refs.specs.declared.kept.What.{What}
 use Rattle.qg_refs.specs.Book.{count_at, full_in, what_in}
 use Rattle.qg_extents.specs.Table.{IsTable, book_of}
-use Rattle.qg_tree_edits.specs.Counting.{IsBare, Turns, gains, made_in}
 use Rattle.qg_tree_edits.specs.Rooting.{IsRooted}
 use Rattle.qg_tree_edits.proofs.Ways.{ways-some}
 use Rattle.qg_tree_refs.specs.Exchange.{times}
 use Rattle.qg_tree_refs.specs.Following.{references_to}
 use Rattle.qg_tree_refs.specs.Settled.{IsSettled}
-use Rattle.qg_tree_refs.specs.declared.tree_refs.TreeRefs.{TreeRefs}
 use Rattle.qg_fs_tree.specs.declared.fs_tree.FsTree.{FsTree}
-use Rattle.qg_fs_tree.specs.Standing.{IsKnownExtent, IsReached, Stands, every_slot, layout_in, name_of, name_told, names_times, nodes_of, taken_slots}
-use Rattle.qg_fs_tree.proofs.Before.{full-clean, full-held, full-marks, full-parts, full-some, full_if, full_in_tree, held, none-before, once, reached, single, taken, unnamed}
+use Rattle.qg_fs_tree.specs.Standing.{IsKnownExtent, IsReached, Stands, every_slot, layout_in, name_of, name_told, names_times, nodes_of}
+use Rattle.qg_fs_tree.proofs.Before.{full-clean, full-held, full-marks, full-parts, full-some, full_in_tree, held, none-before, once, reached, unnamed}
 use Rattle.qg_tree_refs.proofs.Counted.{many}
 use Rattle.qg_fs_tree.proofs.Counts.{mark_of, node-there, owed-ways, slots_of, ways_in}
 use Rattle.qg_fs_tree.proofs.Exchanged.{StaysBook, references-one}
@@ -41,9 +36,7 @@ use Rattle.qg_fs_tree.proofs.Keyed.{keyed_ways}
 use Rattle.qg_fs_tree.proofs.Layouts.{full_of}
 use Rattle.qg_tree_refs.proofs.Owings.{many-cons}
 use Rattle.qg_fs_tree.proofs.Owings.{named_by, names_of}
-use Rattle.qg_fs_tree.proofs.Reached.{reached-some}
-use Rattle.qg_fs_tree.proofs.SlotSums.{IsOnce}
-use Rattle.qg_fs_tree.proofs.Turned.{IsNewNode, StandsFor, Stays, keyed_sum, shared_sum}
+use Rattle.qg_fs_tree.proofs.Turned.{IsNewNode, StandsFor, keyed_sum, shared_sum}
 
 -- each fresh node is of this owner, or of the one that some fresh node had before
 abbrev pub AreOwned : ℕ → Ground → Ground → Type 0

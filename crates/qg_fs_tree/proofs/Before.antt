@@ -1,26 +1,21 @@
 -- A tree that stands: its book stands for its ways.
-use Rattle.std.proofs.Common.{◌≡◌, ◌≢◌, ℕ, zero, suc, ◌+◌, ◌<◌, ◌≤◌, Bool, true, false, List, length, get_or, map, Option, Some, None, arith, refl, sym, ap, subst, ◌∙◌, inl, inr}
-use Rattle.std.specs.Prelude.{◌⊎◌, IsSome, IsTrue, Contains, if◌then◌else◌, is_some, nat_lt}
-use Rattle.std.specs.List.{All}
+use Rattle.std.proofs.Common.{◌≡◌, ℕ, ◌<◌, ◌≤◌, Bool, true, false, List, get_or, Option, Some, None, arith, refl, sym, ap, ◌∙◌, inl, inr}
+use Rattle.std.specs.Prelude.{IsSome, IsTrue, Contains, if◌then◌else◌, is_some, nat_lt}
 use Rattle.std.proofs.lemmas.Bool.{and_parts, leb-true, lt-ltb, ltb-true}
 use Rattle.qg_device.specs.History.{Event}
 use Rattle.qg_num.specs.declared.piece.Piece.{Piece}
 use Rattle.qg_node.specs.declared.item.Item.{Item}
 use Rattle.qg_node.specs.declared.node.Node.{Node}
-use Rattle.qg_items.specs.declared.extent.Reference.{Reference}
 use Rattle.qg_super.specs.declared.sizes.Sizes.{Sizes}
-use Rattle.qg_super.specs.Places.{data_begin, is_run, is_served, is_slot, sector, total_bytes}
+use Rattle.qg_super.specs.Places.{data_begin, is_run, is_slot}
 use Rattle.qg_reach.proofs.SlotRule.{slot_below}
 use Rattle.qg_blocks.specs.Told.{fresh_at}
 use Rattle.qg_space.specs.Holding.{has_slot}
 use Rattle.qg_ground.specs.Land.{IsDrafted}
-use Rattle.qg_refs.specs.Book.{full_in}
 use Rattle.qg_extents.specs.Table.{IsTable, book_of}
-use Rattle.qg_tree_edits.proofs.Ways.{ways-some}
 use Rattle.qg_tree_refs.specs.Following.{references_to}
-use Rattle.qg_tree_refs.specs.declared.tree_refs.TreeRefs.{TreeRefs}
 use Rattle.qg_fs_tree.specs.declared.fs_tree.FsTree.{FsTree}
-use Rattle.qg_fs_tree.specs.Standing.{IsKnownExtent, IsReached, Stands, nodes_of}
+use Rattle.qg_fs_tree.specs.Standing.{IsReached, Stands, nodes_of}
 use Rattle.qg_tree_refs.proofs.Counted.{many}
 use Rattle.qg_fs_tree.proofs.Counts.{mark_of, names-apart, node-there, once-there, owed-ways, placed-way, single-way, slots_of, ways_in}
 use Rattle.qg_fs_tree.proofs.Exchanged.{references-none}

@@ -1,7 +1,6 @@
 -- What the book of a tree that stands counts, by ways and full nodes.
-use Rattle.std.proofs.Common.{◌≡◌, ◌≢◌, ℕ, zero, suc, ◌+◌, ◌*◌, ◌<◌, ◌≤◌, Bool, true, false, List, [], ◌∷◌, get_or, length, map, Option, Some, None, arith, refl, sym, ap, subst, ◌∙◌, inl, inr}
-use Rattle.std.specs.Prelude.{IsTrue, ◌==◌, if◌then◌else◌, is_some}
-use Rattle.std.specs.List.{filter_map}
+use Rattle.std.proofs.Common.{◌≡◌, ◌≢◌, ℕ, suc, ◌+◌, ◌<◌, ◌≤◌, Bool, true, false, List, [], ◌∷◌, get_or, length, Option, Some, None, arith, refl, ap, inl, inr}
+use Rattle.std.specs.Prelude.{IsTrue, if◌then◌else◌}
 use Rattle.std.proofs.lemmas.Bool.Decides.{eqb_tells}
 use Rattle.qg_device.specs.History.{Event}
 use Rattle.qg_num.specs.declared.piece.Piece.{Piece}
@@ -9,19 +8,16 @@ use Rattle.qg_node.specs.declared.item.Item.{Item}
 use Rattle.qg_node.specs.declared.node.Node.{Node}
 use Rattle.qg_node.specs.Nodes.{header_of, is_ascending}
 use Rattle.qg_items.specs.declared.extent.Reference.{Reference}
-use Rattle.qg_super.specs.declared.sizes.Sizes.{Sizes}
-use Rattle.qg_super.specs.Places.{is_run, is_served, is_slot}
+use Rattle.qg_super.specs.Places.{is_slot}
 use Rattle.qg_state.specs.Owed.{owed_count}
 use Rattle.qg_verdict.specs.declared.tree.Tree.TheVariants.{Files}
 use Rattle.qg_verdict.specs.Walk.{root_expected}
-use Rattle.qg_reach.proofs.SlotRule.{slot_below}
-use Rattle.qg_blocks.specs.Told.{told}
 use Rattle.qg_space.proofs.Marks.{SlotsFit-is_served}
 use Rattle.qg_ground.specs.Land.{IsDrafted}
 use Rattle.qg_refs.specs.Book.{full_in}
 use Rattle.qg_extents.specs.Table.{book_of}
 use Rattle.qg_descent.specs.Branch.{IsBranch}
-use Rattle.qg_descent.specs.Tree.{Reaches, super_of}
+use Rattle.qg_descent.specs.Tree.{super_of}
 use Rattle.qg_descent.proofs.BranchOrder.{ascends-under, keys_of}
 use Rattle.qg_descent.proofs.BranchWalk.{branch-under}
 use Rattle.qg_descent.proofs.Branches.{branch-level}
@@ -40,7 +36,7 @@ use Rattle.qg_tree_refs.proofs.Owings.{many-cons}
 use Rattle.qg_fs_tree.proofs.Owings.{named_by, names_of}
 use Rattle.qg_fs_tree.proofs.Places.{slot-once}
 use Rattle.qg_fs_tree.proofs.Reached.{reached-some}
-use Rattle.qg_fs_tree.proofs.SlotSums.{IsOnce, over, over-plus, over-same}
+use Rattle.qg_fs_tree.proofs.SlotSums.{IsOnce, over-plus, over-same}
 use Rattle.qg_fs_tree.proofs.Turned.{keyed_in, keyed_sum, shared_in, shared_sum}
 
 -- how many ways lead to an address

@@ -1,5 +1,5 @@
 -- A tree that stands, edited: what its book was told leaves it standing.
-use Rattle.std.proofs.Common.{◌≡◌, ℕ, zero, suc, ◌+◌, ◌<◌, ◌≤◌, Bool, true, false, List, Option, Some, None, arith, refl, sym, ap, subst, ◌∙◌, inl, inr}
+use Rattle.std.proofs.Common.{◌≡◌, ℕ, zero, suc, ◌+◌, ◌<◌, ◌≤◌, true, List, Option, None, arith, refl, sym, ap, subst, ◌∙◌, inl, inr}
 use Rattle.std.specs.Prelude.{◌⊎◌, IsTrue, nat_lt}
 use Rattle.std.specs.List.{All, sum_by}
 use Rattle.qg_device.specs.History.{Event}
@@ -14,13 +14,13 @@ use Rattle.qg_space.proofs.Free.{free_is_slot}
 use Rattle.qg_space.proofs.Marks.{SlotsFit-is_served}
 use Rattle.qg_ground.specs.Land.{IsDrafted, Rests}
 use Rattle.qg_ground.specs.Tellings.{Telling}
-use Rattle.qg_extents.specs.Table.{IsTable, book_of}
+use Rattle.qg_extents.specs.Table.{IsTable}
 use Rattle.qg_tree_edits.specs.Counting.{IsBare, Turns, gains, made_in}
 use Rattle.qg_tree_edits.specs.Rooting.{IsReplaced}
-use Rattle.qg_tree_refs.specs.Following.{Follows, references_to}
+use Rattle.qg_tree_refs.specs.Following.{Follows}
 use Rattle.qg_tree_refs.specs.Settled.{IsSettled}
 use Rattle.qg_fs_tree.specs.declared.fs_tree.FsTree.{FsTree}
-use Rattle.qg_fs_tree.specs.Standing.{IsEditedTo, IsReached, Moves, Stands, every_slot, taken_slots}
+use Rattle.qg_fs_tree.specs.Standing.{IsEditedTo, IsReached, Stands, every_slot, taken_slots}
 use Rattle.qg_fs_tree.proofs.After.{AreOwned, Stands-after, marks-kept}
 use Rattle.qg_fs_tree.proofs.Before.{StandsFor-before, full_in_tree, none-before, once, placed, single, taken, unnamed}
 use Rattle.qg_fs_tree.proofs.Counts.{slots_of, ways_in}

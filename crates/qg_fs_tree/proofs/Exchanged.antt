@@ -1,5 +1,5 @@
 -- What one telling makes of a book that stands for ways and names, and what a list of them does.
-use Rattle.std.proofs.Common.{◌≡◌, ◌≢◌, ℕ, zero, suc, ◌+◌, ◌-◌, ◌<◌, ◌≤◌, Bool, true, false, List, [], ◌∷◌, ◌++◌, length, map, Option, Some, None, arith, refl, sym, ap, subst, ◌∙◌, inl, inr}
+use Rattle.std.proofs.Common.{◌≡◌, ℕ, zero, suc, ◌+◌, ◌<◌, ◌≤◌, List, [], ◌∷◌, ◌++◌, Option, Some, None, arith, refl, sym, ap, subst, ◌∙◌, inl, inr}
 use Rattle.std.specs.Prelude.{◌⊎◌, ◌&&◌, is_some, nat_lt, not, if◌then◌else◌}
 use Rattle.std.specs.List.{All, sum_by}
 use Rattle.std.specs.Option.{option_or}
@@ -13,23 +13,22 @@ use Rattle.qg_node.specs.Nodes.{header_of}
 use Rattle.qg_cow.specs.Children.{way_to}
 use Rattle.qg_ground.specs.Tellings.{Telling}
 use Rattle.qg_ground.specs.Tellings.Telling.{Copied, Made, Left}
-use Rattle.qg_refs.specs.declared.kept.Kept.{Kept}
-use Rattle.qg_refs.specs.Book.{Book, IsBook, count_at, full_in, references_at, references_in, what_in}
+use Rattle.qg_refs.specs.Book.{count_at, full_in, references_at, references_in, what_in}
 use Rattle.qg_refs.specs.Counts.{greatest_count}
 use Rattle.qg_extents.specs.Table.{book_of}
 use Rattle.qg_tree_edits.specs.Counting.{IsBare, IsTimely, LeadsNone, Turns, gains, losses, one}
 use Rattle.qg_tree_edits.proofs.Ways.{one-here, one-other}
 use Rattle.qg_tree_refs.specs.declared.tree_refs.TreeRefs.{TreeRefs}
-use Rattle.qg_tree_refs.specs.Exchange.{CanExchange, Exchange, Exchanges, IsKnown, IsNew, times, what_comes, ways_to}
+use Rattle.qg_tree_refs.specs.Exchange.{CanExchange, Exchange, Exchanges, IsNew, times, what_comes, ways_to}
 use Rattle.qg_tree_refs.specs.Following.{Follows, IsProper, KeepsLevel, Step, coming_of, exchange_of, is_of_level, references_to}
 use Rattle.qg_tree_refs.proofs.Times.{times-append, times-nil}
 use Rattle.qg_tree_refs.proofs.Counted.{many, total}
 use Rattle.qg_fs_tree.proofs.Keyed.{keyed-less, keyed-most, keyed-moved, keyed-none, keyed-same, keyed_ways}
 use Rattle.qg_tree_refs.proofs.Owings.{known-alike}
-use Rattle.qg_fs_tree.proofs.Owings.{names-no_block, names-no_shared_block, names-no_shared_data, names_of}
+use Rattle.qg_fs_tree.proofs.Owings.{names-no_block, names_of}
 use Rattle.qg_tree_refs.proofs.Single.{count-total, length-none, length-one}
 use Rattle.qg_fs_tree.proofs.SlotSums.{IsOnce, over, over-alike, over-moved, over-none, over-one, over-same, over-some}
-use Rattle.qg_fs_tree.proofs.Turned.{AreCounted, AreTrueTo, IsNewNode, IsTrueTo, StandsFor, Stays, copies, full-come, full-stays, full-within, full_then, gains-new, in_alike, keyed_in, keyed_no_child, keyed_no_shared_block, keyed_no_shared_data, keyed_sum, kept_come, kept_mark, kept_nothing, kept_same, leaves, losses-few, moving, none_or_none, shared_in, shared_no_block, shared_no_data, shared_sum, sum_no_block, sum_no_data, sum_no_shared_block, sum_no_shared_data, times_come, times_lost, total-is, true-within, turned_by, turning, way_lost, what_come}
+use Rattle.qg_fs_tree.proofs.Turned.{AreCounted, AreTrueTo, IsNewNode, IsTrueTo, StandsFor, Stays, copies, full-come, full-stays, full-within, full_then, gains-new, in_alike, keyed_in, keyed_no_child, keyed_no_shared_block, keyed_no_shared_data, keyed_sum, kept_come, kept_mark, kept_nothing, kept_same, leaves, losses-few, moving, none_or_none, shared_in, shared_no_block, shared_no_data, sum_no_block, sum_no_data, sum_no_shared_block, sum_no_shared_data, times_come, times_lost, total-is, true-within, turned_by, turning, way_lost, what_come}
 
 -- ---- one kind of reference is lost to one address
 

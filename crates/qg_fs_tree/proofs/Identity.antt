@@ -1,5 +1,5 @@
 -- What the nodes of a tree would owe if none were full: a way to each node, and what its items name.
-use Rattle.std.proofs.Common.{◌≡◌, ◌≢◌, ℕ, zero, suc, ◌+◌, ◌*◌, ◌<◌, ◌≤◌, Bool, true, false, List, [], ◌∷◌, ◌++◌, map, Option, Some, None, arith, refl, sym, ap, subst, ◌∙◌, inl, inr}
+use Rattle.std.proofs.Common.{◌≡◌, ◌≢◌, ℕ, zero, suc, ◌+◌, ◌≤◌, true, List, [], ◌∷◌, ◌++◌, map, Option, Some, None, arith, refl, sym, ap, ◌∙◌, inl, inr}
 use Rattle.std.specs.Prelude.{◌⊎◌, slice_get}
 use Rattle.std.specs.List.{filter_map, sum_by}
 use Rattle.std.proofs.lemmas.Bool.Decides.{eqb_tells}
@@ -17,7 +17,6 @@ use Rattle.qg_items.specs.declared.extent.Reference.{Reference}
 use Rattle.qg_super.specs.declared.superblock.Super.{Super}
 use Rattle.qg_verdict.specs.declared.tree.Tree.{Tree}
 use Rattle.qg_state.specs.Owed.{Owing}
-use Rattle.qg_cow.specs.Children.{keyed_children}
 use Rattle.qg_descent.specs.Branch.{AreBranches, IsBranch, IsPointed}
 use Rattle.qg_descent.specs.Tree.{Reaches}
 use Rattle.qg_descent.proofs.BranchApart.{branches-apart}

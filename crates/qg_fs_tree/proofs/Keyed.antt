@@ -1,5 +1,5 @@
 -- Keyed references of a tree, by a count of ways.
-use Rattle.std.proofs.Common.{◌≡◌, ◌≢◌, ℕ, ◌+◌, ◌<◌, ◌≤◌, Bool, true, false, List, [], ◌∷◌, arith, refl, sym, ap, ◌∙◌, inl, inr}
+use Rattle.std.proofs.Common.{◌≡◌, ℕ, ◌+◌, ◌≤◌, Bool, true, false, [], ◌∷◌, arith, refl, sym, ap, ◌∙◌, inl, inr}
 use Rattle.std.specs.Prelude.{◌==◌, if◌then◌else◌}
 use Rattle.std.proofs.lemmas.Bool.{eq-eqb}
 use Rattle.std.proofs.lemmas.Bool.Decides.{eqb_tells}
@@ -7,11 +7,10 @@ use Rattle.qg_items.specs.declared.extent.Reference.{Reference}
 use Rattle.qg_items.specs.declared.extent.Reference.TheVariants.{KeyedBlock, SharedBlock, KeyedData, SharedData}
 use Rattle.qg_state.specs.Record.{same_reference}
 use Rattle.qg_cow.specs.Children.{way_to}
-use Rattle.qg_refs.specs.Counts.{greatest_count}
 use Rattle.qg_tree_edits.specs.Counting.{one}
 use Rattle.qg_tree_edits.proofs.Ways.{one-here, one-other}
 use Rattle.qg_tree_refs.specs.Exchange.{times}
-use Rattle.qg_tree_refs.proofs.Times.{one_of, times_here, times_there}
+use Rattle.qg_tree_refs.proofs.Times.{times_here, times_there}
 use Rattle.qg_tree_refs.proofs.Counted.{IsCounted, IsCounted-as, IsCounted-one}
 
 -- the references of a tree to a node, by how many ways lead to it: a keyed one for each

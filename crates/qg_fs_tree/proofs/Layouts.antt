@@ -1,5 +1,5 @@
 -- What is owed in the layout that a tree is.
-use Rattle.std.proofs.Common.{◌≡◌, ℕ, zero, suc, ◌+◌, ◌*◌, ◌<◌, ◌≤◌, Bool, true, false, List, [], ◌∷◌, ◌++◌, map, Option, Some, None, arith, refl, sym, ap, subst, ◌∙◌}
+use Rattle.std.proofs.Common.{◌≡◌, ℕ, zero, suc, ◌+◌, ◌*◌, ◌≤◌, Bool, true, false, List, [], ◌∷◌, Option, Some, None, arith, refl, sym, ap, ◌∙◌}
 use Rattle.std.specs.Prelude.{nat_lt, if◌then◌else◌}
 use Rattle.std.specs.List.{cons_option, filter_map, flat_map, sum_by}
 use Rattle.std.specs.Option.{option_map}
@@ -11,7 +11,7 @@ use Rattle.qg_node.specs.declared.node.Node.{Node}
 use Rattle.qg_node.specs.Nodes.{header_of}
 use Rattle.qg_state.specs.State.{Layout, Placed}
 use Rattle.qg_state.specs.Owed.{Owing, owed, owed_by_node, owed_count}
-use Rattle.qg_cow.specs.Children.{keyed_children, shared_children, way_to}
+use Rattle.qg_cow.specs.Children.{keyed_children, way_to}
 use Rattle.qg_cow.proofs.CopyLaws.{owed-keyed}
 use Rattle.qg_refs.specs.Book.{full_in}
 use Rattle.qg_extents.specs.Table.{book_of}

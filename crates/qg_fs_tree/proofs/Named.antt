@@ -1,9 +1,9 @@
 -- A piece that comes to name an extent, or does so no more: the tree stands with the names that are left.
-use Rattle.std.proofs.Common.{◌≡◌, ◌≢◌, ℕ, zero, suc, ◌+◌, ◌*◌, ◌/◌, ◌%◌, ◌<◌, ◌≤◌, Bool, true, false, List, [], ◌∷◌, ◌++◌, length, get_or, map, Option, Some, None, arith, refl, sym, ap, subst, ◌∙◌, inl, inr}
-use Rattle.std.specs.Prelude.{◌⊎◌, ◌↔◌, ◌==◌, ◌&&◌, IsTrue, Contains, is_some, nat_lt, not, unwrap_or, if◌then◌else◌}
-use Rattle.std.specs.List.{All, filter_map, list_any}
+use Rattle.std.proofs.Common.{◌≡◌, ◌≢◌, ℕ, zero, suc, ◌+◌, ◌*◌, ◌/◌, ◌%◌, ◌<◌, ◌≤◌, Bool, true, List, [], ◌∷◌, ◌++◌, length, get_or, map, Option, Some, None, arith, refl, sym, ap, subst, ◌∙◌, inl, inr}
+use Rattle.std.specs.Prelude.{◌↔◌, IsTrue, Contains, nat_lt, not, unwrap_or, if◌then◌else◌}
+use Rattle.std.specs.List.{filter_map, list_any}
 use Rattle.std.proofs.lemmas.List.Sums.{count_by-le-length}
-use Rattle.std.proofs.lemmas.Bool.{and_from, and_parts, cases_Bool, cond-false, cond-true, eq-eqb, eqb-true, leb-true, lt-ltb, ltb-true, not-true, true≢false}
+use Rattle.std.proofs.lemmas.Bool.{and_from, and_parts, cases_Bool, cond-false, cond-true, eqb-true, leb-true, lt-ltb, ltb-true, not-true, true≢false}
 use Rattle.std.proofs.lemmas.Bool.Decides.{eqb_tells}
 use Rattle.std.proofs.lemmas.List.Elements.{All-cons, Contains-append_left}
 use Rattle.qg_device.specs.History.{Event}
@@ -12,7 +12,7 @@ use Rattle.qg_node.specs.declared.item.Item.{Item}
 use Rattle.qg_items.specs.declared.extent.Reference.{Reference}
 use Rattle.qg_items.specs.declared.extent.Reference.TheVariants.{KeyedData}
 use Rattle.qg_super.specs.declared.sizes.Sizes.{Sizes}
-use Rattle.qg_super.specs.Places.{data_begin, is_run, is_slot, sector, total_bytes}
+use Rattle.qg_super.specs.Places.{data_begin, is_run, is_slot, sector}
 use Rattle.qg_state.specs.declared.element.Element.{Element}
 use Rattle.qg_state.specs.Owed.{Owing, reference_offset}
 use Rattle.qg_state.specs.Reach.{extent_of}
@@ -21,7 +21,6 @@ use Rattle.qg_state.proofs.Contained.{contains_cases, contains_here, contains_la
 use Rattle.qg_reach.proofs.SlotRule.{slot_below}
 use Rattle.qg_space.specs.Holding.{Holding, has_run, is_clear, is_free_run, with_run, without_run}
 use Rattle.qg_space.proofs.Members.{Contains-has_run, Contains-with_run, Contains-without_run, passes_one}
-use Rattle.qg_ground.specs.declared.ground.Ground.{Ground}
 use Rattle.qg_ground.specs.Land.{IsDrafted}
 use Rattle.qg_refs.specs.declared.counted.Counted.{Counted}
 use Rattle.qg_refs.specs.declared.kept.What.{What}
@@ -31,7 +30,6 @@ use Rattle.qg_refs.specs.Counts.{IsRefList, count_of, greatest_count}
 use Rattle.qg_refs.proofs.RankOrder.{same_reference_is}
 use Rattle.qg_state.specs.Record.{same_reference}
 use Rattle.qg_extents.specs.Table.{IsTable, book_of}
-use Rattle.qg_tree_refs.specs.declared.tree_refs.TreeRefs.{TreeRefs}
 use Rattle.qg_tree_refs.specs.Exchange.{those_at, times}
 use Rattle.qg_tree_refs.specs.Following.{references_to}
 use Rattle.qg_tree_refs.proofs.Times.{one_of, times-own, times_here, times_there}
@@ -39,7 +37,7 @@ use Rattle.qg_fs_tree.specs.declared.fs_tree.FsTree.{FsTree}
 use Rattle.qg_fs_tree.specs.Standing.{IsKnownExtent, Stands, name_of, name_told, names_times}
 use Rattle.qg_fs_tree.proofs.After.{named-there}
 use Rattle.qg_fs_tree.proofs.Before.{StandsFor-before, full_in_tree, placed}
-use Rattle.qg_tree_refs.proofs.Counted.{IsCounted-list, IsCounted-plus, IsCounted-same, IsCounted-times, many, total, total-cons}
+use Rattle.qg_tree_refs.proofs.Counted.{IsCounted-list, IsCounted-plus, IsCounted-same, IsCounted-times, many, total}
 use Rattle.qg_fs_tree.proofs.Counts.{slots_of, ways_in}
 use Rattle.qg_tree_refs.proofs.Owings.{many-cons, times-cons, times-few}
 use Rattle.qg_fs_tree.proofs.Owings.{names_of}
@@ -97,7 +95,8 @@ no_level what bytes generation is other level date wrong =
 
 nothing_known : (what : Option What) → what ≡ None → IsNoNode what
 nothing_known what is other level date wrong =
-    let same : None ≡ Some (record { bytes = other; level = Some level; generation = date }) = sym is ∙ wrong in
+    let same : ◌≡◌ {A = Option What} None (Some (record { bytes = other; level = Some level; generation = date })) =
+    sym is ∙ wrong in
     cc
 
 -- ---- names

@@ -1,23 +1,19 @@
 -- The order of names doesn't matter.
-use Rattle.std.proofs.Common.{◌≡◌, ℕ, ◌+◌, ◌≤◌, List, [], ◌∷◌, map, arith, refl, sym, ap, subst, ◌∙◌}
-use Rattle.std.specs.Prelude.{◌↔◌, Contains, Option}
-use Rattle.std.specs.List.{All, sum_by}
+use Rattle.std.proofs.Common.{◌≡◌, ℕ, ◌+◌, List, [], ◌∷◌, map, arith, sym, ap, ◌∙◌}
+use Rattle.std.specs.Prelude.{Contains}
+use Rattle.std.specs.List.{sum_by}
 use Rattle.std.specs.List.Sorted.{IsPermutation}
 use Rattle.std.proofs.lemmas.List.Elements.{All-contains, All-contains_itself}
 use Rattle.std.proofs.lemmas.List.Sorted.{All-permutation, IsPermutation-map, IsPermutation-sym, sum_by-IsPermutation}
 use Rattle.std.proofs.lemmas.List.Sums.{sum_by-cons}
-use Rattle.qg_device.specs.History.{Event}
 use Rattle.qg_num.specs.declared.piece.Piece.{Piece}
-use Rattle.qg_node.specs.declared.item.Item.{Item}
 use Rattle.qg_items.specs.declared.extent.Reference.{Reference}
-use Rattle.qg_state.specs.declared.element.Element.{Element}
 use Rattle.qg_state.specs.Owed.{Owing}
 use Rattle.qg_state.specs.Reach.{extent_of}
 use Rattle.qg_extents.specs.Table.{book_of}
 use Rattle.qg_tree_refs.specs.Exchange.{times}
 use Rattle.qg_tree_refs.proofs.Times.{times-nil}
-use Rattle.qg_fs_tree.specs.declared.fs_tree.FsTree.{FsTree}
-use Rattle.qg_fs_tree.specs.Standing.{IsKnownExtent, Stands, name_of, names_times}
+use Rattle.qg_fs_tree.specs.Standing.{IsKnownExtent, name_of, names_times}
 use Rattle.qg_fs_tree.specs.Laws.{StandsInAnotherOrder}
 use Rattle.qg_tree_refs.proofs.Owings.{times-cons}
 

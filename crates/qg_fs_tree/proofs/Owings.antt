@@ -1,11 +1,7 @@
 -- What a node owes by keyed references, and what pieces owe.
-use Rattle.std.proofs.Common.{◌≡◌, ◌≢◌, ℕ, zero, suc, ◌+◌, ◌<◌, ◌≤◌, Bool, true, false, List, [], ◌∷◌, ◌++◌, length, map, get_or, Option, Some, None, arith, refl, sym, ap, subst, ◌∙◌, inl, inr}
-use Rattle.std.specs.Prelude.{◌==◌, if◌then◌else◌}
-use Rattle.std.specs.List.{All, Contains, cons_option, filter_map, flat_map, sum_by}
-use Rattle.std.proofs.lemmas.Bool.Decides.{eqb_tells}
-use Rattle.std.proofs.lemmas.List.{length-append, map-append}
+use Rattle.std.proofs.Common.{◌≡◌, ℕ, suc, ◌+◌, false, List, [], ◌∷◌, ◌++◌, map, Option, Some, None, arith, refl, sym, ap, ◌∙◌}
+use Rattle.std.specs.List.{Contains, cons_option, filter_map, flat_map, sum_by}
 use Rattle.std.proofs.lemmas.List.Concat.{flat_map-cons}
-use Rattle.std.proofs.lemmas.List.Elements.{All-cons, All-nil, filter_map-append}
 use Rattle.std.proofs.lemmas.List.Sums.{sum_by-cons}
 use Rattle.qg_num.specs.declared.piece.Piece.{Piece}
 use Rattle.qg_node.specs.declared.item.Item.{Item}
@@ -14,21 +10,19 @@ use Rattle.qg_node.specs.declared.node.Header.{Header}
 use Rattle.qg_node.specs.declared.node.Node.{Node}
 use Rattle.qg_node.specs.Nodes.{header_of, own_items, own_pointers}
 use Rattle.qg_items.specs.declared.extent.Reference.{Reference}
-use Rattle.qg_items.specs.declared.extent.Reference.TheVariants.{KeyedBlock, SharedBlock, KeyedData, SharedData}
+use Rattle.qg_items.specs.declared.extent.Reference.TheVariants.{KeyedBlock, SharedBlock, SharedData}
 use Rattle.qg_image.specs.declared.part.FilePart.{FilePart}
 use Rattle.qg_image.specs.declared.part.FilePart.TheVariants.{Inode, PieceOf}
 use Rattle.qg_image.specs.ItemMeaning.{file_part}
-use Rattle.qg_state.specs.Owed.{Owing, owed_by_node, owed_by_part, owed_to_child}
-use Rattle.qg_cow.specs.Children.{keyed_children, shared_children, way_to}
-use Rattle.qg_refs.specs.Book.{Book, count_at}
+use Rattle.qg_state.specs.Owed.{Owing, owed_by_part}
+use Rattle.qg_cow.specs.Children.{keyed_children, way_to}
 use Rattle.qg_tree_edits.specs.Counting.{one}
-use Rattle.qg_tree_refs.specs.Exchange.{IsKnown, those_at, times}
+use Rattle.qg_tree_refs.specs.Exchange.{times}
 use Rattle.qg_tree_refs.proofs.Keyed.{keyed-under}
-use Rattle.qg_tree_refs.proofs.Times.{one_of, times-append, times-nil, times-own, times_here, times_there}
+use Rattle.qg_tree_refs.proofs.Times.{times-append, times-nil}
 use Rattle.qg_fs_tree.specs.Standing.{name_of, name_told, piece_in}
-use Rattle.qg_tree_refs.proofs.Owings.{HaveNot, have-not-more, times-cons}
+use Rattle.qg_tree_refs.proofs.Owings.{have-not-more, times-cons}
 use Rattle.qg_fs_tree.proofs.Keyed.{keyed_ways, keyed-none, keyed-plus, keyed-same, times-way}
-use Rattle.qg_fs_tree.proofs.SlotSums.{sums-none}
 use Rattle.qg_tree_edits.proofs.Ways.{one-other}
 
 -- ---- names

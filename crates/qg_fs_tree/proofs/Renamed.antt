@@ -1,7 +1,7 @@
 -- A tree that stands, once one address of its book and the runs that are taken have changed: it stands with other
 -- names.
-use Rattle.std.proofs.Common.{◌≡◌, ◌≢◌, ℕ, zero, suc, ◌+◌, ◌<◌, ◌≤◌, Bool, true, false, List, [], ◌∷◌, length, get_or, map, Option, Some, None, arith, refl, sym, ap, subst, ◌∙◌, inl, inr}
-use Rattle.std.specs.Prelude.{◌⊎◌, ◌↔◌, IsSome, IsTrue, Contains, is_some, nat_lt, if◌then◌else◌}
+use Rattle.std.proofs.Common.{◌≡◌, ◌≢◌, ℕ, ◌+◌, ◌<◌, ◌≤◌, false, List, length, map, Option, Some, None, arith, refl, sym, ap, subst, ◌∙◌, inl, inr}
+use Rattle.std.specs.Prelude.{◌⊎◌, ◌↔◌, IsSome, IsTrue, Contains, nat_lt}
 use Rattle.std.specs.List.{All, filter_map}
 use Rattle.std.specs.Result.{result_ok}
 use Rattle.std.proofs.lemmas.Bool.{cases_Bool}
@@ -18,10 +18,9 @@ use Rattle.qg_state.specs.declared.element.Element.{Element}
 use Rattle.qg_state.specs.Owed.{owed_count}
 use Rattle.qg_state.specs.Reach.{extent_of}
 use Rattle.qg_verdict.specs.declared.tree.Tree.TheVariants.{Files}
-use Rattle.qg_blocks.specs.Held.{Draft}
 use Rattle.qg_blocks.specs.Standing.{has_slot, standing}
 use Rattle.qg_blocks.specs.Told.{fresh_at, told, told_or}
-use Rattle.qg_space.specs.Holding.{Holding, free_slots, is_free_slot}
+use Rattle.qg_space.specs.Holding.{Holding, is_free_slot}
 use Rattle.qg_space.specs.Holding.{has_slot as has_taken}
 use Rattle.qg_ground.specs.declared.ground.Ground.{Ground}
 use Rattle.qg_ground.specs.Land.{IsDrafted}

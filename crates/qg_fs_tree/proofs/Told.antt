@@ -1,5 +1,5 @@
 -- What an edit of a tree tells its book is true to the nodes with the full mark: the last commit holds them.
-use Rattle.std.proofs.Common.{◌≡◌, ℕ, suc, ◌<◌, ◌≤◌, Bool, true, false, List, [], ◌∷◌, Option, Some, None, arith, refl, sym, ap, ◌∙◌}
+use Rattle.std.proofs.Common.{◌≡◌, ℕ, suc, List, [], ◌∷◌, Option, Some, None, arith, refl}
 use Rattle.std.specs.Prelude.{Contains, if◌then◌else◌, is_some}
 use Rattle.std.specs.List.{All}
 use Rattle.qg_device.specs.History.{Event}

@@ -1,11 +1,9 @@
 -- A book that stands for a count of ways and for names, and what tellings make of it.
-use Rattle.std.proofs.Common.{◌≡◌, ◌≢◌, ℕ, zero, suc, ◌+◌, ◌-◌, ◌*◌, ◌<◌, ◌≤◌, Bool, true, false, List, [], ◌∷◌, ◌++◌, length, map, Option, Some, None, arith, refl, sym, ap, subst, ◌∙◌, inl, inr}
+use Rattle.std.proofs.Common.{◌≡◌, ℕ, ◌+◌, ◌-◌, ◌*◌, ◌<◌, ◌≤◌, Bool, true, false, List, [], ◌∷◌, ◌++◌, length, map, Option, Some, None, arith, refl, sym, ap, ◌∙◌, inl, inr}
 use Rattle.std.specs.Prelude.{◌⊎◌, ⊤, ◌||◌, ◌==◌, if◌then◌else◌, is_some}
-use Rattle.std.specs.List.{All, Contains, sum_by}
+use Rattle.std.specs.List.{Contains}
 use Rattle.std.specs.Option.{option_or}
-use Rattle.std.proofs.lemmas.Bool.{eq-eqb}
 use Rattle.std.proofs.lemmas.Bool.Decides.{eqb_tells}
-use Rattle.std.proofs.lemmas.List.Sums.{sum_by-cons}
 use Rattle.qg_num.specs.declared.piece.Piece.{Piece}
 use Rattle.qg_items.specs.declared.extent.Reference.{Reference}
 use Rattle.qg_items.specs.declared.extent.Reference.TheVariants.{KeyedBlock, SharedBlock, KeyedData, SharedData}
@@ -22,24 +20,22 @@ use Rattle.qg_cow.specs.Copying.{children_gain, copy_case, copy_losses}
 use Rattle.qg_cow.specs.Left.{leaving_gains, leaving_losses, left_case}
 use Rattle.qg_ground.specs.Tellings.{Telling}
 use Rattle.qg_ground.specs.Tellings.Telling.{Copied, Made, Left}
-use Rattle.qg_refs.specs.declared.counted.Counted.{Counted}
 use Rattle.qg_refs.specs.declared.kept.What.{What}
 use Rattle.qg_refs.specs.declared.kept.Kept.{Kept}
 use Rattle.qg_refs.specs.Book.{Book, IsBook, count_at, full_in, references_at, references_in, what_in}
-use Rattle.qg_refs.specs.Counts.{count_of, greatest_count}
+use Rattle.qg_refs.specs.Counts.{greatest_count}
 use Rattle.qg_extents.specs.Table.{book_of}
-use Rattle.qg_tree_edits.specs.Counting.{IsBare, IsTimely, LeadsNone, Turns, gains, losses, one}
+use Rattle.qg_tree_edits.specs.Counting.{IsBare, IsTimely, LeadsNone, gains, losses, one}
 use Rattle.qg_tree_edits.proofs.Ways.{one-here, one-other}
 use Rattle.qg_tree_refs.specs.declared.tree_refs.TreeRefs.{TreeRefs}
-use Rattle.qg_tree_refs.specs.Exchange.{CanExchange, Exchange, Exchanges, IsNew, times, what_comes, ways_to}
-use Rattle.qg_tree_refs.specs.Following.{Follows, IsProper, Step, coming_of, copying_in, exchange_of, full_by_copy, full_by_leaving, leaving_in, placed_by, references_to}
-use Rattle.qg_tree_refs.proofs.Times.{times-append, times-nil}
-use Rattle.qg_tree_refs.proofs.Counted.{IsCounted, IsCounted-as, IsCounted-list, IsCounted-over, IsCounted-plus, IsCounted-same, IsCounted-sum, IsCounted-times, many, total}
-use Rattle.qg_fs_tree.proofs.Keyed.{IsCounted-keyed, keyed-less, keyed-most, keyed-moved, keyed-none, keyed_ways, times-way}
-use Rattle.qg_tree_refs.proofs.Owings.{addresses, children-alike, known-alike, many-alike, shared-no_block, shared-no_data}
-use Rattle.qg_fs_tree.proofs.Owings.{keyed-no_child, keyed-no_shared_block, keyed-no_shared_data, names-no_block, names-no_shared_block, names-no_shared_data, names_of}
-use Rattle.qg_tree_refs.proofs.Single.{count-total, length-none, length-one}
-use Rattle.qg_fs_tree.proofs.SlotSums.{IsOnce, over, over-moved, over-none, over-one, over-same, over-some}
+use Rattle.qg_tree_refs.specs.Exchange.{Exchange, times, what_comes, ways_to}
+use Rattle.qg_tree_refs.specs.Following.{coming_of, copying_in, exchange_of, full_by_copy, full_by_leaving, leaving_in, placed_by, references_to}
+use Rattle.qg_tree_refs.proofs.Times.{times-nil}
+use Rattle.qg_tree_refs.proofs.Counted.{IsCounted-list, IsCounted-over, IsCounted-plus, IsCounted-same, IsCounted-sum, IsCounted-times, many, total}
+use Rattle.qg_fs_tree.proofs.Keyed.{IsCounted-keyed, keyed-none, keyed_ways, times-way}
+use Rattle.qg_tree_refs.proofs.Owings.{addresses, children-alike, many-alike, shared-no_block, shared-no_data}
+use Rattle.qg_fs_tree.proofs.Owings.{keyed-no_child, keyed-no_shared_block, keyed-no_shared_data, names_of}
+use Rattle.qg_fs_tree.proofs.SlotSums.{over, over-none, over-same}
 
 -- ---- one telling, by ways
 
@@ -120,8 +116,7 @@ full-within (Made address) full q node is = either_within (q == address) (full q
 full-within (Left old) full q node is = is
 
 -- what is told is true to the full nodes: what is copied of them is as it was, none is left, and none that ways lead to
--- leads to what is
--- copied or left
+-- leads to what is copied or left
 abbrev pub IsTrueTo : (ℕ → Option Node) → (ℕ → ℕ) → Telling → Type 0
 IsTrueTo full w (Copied node copy) =
     ((other : Node) → full (header_of node).address ≡ Some other → other ≡ node)

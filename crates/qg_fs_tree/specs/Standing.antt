@@ -1,6 +1,5 @@
 -- A subvolume's tree and the references that it owes (on-disk format, "B-tree" and "backreferences"; how they stand
--- together is this
--- project's own). Addresses are in bytes.
+-- together is this project's own). Addresses are in bytes.
 use Rattle.std.specs.Prelude.{◌≡◌, ◌⊎◌, ◌↔◌, ⊤, ℕ, ◌+◌, ◌≤◌, false, List, [], ◌∷◌, map, Option, Some, None, IsSome, IsTrue, Contains, nat_lt, if◌then◌else◌}
 use Rattle.std.specs.List.{All, count_by, filter_map, range_with_len}
 use Rattle.std.specs.Option.{option_map}
@@ -107,12 +106,9 @@ pub record IsBookOf (fs : FsTree) : Type 0 where
   pub nodesize : fs.refs.nodesize ≡ fs.land.space.sizes.nodesize
 
 -- The tree has these items. No node is shared: one reference is kept to each, and one that is not full was made by the
--- subvolume. A fresh
--- node is not full. What is kept is what the tree owes, but that these pieces stand for those of the items: in the
--- midst of a command some
--- are named still, or not yet. None is named more often than a reference is counted. Each node lies in a slot, and the
--- runs that are taken
--- are the extents of these pieces
+-- subvolume. A fresh node is not full. What is kept is what the tree owes, but that these pieces stand for those of the
+-- items: in the midst of a command some are named still, or not yet. None is named more often than a reference is
+-- counted. Each node lies in a slot, and the runs that are taken are the extents of these pieces
 pub record Stands (fs : FsTree) (history : Option (List Event)) (items : List Item) (names : List (ℕ × Piece)) : Type 0
   where
     pub book : IsBookOf fs

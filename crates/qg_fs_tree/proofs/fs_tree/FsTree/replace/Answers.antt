@@ -1,4 +1,4 @@
-use Rattle.std.proofs.Common.{◌≡◌, ℕ, List, [], subst, arith}
+use Rattle.std.proofs.Common.{ℕ, List, [], subst, arith}
 use Rattle.qg_edit.specs.Edits.{with_item}
 use Rattle.qg_edit.proofs.Leaves.{ok-known}
 use Rattle.qg_refs.specs.declared.kept.Kept.{Kept}
