@@ -1,0 +1,4 @@
+//! The rules `refs` and `home` of a tree that is read.
+#![tactic(auto)]
+
+mod probe;
