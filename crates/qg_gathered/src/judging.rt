@@ -1,24 +1,22 @@
 // The two rules judged.
-ghost use Rattle.std.specs.Prelude.{◌≡◌, ◌++◌, ℕ, List, map, IfOk, OnOk};
+ghost use Rattle.std.specs.Prelude.{◌≡◌, ℕ, List, IfOk};
 ghost use Rattle.std.specs.List.Sorted.{IsNonDecreasingBy};
 ghost use Rattle.qg_items.specs.declared.root.RootItem.{RootItem};
 ghost use Rattle.qg_super.specs.declared.superblock.Super.{Super};
 ghost use Rattle.qg_state.specs.State.{layout_of};
 ghost use Rattle.qg_state.specs.Owed.{part_address};
-ghost use Rattle.qg_owed.specs.declared.thing.Kind.TheVariants.{Extent};
 ghost use Rattle.qg_verdict.specs.ImageState.{state_in};
 ghost use Rattle.qg_verdict.specs.Verdict.{references_failure};
 ghost use Rattle.qg_gathered.specs.Gathered.{AreGathered};
-ghost use Rattle.qg_gathered.specs.Marked.{extent_thing};
 
 use crate::NodesRead;
 use crate::full::full_nodes;
-use crate::lists::{Lists, lists_of};
+use crate::lists::{add_extents, lists_of};
 use crate::order::{shared_address, sort_nodes};
 use qg_image::ExtentPart;
 use qg_items::tree::TOP_LEVEL;
 use qg_num::{Address, NoMemory, RootId, Rule};
-use qg_owed::{Thing, owing_of_root, references_failure, sort_things, thing_of_extent};
+use qg_owed::{owing_of_root, references_failure, sort_things};
 use qg_state::Element;
 use qg_verdict::Failure;
 use std::alloc::Global;
@@ -62,14 +60,4 @@ pub fn judge_references(
         &roots,
         lists.links.as_slice(),
     )
-}
-
-// Puts data extents at the end, as things.
-fn add_extents(extents: &[Element], things: &mut Vec<Thing>) -> Result<(), NoMemory>
-    ensures { OnOk result (things.new.items ≡ things.old.items ++ map extent_thing extents.now) }
-{
-    for extent in extents {
-        things.push(thing_of_extent(extent))?;
-    }
-    Ok(())
 }

@@ -5,7 +5,7 @@ ghost use Rattle.std.specs.List.Sorted.{IsNonDecreasing};
 ghost use Rattle.qg_items.specs.declared.extent.Reference.TheVariants.{KeyedBlock};
 ghost use Rattle.qg_owed.specs.Told.{owing_told, owings_told};
 ghost use Rattle.qg_gathered.specs.Told.{told_by};
-ghost use Rattle.qg_gathered.specs.Marked.{link_where, marked_link, marked_owing, marked_owings, marked_reference, marked_thing, owed_where, thing_where};
+ghost use Rattle.qg_gathered.specs.Marked.{extent_thing, link_where, marked_link, marked_owing, marked_owings, marked_reference, owed_where, thing_where};
 
 use crate::NodeRead;
 use crate::full::is_full;
@@ -13,6 +13,7 @@ use qg_home::Linked;
 use qg_items::Reference;
 use qg_num::{Address, NoMemory, Sequence};
 use qg_owed::{Kind, Owing, Thing};
+use qg_state::Element;
 use std::alloc::Global;
 
 /// What is owed by nodes, what they are, and what they point to.
@@ -42,7 +43,14 @@ pub(crate) fn lists_of(
     for node in nodes {
         let full = is_full(full, node.linked.address);
         add_owings(node, full, &mut lists.owings)?;
-        lists.things.push(thing_of(node, full))?;
+        lists.things.push(Thing {
+            address: node.linked.address,
+            kind: Kind::Node {
+                level: node.linked.level,
+                generation: node.generation,
+                full,
+            },
+        })?;
         let link = link_of(alloc, node, full)?;
         lists.links.push(link)?;
     }
@@ -84,20 +92,6 @@ fn shared_reference(parent: Address, reference: &Reference) -> Reference
     }
 }
 
-// What a node is.
-fn thing_of(node: &NodeRead, full: bool) -> Thing
-    ensures { result ≡ marked_thing full (told_by node.now) }
-{
-    Thing {
-        address: node.linked.address,
-        kind: Kind::Node {
-            level: node.linked.level,
-            generation: node.generation,
-            full,
-        },
-    }
-}
-
 // What a node points to.
 fn link_of(alloc: Global, node: &NodeRead, full: bool) -> Result<Linked, NoMemory>
     ensures { IfOk result (λ link. link ≡ marked_link full (told_by node.now)) }
@@ -109,4 +103,19 @@ fn link_of(alloc: Global, node: &NodeRead, full: bool) -> Result<Linked, NoMemor
         full,
         children: Sequence::from_slice(alloc, node.linked.children.as_slice())?,
     })
+}
+
+/// Puts data extents at the end, as things.
+pub(crate) fn add_extents(extents: &[Element], things: &mut Vec<Thing>) -> Result<(), NoMemory>
+    ensures { OnOk result (things.new.items ≡ things.old.items ++ map extent_thing extents.now) }
+{
+    for extent in extents {
+        things.push(Thing {
+            address: extent.address,
+            kind: Kind::Extent {
+                bytes: extent.bytes,
+            },
+        })?;
+    }
+    Ok(())
 }
