@@ -4,7 +4,7 @@ use Rattle.std.specs.Prelude.{Ok, IsTrue, ◌==◌}
 use Rattle.std.specs.List.{Contains, flat_map, list_any}
 use Rattle.std.specs.List.Sorted.{IsNonDecreasingBy, IsPermutation, IsStrictlyIncreasing}
 use Rattle.std.proofs.lemmas.Bool.{ne_eqb}
-use Rattle.std.proofs.lemmas.List.{append-nil}
+use Rattle.std.proofs.lemmas.List.{append-nil, map-append}
 use Rattle.std.proofs.lemmas.List.Sorted.{IsPermutation-sym, IsPermutation-to_front}
 use Rattle.qg_node.specs.declared.pointer.Pointer.{Pointer}
 use Rattle.qg_node.specs.declared.node.Node.{Node}
@@ -34,7 +34,7 @@ use Rattle.qg_home.specs.Linked.{AreLinksOf, HasChildAt, HasNodeAt, linked_of}
 use Rattle.qg_home.specs.declared.linked.Linked.{Linked}
 use Rattle.qg_owed.specs.declared.owing.Owing.{Owing}
 use Rattle.qg_owed.specs.declared.thing.Thing.{Thing}
-use Rattle.qg_owed.specs.Told.{IsTold, kind_at, owings_told}
+use Rattle.qg_owed.specs.Told.{IsTold, kind_at, owing_told, owings_told}
 use Rattle.qg_owed.proofs.NumberSets.{Ascends}
 use Rattle.qg_owed.proofs.Things.{kind_of_extent, kind_of_node, told_there}
 use Rattle.qg_gathered.specs.declared.nodes.NodeRead.{NodeRead}
@@ -81,6 +81,14 @@ extents_of_layout layout = refl
 owed_of_layout : (layout : Layout) → owed layout ≡ map (λ entry. record { address = entry.1; reference = KeyedBlock entry.0 }) layout.roots ++ flat_map (λ entry. owed_by_node entry.1) layout.nodes
 unfolding owed
 owed_of_layout layout = refl
+
+-- what is owed with the root's reference behind it
+pub with_root : (owings more : List Owing) (last : Owing) (tree address root : ℕ) → more ≡ owings ++ last ∷ []
+    → owing_told last ≡ record { address = address; reference = KeyedBlock tree } → tree ≡ 5 → address ≡ root
+    → owings_told more ≡ owings_told owings ++ record { address = root; reference = KeyedBlock 5 } ∷ []
+with_root owings more last tree address root given is five same =
+    ap owings_told given ∙ map-append owing_told owings (last ∷ [])
+    ∙ ap (λ o. owings_told owings ++ o ∷ []) (is ∙ (λ k. record { address = same k; reference = KeyedBlock (five k) }))
 
 -- ---- the image
 

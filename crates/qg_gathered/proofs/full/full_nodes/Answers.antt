@@ -1,9 +1,8 @@
-use Rattle.std.proofs.Common.{◌≡◌, ℕ, List, take, sym, ap, ◌∙◌, arith}
+use Rattle.std.proofs.Common.{◌≡◌, ℕ, ◌++◌, Global, Option, Vec, append-nil, sym, ap, ◌∙◌}
 use Rattle.std.specs.Prelude.{◌==◌}
 use Rattle.std.specs.List.{filter_map}
-use Rattle.std.proofs.lemmas.Grind.{common_steps}
+use Rattle.std.specs.Option.{option_to_list}
 use Rattle.std.proofs.lemmas.List.{take_all}
-use Rattle.std.proofs.lemmas.List.Elements.{filter_map-append}
 use Rattle.std.proofs.lemmas.List.Sorted.{IsNonDecreasingBy-from_sort, list_any-IsPermutation}
 use Rattle.qg_gathered.specs.Marked.{full_address, is_marked}
 use Rattle.qg_gathered.proofs.Marking.{full_any, full_more}
@@ -12,8 +11,16 @@ use Rattle.qg_gathered.proofs.full.full_nodes.Goals.{in-Some+in_ok-push, in_defa
 
 pub loop-part-preserved : goal.loop-part-preserved
 loop-part-preserved c =
-    full_more c.args.parts.now c.loop-part.part-index c.part-item.result c.loop-part.full.items c.match-full_address.full.items
-    c.loop-part-test.true c.part-item.is c.loop-part.invariant ?
+    let found = c.loop-part.full.items in
+    let items = λ (full : Vec ℕ Global). full.items in
+    let with = λ (given : Option ℕ). found ++ option_to_list given in
+    full_more c.args.parts.now c.loop-part.part-index c.part-item.result found c.match-full_address.full.items
+    c.loop-part-test.true c.part-item.is c.loop-part.invariant (elim c.match-full_address.branch [
+      | in-Some+in_ok-push w ↦
+          ap items w.full-is ∙ w.in_ok-push.ensures.items ∙ ap with (sym w.in-Some.is ∙ c.full_address.ensures)
+      | in_default w ↦
+          ap items w.full-is ∙ sym (append-nil found) ∙ ap with (sym w.in_default.is ∙ c.full_address.ensures)
+    ])
 
 pub returns-clause-ascending : goal.returns-clause-ascending
 returns-clause-ascending c = IsNonDecreasingBy-from_sort (λ (n : ℕ). n) _ c.sort_unstable.ensures.sorted
