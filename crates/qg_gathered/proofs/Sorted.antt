@@ -126,6 +126,10 @@ numbers_of : (nodes : List Node) → map number_told (map told_of nodes) ≡ map
 numbers_of [] = refl
 numbers_of (node ∷ nodes) = ap (λ ns. address_of node ∷ ns) (numbers_of nodes)
 
+-- they lie where the nodes do of which they are told
+pub lie_as_told : (reads : List NodeRead) (nodes : List Node) → map told_by reads ≡ map told_of nodes → map number_read reads ≡ map address_of nodes
+lie_as_told reads nodes told = sym (numbers_told reads) ∙ ap (map number_told) told ∙ numbers_of nodes
+
 module _ (reads sorted : List NodeRead) (nodes : List Node) (told : map told_by reads ≡ map told_of nodes) (moved : IsPermutation reads sorted) where
   pub sorted_same : HaveSame (map told_by sorted) (map told_of nodes)
   sorted_same =
@@ -134,8 +138,7 @@ module _ (reads sorted : List NodeRead) (nodes : List Node) (told : map told_by 
 
   numbers_moved : IsPermutation (map address_of nodes) (map number_read sorted)
   numbers_moved =
-      let same : map number_read reads ≡ map address_of nodes = sym (numbers_told reads) ∙ ap (map number_told) told ∙ numbers_of nodes in
-      subst (λ list. IsPermutation list (map number_read sorted)) same (IsPermutation-map number_read reads sorted moved)
+      subst (λ list. IsPermutation list (map number_read sorted)) (lie_as_told reads nodes told) (IsPermutation-map number_read reads sorted moved)
 
   -- those that were put in order rise, where no two lie at one address
   pub sorted_rise : IsDistinct eqb (map address_of nodes) → IsNonDecreasingBy (λ read. read.linked.address) sorted → IsStrictlyIncreasing (map (λ read. read.linked.address) sorted)

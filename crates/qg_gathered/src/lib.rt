@@ -9,3 +9,6 @@ mod order;
 
 pub use judging::judge_references;
 pub use nodes::{NodeRead, NodesRead};
+
+#[cfg(test)]
+mod tests;

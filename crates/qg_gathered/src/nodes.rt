@@ -1,10 +1,12 @@
 // What is gathered of the nodes of a tree.
-ghost use Rattle.std.specs.Prelude.{◌≡◌, [], IfOk};
+ghost use Rattle.std.specs.Prelude.{◌≡◌, [], List, IfOk};
+ghost use Rattle.qg_node.specs.declared.node.Node.{Node as NodeValue};
+ghost use Rattle.qg_walk.specs.Held.{AreAddressesOf};
 ghost use Rattle.qg_gathered.specs.Told.{AreOfNodes, told_by, told_of};
 
 use qg_home::{Linked, linked_of};
 use qg_node::Node;
-use qg_num::{Generation, NoMemory};
+use qg_num::{Address, Generation, NoMemory, Sequence};
 use qg_owed::{Owing, owings_of_node};
 use qg_walk::NodeList;
 use std::alloc::Global;
@@ -39,6 +41,17 @@ impl NodesRead {
             alloc,
             nodes: Vec::new(alloc),
         }
+    }
+
+    /// Where they lie, in bytes, in the order of the walk.
+    pub fn addresses(&self, alloc: Global) -> Result<Sequence<Address>, NoMemory>
+        ensures { (nodes : List NodeValue) → AreOfNodes self.now nodes → IfOk result (λ addresses. AreAddressesOf addresses nodes) }
+    {
+        let mut addresses = Sequence::with_capacity(alloc, self.nodes.len())?;
+        for node in self.nodes.as_slice() {
+            addresses.push(node.linked.address)?;
+        }
+        Ok(addresses)
     }
 }
 
