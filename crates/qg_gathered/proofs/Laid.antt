@@ -103,7 +103,6 @@ module _ (parts : List ExtentPart) (nodes : List Node) where
       })
 
   module _ (alike : AgreeByAddress nodes) where
-
     all_laid : AllByRecursion (IsOf parts nodes) (layout_by parts nodes)
     all_laid = all_of [] nodes (λ node has. has) tt
 

@@ -105,27 +105,6 @@ owed_marked true node =
     ∙ ap (λ first. first ++ map (marked_owing header.address true) pieces) (children_shared header (own_pointers node))
     ∙ ap (λ rest. map (λ (pointer : Pointer). owed_to_child header true pointer.child) (own_pointers node) ++ rest) (items_shared header (own_items node))
 
--- ---- the lists of nodes that were read
-
-module _ (reads : List NodeRead) (i : ℕ) (read : NodeRead) (inside : i < length reads) (is : read ≡ get_or reads i read) where
-  one_told : map told_by (take (i + 1) reads) ≡ map told_by (take i reads) ++ told_by read ∷ []
-  one_told = map_more told_by reads i read inside ∙ ap (λ (r : NodeRead). map told_by (take i reads) ++ told_by r ∷ []) (sym is)
-
-  -- one more of what is told of each
-  pub more_listed : {Y : Type 0} (f : NodeTold → Y) (ys more : List Y) (y : Y) → y ≡ f (told_by read) → ys ≡ map f (map told_by (take i reads))
-      → more ≡ ys ++ y ∷ [] → more ≡ map f (map told_by (take (i + 1) reads))
-  more_listed f ys more y own so_far given =
-      given ∙ (λ k. so_far k ++ own k ∷ []) ∙ sym (map-append f (map told_by (take i reads)) (told_by read ∷ [])) ∙ ap (map f) (sym one_told)
-
-  -- what one more of them owes
-  pub more_owed : (full : List ℕ) (mark : Bool) (owed more : List OwedReference) → mark ≡ is_marked full read.linked.address
-      → owed ≡ flat_map (owed_where full) (map told_by (take i reads)) → more ≡ owed ++ marked_owings mark (told_by read)
-      → more ≡ flat_map (owed_where full) (map told_by (take (i + 1) reads))
-  more_owed full mark owed more own so_far given =
-      given ∙ (λ k. so_far k ++ marked_owings (own k) (told_by read))
-      ∙ ap (λ last. flat_map (owed_where full) (map told_by (take i reads)) ++ last) (sym (append-nil (owed_where full (told_by read))))
-      ∙ sym (flat_map-append (owed_where full) (map told_by (take i reads)) (told_by read ∷ [])) ∙ ap (flat_map (owed_where full)) (sym one_told)
-
 -- ---- the nodes of a layout
 
 -- these are the addresses of full nodes

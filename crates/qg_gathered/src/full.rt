@@ -35,7 +35,9 @@ fn full_address(part: &ExtentPart) -> Option<Address>
 {
     match part {
         ExtentPart::NodeRecord {
-            address, extent, ..
+            address,
+            extent,
+            ..
         } if extent.flags / FULL % 2 == 1 => Some(*address),
         _ => None,
     }

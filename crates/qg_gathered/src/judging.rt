@@ -30,7 +30,7 @@ use std::alloc::Global;
 /// Where two nodes lie at one address, as only a disk that lies has it, that is answered as the rule `refs` there.
 pub fn judge_references(
     alloc: Global,
-    mut nodes: NodesRead,
+    nodes: NodesRead,
     root: Address,
     extents: &[Element],
     parts: &[ExtentPart],
@@ -40,13 +40,14 @@ pub fn judge_references(
         → AreGathered super image item nodes extents.now parts.now
         → IfOk result (λ failure. failure ≡ references_failure super image (layout_of (state_in super image))) }
 {
-    sort_nodes(&mut nodes.nodes);
-    if let Some(address) = shared_address(nodes.nodes.as_slice()) {
+    let mut read = nodes.nodes;
+    sort_nodes(&mut read);
+    if let Some(address) = shared_address(read.as_slice()) {
         let rule = Rule::Refs;
         return Ok(Some(Failure::Broken { rule, address }));
     }
     let full = full_nodes(alloc, parts)?;
-    let mut lists = lists_of(alloc, nodes.nodes.as_slice(), full.as_slice())?;
+    let mut lists = lists_of(alloc, read, full.as_slice())?;
     let top_level = RootId::new(TOP_LEVEL);
     lists.owings.push(owing_of_root(top_level, root))?;
     add_extents(extents, &mut lists.things)?;

@@ -5,13 +5,13 @@ ghost use Rattle.std.specs.List.Sorted.{IsNonDecreasing};
 ghost use Rattle.qg_items.specs.declared.extent.Reference.TheVariants.{KeyedBlock};
 ghost use Rattle.qg_owed.specs.Told.{owing_told, owings_told};
 ghost use Rattle.qg_gathered.specs.Told.{told_by};
-ghost use Rattle.qg_gathered.specs.Marked.{extent_thing, link_where, marked_link, marked_owing, marked_owings, marked_reference, owed_where, thing_where};
+ghost use Rattle.qg_gathered.specs.Marked.{extent_thing, link_where, marked_owing, marked_reference, owed_where, thing_where};
 
 use crate::NodeRead;
 use crate::full::is_full;
 use qg_home::Linked;
 use qg_items::Reference;
-use qg_num::{Address, NoMemory, Sequence};
+use qg_num::{Address, NoMemory};
 use qg_owed::{Kind, Owing, Thing};
 use qg_state::Element;
 use std::alloc::Global;
@@ -27,13 +27,13 @@ pub(crate) struct Lists {
 /// The lists of nodes, some of which are full.
 pub(crate) fn lists_of(
     alloc: Global,
-    nodes: &[NodeRead],
+    nodes: Vec<NodeRead>,
     full: &[Address],
 ) -> Result<Lists, NoMemory>
     requires { IsNonDecreasing full.now }
-    ensures owings { IfOk result (λ lists. owings_told lists.owings.items ≡ flat_map (owed_where full.now) (map told_by nodes.now)) }
-    ensures things { IfOk result (λ lists. lists.things.items ≡ map (thing_where full.now) (map told_by nodes.now)) }
-    ensures links { IfOk result (λ lists. lists.links.items ≡ map (link_where full.now) (map told_by nodes.now)) }
+    ensures owings { IfOk result (λ lists. owings_told lists.owings.items ≡ flat_map (owed_where full.now) (map told_by nodes.items)) }
+    ensures things { IfOk result (λ lists. lists.things.items ≡ map (thing_where full.now) (map told_by nodes.items)) }
+    ensures links { IfOk result (λ lists. lists.links.items ≡ map (link_where full.now) (map told_by nodes.items)) }
 {
     let mut lists = Lists {
         owings: Vec::new(alloc),
@@ -41,28 +41,52 @@ pub(crate) fn lists_of(
         links: Vec::with_capacity(alloc, nodes.len())?,
     };
     for node in nodes {
-        let full = is_full(full, node.linked.address);
-        add_owings(node, full, &mut lists.owings)?;
-        lists.things.push(Thing {
-            address: node.linked.address,
-            kind: Kind::Node {
-                level: node.linked.level,
-                generation: node.generation,
-                full,
-            },
-        })?;
-        let link = link_of(alloc, node, full)?;
-        lists.links.push(link)?;
+        add_node(node, full, &mut lists)?;
     }
     Ok(lists)
 }
 
-// Puts what a node owes at the end, where it is full or isn't.
-fn add_owings(node: &NodeRead, full: bool, owings: &mut Vec<Owing>) -> Result<(), NoMemory>
-    ensures { OnOk result (owings_told owings.new.items ≡ owings_told owings.old.items ++ marked_owings full (told_by node.now)) }
+// Puts what is told of a node at the end of each list.
+fn add_node(node: NodeRead, full: &[Address], lists: &mut Lists) -> Result<(), NoMemory>
+    requires { IsNonDecreasing full.now }
+    ensures owings { OnOk result (owings_told lists.new.owings.items
+        ≡ owings_told lists.old.owings.items ++ owed_where full.now (told_by node)) }
+    ensures things { OnOk result (lists.new.things.items
+        ≡ lists.old.things.items ++ thing_where full.now (told_by node) ∷ []) }
+    ensures links { OnOk result (lists.new.links.items
+        ≡ lists.old.links.items ++ link_where full.now (told_by node) ∷ []) }
 {
-    for owing in node.owings.as_slice() {
-        let marked = marked_owing(node.linked.address, full, owing);
+    let NodeRead {
+        mut linked,
+        generation,
+        owings,
+    } = node;
+    let full = is_full(full, linked.address);
+    add_owings(linked.address, full, owings.as_slice(), &mut lists.owings)?;
+    lists.things.push(Thing {
+        address: linked.address,
+        kind: Kind::Node {
+            level: linked.level,
+            generation,
+            full,
+        },
+    })?;
+    linked.full = full;
+    lists.links.push(linked)?;
+    Ok(())
+}
+
+// Puts what a node at an address owes at the end, where it is full or isn't.
+fn add_owings(
+    parent: Address,
+    full: bool,
+    own: &[Owing],
+    owings: &mut Vec<Owing>,
+) -> Result<(), NoMemory>
+    ensures { OnOk result (owings_told owings.new.items ≡ owings_told owings.old.items ++ map (marked_owing parent full) (owings_told own.now)) }
+{
+    for owing in own {
+        let marked = marked_owing(parent, full, owing);
         owings.push(marked)?;
     }
     Ok(())
@@ -87,22 +111,13 @@ fn shared_reference(parent: Address, reference: &Reference) -> Reference
     ensures { result ≡ marked_reference parent reference.now }
 {
     match reference {
-        Reference::KeyedBlock { .. } | Reference::SharedBlock { .. } => Reference::SharedBlock { parent },
-        Reference::KeyedData { .. } | Reference::SharedData { .. } => Reference::SharedData { parent },
+        Reference::KeyedBlock { .. } | Reference::SharedBlock { .. } => Reference::SharedBlock {
+            parent,
+        },
+        Reference::KeyedData { .. } | Reference::SharedData { .. } => Reference::SharedData {
+            parent,
+        },
     }
-}
-
-// What a node points to.
-fn link_of(alloc: Global, node: &NodeRead, full: bool) -> Result<Linked, NoMemory>
-    ensures { IfOk result (λ link. link ≡ marked_link full (told_by node.now)) }
-{
-    Ok(Linked {
-        address: node.linked.address,
-        level: node.linked.level,
-        owner: node.linked.owner,
-        full,
-        children: Sequence::from_slice(alloc, node.linked.children.as_slice())?,
-    })
 }
 
 /// Puts data extents at the end, as things.

@@ -198,7 +198,10 @@ fn two_nodes_at_one_address_are_answered(rt: HostRuntime) -> Result<(), Fail> {
     NodeList::push(&mut nodes, &leaf(rt.alloc(), 5)?)?;
     NodeList::push(&mut nodes, &leaf(rt.alloc(), 5)?)?;
     let addresses = nodes.addresses(rt.alloc())?;
-    assert!(rt; addresses.as_slice() == [Address::new(ROOT), Address::new(LEAF), Address::new(LEAF)].as_slice());
+    assert!(rt;
+        addresses.as_slice()
+            == [Address::new(ROOT), Address::new(LEAF), Address::new(LEAF)].as_slice()
+    );
     let wanted = Failure::Broken {
         rule: Rule::Refs,
         address: Address::new(LEAF),

@@ -6,4 +6,4 @@ use Rattle.qg_gathered.proofs.lists.add_owings.Given as goal
 abbrev pub invariant-loop-owing : goal.invariant-loop-owing
 invariant-loop-owing l =
     owings_told l.owings.items
-    ≡ owings_told l.initial.owings.items ++ map (marked_owing l.node.linked.address l.full) (owings_told (take l.owing-index l.node.owings.items))
+    ≡ owings_told l.initial.owings.items ++ map (marked_owing l.parent l.full) (owings_told (take l.owing-index l.own))

@@ -7,7 +7,7 @@ use Rattle.qg_gathered.proofs.lists.lists_of.Given as goal
 
 abbrev pub invariant-loop-node : goal.invariant-loop-node
 invariant-loop-node l = record {
-  owings : owings_told l.lists.owings.items ≡ flat_map (owed_where l.full) (map told_by (take l.node-index l.nodes));
-  things : l.lists.things.items ≡ map (thing_where l.full) (map told_by (take l.node-index l.nodes));
-  links : l.lists.links.items ≡ map (link_where l.full) (map told_by (take l.node-index l.nodes));
+  owings : owings_told l.lists.owings.items ≡ flat_map (owed_where l.full) (map told_by l.yielded);
+  things : l.lists.things.items ≡ map (thing_where l.full) (map told_by l.yielded);
+  links : l.lists.links.items ≡ map (link_where l.full) (map told_by l.yielded);
 }
