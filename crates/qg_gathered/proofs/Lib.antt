@@ -1,0 +1,9 @@
+pub mod Found
+pub mod Distinct
+pub mod Apart
+pub mod Laid
+pub mod Searching
+pub mod Marking
+pub mod Extents
+pub mod Sorted
+pub mod Judged

@@ -1,0 +1,136 @@
+// The lists over which the two rules are judged.
+ghost use Rattle.std.specs.Prelude.{◌≡◌, ◌++◌, ◌∷◌, [], map, IfOk, OnOk};
+ghost use Rattle.std.specs.List.{flat_map};
+ghost use Rattle.std.specs.List.Sorted.{IsNonDecreasing};
+ghost use Rattle.qg_items.specs.declared.extent.Reference.TheVariants.{KeyedBlock};
+ghost use Rattle.qg_owed.specs.Told.{owing_told, owings_told};
+ghost use Rattle.qg_gathered.specs.Told.{told_by};
+ghost use Rattle.qg_gathered.specs.Marked.{extent_thing, link_where, marked_owing, marked_reference, owed_where, thing_where};
+
+use crate::NodeRead;
+use crate::full::is_full;
+use qg_home::Linked;
+use qg_items::Reference;
+use qg_num::{Address, NoMemory};
+use qg_owed::{Kind, Owing, Thing};
+use qg_state::Element;
+use std::alloc::Global;
+
+/// What is owed by nodes, what they are, and what they point to.
+#[derive(Drop)]
+pub(crate) struct Lists {
+    pub owings: Vec<Owing>,
+    pub things: Vec<Thing>,
+    pub links: Vec<Linked>,
+}
+
+/// The lists of nodes, some of which are full.
+pub(crate) fn lists_of(
+    alloc: Global,
+    nodes: Vec<NodeRead>,
+    full: &[Address],
+) -> Result<Lists, NoMemory>
+    requires { IsNonDecreasing full.now }
+    ensures owings { IfOk result (λ lists. owings_told lists.owings.items ≡ flat_map (owed_where full.now) (map told_by nodes.items)) }
+    ensures things { IfOk result (λ lists. lists.things.items ≡ map (thing_where full.now) (map told_by nodes.items)) }
+    ensures links { IfOk result (λ lists. lists.links.items ≡ map (link_where full.now) (map told_by nodes.items)) }
+{
+    let mut lists = Lists {
+        owings: Vec::new(alloc),
+        things: Vec::with_capacity(alloc, nodes.len())?,
+        links: Vec::with_capacity(alloc, nodes.len())?,
+    };
+    for node in nodes {
+        add_node(node, full, &mut lists)?;
+    }
+    Ok(lists)
+}
+
+// Puts what is told of a node at the end of each list.
+fn add_node(node: NodeRead, full: &[Address], lists: &mut Lists) -> Result<(), NoMemory>
+    requires { IsNonDecreasing full.now }
+    ensures owings { OnOk result (owings_told lists.new.owings.items
+        ≡ owings_told lists.old.owings.items ++ owed_where full.now (told_by node)) }
+    ensures things { OnOk result (lists.new.things.items
+        ≡ lists.old.things.items ++ thing_where full.now (told_by node) ∷ []) }
+    ensures links { OnOk result (lists.new.links.items
+        ≡ lists.old.links.items ++ link_where full.now (told_by node) ∷ []) }
+{
+    let NodeRead {
+        mut linked,
+        generation,
+        owings,
+    } = node;
+    let full = is_full(full, linked.address);
+    add_owings(linked.address, full, owings.as_slice(), &mut lists.owings)?;
+    lists.things.push(Thing {
+        address: linked.address,
+        kind: Kind::Node {
+            level: linked.level,
+            generation,
+            full,
+        },
+    })?;
+    linked.full = full;
+    lists.links.push(linked)?;
+    Ok(())
+}
+
+// Puts what a node at an address owes at the end, where it is full or isn't.
+fn add_owings(
+    parent: Address,
+    full: bool,
+    own: &[Owing],
+    owings: &mut Vec<Owing>,
+) -> Result<(), NoMemory>
+    ensures { OnOk result (owings_told owings.new.items ≡ owings_told owings.old.items ++ map (marked_owing parent full) (owings_told own.now)) }
+{
+    for owing in own {
+        let marked = marked_owing(parent, full, owing);
+        owings.push(marked)?;
+    }
+    Ok(())
+}
+
+// What a node owes in place of what it owes where it isn't full: where it is, a shared reference from itself.
+fn marked_owing(parent: Address, full: bool, owing: &Owing) -> Owing
+    ensures { owing_told result ≡ marked_owing parent full (owing_told owing.now) }
+{
+    Owing {
+        address: owing.address,
+        reference: if full {
+            shared_reference(parent, &owing.reference)
+        } else {
+            owing.reference
+        },
+    }
+}
+
+// The shared reference from a parent that stands for a keyed one.
+fn shared_reference(parent: Address, reference: &Reference) -> Reference
+    ensures { result ≡ marked_reference parent reference.now }
+{
+    match reference {
+        Reference::KeyedBlock { .. } | Reference::SharedBlock { .. } => Reference::SharedBlock {
+            parent,
+        },
+        Reference::KeyedData { .. } | Reference::SharedData { .. } => Reference::SharedData {
+            parent,
+        },
+    }
+}
+
+/// Puts data extents at the end, as things.
+pub(crate) fn add_extents(extents: &[Element], things: &mut Vec<Thing>) -> Result<(), NoMemory>
+    ensures { OnOk result (things.new.items ≡ things.old.items ++ map extent_thing extents.now) }
+{
+    for extent in extents {
+        things.push(Thing {
+            address: extent.address,
+            kind: Kind::Extent {
+                bytes: extent.bytes,
+            },
+        })?;
+    }
+    Ok(())
+}
