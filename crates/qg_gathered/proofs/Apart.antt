@@ -1,5 +1,7 @@
--- A tree whose walk meets no failure reaches no address twice, and each pointer of its nodes leads to one of them, a level lower.
-use Rattle.std.proofs.Common.{◌≡◌, ℕ, zero, suc, ◌+◌, ◌-◌, ◌*◌, ◌≤◌, Bool, true, false, List, [], ◌∷◌, ◌++◌, map, length, eqb, Option, Some, None, refl, sym, ap, subst, ◌∙◌, arith, inl, inr}
+-- A tree whose walk meets no failure reaches no address twice, and each pointer of its nodes leads to one of them, a
+-- level lower.
+use Rattle.std.proofs.Common.{◌≡◌, ℕ, zero, suc, ◌+◌, ◌-◌, ◌*◌, ◌≤◌, Bool, true, false, List, [], ◌∷◌, ◌++◌, map}
+use Rattle.std.proofs.Common.{eqb, Option, Some, None, refl, sym, ap, subst, ◌∙◌, arith, inl, inr}
 use Rattle.std.specs.Prelude.{Result, Ok, Err, not, nat_le}
 use Rattle.std.specs.List.{Contains, IsDistinct, list_all}
 use Rattle.std.specs.Option.{option_and_then}
@@ -17,29 +19,30 @@ use Rattle.qg_node.specs.declared.node.Node.{Node}
 use Rattle.qg_node.specs.declared.node.Node.TheVariants.{Leaf, Inner}
 use Rattle.qg_node.specs.Nodes.{ascends_from, header_of, is_ascending, own_items, own_keys, own_pointers}
 use Rattle.qg_super.specs.declared.superblock.Super.{Super}
-use Rattle.qg_super.specs.Places.{capacity, is_slot}
-use Rattle.qg_super.specs.SuperText.{sizes_of}
+use Rattle.qg_super.specs.Places.{capacity}
 use Rattle.qg_node.specs.Nodes.{used_bytes}
 use Rattle.qg_image.specs.Below.{inner_pointers, joined, leaf_items, nodes_below}
 use Rattle.qg_image.specs.IsShaped.{is_first, is_shaped}
 use Rattle.qg_image.specs.ItemMeaning.{when}
-use Rattle.qg_state.proofs.Contained.{contains_cases, contains_here, contains_later, none_contained}
+use Rattle.qg_state.proofs.Contained.{contains_cases, contains_here, none_contained}
 use Rattle.qg_verdict.specs.declared.failure.Failure.{Failure}
 use Rattle.qg_verdict.specs.declared.tree.Tree.{Tree}
 use Rattle.qg_verdict.specs.declared.expected.Expected.{Expected}
 use Rattle.qg_verdict.specs.Failure.{first_failure, unless}
 use Rattle.qg_num.specs.declared.rule.Rule.TheVariants as rule
-use Rattle.qg_verdict.specs.Walk.{begins_at, deepest, ends_before, found_failure, is_item_of, is_told, next_key, node_failure, node_found, pointers_failure, shape_failure, tree_failure, walk_failure, way_failure}
+use Rattle.qg_verdict.specs.Walk.{begins_at, deepest, ends_before, found_failure, is_item_of, is_told, next_key}
+use Rattle.qg_verdict.specs.Walk.{node_failure, node_found, pointers_failure, shape_failure, tree_failure, walk_failure}
+use Rattle.qg_verdict.specs.Walk.{way_failure}
 use Rattle.qg_verdict.specs.ItemsUnder.{is_way, nodes_of, nodes_under}
 use Rattle.qg_verdict.specs.ImageState.{level_in}
 use Rattle.qg_walk.specs.Added.{is_from, is_to}
 use Rattle.qg_walk.specs.Standing.{expected_below}
-use Rattle.qg_walk.proofs.Failures.{IsFormed, IsFormed-way, IsPassed, kept-none, neither, walk-passed}
+use Rattle.qg_walk.proofs.Failures.{IsFormed, IsFormed-way, kept-none, neither, walk-passed}
 use Rattle.qg_walk.proofs.KeyRanges.{begins_at-all, ends_before-each, is_from-later, is_to-earlier, not_less_behind}
 use Rattle.qg_reach.proofs.Members.{one_mapped}
 use Rattle.qg_reach.proofs.Reached.{address_of}
 use Rattle.qg_gathered.proofs.Distinct.{distinct_both, distinct_none, distinct_with}
-use Rattle.qg_gathered.proofs.Found.{IsFoundAt, found_is}
+use Rattle.qg_gathered.proofs.Found.{found_is}
 
 -- ---- one node
 
@@ -56,26 +59,31 @@ abbrev pub IsKeyed : Option Key → Option Key → Node → Type 0
 IsKeyed None to node = Unit {0}
 IsKeyed (Some from) to node = BeginsWithin (Some from) to (own_keys node)
 
-first_within : (from : Key) (to : Option Key) (keys : List Key) → is_first from keys ≡ true → begins_at (Some from) keys ≡ true
+first_within : (from : Key) (to : Option Key) (keys : List Key) → is_first from keys ≡ true
+    → begins_at (Some from) keys ≡ true
     → ends_before to keys ≡ true → BeginsWithin (Some from) to keys
 first_within from to [] first begins ends = absurd (false≢true first)
 first_within from to (key ∷ keys) first begins ends = record {
   key = key;
   later = keys;
   are = refl;
-  low = (and_parts (is_from (Some from) key) (list_all (is_from (Some from)) keys) (begins_at-all (Some from) (key ∷ keys) begins)).0;
+  low = (and_parts (is_from (Some from) key) (list_all (is_from (Some from)) keys)
+      (begins_at-all (Some from) (key ∷ keys) begins)).0;
   high = (and_parts (is_to to key) (list_all (is_to to) keys) (sym (ends_before-each to (key ∷ keys)) ∙ ends)).0;
 }
 
-keyed : (nodesize : ℕ) (from to : Option Key) (node : Node) → is_shaped nodesize from node ≡ true → begins_at from (own_keys node) ≡ true
+keyed : (nodesize : ℕ) (from to : Option Key) (node : Node) → is_shaped nodesize from node ≡ true
+    → begins_at from (own_keys node) ≡ true
     → ends_before to (own_keys node) ≡ true → IsKeyed from to node
 unfolding is_shaped
 keyed nodesize None to node shaped begins ends = tt
 keyed nodesize (Some from) to node shaped begins ends =
-    let first = (and_parts (nat_le (capacity nodesize) (4 * used_bytes node)) (is_first from (own_keys node)) shaped).1 in
+    let first =
+    (and_parts (nat_le (capacity nodesize) (4 * used_bytes node)) (is_first from (own_keys node)) shaped).1 in
     first_within from to (own_keys node) first begins ends
 
-keyed_wider : (from : Option Key) (low : Key) (to : Option Key) (node : Node) → is_from from low ≡ true → IsKeyed (Some low) to node → IsKeyed from to node
+keyed_wider : (from : Option Key) (low : Key) (to : Option Key) (node : Node) → is_from from low ≡ true
+    → IsKeyed (Some low) to node → IsKeyed from to node
 keyed_wider None low to node later is = tt
 keyed_wider (Some from) low to node later is = record {
   key = is.key;
@@ -85,7 +93,8 @@ keyed_wider (Some from) low to node later is = record {
   high = is.high;
 }
 
-keyed_higher : (from : Key) (high : Key) (to : Option Key) (node : Node) → is_to to high ≡ true → IsKeyed (Some from) (Some high) node → IsKeyed (Some from) to node
+keyed_higher : (from : Key) (high : Key) (to : Option Key) (node : Node) → is_to to high ≡ true
+    → IsKeyed (Some from) (Some high) node → IsKeyed (Some from) to node
 keyed_higher from high to node earlier is = record {
   key = is.key;
   later = is.later;
@@ -100,7 +109,8 @@ not_both true before behind = false≢true behind
 not_both false before behind = false≢true before
 
 -- so a node does not stand on both sides of a key
-one_side : (from key : Key) (to : Option Key) (node : Node) → IsKeyed (Some from) (Some key) node → IsKeyed (Some key) to node → ⊥
+one_side : (from key : Key) (to : Option Key) (node : Node) → IsKeyed (Some from) (Some key) node
+    → IsKeyed (Some key) to node → ⊥
 one_side from key to node before behind =
     let same : before.key ≡ behind.key = let lists = sym before.are ∙ behind.are in cc in
     not_both (is_lt (key_cmp behind.key key)) (subst (λ k. is_lt (key_cmp k key) ≡ true) same before.high) behind.low
@@ -134,28 +144,43 @@ AreLinked nodes =
     → (level : ℕ) × ((header_of parent).level ≡ level + 1) × HasNodeAt nodes level pointer.child
 
 -- nodes that were reached: each is placed, no two lie at one address, and pointers lead to them
-pub record AreReached (tree : Tree) (super : Super) (image : List ℕ) (from to : Option Key) (level : ℕ) (nodes : List Node) : Type 0 where
+pub record AreReached (tree : Tree) (super : Super) (image : List ℕ) (from to : Option Key) (level : ℕ)
+    (nodes : List Node) : Type 0 where
   pub each : (node : Node) → Contains nodes node → IsPlaced tree super image from to level node
   pub distinct : IsDistinct eqb (map address_of nodes)
   pub linked : AreLinked nodes
 
 -- those below pointers, each of which leads to one of them
-pub record AreBelow (tree : Tree) (super : Super) (image : List ℕ) (to : Option Key) (level : ℕ) (pointers : List Pointer) (nodes : List Node) : Type 0 where
+pub record AreBelow (tree : Tree) (super : Super) (image : List ℕ) (to : Option Key) (level : ℕ)
+    (pointers : List Pointer) (nodes : List Node) : Type 0 where
   pub reached : AreReached tree super image (next_key None pointers) to level nodes
   pub starts : (pointer : Pointer) → Contains pointers pointer → HasNodeAt nodes level pointer.child
 
 -- those from an address down
-pub record IsBranch (tree : Tree) (super : Super) (image : List ℕ) (from to : Option Key) (level address : ℕ) (nodes : List Node) : Type 0 where
+pub record IsBranch (tree : Tree) (super : Super) (image : List ℕ) (from to : Option Key) (level address : ℕ)
+    (nodes : List Node) : Type 0 where
   pub reached : AreReached tree super image from to level nodes
   pub start : HasNodeAt nodes level address
 
-has_on_left : (front back : List Node) (level address : ℕ) → HasNodeAt front level address → HasNodeAt (front ++ back) level address
+has_on_left : (front back : List Node) (level address : ℕ) → HasNodeAt front level address
+    → HasNodeAt (front ++ back) level address
 has_on_left front back level address has =
-    record { node = has.node; has = Contains-append_left front back has.node has.has; lies = has.lies; level_is = has.level_is }
+    record {
+      node = has.node;
+      has = Contains-append_left front back has.node has.has;
+      lies = has.lies;
+      level_is = has.level_is;
+    }
 
-has_on_right : (front back : List Node) (level address : ℕ) → HasNodeAt back level address → HasNodeAt (front ++ back) level address
+has_on_right : (front back : List Node) (level address : ℕ) → HasNodeAt back level address
+    → HasNodeAt (front ++ back) level address
 has_on_right front back level address has =
-    record { node = has.node; has = Contains-append_right front back has.node has.has; lies = has.lies; level_is = has.level_is }
+    record {
+      node = has.node;
+      has = Contains-append_right front back has.node has.has;
+      lies = has.lies;
+      level_is = has.level_is;
+    }
 
 -- ---- below pointers
 
@@ -175,8 +200,10 @@ module _ (tree : Tree) (super : Super) (image : List ℕ) (to : Option Key) (lev
       (branch : IsBranch tree super image (Some pointer.key) (next_key to pointers) level pointer.child first)
       (others : AreBelow tree super image to level pointers rest)
       (apart : (node : Node) → Contains first node → Contains rest node → ⊥)
-      (wider : (node : Node) → IsKeyed (Some pointer.key) (next_key to pointers) node → IsKeyed (Some pointer.key) to node)
-      (lower : (node : Node) → Contains rest node → IsKeyed (next_key None pointers) to node → IsKeyed (Some pointer.key) to node) where
+      (wider : (node : Node) → IsKeyed (Some pointer.key) (next_key to pointers) node
+      → IsKeyed (Some pointer.key) to node)
+      (lower : (node : Node) → Contains rest node → IsKeyed (next_key None pointers) to node
+      → IsKeyed (Some pointer.key) to node) where
     differ : (x y : Node) → Contains first x → Contains rest y → address_of x ≡ address_of y → ⊥
     differ x y has has' same =
         let here = (branch.reached.each x has).lies in
@@ -184,7 +211,8 @@ module _ (tree : Tree) (super : Super) (image : List ℕ) (to : Option Key) (lev
         let one : x ≡ y = let both = sym here ∙ ap (node_found super image) same ∙ behind in cc in
         apart x has (subst (Contains rest) (sym one) has')
 
-    one_placed : (node : Node) → Contains (first ++ rest) node → IsPlaced tree super image (Some pointer.key) to level node
+    one_placed : (node : Node) → Contains (first ++ rest) node
+        → IsPlaced tree super image (Some pointer.key) to level node
     one_placed node has = elim (Contains-append_cases first rest node has) [
       | inl early ↦
           let placed = branch.reached.each node early in
@@ -206,7 +234,8 @@ module _ (tree : Tree) (super : Super) (image : List ℕ) (to : Option Key) (lev
 
     one_start : (other : Pointer) → Contains (pointer ∷ pointers) other → HasNodeAt (first ++ rest) level other.child
     one_start other has = elim (contains_cases pointer pointers other has) [
-      | inl is ↦ has_on_left first rest level other.child (subst (λ (p : Pointer). HasNodeAt first level p.child) is branch.start)
+      | inl is ↦ has_on_left first rest level other.child (subst (λ (p : Pointer). HasNodeAt first level p.child) is
+          branch.start)
       | inr later ↦ has_on_right first rest level other.child (others.starts other later)
     ]
 
@@ -240,38 +269,49 @@ module _ (tree : Tree) (super : Super) (image : List ℕ) (to : Option Key) (lev
     behind : is_from (Some pointer.key) next.key ≡ true
     before : is_to to next.key ≡ true
 
-  is_next : (pointer next : Pointer) (pointers : List Pointer) → AreKeys (pointer ∷ next ∷ pointers) → IsNext pointer next
+  is_next : (pointer next : Pointer) (pointers : List Pointer) → AreKeys (pointer ∷ next ∷ pointers)
+      → IsNext pointer next
   unfolding is_ascending ascends_from
   is_next pointer next pointers keys =
       let own = map (λ (pointer : Pointer). pointer.key) pointers in
       let rest = (and_parts (is_to to pointer.key) (list_all (is_to to) (next.key ∷ own)) keys.ends).1 in
       record {
-        behind = not_less_behind pointer.key next.key (and_parts (is_lt (key_cmp pointer.key next.key)) (ascends_from next.key own) keys.ascending).0;
+        behind = not_less_behind pointer.key next.key (and_parts (is_lt (key_cmp pointer.key next.key))
+            (ascends_from next.key own) keys.ascending).0;
         before = (and_parts (is_to to next.key) (list_all (is_to to) own) rest).0;
       }
 
   below_all : (under : Pointer → Option (List Node)) (walk : Expected → ℕ → Option Failure)
-      → ((pointer : Pointer) (others : List Pointer) (nodes : List Node) → walk (expected_below level to pointer others) pointer.child ≡ None
-      → under pointer ≡ Some nodes → IsBranch tree super image (Some pointer.key) (next_key to others) level pointer.child nodes)
-      → (pointers : List Pointer) (nodes : List Node) → AreKeys pointers → pointers_failure walk level to pointers ≡ None
+      → ((pointer : Pointer) (others : List Pointer) (nodes : List Node)
+      → walk (expected_below level to pointer others) pointer.child ≡ None
+      → under pointer ≡ Some nodes → IsBranch tree super image (Some pointer.key) (next_key to others) level
+      pointer.child nodes)
+      → (pointers : List Pointer) (nodes : List Node) → AreKeys pointers
+      → pointers_failure walk level to pointers ≡ None
       → joined under pointers ≡ Some nodes → AreBelow tree super image to level pointers nodes
-  below_all under walk branch [] nodes keys none are = subst (AreBelow tree super image to level []) (same_Some [] nodes are) none_below
+  below_all under walk branch [] nodes keys none are = subst (AreBelow tree super image to level [])
+      (same_Some [] nodes are) none_below
   below_all under walk branch (pointer ∷ []) nodes keys none are =
       let here = (neither (walk (expected_below level to pointer []) pointer.child) None none).0 in
-      option_and_then_some (λ first. option_and_then (λ rest. Some (first ++ rest)) (Some [])) (under pointer) nodes are (λ first is all.
+      option_and_then_some (λ first. option_and_then (λ rest. Some (first ++ rest)) (Some [])) (under pointer) nodes are
+      (λ first is all.
       subst (AreBelow tree super image to level (pointer ∷ [])) (same_Some (first ++ []) nodes all)
       (one_more pointer [] first [] (branch pointer [] first here is) none_below
       (λ node has has'. none_contained node has') (λ node is. is) (λ node has is. absurd (none_contained node has))))
   below_all under walk branch (pointer ∷ next ∷ pointers) nodes keys none are =
-      let parts = neither (walk (expected_below level to pointer (next ∷ pointers)) pointer.child) (pointers_failure walk level to (next ∷ pointers)) none in
+      let parts = neither (walk (expected_below level to pointer (next ∷ pointers)) pointer.child)
+      (pointers_failure walk level to (next ∷ pointers)) none in
       let step = is_next pointer next pointers keys in
-      option_and_then_some (λ first. option_and_then (λ rest. Some (first ++ rest)) (joined under (next ∷ pointers))) (under pointer) nodes are (λ first is both.
+      option_and_then_some (λ first. option_and_then (λ rest. Some (first ++ rest)) (joined under (next ∷ pointers)))
+      (under pointer) nodes are (λ first is both.
       option_and_then_some (λ rest. Some (first ++ rest)) (joined under (next ∷ pointers)) nodes both (λ rest is' all.
       let one = branch pointer (next ∷ pointers) first parts.0 is in
-      let others = below_all under walk branch (next ∷ pointers) rest (later_keys pointer (next ∷ pointers) keys) parts.1 is' in
+      let others = below_all under walk branch (next ∷ pointers) rest (later_keys pointer (next ∷ pointers) keys)
+      parts.1 is' in
       subst (AreBelow tree super image to level (pointer ∷ next ∷ pointers)) (same_Some (first ++ rest) nodes all)
       (one_more pointer (next ∷ pointers) first rest one others
-      (λ node has has'. one_side pointer.key next.key to node (one.reached.each node has).keyed (others.reached.each node has').keyed)
+      (λ node has has'. one_side pointer.key next.key to node (one.reached.each node has).keyed
+      (others.reached.each node has').keyed)
       (λ node is. keyed_higher pointer.key next.key to node step.before is)
       (λ node has is. keyed_wider (Some pointer.key) next.key to node step.behind is))))
 
@@ -283,12 +323,14 @@ record IsFit (super : Super) (expected : Expected) (node : Node) : Type 0 where
   shaped : is_shaped super.nodesize expected.from node ≡ true
 
 module _ (tree : Tree) (super : Super) (image : List ℕ) where
-  fits : (expected : Expected) (address : ℕ) (node : Node) → node_failure tree super expected address node ≡ None → IsFit super expected node
+  fits : (expected : Expected) (address : ℕ) (node : Node) → node_failure tree super expected address node ≡ None
+      → IsFit super expected node
   unfolding node_failure
   fits expected address node none =
       let way = way_failure tree super expected address node in
       let shape = shape_failure super.nodesize expected address node in
-      let parts = three way shape (unless (list_all (is_item_of tree super.generation) (own_items node)) rule.Item address) none in
+      let parts = three way shape (unless (list_all (is_item_of tree super.generation) (own_items node)) rule.Item
+      address) none in
       record {
         formed = IsFormed-way tree super expected address node parts.0;
         shaped = kept-none (is_shaped super.nodesize expected.from node) rule.Shape address parts.1;
@@ -302,7 +344,8 @@ module _ (tree : Tree) (super : Super) (image : List ℕ) where
   abbrev Branch : Expected → ℕ → ℕ → List Node → Type 0
   Branch expected level address nodes = IsBranch tree super image expected.from expected.to level address nodes
 
-  own_placed : (expected : Expected) (level address : ℕ) (node : Node) → node_found super image address ≡ Ok node → IsFit super expected node
+  own_placed : (expected : Expected) (level address : ℕ) (node : Node) → node_found super image address ≡ Ok node
+      → IsFit super expected node
       → (header_of node).level ≡ level → IsPlaced tree super image expected.from expected.to level node
   own_placed expected level address node is fit high = record {
     low = omega arith;
@@ -310,13 +353,21 @@ module _ (tree : Tree) (super : Super) (image : List ℕ) where
     keyed = keyed super.nodesize expected.from expected.to node fit.shaped fit.formed.begins fit.formed.ends;
   }
 
-  own_start : (nodes : List Node) (level address : ℕ) (node : Node) → node_found super image address ≡ Ok node → (header_of node).level ≡ level
+  own_start : (nodes : List Node) (level address : ℕ) (node : Node) → node_found super image address ≡ Ok node
+      → (header_of node).level ≡ level
       → Contains nodes node → HasNodeAt nodes level address
-  own_start nodes level address node is high has = record { node = node; has = has; lies = (found_is super image address node is).lies; level_is = high }
+  own_start nodes level address node is high has = record {
+    node = node;
+    has = has;
+    lies = (found_is super image address node is).lies;
+    level_is = high;
+  }
 
   -- a leaf
-  alone : (expected : Expected) (level address : ℕ) (header : Header) (items : List Item) → node_found super image address ≡ Ok (Leaf header items)
-      → IsFit super expected (Leaf header items) → header.level ≡ level → Branch expected level address (Leaf header items ∷ [])
+  alone : (expected : Expected) (level address : ℕ) (header : Header) (items : List Item)
+      → node_found super image address ≡ Ok (Leaf header items)
+      → IsFit super expected (Leaf header items) → header.level ≡ level
+      → Branch expected level address (Leaf header items ∷ [])
   alone expected level address header items is fit high =
       let leaf = Leaf header items in
       let placed = own_placed expected level address leaf is fit high in
@@ -328,53 +379,69 @@ module _ (tree : Tree) (super : Super) (image : List ℕ) where
           ];
           distinct = distinct_with (address_of leaf) [] (λ m has same. none_contained m has) distinct_none;
           linked = λ parent pointer has has'. elim (contains_cases leaf [] parent has) [
-            | inl same ↦ absurd (none_contained pointer (subst (λ n. Contains (own_pointers n) pointer) (sym same) has'))
+            | inl same ↦ absurd (none_contained pointer (subst (λ n. Contains (own_pointers n) pointer) (sym same)
+                has'))
             | inr none ↦ absurd (none_contained parent none)
           ];
         };
         start = own_start (leaf ∷ []) level address leaf is high (contains_here leaf []);
       }
 
-  leaf_branch : (walk : Expected → ℕ → Option Failure) (expected : Expected) (address : ℕ) (here : Result Node Failure) (nodes : List Node)
+  leaf_branch : (walk : Expected → ℕ → Option Failure) (expected : Expected) (address : ℕ) (here : Result Node Failure)
+      (nodes : List Node)
       → node_found super image address ≡ here → ((node : Node) → here ≡ Ok node → (header_of node).level ≡ 0)
       → found_failure (node_failure tree super) walk expected address here ≡ None
-      → option_and_then (λ node. option_and_then (λ items. Some (node ∷ [])) (leaf_items node)) (result_ok here) ≡ Some nodes
+      → option_and_then (λ node. option_and_then (λ items. Some (node ∷ [])) (leaf_items node)) (result_ok here) ≡ Some
+      nodes
       → Branch expected 0 address nodes
   leaf_branch walk expected address (Err failure) nodes is known none are = absurd cc
   leaf_branch walk expected address (Ok (Inner header pointers)) nodes is known none are = absurd cc
   leaf_branch walk expected address (Ok (Leaf header items)) nodes is known none are =
       let leaf = Leaf header items in
-      let own = (neither (node_failure tree super expected address leaf) (pointers_failure walk (header.level - 1) expected.to []) none).0 in
+      let own = (neither (node_failure tree super expected address leaf)
+      (pointers_failure walk (header.level - 1) expected.to []) none).0 in
       subst (Branch expected 0 address) (same_Some (leaf ∷ []) nodes are)
       (alone expected 0 address header items is (fits expected address leaf own) (known leaf refl))
 
   -- an inner node, and what is below its pointers
   module _ (expected : Expected) (level address : ℕ) (header : Header) (pointers : List Pointer) (below : List Node)
-      (is : node_found super image address ≡ Ok (Inner header pointers)) (fit : IsFit super expected (Inner header pointers))
+      (is : node_found super image address ≡ Ok (Inner header pointers))
+      (fit : IsFit super expected (Inner header pointers))
       (high : header.level ≡ suc level) (under : AreBelow tree super image expected.to level pointers below) where
     abbrev inner : Node
     inner = Inner header pointers
 
-    low_keyed : (from : Option Key) (pointers : List Pointer) (node : Node) → is_shaped super.nodesize from (Inner header pointers) ≡ true
-        → begins_at from (map (λ pointer. pointer.key) pointers) ≡ true → IsKeyed (next_key None pointers) expected.to node → IsKeyed from expected.to node
+    low_keyed : (from : Option Key) (pointers : List Pointer) (node : Node)
+        → is_shaped super.nodesize from (Inner header pointers) ≡ true
+        → begins_at from (map (λ pointer. pointer.key) pointers) ≡ true
+        → IsKeyed (next_key None pointers) expected.to node → IsKeyed from expected.to node
     unfolding is_shaped
     low_keyed None pointers node shaped begins keyed' = tt
     low_keyed (Some from) [] node shaped begins keyed' =
-        absurd (false≢true (and_parts (nat_le (capacity super.nodesize) (4 * used_bytes (Inner header []))) false shaped).1)
+        absurd (false≢true (and_parts (nat_le (capacity super.nodesize) (4 * used_bytes (Inner header []))) false
+        shaped).1)
     low_keyed (Some from) (pointer ∷ pointers) node shaped begins keyed' =
         let keys = map (λ (pointer : Pointer). pointer.key) pointers in
-        let later = (and_parts (is_from (Some from) pointer.key) (list_all (is_from (Some from)) keys) (begins_at-all (Some from) (pointer.key ∷ keys) begins)).0 in
+        let later = (and_parts (is_from (Some from) pointer.key) (list_all (is_from (Some from)) keys)
+        (begins_at-all (Some from) (pointer.key ∷ keys) begins)).0 in
         keyed_wider (Some from) pointer.key expected.to node later keyed'
 
-    lower_placed : (node : Node) → Contains below node → IsPlaced tree super image expected.from expected.to (suc level) node
+    lower_placed : (node : Node) → Contains below node → IsPlaced tree super image expected.from expected.to (suc level)
+        node
     lower_placed node has =
         let placed = under.reached.each node has in
-        record { low = omega (arith, placed.low); lies = placed.lies; keyed = low_keyed expected.from pointers node fit.shaped fit.formed.begins placed.keyed }
+        record {
+          low = omega (arith, placed.low);
+          lies = placed.lies;
+          keyed = low_keyed expected.from pointers node
+              fit.shaped fit.formed.begins placed.keyed;
+        }
 
     inner_placed : IsPlaced tree super image expected.from expected.to (suc level) inner
     inner_placed = own_placed expected (suc level) address inner is fit high
 
-    all_placed : (node : Node) → Contains (inner ∷ below) node → IsPlaced tree super image expected.from expected.to (suc level) node
+    all_placed : (node : Node) → Contains (inner ∷ below) node
+        → IsPlaced tree super image expected.from expected.to (suc level) node
     all_placed node has = elim (contains_cases inner below node has) [
       | inl same ↦ subst (IsPlaced tree super image expected.from expected.to (suc level)) same inner_placed
       | inr later ↦ lower_placed node later
@@ -394,7 +461,8 @@ module _ (tree : Tree) (super : Super) (image : List ℕ) where
     all_linked parent pointer has has' = elim (contains_cases inner below parent has) [
       | inl same ↦
           let own = subst (λ n. Contains (own_pointers n) pointer) (sym same) has' in
-          let level_is : (header_of parent).level ≡ level + 1 = let node_level = ap (λ (n : Node). (header_of n).level) same in omega (arith, node_level, high) in
+          let level_is : (header_of parent).level ≡ level + 1 = let node_level = ap (λ (n : Node). (header_of n).level)
+          same in omega (arith, node_level, high) in
           (level, level_is, has_on_right (inner ∷ []) below level pointer.child (under.starts pointer own))
       | inr later ↦
           let link = under.reached.linked parent pointer later has' in
@@ -419,19 +487,24 @@ module _ (tree : Tree) (super : Super) (image : List ℕ) where
     ends = sym (ends_before-each expected.to (map (λ pointer. pointer.key) pointers)) ∙ fit.formed.ends;
   }
 
-  inner_branch : (level : ℕ) (walk : Expected → ℕ → Option Failure) (under : Pointer → Option (List Node)) (expected : Expected)
-      → ((pointer : Pointer) (others : List Pointer) (nodes : List Node) → walk (expected_below level expected.to pointer others) pointer.child ≡ None
-      → under pointer ≡ Some nodes → IsBranch tree super image (Some pointer.key) (next_key expected.to others) level pointer.child nodes)
+  inner_branch : (level : ℕ) (walk : Expected → ℕ → Option Failure) (under : Pointer → Option (List Node))
+      (expected : Expected)
+      → ((pointer : Pointer) (others : List Pointer) (nodes : List Node)
+      → walk (expected_below level expected.to pointer others) pointer.child ≡ None
+      → under pointer ≡ Some nodes → IsBranch tree super image (Some pointer.key) (next_key expected.to others) level
+      pointer.child nodes)
       → (address : ℕ) (here : Result Node Failure) (nodes : List Node)
       → node_found super image address ≡ here → ((node : Node) → here ≡ Ok node → (header_of node).level ≡ suc level)
       → found_failure (node_failure tree super) walk expected address here ≡ None
-      → option_and_then (λ node. option_and_then (λ below. Some (node ∷ below)) (option_and_then (joined under) (inner_pointers node))) (result_ok here) ≡ Some nodes
+      → option_and_then (λ node. option_and_then (λ below. Some (node ∷ below))
+      (option_and_then (joined under) (inner_pointers node))) (result_ok here) ≡ Some nodes
       → Branch expected (suc level) address nodes
   inner_branch level walk under expected branch address (Err failure) nodes is known none are = absurd cc
   inner_branch level walk under expected branch address (Ok (Leaf header items)) nodes is known none are = absurd cc
   inner_branch level walk under expected branch address (Ok (Inner header pointers)) nodes is known none are =
       let inner = Inner header pointers in
-      let parts = neither (node_failure tree super expected address inner) (pointers_failure walk (header.level - 1) expected.to pointers) none in
+      let parts = neither (node_failure tree super expected address inner)
+      (pointers_failure walk (header.level - 1) expected.to pointers) none in
       let fit = fits expected address inner parts.0 in
       let high = known inner refl in
       let less : header.level - 1 ≡ level = omega arith in
@@ -459,7 +532,8 @@ module _ (tree : Tree) (super : Super) (image : List ℕ) where
   branch_from zero zero expected address nodes deep known none are =
       leaf_branch (λ expected address. None) expected address (node_found super image address) nodes refl known none are
   branch_from zero (suc depth) expected address nodes deep known none are =
-      leaf_branch (walk_failure (node_failure tree super) (node_found super image) depth) expected address (node_found super image address) nodes refl known none are
+      leaf_branch (walk_failure (node_failure tree super) (node_found super image) depth) expected address
+      (node_found super image address) nodes refl known none are
   branch_from (suc level) zero expected address nodes deep known none are = absurd (omega arith)
   branch_from (suc level) (suc depth) expected address nodes deep known none are =
       inner_branch level (walk_failure (node_failure tree super) (node_found super image) depth)
@@ -473,7 +547,8 @@ when_some : {A : Type 0} (test : Bool) (given : Option A) (x : A) → when test 
 when_some true given x is = is
 when_some false given x is = absurd cc
 
-level_is : (super : Super) (image : List ℕ) (address : ℕ) (node : Node) → node_found super image address ≡ Ok node → (header_of node).level ≡ level_in super image address
+level_is : (super : Super) (image : List ℕ) (address : ℕ) (node : Node) → node_found super image address ≡ Ok node
+    → (header_of node).level ≡ level_in super image address
 level_is super image address node is = rw is refl
 
 -- the nodes of a tree whose walk meets no failure
@@ -484,9 +559,11 @@ pub tree_branch : (tree : Tree) (super : Super) (image : List ℕ) (expected : E
 unfolding tree_failure
 tree_branch tree super image expected root nodes none under =
     let level = level_in super image root in
-    let are = when_some (is_way tree super (node_found super image) expected root) (nodes_below (nodes_of (node_found super image)) level root) nodes under in
+    let are = when_some (is_way tree super (node_found super image) expected root)
+    (nodes_below (nodes_of (node_found super image)) level root) nodes under in
     let passed = walk-passed tree super (node_found super image) deepest expected root none in
-    let low = subst (λ n. n ≤ 7) (level_is super image root passed.node passed.is) (found_is super image root passed.node passed.is).low in
+    let low = subst (λ n. n ≤ 7) (level_is super image root passed.node passed.is)
+    (found_is super image root passed.node passed.is).low in
     branch_from tree super image level deepest expected root nodes low (level_is super image root) none are
 
 -- no two of them lie at one address
@@ -494,4 +571,5 @@ pub tree_distinct : (tree : Tree) (super : Super) (image : List ℕ) (expected :
     → tree_failure tree super image expected root ≡ None
     → nodes_under tree super (node_found super image) (level_in super image root) expected root ≡ Some nodes
     → IsDistinct eqb (map address_of nodes)
-tree_distinct tree super image expected root nodes none under = (tree_branch tree super image expected root nodes none under).reached.distinct
+tree_distinct tree super image expected root nodes none under =
+    (tree_branch tree super image expected root nodes none under).reached.distinct

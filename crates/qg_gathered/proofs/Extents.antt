@@ -1,5 +1,6 @@
 -- Data extents as things.
-use Rattle.std.proofs.Common.{◌≡◌, ℕ, Bool, true, false, List, [], ◌∷◌, map, Option, Some, None, refl, sym, ap, subst, ◌∙◌, inl, inr, ◌⊎◌}
+use Rattle.std.proofs.Common.{◌≡◌, ℕ, List, [], ◌∷◌, map, Option, Some, None, refl, sym, ap, subst}
+use Rattle.std.proofs.Common.{◌∙◌, inl, inr}
 use Rattle.std.specs.Prelude.{◌==◌}
 use Rattle.std.specs.List.{Contains, find}
 use Rattle.std.specs.Option.{option_map}
@@ -22,34 +23,43 @@ told_at : (extents : List Element) (a : ℕ) → kind_at (map extent_thing exten
 told_at [] a = refl
 told_at (extent ∷ extents) a = elim (cases_Bool (extent.address == a)) [
   | inl here ↦
-      ap (option_map (λ (thing : Thing). thing.kind)) (cond-true (extent.address == a) (Some (extent_thing extent)) (find (λ thing. thing.address == a) (map extent_thing extents)) here)
+      ap (option_map (λ (thing : Thing). thing.kind)) (cond-true (extent.address == a) (Some (extent_thing extent))
+      (find (λ thing. thing.address == a) (map extent_thing extents)) here)
       ∙ sym (ap kind_of_extent (cond-true (extent.address == a) (Some extent) (at a extents) here))
   | inr other ↦
-      ap (option_map (λ (thing : Thing). thing.kind)) (cond-false (extent.address == a) (Some (extent_thing extent)) (find (λ thing. thing.address == a) (map extent_thing extents)) other)
+      ap (option_map (λ (thing : Thing). thing.kind)) (cond-false (extent.address == a) (Some (extent_thing extent))
+      (find (λ thing. thing.address == a) (map extent_thing extents)) other)
       ∙ told_at extents a
       ∙ sym (ap kind_of_extent (cond-false (extent.address == a) (Some extent) (at a extents) other))
 ]
 
 -- an extent that is found is one of them, and begins there
-at_is : (extents : List Element) (a : ℕ) (extent : Element) → at a extents ≡ Some extent → Contains extents extent × (extent.address ≡ a)
+at_is : (extents : List Element) (a : ℕ) (extent : Element) → at a extents ≡ Some extent
+    → Contains extents extent × (extent.address ≡ a)
 at_is [] a extent is = absurd (none-some extent is)
 at_is (first ∷ extents) a extent is = elim (cases_Bool (first.address == a)) [
   | inl here ↦
-      let one = same_Some first extent (sym (cond-true (first.address == a) (Some first) (at a extents) here) ∙ is) in
-      (subst (Contains (first ∷ extents)) one (contains_here first extents), ap (λ (e : Element). e.address) (sym one) ∙ eqb-true first.address a here)
+      let one = same_Some first extent (sym (cond-true (first.address == a) (Some first) (at a extents) here) ∙ is) in (
+        subst (Contains (first ∷ extents)) one (contains_here first extents),
+        ap (λ (e : Element). e.address) (sym one)
+            ∙ eqb-true first.address a here,
+      )
   | inr other ↦
-      let later = at_is extents a extent (sym (cond-false (first.address == a) (Some first) (at a extents) other) ∙ is) in
+      let later =
+      at_is extents a extent (sym (cond-false (first.address == a) (Some first) (at a extents) other) ∙ is) in
       (contains_later first extents extent later.0, later.1)
 ]
 
 -- where none is found none of them begins there
-at_none : (extents : List Element) (a : ℕ) (extent : Element) → at a extents ≡ None → Contains extents extent → extent.address ≡ a → ⊥
+at_none : (extents : List Element) (a : ℕ) (extent : Element) → at a extents ≡ None → Contains extents extent
+    → extent.address ≡ a → ⊥
 at_none [] a extent none has same = none_contained extent has
 at_none (first ∷ extents) a extent none has same = elim (cases_Bool (first.address == a)) [
   | inl here ↦ none-some first (sym none ∙ cond-true (first.address == a) (Some first) (at a extents) here)
   | inr other ↦ elim (contains_cases first extents extent has) [
     | inl is ↦ true≢false (sym (eq-eqb first.address a (ap (λ (e : Element). e.address) is ∙ same)) ∙ other)
-    | inr later ↦ at_none extents a extent (sym (cond-false (first.address == a) (Some first) (at a extents) other) ∙ none) later same
+    | inr later ↦ at_none extents a extent (sym (cond-false (first.address == a) (Some first) (at a extents) other)
+        ∙ none) later same
   ]
 ]
 
@@ -58,8 +68,10 @@ at_same : (xs ys : List Element) (a : ℕ) → AreApart xs → HaveSame xs ys �
 at_same xs ys a apart same = cases (at a xs) refl (at a ys) refl where
   cases : (first : Option Element) → at a xs ≡ first → (second : Option Element) → at a ys ≡ second → first ≡ second
   cases None none None none' = refl
-  cases None none (Some y) is = let found = at_is ys a y is in absurd (at_none xs a y none (same.back y found.0) found.1)
-  cases (Some x) is None none = let found = at_is xs a x is in absurd (at_none ys a x none (same.into x found.0) found.1)
+  cases None none (Some y) is = let found = at_is ys a y is in absurd
+      (at_none xs a y none (same.back y found.0) found.1)
+  cases (Some x) is None none = let found = at_is xs a x is in absurd
+      (at_none ys a x none (same.into x found.0) found.1)
   cases (Some x) is (Some y) is' =
       let first = at_is xs a x is in
       let second = at_is ys a y is' in

@@ -1,5 +1,6 @@
 -- A node that is found at an address of an image.
-use Rattle.std.proofs.Common.{◌≡◌, ℕ, ◌+◌, ◌*◌, ◌≤◌, Bool, true, false, cond, List, length, map, refl, sym, ap, subst, ◌∙◌}
+use Rattle.std.proofs.Common.{◌≡◌, ℕ, ◌+◌, ◌*◌, ◌≤◌, Bool, true, false, cond, List, length, map, refl, sym, ap, subst}
+use Rattle.std.proofs.Common.{◌∙◌}
 use Rattle.std.specs.Prelude.{Result, Ok, Err, IfOk, slice_index, slice_range, ◌&&◌, ◌||◌, not, ◌==◌, nat_le}
 use Rattle.std.proofs.lemmas.Bool.{eqb-true, leb-true}
 use Rattle.qg_bytes.specs.Fields.{u64_at, is_zero}
@@ -11,11 +12,11 @@ use Rattle.qg_node.specs.declared.node.Node.TheVariants.{Leaf, Inner}
 use Rattle.qg_node.specs.declared.fault.NodeFault.{NodeFault}
 use Rattle.qg_node.specs.declared.fault.NodeFault.TheVariants.{Csum, Place, Level, Empty, Bounds, Order, Slack}
 use Rattle.qg_node.specs.Nodes.{header_of, is_ascending, own_keys}
-use Rattle.qg_node.specs.Reading.{◌>>=◌, check, count_at, has_checksum, has_empty_fields, header_at, inner_at, items_at, leaf_at, node_read, pointers_at}
+use Rattle.qg_node.specs.Reading.{◌>>=◌, check, count_at, has_checksum, has_empty_fields, header_at, inner_at, items_at}
+use Rattle.qg_node.specs.Reading.{leaf_at, node_read, pointers_at}
 use Rattle.qg_super.specs.declared.superblock.Super.{Super}
 use Rattle.qg_super.specs.Places.{is_slot}
 use Rattle.qg_super.specs.SuperText.{sizes_of}
-use Rattle.qg_verdict.specs.declared.failure.Failure.{Failure}
 use Rattle.qg_verdict.specs.Walk.{in_slot, node_found}
 use Rattle.qg_reach.proofs.Reached.{address_of}
 
@@ -51,7 +52,8 @@ leaf_told bytes =
     let items = items_at (count_at bytes) 101 (length bytes) low bytes in
     let empty : List Item × ℕ → Bool = λ read. has_empty_fields bytes && is_zero low read.1 bytes in
     let next : List Item × ℕ → Result Node NodeFault
-    = λ read. check (is_ascending (map (λ (item : Item). item.key) read.0)) Order (check (empty read) Slack (Ok (Leaf (header_at bytes) read.0))) in
+    = λ read. check (is_ascending (map (λ (item : Item). item.key) read.0)) Order
+    (check (empty read) Slack (Ok (Leaf (header_at bytes) read.0))) in
     if_checked told (nat_le low (length bytes)) Bounds (items >>= next) (λ room.
     if_after told items next (λ read. in_order bytes (empty read) (Leaf (header_at bytes) read.0) refl))
 
@@ -97,10 +99,12 @@ read_at address bytes =
     let placed = u64_at 48 bytes == address in
     let some = (level == 0) || not (count_at bytes == 0) in
     let read = cond (level == 0) (leaf_at bytes) (inner_at bytes) in
-    if_checked kept (has_checksum bytes) Csum (check placed Place (check (nat_le level 7) Level (check some Empty read))) (λ sums.
+    if_checked kept (has_checksum bytes) Csum (check placed Place
+    (check (nat_le level 7) Level (check some Empty read))) (λ sums.
     if_checked kept placed Place (check (nat_le level 7) Level (check some Empty read)) (λ place.
     if_checked kept (nat_le level 7) Level (check some Empty read) (λ low.
-    if_checked kept some Empty read (λ there. read_of_told address bytes read place low (either_told bytes (level == 0))))))
+    if_checked kept some Empty read (λ there. read_of_told address bytes read place low
+    (either_told bytes (level == 0))))))
 
 -- ---- what is found
 
@@ -111,7 +115,8 @@ pub record IsFoundAt (super : Super) (address : ℕ) (node : Node) : Type 0 wher
   pub low : (header_of node).level ≤ 7
   pub ascending : is_ascending (own_keys node) ≡ true
 
-in_a_slot : (address : ℕ) (slot : Bool) (read : Result Node NodeFault) (node : Node) → in_slot slot address read ≡ Ok node
+in_a_slot : (address : ℕ) (slot : Bool) (read : Result Node NodeFault) (node : Node)
+    → in_slot slot address read ≡ Ok node
     → (slot ≡ true) × (read ≡ Ok node)
 in_a_slot address true (Ok other) node is = let same : other ≡ node = cc in (refl, ap Ok same)
 in_a_slot address true (Err fault) node is = absurd cc

@@ -1,14 +1,14 @@
 -- The layout of an image, by what was gathered of its nodes.
-use Rattle.std.proofs.Common.{◌≡◌, ℕ, ◌+◌, ◌<◌, ◌≤◌, false, List, [], ◌∷◌, ◌++◌, map, eqb, None, Some, refl, sym, ap, subst, ◌∙◌, arith, inl, inr}
-use Rattle.std.specs.Prelude.{Ok, IsTrue, ◌==◌}
-use Rattle.std.specs.List.{Contains, flat_map, list_any}
+use Rattle.std.proofs.Common.{◌≡◌, ℕ, ◌+◌, false, List, [], ◌∷◌, ◌++◌, map, None, refl, sym, ap}
+use Rattle.std.proofs.Common.{subst, ◌∙◌, arith, inl, inr}
+use Rattle.std.specs.List.{Contains, flat_map}
 use Rattle.std.specs.List.Sorted.{IsNonDecreasingBy, IsPermutation, IsStrictlyIncreasing}
 use Rattle.std.proofs.lemmas.Bool.{ne_eqb}
 use Rattle.std.proofs.lemmas.List.{append-nil, map-append}
 use Rattle.std.proofs.lemmas.List.Sorted.{IsPermutation-sym, IsPermutation-to_front}
 use Rattle.qg_node.specs.declared.pointer.Pointer.{Pointer}
 use Rattle.qg_node.specs.declared.node.Node.{Node}
-use Rattle.qg_node.specs.Nodes.{header_of, own_pointers}
+use Rattle.qg_node.specs.Nodes.{own_pointers}
 use Rattle.qg_items.specs.declared.extent.Reference.TheVariants.{KeyedBlock}
 use Rattle.qg_items.specs.declared.root.RootItem.{RootItem}
 use Rattle.qg_super.specs.declared.superblock.Super.{Super}
@@ -36,19 +36,19 @@ use Rattle.qg_owed.specs.declared.owing.Owing.{Owing}
 use Rattle.qg_owed.specs.declared.thing.Thing.{Thing}
 use Rattle.qg_owed.specs.Told.{IsTold, kind_at, owing_told, owings_told}
 use Rattle.qg_owed.proofs.NumberSets.{Ascends}
-use Rattle.qg_owed.proofs.Things.{kind_of_extent, kind_of_node, told_there}
+use Rattle.qg_owed.proofs.Things.{kind_of_node, told_there}
 use Rattle.qg_gathered.specs.declared.nodes.NodeRead.{NodeRead}
 use Rattle.qg_gathered.specs.declared.nodes.NodesRead.{NodesRead}
 use Rattle.qg_gathered.specs.Told.{told_by, told_of}
 use Rattle.qg_gathered.specs.Marked.{extent_thing, link_where, owed_where, thing_where}
 use Rattle.qg_gathered.specs.Gathered.{AreGathered}
 use Rattle.qg_gathered.proofs.Apart.{IsBranch, tree_branch}
-use Rattle.qg_gathered.proofs.Apart as apart
 use Rattle.qg_gathered.proofs.Extents.{extents_there}
 use Rattle.qg_gathered.proofs.Found.{found_is}
 use Rattle.qg_gathered.proofs.Laid.{IsLaid, entry_of, laid}
 use Rattle.qg_gathered.proofs.Marking.{AreMarks, all_linked, all_owed, all_there}
-use Rattle.qg_gathered.proofs.Sorted.{ascends_of, number_read, number_told, numbers_told, sorted_rise, sorted_same, told_sorted}
+use Rattle.qg_gathered.proofs.Sorted.{ascends_of, number_read, numbers_told, sorted_rise, sorted_same}
+use Rattle.qg_gathered.proofs.Sorted.{told_sorted}
 
 -- ---- lists
 
@@ -58,7 +58,8 @@ same_flat f xs ys same = record {
   back = λ y has. let x = one_flat_mapped f ys y has in contains_flat_map f xs x.0 y (same.back x.0 x.1) x.2;
 }
 
-none_among : (elements : List Element) (a : ℕ) → ((element : Element) → Contains elements element → element.address ≡ a → ⊥) → is_among a elements ≡ false
+none_among : (elements : List Element) (a : ℕ) → ((element : Element) → Contains elements element → element.address ≡ a
+    → ⊥) → is_among a elements ≡ false
 none_among [] a other = refl
 none_among (element ∷ elements) a other =
     let here = ne_eqb element.address a (other element (contains_here element elements)) in
@@ -70,7 +71,8 @@ abbrev named_by : Node → List Element
 named_by node = map extent_of (pieces_of node)
 
 -- those that the nodes of a layout name
-named_in : (parts : List ExtentPart) (nodes : List Node) → flat_map (λ entry. named_by entry.1.node) (map (entry_of parts) nodes) ≡ flat_map named_by nodes
+named_in : (parts : List ExtentPart) (nodes : List Node) → flat_map (λ entry. named_by entry.1.node)
+    (map (entry_of parts) nodes) ≡ flat_map named_by nodes
 named_in parts [] = refl
 named_in parts (node ∷ nodes) = ap (λ rest. named_by node ++ rest) (named_in parts nodes)
 
@@ -78,7 +80,9 @@ extents_of_layout : (layout : Layout) → layout_extents layout ≡ flat_map (λ
 unfolding layout_extents
 extents_of_layout layout = refl
 
-owed_of_layout : (layout : Layout) → owed layout ≡ map (λ entry. record { address = entry.1; reference = KeyedBlock entry.0 }) layout.roots ++ flat_map (λ entry. owed_by_node entry.1) layout.nodes
+owed_of_layout : (layout : Layout) → owed layout ≡ map (λ entry. record
+    { address = entry.1; reference = KeyedBlock entry.0 }) layout.roots ++ flat_map (λ entry. owed_by_node entry.1)
+    layout.nodes
 unfolding owed
 owed_of_layout layout = refl
 
@@ -92,7 +96,8 @@ with_root owings more last tree address root given is five same =
 
 -- ---- the image
 
-module _ (super : Super) (image : List ℕ) (root : RootItem) (read : NodesRead) (extents : List Element) (parts : List ExtentPart)
+module _ (super : Super) (image : List ℕ) (root : RootItem) (read : NodesRead) (extents : List Element)
+    (parts : List ExtentPart)
     (are : AreGathered super image root read extents parts) where
   abbrev nodes : List Node
   nodes = nodes_of_root Files super image root
@@ -100,8 +105,10 @@ module _ (super : Super) (image : List ℕ) (root : RootItem) (read : NodesRead)
   abbrev layout : Layout
   layout = layout_of (state_in super image)
 
-  branch : IsBranch Files super image None None (level_in super image root.bytenr) root.bytenr (nodes_of_root Files super image root)
-  branch = tree_branch Files super image (root_told root) root.bytenr (nodes_of_root Files super image root) are.sound are.reached
+  branch : IsBranch Files super image None None (level_in super image root.bytenr) root.bytenr
+      (nodes_of_root Files super image root)
+  branch = tree_branch Files super image (root_told root) root.bytenr (nodes_of_root Files super image root) are.sound
+      are.reached
 
   alike : AgreeByAddress (nodes_of_root Files super image root)
   alike = record {
@@ -112,15 +119,18 @@ module _ (super : Super) (image : List ℕ) (root : RootItem) (read : NodesRead)
         cc;
   }
 
-  layout_is : (layout_of (state_in super image)).nodes ≡ layout_by (extent_parts super image) (nodes_of_root Files super image root)
+  layout_is : (layout_of (state_in super image)).nodes ≡ layout_by (extent_parts super image)
+      (nodes_of_root Files super image root)
   unfolding state_in
-  layout_is = layout_in-nodes super image ∙ (rw are.only (ap (layout_by (extent_parts super image)) (append-nil (nodes_of_root Files super image root))))
+  layout_is = layout_in-nodes super image ∙ (rw are.only (ap (layout_by (extent_parts super image))
+      (append-nil (nodes_of_root Files super image root))))
 
   roots_are : (layout_of (state_in super image)).roots ≡ (5, root.bytenr) ∷ []
   unfolding state_in subvolumes_in
   roots_are = rw are.only refl
 
-  by_address : IsLaid (extent_parts super image) (nodes_of_root Files super image root) (layout_by (extent_parts super image) (nodes_of_root Files super image root))
+  by_address : IsLaid (extent_parts super image) (nodes_of_root Files super image root)
+      (layout_by (extent_parts super image) (nodes_of_root Files super image root))
   by_address = laid (extent_parts super image) (nodes_of_root Files super image root) alike
 
   listed : (layout_of (state_in super image)).nodes ≡ map (entry_of (extent_parts super image)) by_address.sorted
@@ -132,17 +142,23 @@ module _ (super : Super) (image : List ℕ) (root : RootItem) (read : NodesRead)
   named_there =
       let sorted = by_address.sorted in
       let all : layout_extents (layout_of (state_in super image)) ≡ flat_map named_by sorted
-      = extents_of_layout (layout_of (state_in super image)) ∙ ap (flat_map (λ (entry : ℕ × Placed). named_by entry.1.node)) listed ∙ named_in (extent_parts super image) sorted in
-      let same = same_on extents (flat_map named_by nodes) (flat_map named_by sorted) are.named (same_back (flat_map named_by sorted) (flat_map named_by nodes) (same_flat named_by sorted nodes by_address.same)) in
+      = extents_of_layout (layout_of (state_in super image))
+      ∙ ap (flat_map (λ (entry : ℕ × Placed). named_by entry.1.node)) listed
+      ∙ named_in (extent_parts super image) sorted in
+      let same = same_on extents (flat_map named_by nodes) (flat_map named_by sorted) are.named
+      (same_back (flat_map named_by sorted) (flat_map named_by nodes)
+      (same_flat named_by sorted nodes by_address.same)) in
       subst (HaveSame extents) (sym all) same
 
   extents_apart : AreApart extents
   extents_apart = AreApart-space (sizes_of super) extents are.space
 
-  no_extent : (node : Node) → Contains (nodes_of_root Files super image root) node → is_among (address_of node) (layout_extents (layout_of (state_in super image))) ≡ false
+  no_extent : (node : Node) → Contains (nodes_of_root Files super image root) node
+      → is_among (address_of node) (layout_extents (layout_of (state_in super image))) ≡ false
   no_extent node has =
       let lies = (branch.reached.each node has).lies in
-      let low = slot_below (sizes_of super) (address_of node) are.served (found_is super image (address_of node) node lies).slot in
+      let low = slot_below (sizes_of super) (address_of node) are.served
+      (found_is super image (address_of node) node lies).slot in
       none_among (layout_extents (layout_of (state_in super image))) (address_of node) (λ extent has' same.
       let run = member_fits (sizes_of super) extents extent are.space (named_there.back extent has') in
       omega (arith, run.begin, low, same))
@@ -151,43 +167,54 @@ module _ (super : Super) (image : List ℕ) (root : RootItem) (read : NodesRead)
 
   module _ (sorted : List NodeRead) (moved : IsPermutation read.nodes.items sorted) where
     -- no two of them lie at one address
-    pub rises : IsNonDecreasingBy (λ node. node.linked.address) sorted → IsStrictlyIncreasing (map (λ node. node.linked.address) sorted)
+    pub rises : IsNonDecreasingBy (λ node. node.linked.address) sorted
+        → IsStrictlyIncreasing (map (λ node. node.linked.address) sorted)
     rises up = sorted_rise read.nodes.items sorted nodes are.gathered moved branch.reached.distinct up
 
-    module _ (up : IsStrictlyIncreasing (map (λ node. node.linked.address) sorted)) (full : List ℕ) (marks : AreMarks full parts) where
+    module _ (up : IsStrictlyIncreasing (map (λ node. node.linked.address) sorted)) (full : List ℕ)
+        (marks : AreMarks full parts) where
       told_is : map told_by sorted ≡ map told_of by_address.sorted
       told_is =
           let ascends = subst Ascends (sym (numbers_told sorted)) (ascends_of (map number_read sorted) up) in
-          told_sorted (map told_by sorted) nodes by_address.sorted alike (sorted_same read.nodes.items sorted nodes are.gathered moved) by_address.same ascends by_address.ascends
+          told_sorted (map told_by sorted) nodes by_address.sorted alike
+          (sorted_same read.nodes.items sorted nodes are.gathered moved) by_address.same ascends by_address.ascends
 
       marks_are : AreMarks full (extent_parts super image)
       marks_are = subst (AreMarks full) are.told marks
 
-      owed_is : flat_map (owed_where full) (map told_by sorted) ≡ flat_map (λ entry. owed_by_node entry.1) (layout_of (state_in super image)).nodes
+      owed_is : flat_map (owed_where full) (map told_by sorted) ≡ flat_map (λ entry. owed_by_node entry.1)
+          (layout_of (state_in super image)).nodes
       owed_is =
           ap (flat_map (owed_where full)) told_is ∙ all_owed full (extent_parts super image) marks_are by_address.sorted
           ∙ ap (flat_map (λ (entry : ℕ × Placed). owed_by_node entry.1)) (sym listed)
 
-      there_is : (a : ℕ) → kind_at (map (thing_where full) (map told_by sorted)) a ≡ kind_of_node (value_at a (layout_of (state_in super image)).nodes)
+      there_is : (a : ℕ) → kind_at (map (thing_where full) (map told_by sorted)) a ≡ kind_of_node
+          (value_at a (layout_of (state_in super image)).nodes)
       there_is a =
-          ap (λ told. kind_at (map (thing_where full) told) a) told_is ∙ all_there full (extent_parts super image) marks_are by_address.sorted a
+          ap (λ told. kind_at (map (thing_where full) told) a) told_is
+          ∙ all_there full (extent_parts super image) marks_are by_address.sorted a
           ∙ ap (λ table. kind_of_node (value_at a table)) (sym listed)
 
-      links_are : map (link_where full) (map told_by sorted) ≡ map (λ entry. linked_of entry.0 entry.1) (layout_of (state_in super image)).nodes
+      links_are : map (link_where full) (map told_by sorted) ≡ map (λ entry. linked_of entry.0 entry.1)
+          (layout_of (state_in super image)).nodes
       links_are =
           ap (map (link_where full)) told_is ∙ all_linked full (extent_parts super image) marks_are by_address.sorted
           ∙ ap (map (λ (entry : ℕ × Placed). linked_of entry.0 entry.1)) (sym listed)
 
       -- ---- the rule `refs`
 
-      all_owed_is : owed (layout_of (state_in super image)) ≡ record { address = root.bytenr; reference = KeyedBlock 5 } ∷ flat_map (owed_where full) (map told_by sorted)
+      all_owed_is : owed (layout_of (state_in super image)) ≡ record { address = root.bytenr; reference = KeyedBlock 5 }
+          ∷ flat_map (owed_where full) (map told_by sorted)
       all_owed_is =
           owed_of_layout (layout_of (state_in super image))
-          ∙ ap (λ roots. map (λ (entry : ℕ × ℕ). record { address = entry.1; reference = KeyedBlock entry.0 }) roots ++ flat_map (λ (entry : ℕ × Placed). owed_by_node entry.1) (layout_of (state_in super image)).nodes) roots_are
+          ∙ ap (λ roots. map (λ (entry : ℕ × ℕ). record { address = entry.1; reference = KeyedBlock entry.0 }) roots ++
+          flat_map (λ (entry : ℕ × Placed). owed_by_node entry.1) (layout_of (state_in super image)).nodes)
+          roots_are
           ∙ ap (λ rest. record { address = root.bytenr; reference = KeyedBlock 5 } ∷ rest) (sym owed_is)
 
       pub lists_tell : (owings : List Owing) (things before : List Thing)
-          → owings_told owings ≡ flat_map (owed_where full) (map told_by sorted) ++ record { address = root.bytenr; reference = KeyedBlock 5 } ∷ []
+          → owings_told owings ≡ flat_map (owed_where full) (map told_by sorted) ++ record
+          { address = root.bytenr; reference = KeyedBlock 5 } ∷ []
           → before ≡ map (thing_where full) (map told_by sorted) ++ map extent_thing extents
           → ((a : ℕ) → kind_at things a ≡ kind_at before a) → IsTold (layout_of (state_in super image)) owings things
       lists_tell owings things before owe list same =
@@ -196,10 +223,12 @@ module _ (super : Super) (image : List ℕ) (root : RootItem) (read : NodesRead)
           record {
             owed =
                 subst (λ first. IsPermutation first (owings_told owings)) (sym all_owed_is)
-                (subst (IsPermutation (one ∷ own)) (sym owe) (IsPermutation-sym (own ++ one ∷ []) (one ∷ own) (IsPermutation-to_front own one)));
+                (subst (IsPermutation (one ∷ own)) (sym owe)
+                (IsPermutation-sym (own ++ one ∷ []) (one ∷ own) (IsPermutation-to_front own one)));
             there = λ a.
                 same a ∙ ap (λ all. kind_at all a) list
-                ∙ told_there (layout_of (state_in super image)) (map (thing_where full) (map told_by sorted)) (map extent_thing extents) there_is
+                ∙ told_there (layout_of (state_in super image)) (map (thing_where full) (map told_by sorted))
+                (map extent_thing extents) there_is
                 (extents_there extents (layout_extents (layout_of (state_in super image))) extents_apart named_there) a;
           }
 
@@ -209,38 +238,57 @@ module _ (super : Super) (image : List ℕ) (root : RootItem) (read : NodesRead)
         told_links : links ≡ map (λ entry. linked_of entry.0 entry.1) (layout_of (state_in super image)).nodes
         told_links = list ∙ links_are
 
-        as_links : links ≡ map (λ entry. linked_of entry.0 entry.1) (map (entry_of (extent_parts super image)) by_address.sorted)
+        as_links : links ≡ map (λ entry. linked_of entry.0 entry.1)
+            (map (entry_of (extent_parts super image)) by_address.sorted)
         as_links = told_links ∙ ap (map (λ (entry : ℕ × Placed). linked_of entry.0 entry.1)) listed
 
-        has_link : (node : Node) → Contains nodes node → Contains links (linked_of (address_of node) (placed (extent_parts super image) node))
+        has_link : (node : Node) → Contains nodes node → Contains links
+            (linked_of (address_of node) (placed (extent_parts super image) node))
         has_link node has =
-            let entry = contains_map (entry_of (extent_parts super image)) by_address.sorted node (by_address.same.back node has) in
-            subst (λ all. Contains all (linked_of (address_of node) (placed (extent_parts super image) node))) (sym as_links)
-            (contains_map (λ (entry : ℕ × Placed). linked_of entry.0 entry.1) (map (entry_of (extent_parts super image)) by_address.sorted) (entry_of (extent_parts super image) node) entry)
+            let entry = contains_map (entry_of (extent_parts super image)) by_address.sorted node
+            (by_address.same.back node has) in
+            subst (λ all. Contains all (linked_of (address_of node) (placed (extent_parts super image) node)))
+            (sym as_links)
+            (contains_map (λ (entry : ℕ × Placed). linked_of entry.0 entry.1)
+            (map (entry_of (extent_parts super image)) by_address.sorted) (entry_of (extent_parts super image) node)
+            entry)
 
-        of_link : (link : Linked) → Contains links link → (node : Node) × Contains nodes node × (linked_of (address_of node) (placed (extent_parts super image) node) ≡ link)
+        of_link : (link : Linked) → Contains links link → (node : Node) × Contains nodes node ×
+            (linked_of (address_of node) (placed (extent_parts super image) node) ≡ link)
         of_link link has =
             let told = subst (λ all. Contains all link) as_links has in
-            let entry = one_mapped (λ (entry : ℕ × Placed). linked_of entry.0 entry.1) (map (entry_of (extent_parts super image)) by_address.sorted) link told in
+            let entry = one_mapped (λ (entry : ℕ × Placed). linked_of entry.0 entry.1)
+            (map (entry_of (extent_parts super image)) by_address.sorted) link told in
             let node = one_mapped (entry_of (extent_parts super image)) by_address.sorted entry.0 entry.1 in
             (node.0, by_address.same.into node.0 node.1, ap (λ (e : ℕ × Placed). linked_of e.0 e.1) node.2 ∙ entry.2)
 
         begins : (first : ℕ × ℕ) → Contains ((5, root.bytenr) ∷ []) first → HasNodeAt links first.1
         begins first has =
             let start = branch.start in
-            let here : HasNodeAt links root.bytenr = (linked_of (address_of start.node) (placed (extent_parts super image) start.node), has_link start.node start.has, start.lies) in
+            let here : HasNodeAt links root.bytenr = (
+              linked_of (address_of start.node)
+                  (placed (extent_parts super image) start.node),
+              has_link start.node start.has,
+              start.lies,
+            ) in
             elim (contains_cases (5, root.bytenr) [] first has) [
               | inl is ↦ subst (λ (r : ℕ × ℕ). HasNodeAt links r.1) is here
               | inr none ↦ absurd (none_contained first none)
             ]
 
-        child_of : (node : Node) (child : ℕ) → Contains nodes node → Contains (map (λ pointer. pointer.child) (own_pointers node)) child
+        child_of : (node : Node) (child : ℕ) → Contains nodes node
+            → Contains (map (λ pointer. pointer.child) (own_pointers node)) child
             → HasChildAt links (linked_of (address_of node) (placed (extent_parts super image) node)) child
         child_of node child has has' =
             let pointer = one_mapped (λ (pointer : Pointer). pointer.child) (own_pointers node) child has' in
             let link = branch.reached.linked node pointer.0 has pointer.1 in
-            let below = link.2 in
-            (linked_of (address_of below.node) (placed (extent_parts super image) below.node), has_link below.node below.has, below.lies ∙ pointer.2, link.1 ∙ ap (λ (n : ℕ). n + 1) (sym below.level_is))
+            let below = link.2 in (
+              linked_of (address_of below.node) (placed (extent_parts super image) below.node),
+              has_link below.node
+                  below.has,
+              below.lies ∙ pointer.2,
+              link.1 ∙ ap (λ (n : ℕ). n + 1) (sym below.level_is),
+            )
 
         pub links_tell : AreLinksOf (layout_of (state_in super image)) ((5, root.bytenr) ∷ []) links
         links_tell = record {
@@ -250,8 +298,10 @@ module _ (super : Super) (image : List ℕ) (root : RootItem) (read : NodesRead)
           below = λ parent child has has'.
               let node = of_link parent has in
               subst (λ (link : Linked). HasChildAt links link child) node.2
-              (child_of node.0 child node.1 (subst (λ (link : Linked). Contains link.children child) (sym node.2) has'));
+              (child_of node.0 child node.1 (subst (λ (link : Linked). Contains link.children child) (sym node.2)
+              has'));
           apart = λ link has.
               let node = of_link link has in
-              subst (λ (l : Linked). is_among l.address (layout_extents (layout_of (state_in super image))) ≡ false) node.2 (no_extent node.0 node.1);
+              subst (λ (l : Linked). is_among l.address (layout_extents (layout_of (state_in super image))) ≡ false)
+              node.2 (no_extent node.0 node.1);
         }

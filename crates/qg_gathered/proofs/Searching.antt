@@ -1,7 +1,7 @@
 -- What a search among numbers finds.
-use Rattle.std.proofs.Common.{◌≡◌, ℕ, zero, suc, ◌<◌, ◌≤◌, true, false, List, [], ◌∷◌, length, get_or, Result, Ok, Err, refl, sym, ◌∙◌, arith, inl, inr}
-use Rattle.std.specs.Prelude.{◌==◌, ◌||◌}
-use Rattle.std.specs.List.{list_any}
+use Rattle.std.proofs.Common.{◌≡◌, ℕ, zero, suc, ◌<◌, true, false, List, [], ◌∷◌, length, get_or, Result, Ok, Err}
+use Rattle.std.proofs.Common.{refl, sym, arith, inl, inr}
+use Rattle.std.specs.Prelude.{◌==◌}
 use Rattle.std.specs.List.Sorted.{IsBinarySearchResult, IsNonDecreasing}
 use Rattle.std.specs.Ordering.{nat_cmp}
 use Rattle.std.specs.Result.{is_ok}
@@ -12,7 +12,8 @@ use Rattle.qg_gathered.specs.Marked.{is_marked}
 marked_at : (full : List ℕ) (a i : ℕ) → i < length full → get_or full i 0 ≡ a → is_marked full a ≡ true
 marked_at [] a i short is = absurd (omega arith)
 marked_at (first ∷ full) a zero short is = or_left (first == a) (is_marked full a) (eq-eqb first a is)
-marked_at (first ∷ full) a (suc i) short is = or_right (first == a) (is_marked full a) (marked_at full a i (omega (arith, short)) is)
+marked_at (first ∷ full) a (suc i) short is = or_right (first == a) (is_marked full a)
+    (marked_at full a i (omega (arith, short)) is)
 
 marked_none : (full : List ℕ) (a : ℕ) → ((i : ℕ) → i < length full → get_or full i 0 ≡ a → ⊥) → is_marked full a ≡ false
 marked_none [] a other = refl
@@ -22,7 +23,8 @@ marked_none (first ∷ full) a other =
     rw (here, later) refl
 
 -- where an address is searched for among ascending ones it is found exactly where it is one of them
-pub searched_is : (full : List ℕ) (a : ℕ) (found : Result ℕ ℕ) → IsBinarySearchResult (λ n. nat_cmp n a) full found → IsNonDecreasing full
+pub searched_is : (full : List ℕ) (a : ℕ) (found : Result ℕ ℕ) → IsBinarySearchResult (λ n. nat_cmp n a) full found
+    → IsNonDecreasing full
     → is_ok found ≡ is_marked full a
 searched_is full a (Ok i) result up =
     let there = searched full a (Ok i) result (λ i j le short. up i j 0 le short) in

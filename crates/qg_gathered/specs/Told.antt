@@ -10,7 +10,7 @@ use Rattle.qg_owed.specs.Told.{owings_told}
 use Rattle.qg_gathered.specs.declared.nodes.NodeRead.{NodeRead}
 use Rattle.qg_gathered.specs.declared.nodes.NodesRead.{NodesRead}
 
--- what the rules `refs` and `home` need of a node: where it lies and what it points to, its generation, and what it owes
+-- what the rules `refs` and `home` need of a node: where it lies and what it points to, its generation, what it owes
 pub record NodeTold : Type 0 where
   pub linked : Linked
   pub generation : ℕ

@@ -21,13 +21,13 @@ use qg_state::Element;
 use qg_verdict::Failure;
 use std::alloc::Global;
 
-/// The failure of an image's references where its trees were read: the rule `refs` at the least address where the extent
-/// tree doesn't record what is owed, and else the rule `home` at the least address of a node that its owner doesn't reach
-/// (this project's own). Addresses are in bytes.
+/// The failure of an image's references where its trees were read: the rule `refs` at the least address where the
+/// extent tree doesn't record what is owed, and else the rule `home` at the least address of a node that its owner
+/// doesn't reach (this project's own). Addresses are in bytes.
 ///
 /// `root` is the address of the root of the only subvolume, the top-level one, whose nodes were gathered. `extents` are
-/// those that its pieces name, in whatever order, and `parts` is what the extent tree's items say, ascending by address.
-/// Where two nodes lie at one address, as only a disk that lies has it, that is answered as the rule `refs` there.
+/// those that its pieces name, in whatever order, and `parts` is what the extent tree's items say, ascending by
+/// address. Where two nodes lie at one address, as only a disk that lies has it, the rule `refs` is answered there.
 pub fn judge_references(
     alloc: Global,
     nodes: NodesRead,

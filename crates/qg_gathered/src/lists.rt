@@ -5,7 +5,8 @@ ghost use Rattle.std.specs.List.Sorted.{IsNonDecreasing};
 ghost use Rattle.qg_items.specs.declared.extent.Reference.TheVariants.{KeyedBlock};
 ghost use Rattle.qg_owed.specs.Told.{owing_told, owings_told};
 ghost use Rattle.qg_gathered.specs.Told.{told_by};
-ghost use Rattle.qg_gathered.specs.Marked.{extent_thing, link_where, marked_owing, marked_reference, owed_where, thing_where};
+ghost use Rattle.qg_gathered.specs.Marked.{extent_thing, link_where, marked_owing, marked_reference, owed_where};
+ghost use Rattle.qg_gathered.specs.Marked.{thing_where};
 
 use crate::NodeRead;
 use crate::full::is_full;
@@ -31,7 +32,8 @@ pub(crate) fn lists_of(
     full: &[Address],
 ) -> Result<Lists, NoMemory>
     requires { IsNonDecreasing full.now }
-    ensures owings { IfOk result (λ lists. owings_told lists.owings.items ≡ flat_map (owed_where full.now) (map told_by nodes.items)) }
+    ensures owings { IfOk result (λ lists.
+        owings_told lists.owings.items ≡ flat_map (owed_where full.now) (map told_by nodes.items)) }
     ensures things { IfOk result (λ lists. lists.things.items ≡ map (thing_where full.now) (map told_by nodes.items)) }
     ensures links { IfOk result (λ lists. lists.links.items ≡ map (link_where full.now) (map told_by nodes.items)) }
 {
@@ -83,7 +85,8 @@ fn add_owings(
     own: &[Owing],
     owings: &mut Vec<Owing>,
 ) -> Result<(), NoMemory>
-    ensures { OnOk result (owings_told owings.new.items ≡ owings_told owings.old.items ++ map (marked_owing parent full) (owings_told own.now)) }
+    ensures { OnOk result (owings_told owings.new.items
+        ≡ owings_told owings.old.items ++ map (marked_owing parent full) (owings_told own.now)) }
 {
     for owing in own {
         let marked = marked_owing(parent, full, owing);

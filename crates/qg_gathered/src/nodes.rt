@@ -45,7 +45,8 @@ impl NodesRead {
 
     /// Where they lie, in bytes, in the order of the walk.
     pub fn addresses(&self, alloc: Global) -> Result<Sequence<Address>, NoMemory>
-        ensures { (nodes : List NodeValue) → AreOfNodes self.now nodes → IfOk result (λ addresses. AreAddressesOf addresses nodes) }
+        ensures { (nodes : List NodeValue) → AreOfNodes self.now nodes
+            → IfOk result (λ addresses. AreAddressesOf addresses nodes) }
     {
         let mut addresses = Sequence::with_capacity(alloc, self.nodes.len())?;
         for node in self.nodes.as_slice() {

@@ -29,6 +29,8 @@ pub returns-clause-marks : goal.returns-clause-marks
 returns-clause-marks c = λ address.
     let found = c.loop-part.full.items in
     let all : found ≡ filter_map full_address c.args.parts.now
-    = c.loop-part.invariant ∙ ap (filter_map full_address) (take_all c.loop-part.part-index c.args.parts.now c.loop-part-test.false) in
-    sym (list_any-IsPermutation (λ (other : ℕ). other == address) found c.sort_unstable.new.self.items c.sort_unstable.ensures.permutation)
+    = c.loop-part.invariant ∙ ap (filter_map full_address) (take_all c.loop-part.part-index c.args.parts.now
+    c.loop-part-test.false) in
+    sym (list_any-IsPermutation (λ (other : ℕ). other == address) found c.sort_unstable.new.self.items
+    c.sort_unstable.ensures.permutation)
     ∙ ap (λ full. is_marked full address) all ∙ full_any c.args.parts.now address

@@ -1,4 +1,4 @@
-use Rattle.std.proofs.Common.{◌≡◌, map, take}
+use Rattle.std.proofs.Common.{◌≡◌, map}
 use Rattle.std.specs.List.{flat_map}
 use Rattle.qg_owed.specs.Told.{owings_told}
 use Rattle.qg_gathered.specs.Told.{told_by}

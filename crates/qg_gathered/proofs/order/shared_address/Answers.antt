@@ -4,7 +4,8 @@ use Rattle.qg_gathered.proofs.order.shared_address.Goals as goal
 
 pub returns-then-le-clause-some : goal.returns-then-le-clause-some
 returns-then-le-clause-some c =
-    not_rising number_read c.args.nodes.now c.loop-i.i c.index-nodes-i.result c.index-nodes-i-in-loop-i.result (omega arith) (omega arith)
+    not_rising number_read c.args.nodes.now c.loop-i.i c.index-nodes-i.result c.index-nodes-i-in-loop-i.result
+    (omega arith) (omega arith)
     (sym c.le.ensures ∙ c.if-le.true)
 
 pub returns-clause-none : goal.returns-clause-none

@@ -5,4 +5,5 @@ use Rattle.qg_gathered.proofs.order.sort_nodes.Goals as goal
 
 pub returns-clause-ascending : goal.returns-clause-ascending
 returns-clause-ascending c =
-    IsNonDecreasingBy-from_sort_by_key (λ (read : NodeRead). read.linked.address) _ c.sort_unstable_by_key.ensures.sorted (λ a r q k. search rules)
+    IsNonDecreasingBy-from_sort_by_key (λ (read : NodeRead). read.linked.address) _
+    c.sort_unstable_by_key.ensures.sorted (λ a r q k. search rules)
