@@ -1,9 +1,12 @@
 pub mod Lists
 pub mod Nodes
+pub mod Formed
 pub mod Told
 pub mod Walks
 pub mod Trees
 pub mod Sound
+pub mod Fitting
+pub mod Files
 pub mod Reach
 pub mod Whole
 pub mod Moved

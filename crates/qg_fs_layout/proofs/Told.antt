@@ -22,13 +22,9 @@ use Rattle.qg_blocks.specs.Standing.{has_slot, ruled, standing}
 use Rattle.qg_blocks.specs.Told.{fresh_at, told, told_or}
 use Rattle.qg_ground.specs.declared.ground.Ground.{Ground}
 use Rattle.qg_ground.specs.Land.{IsDrafted}
+use Rattle.qg_fs_layout.proofs.Formed.{check-ok}
 
 -- ---- what is read
-
-check_ok : (holds : Bool) (fault : NodeFault) (read : Result Node NodeFault) (node : Node)
-    → check holds fault read ≡ Ok node → (holds ≡ true) × (read ≡ Ok node)
-check_ok true fault read node is = (refl, is)
-check_ok false fault read node is = absurd cc
 
 read_same : (a b : Node) → ◌≡◌ {A = Result Node NodeFault} (Ok a) (Ok b) → a ≡ b
 read_same a b is = cc
@@ -37,8 +33,8 @@ read_same a b is = cc
 behind_same : (a b : Bool) (node other : Node) → check a Order (check b Slack (Ok node)) ≡ Ok other
     → header_of other ≡ header_of node
 behind_same a b node other is =
-    let order = check_ok a Order (check b Slack (Ok node)) other is in
-    let last = check_ok b Slack (Ok node) other order.1 in
+    let order = check-ok a Order (check b Slack (Ok node)) other is in
+    let last = check-ok b Slack (Ok node) other order.1 in
     ap header_of (sym (read_same node other last.1))
 
 items_header : (header : Header) (order slack : List Item × ℕ → Bool) (read : Result (List Item × ℕ) NodeFault)
@@ -57,7 +53,7 @@ leaf_header bytes node is =
     let slack = λ (read : List Item × ℕ). has_empty_fields bytes && is_zero low read.1 bytes in
     let behind = λ (read : List Item × ℕ). check (order read) Order (check (slack read) Slack
     (Ok (Leaf (header_at bytes) read.0))) in
-    let first = check_ok (nat_le low (length bytes)) Bounds
+    let first = check-ok (nat_le low (length bytes)) Bounds
     (items_at (count_at bytes) 101 (length bytes) low bytes >>= behind) node is in
     items_header (header_at bytes) order slack (items_at (count_at bytes) 101 (length bytes) low bytes) node first.1
 
@@ -68,7 +64,7 @@ inner_header bytes node is =
     let inner = Inner (header_at bytes) (pointers_at (count_at bytes) 101 bytes) in
     let order = is_ascending (map (λ (pointer : Pointer). pointer.key) (pointers_at (count_at bytes) 101 bytes)) in
     let slack = has_empty_fields bytes && is_zero end (length bytes) bytes in
-    let first = check_ok (nat_le end (length bytes)) Bounds (check order Order (check slack Slack (Ok inner))) node
+    let first = check-ok (nat_le end (length bytes)) Bounds (check order Order (check slack Slack (Ok inner))) node
     is in
     behind_same order slack inner node first.1
 
@@ -88,12 +84,12 @@ read_at at bytes node is =
     let level = slice_index bytes 100 in
     let read : Result Node NodeFault = cond (level == 0) (leaf_at bytes) (inner_at bytes) in
     let counted = (level == 0) || not (count_at bytes == 0) in
-    let first = check_ok (has_checksum bytes) Csum (check (u64_at 48 bytes == at) Place
+    let first = check-ok (has_checksum bytes) Csum (check (u64_at 48 bytes == at) Place
     (check (nat_le level 7) Level (check counted Empty read))) node is in
-    let second = check_ok (u64_at 48 bytes == at) Place (check (nat_le level 7) Level (check counted Empty read)) node
+    let second = check-ok (u64_at 48 bytes == at) Place (check (nat_le level 7) Level (check counted Empty read)) node
     first.1 in
-    let third = check_ok (nat_le level 7) Level (check counted Empty read) node second.1 in
-    let last = check_ok counted Empty read node third.1 in
+    let third = check-ok (nat_le level 7) Level (check counted Empty read) node second.1 in
+    let last = check-ok counted Empty read node third.1 in
     let header = level_header bytes node (level == 0) last.1 in
     let high = leb-true level 7 third.0 in
     let same : (header_of node).level ≡ level = ap (λ (h : Header). h.level) header in

@@ -1,10 +1,15 @@
 -- What a subvolume's tree is in a state of the machine (this project's own).
-use Rattle.std.specs.Prelude.{◌≡◌, ◌≢◌, ℕ, ◌<◌, ◌≤◌, List, Option, Some, IsTrue}
+use Rattle.std.specs.Prelude.{◌≡◌, ◌≢◌, ℕ, ◌^◌, ◌<◌, ◌≤◌, List, Option, Some, IsTrue, All}
+use Rattle.std.specs.List.{flat_map}
 use Rattle.qg_device.specs.History.{Event}
 use Rattle.qg_num.specs.declared.piece.Piece.{Piece}
 use Rattle.qg_node.specs.declared.item.Item.{Item}
+use Rattle.qg_node.specs.Fits.{ItemFits}
 use Rattle.qg_super.specs.Places.{data_begin, is_slot}
+use Rattle.qg_image.specs.declared.file.File.{File}
 use Rattle.qg_image.specs.FilesOf.{files_of}
+use Rattle.qg_rules.specs.Writable.{AreWritableFiles}
+use Rattle.qg_contents.specs.Written.{items_of_file}
 use Rattle.qg_machine.specs.Layout.{IsTreeOf, IsWhole}
 use Rattle.qg_state.specs.State.{State, Subvolume}
 use Rattle.qg_refs.specs.Book.{full_in}
@@ -12,7 +17,7 @@ use Rattle.qg_extents.specs.Table.{book_of}
 use Rattle.qg_verdict.specs.Walk.{deepest}
 use Rattle.qg_fs_tree.specs.declared.fs_tree.FsTree.{FsTree}
 use Rattle.qg_fs_tree.specs.Standing.{IsReached, IsSubvolume, KeepsTree, Stands}
-use Rattle.qg_fs_layout.specs.Laying.{AreFit, AreThoseReached, CopiesNodes, FreshFit, HoldsBytes, HoldsSlots, IsCounted, IsLaidOut, IsLaidOutAlone, IsMoved, names_in}
+use Rattle.qg_fs_layout.specs.Laying.{AreFit, AreThoseReached, CopiesNodes, HoldsSlots, IsCounted, IsLaidOut, IsLaidOutAlone, IsMoved, names_in}
 
 -- the nodes of a tree as a layout are those that it reaches
 abbrev pub NodesAreThoseReached : Type 0
@@ -33,10 +38,15 @@ TreeIsWalked = (fs : FsTree) (history : Option (List Event)) (bytes : ℕ) (item
     → IsSubvolume fs history bytes → Stands fs history items names → IsLaidOut state subvolume fs history
     → files_of fs.tree.next items ≡ Some subvolume.files → IsTreeOf state subvolume
 
--- the nodes that a tree reaches fit, where the disk holds bytes and fresh nodes fit
-abbrev pub NodesFit : Type 0
-NodesFit = (fs : FsTree) (history : Option (List Event)) (bytes : ℕ) → IsSubvolume fs history bytes
-    → HoldsBytes history → FreshFit fs.land → AreFit fs history
+-- the nodes that a tree reaches fit, where the generation to come fits, and the tree's items do
+abbrev pub NodesFitByItems : Type 0
+NodesFitByItems = (fs : FsTree) (history : Option (List Event)) (bytes : ℕ) (items : List Item)
+    (names : List (ℕ × Piece)) → IsSubvolume fs history bytes → Stands fs history items names
+    → fs.tree.next < 2 ^ 64 → All ItemFits items → AreFit fs history
+
+-- the items that are written for files fit
+abbrev pub ItemsOfFilesFit : Type 0
+ItemsOfFilesFit = (files : List (ℕ × File)) → AreWritableFiles files → All ItemFits (flat_map items_of_file files)
 
 -- and where they fit, and the subvolume is the only one, the state's layout is that of its files
 abbrev pub StateIsWhole : Type 0

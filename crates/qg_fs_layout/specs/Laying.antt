@@ -3,8 +3,7 @@
 use Rattle.std.specs.Prelude.{◌≡◌, ◌↔◌, ℕ, ◌<◌, List, [], ◌∷◌, Option, Some, None, Contains, IsTrue}
 use Rattle.std.specs.List.{filter_map, list_all, AllByRecursion}
 use Rattle.std.specs.List.Sorted.{IsStrictlyIncreasing}
-use Rattle.qg_device.specs.History.{Event, content}
-use Rattle.qg_bytes.specs.Fields.{IsBytes}
+use Rattle.qg_device.specs.History.{Event}
 use Rattle.qg_num.specs.declared.piece.Piece.{Piece}
 use Rattle.qg_node.specs.declared.item.Item.{Item}
 use Rattle.qg_node.specs.declared.node.Node.{Node}
@@ -22,8 +21,6 @@ use Rattle.qg_state.specs.Space.{present_extents}
 use Rattle.qg_state.specs.State.{Placed, State, Subvolume, layout_of, next_generation, node_at}
 use Rattle.qg_refs.specs.Book.{AgreesWithOwed, Book, full_in, what_in}
 use Rattle.qg_extents.specs.Table.{book_of}
-use Rattle.qg_blocks.specs.Told.{fresh_at}
-use Rattle.qg_ground.specs.declared.ground.Ground.{Ground}
 use Rattle.qg_tree_edits.specs.Counting.{ways}
 use Rattle.qg_tree_refs.specs.Settled.{what_of}
 use Rattle.qg_fs_tree.specs.declared.fs_tree.FsTree.{FsTree}
@@ -57,14 +54,6 @@ pub record AreThoseReached (fs : FsTree) (history : Option (List Event)) : Type 
 pub record IsFit (nodesize : ℕ) (node : Node) : Type 0 where
   pub sound : IsNode nodesize node
   pub fits : NodeFits node
-
--- what a disk holds are bytes, where it tells
-abbrev pub HoldsBytes : Option (List Event) → Type 0
-HoldsBytes history = (events : List Event) → history ≡ Some events → IsBytes (content events)
-
--- the numbers of fresh nodes fit their fields
-abbrev pub FreshFit : Ground → Type 0
-FreshFit land = (q : ℕ) (node : Node) → fresh_at land.blocks.draft q ≡ Some node → NodeFits node
 
 -- so it is of each node that a tree reaches
 abbrev pub AreFit : FsTree → Option (List Event) → Type 0

@@ -2,9 +2,10 @@
 ghost use Rattle.qg_fs_layout.specs.Laws.{
   CommandsCopy,
   IsLow,
+  ItemsOfFilesFit,
   MovesCompose,
   NodesAreThoseReached,
-  NodesFit,
+  NodesFitByItems,
   OwedIsCounted,
   StateIsWhole,
   TreeIsWalked,
@@ -23,10 +24,11 @@ pub fn tree_is_walked()
 {}
 
 /// A law: where each node that the tree reaches has a text, and its numbers fit their fields, the state's layout is
-/// that of its files. So it is of nodes that a disk of bytes tells, and of fresh ones whose numbers fit (this project's
+/// that of its files. So they are where the tree's items fit, and items that are written for files do (this project's
 /// own).
 pub fn state_is_whole()
-    ensures fit { NodesFit }
+    ensures items { NodesFitByItems }
+    ensures files { ItemsOfFilesFit }
     ensures whole { StateIsWhole }
 {}
 
