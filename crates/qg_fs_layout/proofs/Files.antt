@@ -46,7 +46,8 @@ file_fits file is =
     All-cons ItemFits (item_of_inode file.0 file.1) (map (item_of_piece file.0) file.1.pieces) first
     (pieces_fit file.0 0 file.1.size file.1.pieces numbered whole.least whole.pieces)
 
-each_fits : (files : List (ℕ × File)) → AllByRecursion IsWritableFile files → All ItemFits (flat_map items_of_file files)
+each_fits : (files : List (ℕ × File)) → AllByRecursion IsWritableFile files
+    → All ItemFits (flat_map items_of_file files)
 each_fits [] are = All-nil ItemFits
 each_fits (file ∷ files) are =
     All-append ItemFits (items_of_file file) (flat_map items_of_file files) (file_fits file are.0)

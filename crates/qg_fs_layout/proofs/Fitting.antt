@@ -1,5 +1,5 @@
 -- The nodes that a tree reaches fit where its items do: a pointer's key is that of an item, its generation its child's.
-use Rattle.std.proofs.Common.{◌≡◌, ℕ, zero, suc, ◌+◌, ◌^◌, ◌<◌, ◌≤◌, true, List, [], ◌∷◌, ◌++◌, Option, Some, None, arith, refl, sym, ap, subst, ◌∙◌, inl, inr}
+use Rattle.std.proofs.Common.{◌≡◌, ℕ, zero, suc, ◌^◌, ◌<◌, ◌≤◌, true, List, [], ◌∷◌, ◌++◌, Option, Some, None, arith, refl, sym, ap, subst, ◌∙◌, inl, inr}
 use Rattle.std.specs.Prelude.{◌==◌, ◌&&◌, nat_le, nat_lt, All, slice_get}
 use Rattle.std.specs.List.{AllByRecursion, Contains}
 use Rattle.std.proofs.lemmas.Bool.{and_parts, eqb-true, leb-true, ltb-true, or_cases}
@@ -32,7 +32,7 @@ use Rattle.qg_fs_layout.specs.Laying.{AreFit}
 use Rattle.qg_fs_layout.proofs.Lists.{all-contained}
 use Rattle.qg_fs_layout.proofs.Sound.{told-formed}
 use Rattle.qg_fs_layout.proofs.Told.{IsToldAt, told-at}
-use Rattle.qg_fs_layout.proofs.Trees.{branch, drafted}
+use Rattle.qg_fs_layout.proofs.Trees.{branch}
 
 -- ---- numbers
 

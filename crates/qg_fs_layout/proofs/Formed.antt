@@ -14,7 +14,7 @@ use Rattle.qg_node.specs.declared.fault.NodeFault.{NodeFault}
 use Rattle.qg_node.specs.declared.fault.NodeFault.TheVariants.{Csum, Place, Level, Empty, Bounds, Order, Slack}
 use Rattle.qg_node.specs.Nodes.{is_ascending, item_bytes, items_bytes}
 use Rattle.qg_node.specs.NodeText.{IsNode}
-use Rattle.qg_node.specs.Reading.{◌>>=◌, check, count_at, has_checksum, has_empty_fields, header_at, inner_at, item_at, items_at, leaf_at, node_read, pointer_at, pointers_at}
+use Rattle.qg_node.specs.Reading.{◌>>=◌, check, count_at, has_checksum, has_empty_fields, header_at, inner_at, item_at, items_at, leaf_at, node_read, pointers_at}
 
 -- ---- readings that did not fail
 
