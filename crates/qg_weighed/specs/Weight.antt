@@ -1,0 +1,68 @@
+-- What the items of the extent tree take that two books of references stand for, each once (this project's own). A need of
+-- slots is reckoned by it. Addresses and lengths are in bytes.
+use Rattle.std.specs.Prelude.{◌≡◌, ℕ, ◌+◌, Bool, false, ◌||◌, List, ◌++◌, map, Option, Some, None, is_some, nat_lt, if◌then◌else◌}
+use Rattle.std.specs.List.{sum_by}
+use Rattle.qg_items.specs.declared.extent.Reference.{Reference}
+use Rattle.qg_state.specs.Record.{Record, ExtentOf, NodeOf, ReferenceTo, extent_record, record_bytes, records_bytes, reference_body, same_record}
+use Rattle.qg_refs.specs.declared.kept.What.{What}
+use Rattle.qg_refs.specs.declared.kept.Kept.{Kept}
+use Rattle.qg_refs.specs.Book.{references_in}
+use Rattle.qg_refs.specs.Counts.{count_of}
+use Rattle.qg_extents.specs.Table.{IsTable}
+use Rattle.qg_extents.specs.Written.{parts_of_book}
+
+-- ---- what two books take
+
+-- what the items name that stand for a table: for each address a record, then its references
+abbrev pub records_in : List (ℕ × Kept) → List Record
+records_in table = map extent_record (parts_of_book table)
+
+-- what the items take, in bytes, that one of two tables has, each once
+unfoldable pub weight_of : List (ℕ × Kept) → List (ℕ × Kept) → ℕ
+weight_of held refs = records_bytes (records_in held ++ records_in refs)
+
+-- a book of references, and the one that the last commit recorded
+pub record Books : Type 0 where
+  pub refs : List (ℕ × Kept)
+  pub held : List (ℕ × Kept)
+
+-- both are tables, and this is what they take
+pub record IsWeighed (refs held : List (ℕ × Kept)) (bytes : ℕ) : Type 0 where
+  pub refs_kept : IsTable refs
+  pub held_kept : IsTable held
+  pub weight : bytes ≡ weight_of held refs
+
+-- ---- one reference more
+
+-- the record of what is known of what begins at an address
+abbrev pub record_of_level : ℕ → ℕ → Option ℕ → Record
+record_of_level at bytes None = ExtentOf at bytes
+record_of_level at bytes (Some level) = NodeOf at level
+
+abbrev pub record_known : ℕ → What → Record
+record_known at what = record_of_level at what.bytes what.level
+
+-- what is kept there has this record
+abbrev pub has_record : ℕ → Option Kept → What → Bool
+has_record at None what = false
+has_record at (Some kept) what = same_record (record_known at what) (record_known at kept.what)
+
+-- what is kept has a reference
+abbrev pub has_reference : Option Kept → Reference → Bool
+has_reference kept reference = nat_lt 0 (count_of (references_in kept) reference)
+
+-- what a reference more takes, and with the first one the record, where two books keep this there: nothing for what one of
+-- them has already
+abbrev pub lacking : ℕ → Option Kept → Option Kept → What → Reference → ℕ
+lacking at held here what reference =
+    (if has_reference held reference || has_reference here reference then 0 else record_bytes (ReferenceTo at reference))
+    + (if has_record at held what || is_some here then 0 else record_bytes (record_known at what))
+
+-- ---- one book
+
+-- what the items take of what is kept at an address: a record, and the references
+abbrev pub reference_bytes : Reference → ℕ
+reference_bytes reference = 25 + reference_body reference
+
+abbrev pub extent_bytes : Kept → ℕ
+extent_bytes kept = (25 + 24) + sum_by (λ entry. reference_bytes entry.reference) kept.references
