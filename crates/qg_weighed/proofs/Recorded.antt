@@ -1,6 +1,7 @@
 -- Which records the items of a table name, by its book.
 use Rattle.std.proofs.Common.{◌≡◌, ◌≢◌, ℕ, ◌+◌, ◌<◌, Bool, true, false, List, [], ◌∷◌, ◌++◌, length, get_or, map, Option, Some, None, refl, sym, ap, subst, ◌∙◌, arith, cond, inl, inr, zero-add}
-use Rattle.std.specs.Prelude.{◌&&◌, ◌||◌, ◌==◌, if◌then◌else◌, is_some, nat_lt}
+use Rattle.std.specs.Prelude.{◌&&◌, ◌||◌, ◌==◌, if◌then◌else◌, is_some, nat_lt, unwrap_or}
+use Rattle.std.specs.Option.{option_map}
 use Rattle.std.specs.BTreeMap.{is_at}
 use Rattle.std.specs.Cmp.{eq_by_cmp_equiv, nat_cmp_total}
 use Rattle.std.specs.List.{AllByRecursion, list_any}
@@ -31,7 +32,7 @@ use Rattle.qg_extents.proofs.Tables.{at_itself, at_other}
 use Rattle.qg_weighed.specs.Weight.{record_known, record_of_level, records_in}
 use Rattle.qg_weighed.proofs.Distinct.{is_among, same_record_is}
 
-abbrev Table : Type 0
+abbrev pub Table : Type 0
 Table = List (ℕ × Kept)
 
 -- ---- one entry
@@ -106,7 +107,7 @@ and_shared false b c = refl
 abbrev pub HaveCounts : List Counted → Type 0
 HaveCounts references = AllByRecursion (λ entry. 0 < entry.count) references
 
-references-say : (at : ℕ) (references : List Counted) (one : Record) → HaveCounts references
+pub references-say : (at : ℕ) (references : List Counted) (one : Record) → HaveCounts references
     → is_among (reference_records at references) one ≡ referenced at references one
 references-say at [] (ReferenceTo address reference) some =
     sym (ap (λ (n : ℕ). (address == at) && nat_lt 0 n) (count-nil reference)
@@ -346,13 +347,43 @@ grown small big at what reference one grows = elim (cases_eq at (place_of one)) 
       ∙ sym (or_first _ _ not_mine ∙ or_first _ _ not_own)
 ]
 
-full-in : (at : ℕ) (kept : Option Kept) (marked : Option Kept) (one : Record)
-    → what_in marked ≡ what_in kept → references_in marked ≡ references_in kept → is_some marked ≡ is_some kept
-    → recorded_in at marked one ≡ recorded_in at kept one
-full-in at None None one known references same = refl
-full-in at None (Some marked) one known references same = absurd (true≢false same)
-full-in at (Some kept) None one known references same = absurd (true≢false (sym same))
-full-in at (Some kept) (Some marked) one known references same =
-    ap (λ (w : What). same_record one (record_known at w) || referenced at marked.references one)
-    (some_known marked kept.what known)
-    ∙ ap (λ (r : List Counted). same_record one (record_known at kept.what) || referenced at r one) references
+-- a mark changes no record
+marked-in : (at : ℕ) (kept : Option Kept) (one : Record)
+    → recorded_in at (option_map (λ (k : Kept). record k { full = true }) kept) one ≡ recorded_in at kept one
+marked-in at None one = refl
+marked-in at (Some kept) one = refl
+
+pub marked : (old new : Book) (at : ℕ) (one : Record) → Marks old new at → recorded new one ≡ recorded old one
+marked old new at one marks = elim (cases_eq at (place_of one)) [
+  | inl is ↦
+      subst (λ (q : ℕ). recorded_in q (new q) one ≡ recorded_in q (old q) one) is
+      (ap (λ (o : Option Kept). recorded_in at o one) marks.there ∙ marked-in at (old at) one)
+  | inr apart ↦
+      ap (λ (o : Option Kept). recorded_in (place_of one) o one) (marks.elsewhere (place_of one) (λ is. apart (sym is)))
+]
+
+-- ---- which edits are such
+
+added-before : (kept : Option Kept) (what : What) → is_some kept ≡ true
+    → what_in kept ≡ Some (unwrap_or (what_in kept) what)
+added-before None what some = absurd (true≢false (sym some))
+added-before (Some kept) what some = refl
+
+pub adds-grows : (old new : Book) (at : ℕ) (what : What) (reference : Reference) → Adds old new at what reference
+    → Grows old new at (unwrap_or (what_in (old at)) what) reference
+adds-grows old new at what reference added = record {
+  count = added.count;
+  known = added.known;
+  before = λ some. added-before (old at) what some;
+  elsewhere = added.elsewhere;
+}
+
+pub drops-grows : (old new : Book) (at : ℕ) (what : What) (reference : Reference) → Drops old new at reference
+    → what_in (old at) ≡ Some what → Grows new old at what reference
+drops-grows old new at what reference dropped known = record {
+  count = dropped.count;
+  known = known;
+  before = λ some. dropped.known (λ none. true≢false (sym some ∙ ap (λ (o : Option Kept). is_some o) (dropped.gone none)))
+      ∙ known;
+  elsewhere = λ other apart. sym (dropped.elsewhere other apart);
+}

@@ -1,9 +1,9 @@
 -- What the items of the extent tree take that two books of references stand for, each once (this project's own). A need of
 -- slots is reckoned by it. Addresses and lengths are in bytes.
-use Rattle.std.specs.Prelude.{◌≡◌, ℕ, ◌+◌, Bool, false, ◌||◌, List, ◌++◌, map, Option, Some, None, is_some, nat_lt, if◌then◌else◌}
+use Rattle.std.specs.Prelude.{◌≡◌, ℕ, ◌+◌, Bool, false, ◌||◌, List, ◌++◌, map, Option, Some, None, is_some, ◌==◌, nat_lt, if◌then◌else◌}
 use Rattle.std.specs.List.{sum_by}
 use Rattle.qg_items.specs.declared.extent.Reference.{Reference}
-use Rattle.qg_state.specs.Record.{Record, ExtentOf, NodeOf, ReferenceTo, extent_record, record_bytes, records_bytes, reference_body, same_record}
+use Rattle.qg_state.specs.Record.{Record, ExtentOf, NodeOf, ReferenceTo, extent_record, record_bytes, records_bytes, reference_body}
 use Rattle.qg_refs.specs.declared.kept.What.{What}
 use Rattle.qg_refs.specs.declared.kept.Kept.{Kept}
 use Rattle.qg_refs.specs.Book.{references_in}
@@ -42,10 +42,20 @@ record_of_level at bytes (Some level) = NodeOf at level
 abbrev pub record_known : ℕ → What → Record
 record_known at what = record_of_level at what.bytes what.level
 
--- what is kept there has this record
-abbrev pub has_record : ℕ → Option Kept → What → Bool
-has_record at None what = false
-has_record at (Some kept) what = same_record (record_known at what) (record_known at kept.what)
+-- both are nodes of one level, or data extents of one length
+abbrev pub is_level_alike : ℕ → Option ℕ → ℕ → Option ℕ → Bool
+is_level_alike bytes None bytes' None = bytes == bytes'
+is_level_alike bytes (Some level) bytes' (Some level') = level == level'
+is_level_alike bytes None bytes' (Some level') = false
+is_level_alike bytes (Some level) bytes' None = false
+
+abbrev pub is_alike : What → What → Bool
+is_alike what other = is_level_alike what.bytes what.level other.bytes other.level
+
+-- what is kept has the same record
+abbrev pub has_record : Option Kept → What → Bool
+has_record None what = false
+has_record (Some kept) what = is_alike what kept.what
 
 -- what is kept has a reference
 abbrev pub has_reference : Option Kept → Reference → Bool
@@ -56,7 +66,7 @@ has_reference kept reference = nat_lt 0 (count_of (references_in kept) reference
 abbrev pub lacking : ℕ → Option Kept → Option Kept → What → Reference → ℕ
 lacking at held here what reference =
     (if has_reference held reference || has_reference here reference then 0 else record_bytes (ReferenceTo at reference))
-    + (if has_record at held what || is_some here then 0 else record_bytes (record_known at what))
+    + (if has_record held what || is_some here then 0 else record_bytes (record_known at what))
 
 -- ---- one book
 
@@ -66,3 +76,6 @@ reference_bytes reference = 25 + reference_body reference
 
 abbrev pub extent_bytes : Kept → ℕ
 extent_bytes kept = (25 + 24) + sum_by (λ entry. reference_bytes entry.reference) kept.references
+
+abbrev pub table_bytes : List (ℕ × Kept) → ℕ
+table_bytes table = sum_by (λ entry. extent_bytes entry.1) table
