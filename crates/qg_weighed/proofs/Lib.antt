@@ -1,3 +1,4 @@
 pub mod Distinct
 pub mod Recorded
 pub mod Weights
+pub mod Known

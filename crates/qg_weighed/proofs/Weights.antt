@@ -19,7 +19,7 @@ use Rattle.qg_refs.specs.Book.{Adds, Book, Drops, Marks, what_in}
 use Rattle.qg_refs.specs.Counts.{Ascend, IsRefList, count_of}
 use Rattle.qg_refs.proofs.Counting.{count-cons, count-found, count-nil, counted-own}
 use Rattle.qg_extents.specs.Table.{IsTable, book_of}
-use Rattle.qg_weighed.specs.Weight.{extent_bytes, has_record, has_reference, is_level_alike, lacking, record_known, record_of_level, records_in, reference_bytes, table_bytes, weight_of}
+use Rattle.qg_weighed.specs.Weight.{extent_bytes, extent_record_bytes, has_record, has_reference, is_level_alike, lacking, record_known, record_of_level, records_in, reference_bytes, table_bytes, weight_of}
 use Rattle.qg_weighed.proofs.Distinct.{adds, bytes-alike, bytes-apart, bytes-one, is_among, record_itself}
 use Rattle.qg_weighed.proofs.Recorded.{Grows, HaveCounts, HaveLists, Table, adds-grows, drops-grows, entry-says, entry_records, grown, have-lists, known-place, list-says, marked, none-behind, place_of, recorded, recorded-place, recorded_in, records-cons, records-say, reference_records, referenced, references-say, table-says}
 
@@ -79,6 +79,13 @@ known-own at (Some kept) what before =
     same_what : what_in (Some kept) ≡ Some what → kept.what ≡ what
     same_what is = cc
 
+level-bytes : (at bytes : ℕ) (level : Option ℕ) → record_bytes (record_of_level at bytes level) ≡ extent_record_bytes
+level-bytes at bytes None = refl
+level-bytes at bytes (Some level) = refl
+
+pub known-bytes : (at : ℕ) (what : What) → record_bytes (record_known at what) ≡ extent_record_bytes
+known-bytes at what = level-bytes at what.bytes what.level
+
 -- ---- one reference more
 
 to_front : (h a b s : Bool) → (h || (a || (b || s))) ≡ (a || (b || (h || s)))
@@ -132,7 +139,7 @@ module _ (held small big : Table) (at : ℕ) (what : What) (reference : Referenc
       (at-place (book_of small) ∙ known-own at (book_of small at) what grows.before)
 
   pub weight-grown : weight_of held big
-      ≡ weight_of held small + lacking at (book_of held at) (book_of small at) what reference
+      ≡ weight_of held small + lacking (book_of held at) (book_of small at) what reference
   unfolding weight_of
   weight-grown =
       let there = records_in held ++ records_in small in
@@ -150,18 +157,20 @@ module _ (held small big : Table) (at : ℕ) (what : What) (reference : Referenc
       (or_first (same_record one own) (is_among there one) (unlike at what.bytes what.level reference)
       ∙ reference-known) in
       let record_lacks : adds there own
-      ≡ (if has_record (book_of held at) what || is_some (book_of small at) then 0 else record_bytes own) =
-      ap (λ (b : Bool). if b then 0 else record_bytes own) record-known in
+      ≡ (if has_record (book_of held at) what || is_some (book_of small at) then 0 else extent_record_bytes) =
+      ap (λ (b : Bool). if b then 0 else record_bytes own) record-known
+      ∙ ap (λ (n : ℕ). if has_record (book_of held at) what || is_some (book_of small at) then 0 else n)
+      (known-bytes at what) in
       omega (arith, whole, first, second, reference_lacks, record_lacks)
 
 -- ---- edits
 
 -- what one reference more takes does not hang on what is told of what is known already
-lacking-known : (at : ℕ) (held here : Option Kept) (what : What) (reference : Reference)
-    → lacking at held here (unwrap_or (what_in here) what) reference ≡ lacking at held here what reference
-lacking-known at held None what reference = refl
-lacking-known at held (Some kept) what reference =
-    let none : (other : What) → (if has_record held other || true then 0 else record_bytes (record_known at other)) ≡ 0 =
+lacking-known : (held here : Option Kept) (what : What) (reference : Reference)
+    → lacking held here (unwrap_or (what_in here) what) reference ≡ lacking held here what reference
+lacking-known held None what reference = refl
+lacking-known held (Some kept) what reference =
+    let none : (other : What) → (if has_record held other || true then 0 else extent_record_bytes) ≡ 0 =
     λ other. cond-true _ _ _ (second_true (has_record held other)) in
     let first = none kept.what in
     let second = none what in
@@ -173,16 +182,16 @@ lacking-known at held (Some kept) what reference =
 
 pub weight-added : (held old new : Table) (at : ℕ) (what : What) (reference : Reference) → IsTable held → IsTable old
     → IsTable new → Adds (book_of old) (book_of new) at what reference
-    → weight_of held new ≡ weight_of held old + lacking at (book_of held at) (book_of old at) what reference
+    → weight_of held new ≡ weight_of held old + lacking (book_of held at) (book_of old at) what reference
 weight-added held old new at what reference held_is old_is new_is added =
     let known = unwrap_or (what_in (book_of old at)) what in
     weight-grown held old new at known reference held_is old_is new_is
     (adds-grows (book_of old) (book_of new) at what reference added)
-    ∙ ap (λ (n : ℕ). weight_of held old + n) (lacking-known at (book_of held at) (book_of old at) what reference)
+    ∙ ap (λ (n : ℕ). weight_of held old + n) (lacking-known (book_of held at) (book_of old at) what reference)
 
 pub weight-dropped : (held old new : Table) (at : ℕ) (what : What) (reference : Reference) → IsTable held → IsTable old
     → IsTable new → Drops (book_of old) (book_of new) at reference → what_in (book_of old at) ≡ Some what
-    → weight_of held old ≡ weight_of held new + lacking at (book_of held at) (book_of new at) what reference
+    → weight_of held old ≡ weight_of held new + lacking (book_of held at) (book_of new at) what reference
 weight-dropped held old new at what reference held_is old_is new_is dropped known =
     weight-grown held new old at what reference held_is new_is old_is
     (drops-grows (book_of old) (book_of new) at what reference dropped known)
@@ -228,13 +237,6 @@ references-weigh at (entry ∷ references) up some =
       later,
       sum_by-cons (λ (e : Counted). reference_bytes e.reference) entry references,
     )
-
-level-bytes : (at bytes : ℕ) (level : Option ℕ) → record_bytes (record_of_level at bytes level) ≡ 25 + 24
-level-bytes at bytes None = refl
-level-bytes at bytes (Some level) = refl
-
-pub known-bytes : (at : ℕ) (what : What) → record_bytes (record_known at what) ≡ 25 + 24
-known-bytes at what = level-bytes at what.bytes what.level
 
 entry-weighs : (at : ℕ) (kept : Kept) → IsRefList kept.references
     → records_bytes (entry_records at kept) ≡ extent_bytes kept

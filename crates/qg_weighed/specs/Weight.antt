@@ -3,7 +3,7 @@
 use Rattle.std.specs.Prelude.{◌≡◌, ℕ, ◌+◌, Bool, false, ◌||◌, List, ◌++◌, map, Option, Some, None, is_some, ◌==◌, nat_lt, if◌then◌else◌}
 use Rattle.std.specs.List.{sum_by}
 use Rattle.qg_items.specs.declared.extent.Reference.{Reference}
-use Rattle.qg_state.specs.Record.{Record, ExtentOf, NodeOf, ReferenceTo, extent_record, record_bytes, records_bytes, reference_body}
+use Rattle.qg_state.specs.Record.{Record, ExtentOf, NodeOf, extent_record, records_bytes, reference_body}
 use Rattle.qg_refs.specs.declared.kept.What.{What}
 use Rattle.qg_refs.specs.declared.kept.Kept.{Kept}
 use Rattle.qg_refs.specs.Book.{references_in}
@@ -61,21 +61,26 @@ has_record (Some kept) what = is_alike what kept.what
 abbrev pub has_reference : Option Kept → Reference → Bool
 has_reference kept reference = nat_lt 0 (count_of (references_in kept) reference)
 
+-- what the item of a record takes, and that of a reference: its header, and its body
+abbrev pub extent_record_bytes : ℕ
+extent_record_bytes = 25 + 24
+
+abbrev pub reference_bytes : Reference → ℕ
+reference_bytes reference = 25 + reference_body reference
+
 -- what a reference more takes, and with the first one the record, where two books keep this there: nothing for what one of
 -- them has already
-abbrev pub lacking : ℕ → Option Kept → Option Kept → What → Reference → ℕ
-lacking at held here what reference =
-    (if has_reference held reference || has_reference here reference then 0 else record_bytes (ReferenceTo at reference))
-    + (if has_record held what || is_some here then 0 else record_bytes (record_known at what))
+abbrev pub lacking : Option Kept → Option Kept → What → Reference → ℕ
+lacking held here what reference =
+    (if has_reference held reference || has_reference here reference then 0 else reference_bytes reference)
+    + (if has_record held what || is_some here then 0 else extent_record_bytes)
 
 -- ---- one book
 
 -- what the items take of what is kept at an address: a record, and the references
-abbrev pub reference_bytes : Reference → ℕ
-reference_bytes reference = 25 + reference_body reference
-
 abbrev pub extent_bytes : Kept → ℕ
-extent_bytes kept = (25 + 24) + sum_by (λ entry. reference_bytes entry.reference) kept.references
+extent_bytes kept = extent_record_bytes + sum_by (λ entry. reference_bytes entry.reference) kept.references
 
+-- what the items take that stand for a table
 abbrev pub table_bytes : List (ℕ × Kept) → ℕ
 table_bytes table = sum_by (λ entry. extent_bytes entry.1) table

@@ -1,6 +1,8 @@
 //! What two books of references take in the extent tree, each record once, kept up to date.
 #![tactic(auto)]
 
+mod lacking;
 mod weighed;
+mod whole;
 
 pub use weighed::Weighed;
