@@ -9,9 +9,9 @@ use Rattle.qg_refs.specs.Book.{Drops, references_in, what_in}
 use Rattle.qg_refs.specs.Counts.{count_of}
 use Rattle.qg_refs.proofs.Counting.{count-nil}
 use Rattle.qg_extents.specs.Table.{IsTable, book_of}
-use Rattle.qg_weighed.specs.Weight.{IsWeighed, extent_record_bytes, has_record, has_reference, lacking, reference_bytes, weight_of}
+use Rattle.qg_weighed.specs.Weight.{IsWeighed, extent_record_bytes, has_record, has_reference, lacking, reference_bytes, table_bytes, weight_of}
 use Rattle.qg_weighed.proofs.Recorded.{Table}
-use Rattle.qg_weighed.proofs.Weights.{weight-dropped}
+use Rattle.qg_weighed.proofs.Weights.{weight-dropped, weight-own}
 
 pub nothing-there : (reference : Reference) → false ≡ has_reference None reference
 nothing-there reference = sym (ap (λ (n : ℕ). nat_lt 0 n) (count-nil reference))
@@ -73,3 +73,13 @@ weighed-dropped held old new bytes at what reference less weighed new_is dropped
       held_kept = weighed.held_kept;
       weight = omega (arith, whole, is, weighed.weight);
     }
+
+-- a book beside itself
+pub weighed-own : (refs held entries : Table) (bytes : ℕ) → IsTable refs → held ≡ refs → entries ≡ refs
+    → bytes ≡ table_bytes entries → IsWeighed refs held bytes
+weighed-own refs held entries bytes is same listed sum = record {
+  refs_kept = is;
+  held_kept = subst IsTable (sym same) is;
+  weight = sum ∙ ap table_bytes listed ∙ sym (weight-own refs is)
+      ∙ ap (λ (table : Table). weight_of table refs) (sym same);
+}

@@ -4,5 +4,5 @@ use Rattle.qg_refs.specs.declared.kept.Kept.{Kept}
 use Rattle.qg_weighed.specs.Weight.{table_bytes}
 use Rattle.qg_weighed.proofs.whole.table_bytes.Given as goal
 
-abbrev pub invariant-loop-_at : goal.invariant-loop-_-kept
-invariant-loop-_at l = l.bytes ≡ table_bytes (map (deref_pair {K = ℕ} {X = Kept}) l.yielded)
+abbrev pub invariant-loop-at : goal.invariant-loop-at
+invariant-loop-at l = l.bytes ≡ table_bytes (map (deref_pair {K = ℕ} {X = Kept}) l.yielded)
