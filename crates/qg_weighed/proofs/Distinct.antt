@@ -7,6 +7,7 @@ use Rattle.std.proofs.lemmas.List.Folds.{list_any-append}
 use Rattle.std.proofs.lemmas.List.Sums.{sum_by-cons}
 use Rattle.qg_items.specs.declared.extent.Reference.{Reference}
 use Rattle.qg_state.specs.Record.{Record, RootOf, ExtentOf, NodeOf, ReferenceTo, Status, InfoOf, LimitOf, RelationOf, distinct_records, record_bytes, records_bytes, same_record, same_reference}
+use Rattle.qg_weighed.specs.Laws.{is_among}
 use Rattle.qg_refs.proofs.RankOrder.{same_itself, same_reference_is}
 
 -- ---- two records
@@ -54,9 +55,6 @@ other_way a b differ = false_from_ne_true (same_record b a)
     ∙ differ))
 
 -- ---- which there are
-
-abbrev pub is_among : List Record → Record → Bool
-is_among records one = list_any (same_record one) records
 
 -- what one takes that comes to others: nothing where it is there
 abbrev pub adds : List Record → Record → ℕ

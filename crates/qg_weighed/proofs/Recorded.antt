@@ -29,8 +29,9 @@ use Rattle.qg_extents.specs.Table.{IsTable, book_of}
 use Rattle.qg_extents.specs.Written.{part_of, parts_of_book, parts_of_extent, record_part}
 use Rattle.qg_extents.proofs.Sayable.{entry-may}
 use Rattle.qg_extents.proofs.Tables.{at_itself, at_other}
+use Rattle.qg_weighed.specs.Laws.{is_among}
 use Rattle.qg_weighed.specs.Weight.{record_known, record_of_level, records_in}
-use Rattle.qg_weighed.proofs.Distinct.{is_among, same_record_is}
+use Rattle.qg_weighed.proofs.Distinct.{same_record_is}
 
 abbrev pub Table : Type 0
 Table = List (ℕ × Kept)

@@ -19,8 +19,9 @@ use Rattle.qg_refs.specs.Book.{Adds, Book, Drops, Marks, what_in}
 use Rattle.qg_refs.specs.Counts.{Ascend, IsRefList, count_of}
 use Rattle.qg_refs.proofs.Counting.{count-cons, count-found, count-nil, counted-own}
 use Rattle.qg_extents.specs.Table.{IsTable, book_of}
+use Rattle.qg_weighed.specs.Laws.{is_among}
 use Rattle.qg_weighed.specs.Weight.{extent_bytes, extent_record_bytes, has_record, has_reference, is_level_alike, lacking, record_known, record_of_level, records_in, reference_bytes, table_bytes, weight_of}
-use Rattle.qg_weighed.proofs.Distinct.{adds, bytes-alike, bytes-apart, bytes-one, is_among, record_itself}
+use Rattle.qg_weighed.proofs.Distinct.{adds, bytes-alike, bytes-apart, bytes-one, record_itself}
 use Rattle.qg_weighed.proofs.Recorded.{Grows, HaveCounts, HaveLists, Table, adds-grows, drops-grows, entry-says, entry_records, grown, have-lists, known-place, list-says, marked, none-behind, place_of, recorded, recorded-place, recorded_in, records-cons, records-say, reference_records, referenced, references-say, table-says}
 
 or_first : (a b : Bool) → a ≡ false → (a || b) ≡ b
@@ -44,7 +45,7 @@ not-referenced : (at bytes : ℕ) (level : Option ℕ) (references : List Counte
 not-referenced at bytes None references = refl
 not-referenced at bytes (Some level) references = refl
 
-reference-there : (at : ℕ) (kept : Option Kept) (reference : Reference)
+pub reference-there : (at : ℕ) (kept : Option Kept) (reference : Reference)
     → recorded_in at kept (ReferenceTo at reference) ≡ has_reference kept reference
 reference-there at None reference = sym (ap (λ (n : ℕ). nat_lt 0 n) (count-nil reference))
 reference-there at (Some kept) reference =

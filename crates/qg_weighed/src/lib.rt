@@ -2,7 +2,9 @@
 #![tactic(auto)]
 
 mod lacking;
+mod laws;
 mod weighed;
 mod whole;
 
+pub use laws::weight_law;
 pub use weighed::Weighed;

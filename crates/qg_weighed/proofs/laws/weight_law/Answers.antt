@@ -1,0 +1,5 @@
+use Rattle.qg_weighed.proofs.Law.{weighs}
+use Rattle.qg_weighed.proofs.laws.weight_law.Goals as goal
+
+pub returns : goal.returns
+returns c = record { weighs = weighs }
