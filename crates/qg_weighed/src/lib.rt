@@ -8,3 +8,6 @@ mod whole;
 
 pub use laws::weight_law;
 pub use weighed::Weighed;
+
+#[cfg(test)]
+mod tests;
