@@ -1,4 +1,4 @@
--- What records take, each once: that depends on which there are, not on their order, nor on how often each stands there.
+-- What records take, each once: that depends on which there are, not on their order, nor on how often each is there.
 use Rattle.std.proofs.Common.{◌≡◌, ℕ, ◌+◌, Bool, true, false, List, [], ◌∷◌, ◌++◌, refl, sym, ap, subst, ◌∙◌, arith, inl, inr}
 use Rattle.std.specs.Prelude.{not, ◌&&◌, ◌||◌, ◌==◌, if◌then◌else◌}
 use Rattle.std.specs.List.{filter, list_any, sum_by}

@@ -5,3 +5,4 @@ pub mod Known
 pub mod Trees
 pub mod Layouts
 pub mod Law
+pub mod Named

@@ -1,10 +1,11 @@
 -- What the items of a state's extent tree take, by two books (this project's own). Addresses and lengths are in bytes.
 use Rattle.std.specs.Prelude.{◌≡◌, ℕ, ◌+◌, ◌<◌, Bool, true, false, not, List, ◌++◌, Option, Some}
-use Rattle.std.specs.List.{Contains, filter, list_any}
+use Rattle.std.specs.List.{Contains, filter, filter_map, flat_map, list_any}
 use Rattle.std.specs.List.Sorted.{IsStrictlyIncreasing}
 use Rattle.std.specs.Option.{option_map}
-use Rattle.qg_node.specs.Nodes.{header_of}
+use Rattle.qg_node.specs.Nodes.{header_of, own_items}
 use Rattle.qg_items.specs.declared.extent.Reference.{Reference}
+use Rattle.qg_image.specs.ItemMeaning.{extent_part}
 use Rattle.qg_image.specs.Table.{keys_of, value_at}
 use Rattle.qg_state.specs.declared.element.Element.{Element}
 use Rattle.qg_state.specs.Need.{extent_records, held_records, quota_records, root_records, weight}
@@ -15,6 +16,7 @@ use Rattle.qg_state.specs.State.{Layout, Placed, State, layout_of}
 use Rattle.qg_refs.specs.declared.kept.Kept.{Kept}
 use Rattle.qg_refs.specs.Book.{AgreesWithOwed, Book, what_in}
 use Rattle.qg_extents.specs.Table.{IsTable, book_of}
+use Rattle.qg_extents.specs.Written.{parts_of_book}
 use Rattle.qg_weighed.specs.Weight.{record_known, records_in, weight_of}
 
 -- ---- records
@@ -40,8 +42,8 @@ is_of_extents (RelationOf group other) = false
 abbrev pub known_at : Book → ℕ → Option Record
 known_at book at = option_map (λ what. record_known at what) (what_in (book at))
 
--- A table counts what a layout owes, and that leads to what is there. Of each node the level is known, and of each extent that
--- leaves name the length; nodes ascend by address
+-- A table counts what a layout owes, and that leads to what is there. Of each node the level is known, and of each
+-- extent that leaves name the length; nodes ascend by address
 pub record CountsLayout (layout : Layout) (refs : List (ℕ × Kept)) : Type 0 where
   pub kept : IsTable refs
   pub agrees : AgreesWithOwed layout (book_of refs)
@@ -59,6 +61,11 @@ pub record IsRecorded (state : State) (held : List (ℕ × Kept)) : Type 0 where
   pub same : (one : Record) → is_of_extents one ≡ true
       → is_among (held_records state.held) one ≡ is_among (records_in held) one
 
+-- so it is where the items of the last commit say of the extent tree what the table's do
+abbrev pub SaidIsRecorded : Type 0
+SaidIsRecorded = (state : State) (held : List (ℕ × Kept)) → IsTable held
+    → filter_map extent_part (flat_map own_items state.held.others) ≡ parts_of_book held → IsRecorded state held
+
 -- ---- the weight
 
 -- what the root, extent and quota trees would name if a commit came now, where it records what is owed
@@ -68,11 +75,12 @@ whole_records state = root_records state ++ extent_records (layout_of state) ++ 
 -- what the root and quota trees name in the last commit, or would name if one came now
 abbrev pub other_records : State → List Record
 other_records state =
-    filter (λ one. not (is_of_extents one)) (held_records state.held) ++ (root_records state ++ quota_records state.quota)
+    filter (λ one. not (is_of_extents one)) (held_records state.held)
+    ++ (root_records state ++ quota_records state.quota)
 
--- What a state's layout has to be recorded takes what the book takes; with what the last commit holds, and with the items of
--- the root and quota trees, all take what both books and those items take. So does the state's weight, where commits record
--- what is owed
+-- What a state's layout has to be recorded takes what the book takes; with what the last commit holds, and with the items
+-- of the root and quota trees, all take what both books and those items take. So does the state's weight, where commits
+-- record what is owed
 pub record IsWeight (state : State) (held refs : List (ℕ × Kept)) : Type 0 where
   pub records : records_bytes (extent_records (layout_of state)) ≡ records_bytes (records_in refs)
   pub whole : records_bytes (held_records state.held ++ whole_records state)

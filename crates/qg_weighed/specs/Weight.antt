@@ -1,5 +1,5 @@
--- What the items of the extent tree take that two books of references stand for, each once (this project's own). A need of
--- slots is reckoned by it. Addresses and lengths are in bytes.
+-- What the items of the extent tree take that stand for two books of references, each once (this project's own). A need
+-- of slots is reckoned by it. Addresses and lengths are in bytes.
 use Rattle.std.specs.Prelude.{◌≡◌, ℕ, ◌+◌, Bool, false, ◌||◌, List, ◌++◌, map, Option, Some, None, is_some, ◌==◌, nat_lt, if◌then◌else◌}
 use Rattle.std.specs.List.{sum_by}
 use Rattle.qg_items.specs.declared.extent.Reference.{Reference}
@@ -68,8 +68,8 @@ extent_record_bytes = 25 + 24
 abbrev pub reference_bytes : Reference → ℕ
 reference_bytes reference = 25 + reference_body reference
 
--- what a reference more takes, and with the first one the record, where two books keep this there: nothing for what one of
--- them has already
+-- what a reference more takes, and with the first one the record, where two books keep this there: nothing for what one
+-- of them has already
 abbrev pub lacking : Option Kept → Option Kept → What → Reference → ℕ
 lacking held here what reference =
     (if has_reference held reference || has_reference here reference then 0 else reference_bytes reference)

@@ -38,8 +38,9 @@ fn lacking_of(
     what: &What,
     reference: &Reference,
 ) -> u64
-    ensures { result ≡ (if has_reference (option_copied held.entry) reference.now then 0 else reference_bytes reference.now)
-        + (if has_record (option_copied held.entry) what.now || is_some (option_copied here.entry) then 0 else extent_record_bytes) }
+    ensures { let there = option_copied held.entry in result
+        ≡ (if has_reference there reference.now then 0 else reference_bytes reference.now)
+        + (if has_record there what.now || is_some (option_copied here.entry) then 0 else extent_record_bytes) }
 {
     let mut bytes = 0;
     if !has_reference(held, reference) {

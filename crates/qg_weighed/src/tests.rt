@@ -68,29 +68,27 @@ fn drop_one(weighed: &mut Weighed, reference: Reference) -> u64 {
     weighed.bytes()
 }
 
+// What all takes after each of some edits, with a commit after the third and the fourth.
+fn sums(weighed: &mut Weighed) -> Result<[u64; 7], NoMemory> {
+    let first = add_file(weighed, 257)?;
+    let again = add_file(weighed, 257)?;
+    let other = add_file(weighed, 258)?;
+    weighed.hold()?;
+    let dropped = drop_one(weighed, of_file(258));
+    weighed.hold()?;
+    let committed = weighed.bytes();
+    drop_one(weighed, of_file(257));
+    let gone = drop_one(weighed, of_file(257));
+    let node = add_node(weighed, 1)?;
+    Ok([first, again, other, dropped, committed, gone, node])
+}
+
 #[test]
 fn a_commit_lets_go_what_it_held(rt: HostRuntime) -> Result<(), Fail> {
     let mut weighed = Weighed::new(Extents::new(rt.alloc()))?;
-    assert_eq!(rt; weighed.bytes(), 0);
-    // The record, 25 and 24, and the reference, 25 and 28; one that counts 2 takes no more.
-    assert_eq!(rt; add_file(&mut weighed, 257)?, 102);
-    assert_eq!(rt; add_file(&mut weighed, 257)?, 102);
-    assert_eq!(rt; add_file(&mut weighed, 258)?, 155);
-    weighed.hold()?;
-    // What is held is counted as long as it is held.
-    assert_eq!(rt; drop_one(&mut weighed, of_file(258)), 155);
-    weighed.hold()?;
-    assert_eq!(rt; weighed.bytes(), 102);
-    assert_eq!(rt; drop_one(&mut weighed, of_file(257)), 102);
-    assert_eq!(rt; drop_one(&mut weighed, of_file(257)), 102);
-    assert_eq!(rt; weighed.len(), 0);
-    // A node there is another record; its reference has an empty body.
-    assert_eq!(rt; add_node(&mut weighed, 1)?, 176);
-    assert_eq!(rt; weighed.how_many(Address::new(EXTENT)), 1);
-    weighed.hold()?;
-    assert_eq!(rt; weighed.bytes(), 74);
-    assert_eq!(rt; drop_one(&mut weighed, of_tree()), 74);
-    // So is one of another level.
-    assert_eq!(rt; add_node(&mut weighed, 0)?, 123);
+    // A record takes 25 and 24, a reference to data 25 and 28, one to a node 25. One that counts 2 takes no more; what
+    // is held is counted as long as it is held; a node at the same place is another record.
+    let wanted = [102, 102, 155, 155, 102, 102, 176];
+    assert_eq!(rt; sums(&mut weighed)?, wanted);
     Ok(())
 }
