@@ -9,3 +9,4 @@ pub mod Agreeing
 pub mod Runs
 pub mod Singles
 pub mod FreshRecords
+pub mod Copying

@@ -1,5 +1,6 @@
 // A book of references in memory.
 ghost use Rattle.std.specs.Prelude.{◌≡◌, ◌<◌, ◌≤◌, ◌+◌, ℕ, [], length, map, None, Some, All, IsTrue, IfOk, IsOk, OnOk, OnErr};
+ghost use Rattle.std.specs.BTreeMap.{insert_entry};
 ghost use Rattle.std.specs.Option.{option_copied};
 ghost use Rattle.std.specs.List.{list_all};
 ghost use Rattle.std.specs.List.Sorted.{IsStrictlySortedBy};
@@ -155,11 +156,30 @@ impl Extents {
         }
     }
 
-    // What is kept at an address.
-    fn kept(&self, at: Address) -> Option<&Kept>
+    /// What is kept at an address.
+    pub fn kept(&self, at: Address) -> Option<&Kept>
         ensures { option_copied result ≡ book_of self.now at }
     {
         self.table.get(&at.value())
+    }
+
+    /// All that is kept, by address.
+    pub fn table(&self) -> &BTreeMap<u64, Kept>
+        ensures same { result.now.entries ≡ self.now }
+        ensures table { IsTable self.now }
+    {
+        &self.table
+    }
+
+    /// The same book once more.
+    pub fn copy(&self, alloc: Global) -> Result<Extents, NoMemory>
+        ensures { IfOk result (λ copy. copy ≡ self.now) }
+    {
+        let mut table = BTreeMap::new(alloc);
+        for (at, kept) in self.table.iter() {
+            put_copy(alloc, &mut table, *at, kept)?;
+        }
+        Ok(Extents { alloc, table })
     }
 
     /// One reference more at an address. What is told of it is kept where it has no reference yet.
@@ -218,6 +238,27 @@ impl Extents {
         };
         kept.full = true;
     }
+}
+
+// Puts the same once more at an address.
+fn put_copy(
+    alloc: Global,
+    table: &mut BTreeMap<u64, Kept>,
+    at: u64,
+    kept: &Kept,
+) -> Result<(), NoMemory>
+    ensures { OnOk result (table.new.entries ≡ insert_entry nat_cmp table.old.entries at kept.now) }
+{
+    let references = kept.references.copy(alloc)?;
+    table.insert(
+        at,
+        Kept {
+            what: kept.what,
+            full: kept.full,
+            references,
+        },
+    )?;
+    Ok(())
 }
 
 // Nothing is kept at an address from now on.

@@ -1,0 +1,13 @@
+//! What two books of references take in the extent tree, each record once, kept up to date.
+#![tactic(auto)]
+
+mod lacking;
+mod laws;
+mod weighed;
+mod whole;
+
+pub use laws::weight_law;
+pub use weighed::Weighed;
+
+#[cfg(test)]
+mod tests;
