@@ -1,12 +1,14 @@
 -- What records take, each once: that depends on which there are, not on their order, nor on how often each is there.
-use Rattle.std.proofs.Common.{◌≡◌, ℕ, ◌+◌, Bool, true, false, List, [], ◌∷◌, ◌++◌, refl, sym, ap, subst, ◌∙◌, arith, inl, inr}
-use Rattle.std.specs.Prelude.{not, ◌&&◌, ◌||◌, ◌==◌, if◌then◌else◌}
-use Rattle.std.specs.List.{filter, list_any, sum_by}
-use Rattle.std.proofs.lemmas.Bool.{and_from, and_parts, cases_Bool, cond-false, cond-true, eq-eqb, eqb-true, false_from_ne_true, or_left, or_parts, true≢false}
+use Rattle.std.proofs.Common.{◌≡◌, ℕ, ◌+◌, Bool, true, false, List, [], ◌∷◌, ◌++◌, refl, sym, ap, subst, ◌∙◌, arith}
+use Rattle.std.proofs.Common.{inl, inr}
+use Rattle.std.specs.Prelude.{not, ◌||◌, ◌==◌, if◌then◌else◌}
+use Rattle.std.specs.List.{filter, sum_by}
+use Rattle.std.proofs.lemmas.Bool.{and_from, and_parts, cases_Bool, cond-false, cond-true, eq-eqb, eqb-true}
+use Rattle.std.proofs.lemmas.Bool.{false_from_ne_true, or_left, true≢false}
 use Rattle.std.proofs.lemmas.List.Folds.{list_any-append}
 use Rattle.std.proofs.lemmas.List.Sums.{sum_by-cons}
-use Rattle.qg_items.specs.declared.extent.Reference.{Reference}
-use Rattle.qg_state.specs.Record.{Record, RootOf, ExtentOf, NodeOf, ReferenceTo, Status, InfoOf, LimitOf, RelationOf, distinct_records, record_bytes, records_bytes, same_record, same_reference}
+use Rattle.qg_state.specs.Record.{Record, RootOf, ExtentOf, NodeOf, ReferenceTo, Status, InfoOf, LimitOf, RelationOf}
+use Rattle.qg_state.specs.Record.{distinct_records, record_bytes, records_bytes, same_record, same_reference}
 use Rattle.qg_weighed.specs.Laws.{is_among}
 use Rattle.qg_refs.proofs.RankOrder.{same_itself, same_reference_is}
 
@@ -51,8 +53,8 @@ record_itself (RelationOf group other) = and_from (group == group) (other == oth
 
 other_way : (a b : Record) → same_record a b ≡ false → same_record b a ≡ false
 other_way a b differ = false_from_ne_true (same_record b a)
-    (λ same. true≢false (sym (subst (λ (c : Record). same_record c b ≡ true) (same_record_is b a same) (record_itself b))
-    ∙ differ))
+    (λ same. true≢false
+    (sym (subst (λ (c : Record). same_record c b ≡ true) (same_record_is b a same) (record_itself b)) ∙ differ))
 
 -- ---- which there are
 
@@ -60,7 +62,8 @@ other_way a b differ = false_from_ne_true (same_record b a)
 abbrev pub adds : List Record → Record → ℕ
 adds rest first = if is_among rest first then 0 else record_bytes first
 
-pub bytes-one : (first : Record) (rest : List Record) → records_bytes (first ∷ rest) ≡ adds rest first + records_bytes rest
+pub bytes-one : (first : Record) (rest : List Record)
+    → records_bytes (first ∷ rest) ≡ adds rest first + records_bytes rest
 bytes-one first rest = elim (cases_Bool (is_among rest first)) [
   | inl there ↦
       let none : adds rest first ≡ 0 = cond-true _ _ _ there in

@@ -1,5 +1,6 @@
 -- What a reference more takes, by what is looked up; and what is left when an edit is done.
-use Rattle.std.proofs.Common.{◌≡◌, ℕ, ◌+◌, ◌<◌, ◌≤◌, ◌-◌, Bool, true, false, List, [], Option, Some, None, refl, sym, ap, subst, ◌∙◌, arith}
+use Rattle.std.proofs.Common.{◌≡◌, ℕ, ◌+◌, ◌<◌, ◌≤◌, ◌-◌, Bool, true, false, Option, Some, None, refl, sym}
+use Rattle.std.proofs.Common.{ap, subst, ◌∙◌, arith}
 use Rattle.std.specs.Prelude.{◌||◌, if◌then◌else◌, is_some, nat_lt}
 use Rattle.std.proofs.lemmas.Bool.{cond-true, or_right, true≢false}
 use Rattle.qg_items.specs.declared.extent.Reference.{Reference}
@@ -9,7 +10,8 @@ use Rattle.qg_refs.specs.Book.{Drops, references_in, what_in}
 use Rattle.qg_refs.specs.Counts.{count_of}
 use Rattle.qg_refs.proofs.Counting.{count-nil}
 use Rattle.qg_extents.specs.Table.{IsTable, book_of}
-use Rattle.qg_weighed.specs.Weight.{IsWeighed, extent_record_bytes, has_record, has_reference, lacking, reference_bytes, table_bytes, weight_of}
+use Rattle.qg_weighed.specs.Weight.{IsWeighed, extent_record_bytes, has_record, has_reference, lacking, reference_bytes}
+use Rattle.qg_weighed.specs.Weight.{table_bytes, weight_of}
 use Rattle.qg_weighed.proofs.Recorded.{Table}
 use Rattle.qg_weighed.proofs.Weights.{weight-dropped, weight-own}
 

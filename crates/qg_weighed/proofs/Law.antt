@@ -1,17 +1,18 @@
 -- What a state's extent tree takes is what its books take.
-use Rattle.std.proofs.Common.{◌≡◌, ℕ, ◌+◌, Bool, true, false, List, [], ◌∷◌, ◌++◌, refl, sym, ap, ◌∙◌, inl, inr}
-use Rattle.std.specs.Prelude.{◌||◌, if◌then◌else◌}
-use Rattle.std.proofs.lemmas.Bool.{cases_Bool, or_from, true≢false}
+use Rattle.std.proofs.Common.{◌≡◌, ℕ, ◌+◌, Bool, true, false, List, ◌++◌, refl, sym, ap, ◌∙◌, inl, inr}
+use Rattle.std.specs.Prelude.{◌||◌}
+use Rattle.std.proofs.lemmas.Bool.{cases_Bool, true≢false}
 use Rattle.std.proofs.lemmas.List.Folds.{list_any-append}
-use Rattle.qg_state.specs.Need.{extent_records, held_records, present_records, quota_records, root_records, weight}
+use Rattle.qg_state.specs.Need.{extent_records, held_records, quota_records, root_records}
 use Rattle.qg_state.specs.Record.{Record, records_bytes, same_record}
-use Rattle.qg_state.specs.Stage.{copies_on_write}
 use Rattle.qg_state.specs.State.{State, layout_of}
 use Rattle.qg_refs.specs.declared.kept.Kept.{Kept}
-use Rattle.qg_weighed.specs.Laws.{CountsLayout, IsRecorded, IsWeight, is_among, is_of_extents, other_records, whole_records}
+use Rattle.qg_weighed.specs.Laws.{CountsLayout, IsRecorded, IsWeight, is_among, is_of_extents, other_records}
+use Rattle.qg_weighed.specs.Laws.{whole_records}
 use Rattle.qg_weighed.specs.Weight.{records_in, weight_of}
 use Rattle.qg_weighed.proofs.Distinct.{bytes-alike, bytes-apart}
-use Rattle.qg_weighed.proofs.Trees.{Are, are-both, layout-are, none-named, others, others-are, others-named, quota-are, root-are, table-are}
+use Rattle.qg_weighed.proofs.Trees.{are-both, layout-are, none-named, others, others-are, others-named, quota-are}
+use Rattle.qg_weighed.proofs.Trees.{root-are, table-are}
 use Rattle.qg_weighed.proofs.Layouts.{layout-alike}
 
 or_none : (a : Bool) → (a || false) ≡ a
@@ -29,20 +30,8 @@ one-of-others : (h h' r e q f o : Bool) → h' ≡ false → f ≡ false → e �
 one-of-others h h' r e q f o held refs layout other =
     rw (held, refs, layout, other) (ap (λ (b : Bool). h || (b || q)) (or_none r))
 
-staged-same : (served : Bool) → served ≡ true → (held root extents quota : List Record)
-    → records_bytes (held ++ (root ++ (if served then extents else []) ++ quota))
-    ≡ records_bytes (held ++ (root ++ extents ++ quota))
-staged-same true is held root extents quota = refl
-staged-same false is held root extents quota = absurd (true≢false (sym is))
-
 module _ (state : State) (held refs : List (ℕ × Kept)) (counted : CountsLayout (layout_of state) refs)
     (recorded : IsRecorded state held) where
-  abbrev last : List Record
-  last = held_records state.held
-
-  abbrev books : List Record
-  books = records_in held ++ records_in refs
-
   among-whole : (one : Record) → is_among (held_records state.held ++ whole_records state) one
       ≡ (is_among (held_records state.held) one
       || ((is_among (root_records state) one || is_among (extent_records (layout_of state)) one)
@@ -101,7 +90,8 @@ module _ (state : State) (held refs : List (ℕ × Kept)) (counted : CountsLayou
         none-named false (other_records state) one
         (are-both false (others (held_records state.held)) (root_records state ++ quota_records state.quota)
         (others-are (held_records state.held))
-        (are-both false (root_records state) (quota_records state.quota) (root-are state) (quota-are state.quota))) extents
+        (are-both false (root_records state) (quota_records state.quota) (root-are state) (quota-are state.quota)))
+        extents
     | inr other ↦
         absurd (true≢false (sym among
         ∙ none-named true (records_in held ++ records_in refs) one
@@ -116,17 +106,9 @@ module _ (state : State) (held refs : List (ℕ × Kept)) (counted : CountsLayou
       (records_in held ++ records_in refs ++ other_records state) alike
       ∙ bytes-apart (records_in held ++ records_in refs) (other_records state) apart
 
-  staged : copies_on_write ≡ true → weight state ≡ weight_of held refs + records_bytes (other_records state)
-  unfolding weight present_records
-  staged served =
-      staged-same copies_on_write served (held_records state.held) (root_records state)
-      (extent_records (layout_of state)) (quota_records state.quota)
-      ∙ whole
-
   pub weighs : IsWeight state held refs
   weighs = record {
     records = bytes-alike (extent_records (layout_of state)) (records_in refs)
         (layout-alike (layout_of state) refs counted);
     whole = whole;
-    staged = staged;
   }

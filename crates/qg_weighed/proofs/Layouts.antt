@@ -1,9 +1,11 @@
 -- What a layout has to be recorded is what a book that counts it records.
-use Rattle.std.proofs.Common.{◌≡◌, ℕ, ◌+◌, ◌<◌, Bool, true, false, List, [], ◌∷◌, ◌++◌, length, map, Option, Some, None, refl, sym, ap, subst, ◌∙◌, ◌⊎◌, inl, inr, arith, cond}
+use Rattle.std.proofs.Common.{◌≡◌, ℕ, ◌+◌, ◌<◌, Bool, true, false, List, [], ◌∷◌, ◌++◌, length, map, Option, Some, None}
+use Rattle.std.proofs.Common.{refl, sym, ap, subst, ◌∙◌, ◌⊎◌, inl, inr, arith, cond}
 use Rattle.std.specs.Prelude.{◌&&◌, ◌||◌, ◌==◌, if◌then◌else◌, nat_lt}
-use Rattle.std.specs.List.{AllByRecursion, Contains, cons_option, count_by, filter_map, find, list_any}
+use Rattle.std.specs.List.{Contains, cons_option, count_by, filter_map, find}
 use Rattle.std.specs.Option.{option_map}
-use Rattle.std.proofs.lemmas.Bool.{cases_Bool, cond-false, cond-true, eq-eqb, eqb-true, false_from_ne_true, lt-ltb, ltb-true, or_cases, or_left, or_right, true≢false}
+use Rattle.std.proofs.lemmas.Bool.{cases_Bool, cond-false, cond-true, eq-eqb, eqb-true, false_from_ne_true, lt-ltb}
+use Rattle.std.proofs.lemmas.Bool.{or_cases, or_left, or_right, true≢false}
 use Rattle.std.proofs.lemmas.List.Folds.{list_any-append}
 use Rattle.std.proofs.lemmas.List.Sums.{sum_by-cons}
 use Rattle.std.proofs.lemmas.Option.{none-some, same_Some}
@@ -12,20 +14,21 @@ use Rattle.qg_items.specs.declared.extent.Reference.{Reference}
 use Rattle.qg_image.specs.Table.{value_at}
 use Rattle.qg_state.specs.declared.element.Element.{Element}
 use Rattle.qg_state.specs.Need.{extent_records}
-use Rattle.qg_state.specs.Owed.{Owing, is_nothing, layout_extents, owed, owed_count, owed_to, what_at}
-use Rattle.qg_state.specs.Record.{Record, RootOf, ExtentOf, NodeOf, ReferenceTo, Status, InfoOf, LimitOf, RelationOf, same_record, same_reference}
+use Rattle.qg_state.specs.Owed.{Owing, is_nothing, layout_extents, owed, owed_count, what_at}
+use Rattle.qg_state.specs.Record.{Record, RootOf, ExtentOf, NodeOf, ReferenceTo, Status, InfoOf, LimitOf, RelationOf}
+use Rattle.qg_state.specs.Record.{same_record, same_reference}
 use Rattle.qg_state.specs.State.{Layout, Placed}
 use Rattle.qg_state.proofs.Contained.{contains_cases, contains_here, contains_later, none_contained}
 use Rattle.qg_home.proofs.Reaching.{entry_of_value, value_of_entry}
 use Rattle.qg_refs.specs.declared.counted.Counted.{Counted}
 use Rattle.qg_refs.specs.declared.kept.What.{What}
 use Rattle.qg_refs.specs.declared.kept.Kept.{Kept}
-use Rattle.qg_refs.specs.Book.{Book, references_in, what_in}
+use Rattle.qg_refs.specs.Book.{references_in, what_in}
 use Rattle.qg_refs.specs.Counts.{IsRefList, count_of}
 use Rattle.qg_refs.proofs.Counting.{count-found}
 use Rattle.qg_extents.specs.Table.{book_of}
 use Rattle.qg_weighed.specs.Laws.{CountsLayout, is_among, is_of_extents, known_at}
-use Rattle.qg_weighed.specs.Weight.{has_reference, record_known, records_in}
+use Rattle.qg_weighed.specs.Weight.{record_known, records_in}
 use Rattle.qg_weighed.proofs.Distinct.{record_itself, same_record_is}
 use Rattle.qg_weighed.proofs.Trees.{layout-are, none-named, table-are}
 use Rattle.qg_weighed.proofs.Recorded.{place_of, recorded, recorded_in, records-say, referenced}
@@ -40,12 +43,13 @@ bool-iff false b to from = sym (false_from_ne_true b (λ is. true≢false (sym (
 pub named-in : {A : Type 0} (named : A → Record) (xs : List A) (one : Record) → is_among (map named xs) one ≡ true
     → (x : A) × Contains xs x × (one ≡ named x)
 named-in named [] one among = absurd (true≢false (sym among))
-named-in {A} named (x ∷ xs) one among = elim (or_cases (same_record one (named x)) (is_among (map named xs) one) among) [
-  | inl same ↦ (x, contains_here x xs, same_record_is one (named x) same)
-  | inr later ↦
-      let found = named-in {A = A} named xs one later in
-      (found.0, contains_later x xs found.0 found.1, found.2)
-]
+named-in {A} named (x ∷ xs) one among =
+    elim (or_cases (same_record one (named x)) (is_among (map named xs) one) among) [
+      | inl same ↦ (x, contains_here x xs, same_record_is one (named x) same)
+      | inr later ↦
+          let found = named-in {A = A} named xs one later in
+          (found.0, contains_later x xs found.0 found.1, found.2)
+    ]
 
 pub in-named : {A : Type 0} (named : A → Record) (xs : List A) (x : A) → Contains xs x
     → is_among (map named xs) (named x) ≡ true
@@ -245,7 +249,8 @@ module _ (layout : Layout) (refs : List (ℕ × Kept)) (counted : CountsLayout l
       → find (λ extent. extent.address == at) (layout_extents layout) ≡ None → is_nothing (what_at layout at) ≡ true
   nothing-there at none none' = rw none (rw none' refl)
 
-  kept_there : (at : ℕ) (one : Record) → known_at (book_of refs) at ≡ Some one → (kept : Kept) × (book_of refs at ≡ Some kept)
+  kept_there : (at : ℕ) (one : Record) → known_at (book_of refs) at ≡ Some one
+      → (kept : Kept) × (book_of refs at ≡ Some kept)
   kept_there at one known = elim (some_or_none (book_of refs at)) [
     | inl none ↦
         absurd (none_known one (sym (ap (λ (o : Option Kept). option_map (λ (what : What). record_known at what)
@@ -275,14 +280,16 @@ module _ (layout : Layout) (refs : List (ℕ × Kept)) (counted : CountsLayout l
 
   -- and a reference where the layout owes it
   references-alike : (at : ℕ) (reference : Reference)
-      → is_among (map owing_record (owed layout)) (ReferenceTo at reference) ≡ recorded (book_of refs) (ReferenceTo at reference)
+      → is_among (map owing_record (owed layout)) (ReferenceTo at reference)
+      ≡ recorded (book_of refs) (ReferenceTo at reference)
   unfolding owed_count
   references-alike at reference =
       owings-say at reference (owed layout)
       ∙ ap (λ (n : ℕ). nat_lt 0 n) (sym (counted.agrees at reference))
       ∙ sym (reference-there at (book_of refs at) reference)
 
-  neither : (one : Record) → is_of_extents one ≡ false → is_among (extent_records layout) one ≡ is_among (records_in refs) one
+  neither : (one : Record) → is_of_extents one ≡ false
+      → is_among (extent_records layout) one ≡ is_among (records_in refs) one
   neither one other =
       none-named true (extent_records layout) one (layout-are layout) other
       ∙ sym (none-named true (records_in refs) one (table-are refs) other)

@@ -6,3 +6,4 @@ pub mod Trees
 pub mod Layouts
 pub mod Law
 pub mod Named
+mod Fresh

@@ -19,7 +19,6 @@ use Rattle.qg_refs.specs.declared.kept.Kept.{Kept}
 use Rattle.qg_extents.specs.Table.{IsTable}
 use Rattle.qg_extents.specs.Written.{parts_of_book}
 use Rattle.qg_weighed.specs.Laws.{IsRecorded, is_among, is_of_extents}
-use Rattle.qg_weighed.specs.Weight.{records_in}
 use Rattle.qg_weighed.proofs.Distinct.{same_record_is}
 
 -- ---- one item

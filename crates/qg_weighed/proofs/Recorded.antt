@@ -1,15 +1,16 @@
 -- Which records the items of a table name, by its book.
-use Rattle.std.proofs.Common.{◌≡◌, ◌≢◌, ℕ, ◌+◌, ◌<◌, Bool, true, false, List, [], ◌∷◌, ◌++◌, length, get_or, map, Option, Some, None, refl, sym, ap, subst, ◌∙◌, arith, cond, inl, inr, zero-add}
+use Rattle.std.proofs.Common.{◌≡◌, ◌≢◌, ℕ, ◌+◌, ◌<◌, Bool, true, false, List, [], ◌∷◌, ◌++◌, map}
+use Rattle.std.proofs.Common.{Option, Some, None, refl, sym, ap, subst, ◌∙◌, arith, cond, inl, inr, zero-add}
 use Rattle.std.specs.Prelude.{◌&&◌, ◌||◌, ◌==◌, if◌then◌else◌, is_some, nat_lt, unwrap_or}
 use Rattle.std.specs.Option.{option_map}
 use Rattle.std.specs.BTreeMap.{is_at}
 use Rattle.std.specs.Cmp.{eq_by_cmp_equiv, nat_cmp_total}
-use Rattle.std.specs.List.{AllByRecursion, list_any}
+use Rattle.std.specs.List.{AllByRecursion}
 use Rattle.std.specs.List.Sorted.{IsStrictlySortedBy}
-use Rattle.std.specs.Map.{keys_of, lookup}
+use Rattle.std.specs.Map.{keys_of}
 use Rattle.std.specs.Ordering.{nat_cmp}
-use Rattle.std.proofs.lemmas.Bool.{and_parts, and_right, cases_Bool, cases_eq, eqb-true, eq-eqb, false_from_ne_true, lt-ltb, or_cases, true≢false}
-use Rattle.std.proofs.lemmas.Bool.Decides.{nat_tests}
+use Rattle.std.proofs.lemmas.Bool.{and_parts, and_right, cases_eq, eqb-true, false_from_ne_true}
+use Rattle.std.proofs.lemmas.Bool.{lt-ltb, or_cases, true≢false}
 use Rattle.std.proofs.lemmas.List.{map-append}
 use Rattle.std.proofs.lemmas.List.Elements.{recursion_from_All}
 use Rattle.std.proofs.lemmas.List.Folds.{list_any-append}
@@ -18,12 +19,13 @@ use Rattle.std.proofs.lemmas.Map.Entries.{none_past_head}
 use Rattle.std.proofs.lemmas.Map.Keys.{IsDistinct-from_sorted, sorted_tail}
 use Rattle.qg_items.specs.declared.extent.Reference.{Reference}
 use Rattle.qg_items.specs.declared.extent.ExtentItem.{ExtentItem}
-use Rattle.qg_state.specs.Record.{Record, RootOf, ExtentOf, NodeOf, ReferenceTo, Status, InfoOf, LimitOf, RelationOf, extent_record, same_record, same_reference}
+use Rattle.qg_state.specs.Record.{Record, RootOf, ExtentOf, NodeOf, ReferenceTo, Status, InfoOf, LimitOf, RelationOf}
+use Rattle.qg_state.specs.Record.{extent_record, same_record, same_reference}
 use Rattle.qg_refs.specs.declared.counted.Counted.{Counted}
 use Rattle.qg_refs.specs.declared.kept.What.{What}
 use Rattle.qg_refs.specs.declared.kept.Kept.{Kept}
 use Rattle.qg_refs.specs.Book.{Adds, Book, Drops, Marks, references_in, what_in}
-use Rattle.qg_refs.specs.Counts.{HasOneMore, IsRefList, count_of, counted}
+use Rattle.qg_refs.specs.Counts.{HasOneMore, IsRefList, count_of}
 use Rattle.qg_refs.proofs.Counting.{count-cons, count-nil}
 use Rattle.qg_extents.specs.Table.{IsTable, book_of}
 use Rattle.qg_extents.specs.Written.{part_of, parts_of_book, parts_of_extent, record_part}
@@ -302,7 +304,8 @@ grown-in : (at : ℕ) (what : What) (reference : Reference) (small big : Option 
     → HasOneMore (references_in small) (references_in big) reference → what_in big ≡ Some what
     → (is_some small ≡ true → what_in small ≡ Some what)
     → recorded_in at big one
-    ≡ (same_record one (ReferenceTo at reference) || (same_record one (record_known at what) || recorded_in at small one))
+    ≡ (same_record one (ReferenceTo at reference)
+    || (same_record one (record_known at what) || recorded_in at small one))
 grown-in at what reference small None one more known before = absurd (none_known known)
   where
     none_known : what_in None ≡ Some what → ⊥
@@ -310,7 +313,8 @@ grown-in at what reference small None one more known before = absurd (none_known
 grown-in at what reference None (Some big) one more known before =
     let mine = same_record one (ReferenceTo at reference) in
     let own = same_record one (record_known at what) in
-    ap (λ (w : What). same_record one (record_known at w) || referenced at big.references one) (some_known big what known)
+    ap (λ (w : What). same_record one (record_known at w) || referenced at big.references one)
+    (some_known big what known)
     ∙ ap (λ (b : Bool). own || b) (referenced-more at [] big.references reference one more)
     ∙ ap (λ (b : Bool). own || (mine || b)) (referenced-none at one)
     ∙ swap_first own mine false
@@ -318,7 +322,8 @@ grown-in at what reference (Some small) (Some big) one more known before =
     let mine = same_record one (ReferenceTo at reference) in
     let own = same_record one (record_known at what) in
     let rest = referenced at small.references one in
-    ap (λ (w : What). same_record one (record_known at w) || referenced at big.references one) (some_known big what known)
+    ap (λ (w : What). same_record one (record_known at w) || referenced at big.references one)
+    (some_known big what known)
     ∙ ap (λ (b : Bool). own || b) (referenced-more at small.references big.references reference one more)
     ∙ swap_twice own mine rest
     ∙ ap (λ (w : What). mine || (own || (same_record one (record_known at w) || rest)))
@@ -384,7 +389,8 @@ pub drops-grows : (old new : Book) (at : ℕ) (what : What) (reference : Referen
 drops-grows old new at what reference dropped known = record {
   count = dropped.count;
   known = known;
-  before = λ some. dropped.known (λ none. true≢false (sym some ∙ ap (λ (o : Option Kept). is_some o) (dropped.gone none)))
+  before = λ some. dropped.known
+      (λ none. true≢false (sym some ∙ ap (λ (o : Option Kept). is_some o) (dropped.gone none)))
       ∙ known;
   elsewhere = λ other apart. sym (dropped.elsewhere other apart);
 }

@@ -1,5 +1,6 @@
 -- Records of the extent tree, and those of the root and quota trees.
-use Rattle.std.proofs.Common.{◌≡◌, ℕ, Bool, true, false, List, [], ◌∷◌, ◌++◌, map, Option, Some, None, refl, sym, ap, subst, ◌∙◌, inl, inr}
+use Rattle.std.proofs.Common.{◌≡◌, ℕ, Bool, true, false, List, [], ◌∷◌, ◌++◌, map, Option, Some, None, refl, sym, ap}
+use Rattle.std.proofs.Common.{◌∙◌, inl, inr}
 use Rattle.std.specs.Prelude.{◌||◌, not}
 use Rattle.std.specs.List.{AllByRecursion, filter, flat_map}
 use Rattle.std.proofs.lemmas.Bool.{cases_Bool, false_from_ne_true, or_from, true≢false}
@@ -12,8 +13,9 @@ use Rattle.qg_state.specs.declared.element.Element.{Element}
 use Rattle.qg_state.specs.declared.quota.Quota.{Quota}
 use Rattle.qg_state.specs.Need.{extent_records, quota_records, root_records}
 use Rattle.qg_state.specs.Owed.{Owing, layout_extents, owed}
-use Rattle.qg_state.specs.Record.{Record, RootOf, ExtentOf, NodeOf, ReferenceTo, Status, InfoOf, LimitOf, RelationOf, extent_record, same_record}
-use Rattle.qg_state.specs.State.{Layout, Placed, State, Subvolume}
+use Rattle.qg_state.specs.Record.{Record, RootOf, ExtentOf, NodeOf, ReferenceTo, Status, InfoOf, LimitOf, RelationOf}
+use Rattle.qg_state.specs.Record.{extent_record, same_record}
+use Rattle.qg_state.specs.State.{Layout, Placed, State}
 use Rattle.qg_refs.specs.declared.kept.Kept.{Kept}
 use Rattle.qg_extents.specs.Written.{parts_of_book}
 use Rattle.qg_weighed.specs.Laws.{is_among, is_of_extents}
@@ -64,7 +66,8 @@ runs-are : (runs : List Element) → Are true (map (λ (run : Element). ExtentOf
 runs-are [] = tt
 runs-are (run ∷ runs) = (refl, runs-are runs)
 
-owings-are : (owings : List Owing) → Are true (map (λ (owing : Owing). ReferenceTo owing.address owing.reference) owings)
+owings-are : (owings : List Owing)
+    → Are true (map (λ (owing : Owing). ReferenceTo owing.address owing.reference) owings)
 owings-are [] = tt
 owings-are (owing ∷ owings) = (refl, owings-are owings)
 

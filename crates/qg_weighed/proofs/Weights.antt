@@ -1,7 +1,8 @@
 -- What two books take after an edit of one, and what a book takes.
-use Rattle.std.proofs.Common.{◌≡◌, ℕ, ◌+◌, ◌<◌, ◌≤◌, Bool, true, false, List, [], ◌∷◌, ◌++◌, length, Option, Some, None, refl, sym, ap, subst, ◌∙◌, arith, zero, suc}
+use Rattle.std.proofs.Common.{◌≡◌, ℕ, ◌+◌, ◌<◌, Bool, true, false, List, [], ◌∷◌, ◌++◌, Option, Some, None}
+use Rattle.std.proofs.Common.{refl, sym, ap, subst, ◌∙◌, arith, suc}
 use Rattle.std.specs.Prelude.{◌&&◌, ◌||◌, ◌==◌, if◌then◌else◌, is_some, nat_lt, unwrap_or}
-use Rattle.std.specs.List.{AllByRecursion, list_any, sum_by}
+use Rattle.std.specs.List.{sum_by}
 use Rattle.std.specs.List.Sorted.{IsStrictlySortedBy}
 use Rattle.std.specs.Map.{keys_of}
 use Rattle.std.specs.Ordering.{nat_cmp}
@@ -20,9 +21,14 @@ use Rattle.qg_refs.specs.Counts.{Ascend, IsRefList, count_of}
 use Rattle.qg_refs.proofs.Counting.{count-cons, count-found, count-nil, counted-own}
 use Rattle.qg_extents.specs.Table.{IsTable, book_of}
 use Rattle.qg_weighed.specs.Laws.{is_among}
-use Rattle.qg_weighed.specs.Weight.{extent_bytes, extent_record_bytes, has_record, has_reference, is_level_alike, lacking, record_known, record_of_level, records_in, reference_bytes, table_bytes, weight_of}
+use Rattle.qg_weighed.specs.Weight.{extent_bytes, extent_record_bytes, has_record, has_reference, is_level_alike}
+use Rattle.qg_weighed.specs.Weight.{lacking, record_known, record_of_level, records_in, reference_bytes, table_bytes}
+use Rattle.qg_weighed.specs.Weight.{weight_of}
 use Rattle.qg_weighed.proofs.Distinct.{adds, bytes-alike, bytes-apart, bytes-one, record_itself}
-use Rattle.qg_weighed.proofs.Recorded.{Grows, HaveCounts, HaveLists, Table, adds-grows, drops-grows, entry-says, entry_records, grown, have-lists, known-place, list-says, marked, none-behind, place_of, recorded, recorded-place, recorded_in, records-cons, records-say, reference_records, referenced, references-say, table-says}
+use Rattle.qg_weighed.proofs.Recorded.{Grows, HaveCounts, HaveLists, Table, adds-grows, drops-grows, entry-says}
+use Rattle.qg_weighed.proofs.Recorded.{entry_records, grown, have-lists, known-place, marked, none-behind}
+use Rattle.qg_weighed.proofs.Recorded.{place_of, recorded, recorded-place, recorded_in, records-cons, records-say}
+use Rattle.qg_weighed.proofs.Recorded.{reference_records, referenced, references-say, table-says}
 
 or_first : (a b : Bool) → a ≡ false → (a || b) ≡ b
 or_first true b none = absurd (true≢false none)

@@ -3,18 +3,22 @@ use Rattle.std.specs.Prelude.{◌≡◌, ℕ, ◌+◌, ◌<◌, Bool, true, fals
 use Rattle.std.specs.List.{Contains, filter, filter_map, flat_map, list_any}
 use Rattle.std.specs.List.Sorted.{IsStrictlyIncreasing}
 use Rattle.std.specs.Option.{option_map}
+use Rattle.qg_node.specs.declared.node.Node.{Node}
 use Rattle.qg_node.specs.Nodes.{header_of, own_items}
 use Rattle.qg_items.specs.declared.extent.Reference.{Reference}
+use Rattle.qg_super.specs.declared.sizes.Sizes.{Sizes}
 use Rattle.qg_image.specs.ItemMeaning.{extent_part}
 use Rattle.qg_image.specs.Table.{keys_of, value_at}
 use Rattle.qg_state.specs.declared.element.Element.{Element}
-use Rattle.qg_state.specs.Need.{extent_records, held_records, quota_records, root_records, weight}
+use Rattle.qg_state.specs.Need.{extent_records, held_records, quota_records, root_records}
 use Rattle.qg_state.specs.Owed.{is_nothing, layout_extents, owed_count, what_at}
-use Rattle.qg_state.specs.Record.{Record, RootOf, ExtentOf, NodeOf, ReferenceTo, Status, InfoOf, LimitOf, RelationOf, records_bytes, same_record}
-use Rattle.qg_state.specs.Stage.{copies_on_write}
+use Rattle.qg_state.specs.Record.{Record, RootOf, ExtentOf, NodeOf, ReferenceTo, Status, InfoOf, LimitOf, RelationOf}
+use Rattle.qg_state.specs.Record.{records_bytes, same_record}
 use Rattle.qg_state.specs.State.{Layout, Placed, State, layout_of}
+use Rattle.qg_verdict.specs.IsFresh.{fresh_state}
 use Rattle.qg_refs.specs.declared.kept.Kept.{Kept}
 use Rattle.qg_refs.specs.Book.{AgreesWithOwed, Book, what_in}
+use Rattle.qg_extents.specs.Fresh.{fresh_table}
 use Rattle.qg_extents.specs.Table.{IsTable, book_of}
 use Rattle.qg_extents.specs.Written.{parts_of_book}
 use Rattle.qg_weighed.specs.Weight.{record_known, records_in, weight_of}
@@ -55,6 +59,11 @@ pub record CountsLayout (layout : Layout) (refs : List (ℕ × Kept)) : Type 0 w
   pub extents : (run : Element) → Contains (layout_extents layout) run
       → known_at (book_of refs) run.address ≡ Some (ExtentOf run.address run.bytes)
 
+-- the table of an image that is just made counts what its layout owes; its other trees may have any nodes
+abbrev pub FreshCounts : Type 0
+FreshCounts = (sizes : Sizes) (root : ℕ) (others : List Node) → IsTable (fresh_table sizes.nodesize root)
+    → CountsLayout (layout_of (fresh_state sizes others root)) (fresh_table sizes.nodesize root)
+
 -- the records of the extent tree that the last commit of a state holds are those of a table
 pub record IsRecorded (state : State) (held : List (ℕ × Kept)) : Type 0 where
   pub kept : IsTable held
@@ -66,7 +75,7 @@ abbrev pub SaidIsRecorded : Type 0
 SaidIsRecorded = (state : State) (held : List (ℕ × Kept)) → IsTable held
     → filter_map extent_part (flat_map own_items state.held.others) ≡ parts_of_book held → IsRecorded state held
 
--- ---- the weight
+-- ---- what all take
 
 -- what the root, extent and quota trees would name if a commit came now, where it records what is owed
 abbrev pub whole_records : State → List Record
@@ -78,14 +87,12 @@ other_records state =
     filter (λ one. not (is_of_extents one)) (held_records state.held)
     ++ (root_records state ++ quota_records state.quota)
 
--- What a state's layout has to be recorded takes what the book takes; with what the last commit holds, and with the items
--- of the root and quota trees, all take what both books and those items take. So does the state's weight, where commits
--- record what is owed
+-- What a state's layout has to be recorded takes what the book takes. With what the last commit holds, and with the
+-- items of the root and quota trees, all take what both books and those items take
 pub record IsWeight (state : State) (held refs : List (ℕ × Kept)) : Type 0 where
   pub records : records_bytes (extent_records (layout_of state)) ≡ records_bytes (records_in refs)
   pub whole : records_bytes (held_records state.held ++ whole_records state)
       ≡ weight_of held refs + records_bytes (other_records state)
-  pub staged : copies_on_write ≡ true → weight state ≡ weight_of held refs + records_bytes (other_records state)
 
 abbrev pub Weighs : Type 0
 Weighs = (state : State) (held refs : List (ℕ × Kept)) → CountsLayout (layout_of state) refs → IsRecorded state held

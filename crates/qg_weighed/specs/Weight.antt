@@ -1,6 +1,7 @@
 -- What the items of the extent tree take that stand for two books of references, each once (this project's own). A need
 -- of slots is reckoned by it. Addresses and lengths are in bytes.
-use Rattle.std.specs.Prelude.{◌≡◌, ℕ, ◌+◌, Bool, false, ◌||◌, List, ◌++◌, map, Option, Some, None, is_some, ◌==◌, nat_lt, if◌then◌else◌}
+use Rattle.std.specs.Prelude.{◌≡◌, ℕ, ◌+◌, Bool, false, ◌||◌, List, ◌++◌, map, Option, Some, None, is_some, ◌==◌}
+use Rattle.std.specs.Prelude.{nat_lt, if◌then◌else◌}
 use Rattle.std.specs.List.{sum_by}
 use Rattle.qg_items.specs.declared.extent.Reference.{Reference}
 use Rattle.qg_state.specs.Record.{Record, ExtentOf, NodeOf, extent_record, records_bytes, reference_body}

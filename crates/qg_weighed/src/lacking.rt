@@ -2,7 +2,8 @@
 ghost use Rattle.std.specs.Prelude.{◌≡◌, ◌+◌, ◌≤◌, ◌||◌, is_some, if◌then◌else◌};
 ghost use Rattle.std.specs.Option.{option_copied};
 ghost use Rattle.qg_extents.specs.Table.{book_of};
-ghost use Rattle.qg_weighed.specs.Weight.{extent_record_bytes, has_record, has_reference, is_alike, lacking, reference_bytes};
+ghost use Rattle.qg_weighed.specs.Weight.{extent_record_bytes, has_record, has_reference, is_alike};
+ghost use Rattle.qg_weighed.specs.Weight.{lacking, reference_bytes};
 
 use qg_extents::Extents;
 use qg_items::{EXTENT_DATA_REF_BYTES, EXTENT_ITEM_BYTES, SHARED_DATA_REF_BYTES};
@@ -32,12 +33,7 @@ pub(crate) fn lacking(
 }
 
 // What a reference more takes that is not there yet.
-fn lacking_of(
-    held: Option<&Kept>,
-    here: Option<&Kept>,
-    what: &What,
-    reference: &Reference,
-) -> u64
+fn lacking_of(held: Option<&Kept>, here: Option<&Kept>, what: &What, reference: &Reference) -> u64
     ensures { let there = option_copied held.entry in result
         ≡ (if has_reference there reference.now then 0 else reference_bytes reference.now)
         + (if has_record there what.now || is_some (option_copied here.entry) then 0 else extent_record_bytes) }

@@ -86,9 +86,14 @@ fn sums(weighed: &mut Weighed) -> Result<[u64; 7], NoMemory> {
 #[test]
 fn a_commit_lets_go_what_it_held(rt: HostRuntime) -> Result<(), Fail> {
     let mut weighed = Weighed::new(Extents::new(rt.alloc()))?;
-    // A record takes 25 and 24, a reference to data 25 and 28, one to a node 25. One that counts 2 takes no more; what
-    // is held is counted as long as it is held; a node at the same place is another record.
+    // A record takes 25 and 24, a reference to data 25 and 28, one to a node 25. So the extent with one file's
+    // reference takes 49 + 53; counted twice it takes no more. The other file's takes 53 more, also once it is dropped,
+    // until a commit lets it go. What is held takes its 102 when nothing is left, and a node at the same place is
+    // another record: 49 + 25 more.
     let wanted = [102, 102, 155, 155, 102, 102, 176];
     assert_eq!(rt; sums(&mut weighed)?, wanted);
+    // Of an image that is opened with that node alone, nothing else is held.
+    let opened = Weighed::new(weighed.refs().copy(rt.alloc())?)?;
+    assert_eq!(rt; opened.bytes(), 74);
     Ok(())
 }

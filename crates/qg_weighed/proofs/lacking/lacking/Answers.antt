@@ -1,4 +1,4 @@
-use Rattle.std.proofs.Common.{◌≡◌, ap, subst, sym, ◌∙◌, Option}
+use Rattle.std.proofs.Common.{ap, sym, ◌∙◌, Option}
 use Rattle.std.specs.Option.{option_copied}
 use Rattle.qg_refs.specs.declared.kept.Kept.{Kept}
 use Rattle.qg_extents.specs.Table.{book_of}

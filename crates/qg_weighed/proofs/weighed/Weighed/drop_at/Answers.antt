@@ -1,5 +1,4 @@
-use Rattle.std.proofs.Common.{◌<◌, List, ℕ, ap, subst, sym, ◌∙◌}
-use Rattle.qg_refs.specs.declared.kept.Kept.{Kept}
+use Rattle.std.proofs.Common.{◌<◌, subst, sym, ◌∙◌}
 use Rattle.qg_refs.specs.Book.{count_at}
 use Rattle.qg_extents.specs.Table.{book_of}
 use Rattle.qg_weighed.specs.Weight.{Books}
@@ -10,7 +9,8 @@ pub unreachable-requires : goal.unreachable-requires
 unreachable-requires c =
     let some = subst (λ (books : Books). 0 < count_at (book_of books.refs) c.args.at c.args.reference.now)
     (sym c.self.view_is) c.requires in
-    unknown-none (book_of c.self.inside.refs c.args.at) c.args.reference.now (sym c.in_default.is ∙ c.known.ensures) some
+    unknown-none (book_of c.self.inside.refs c.args.at) c.args.reference.now
+    (sym c.in_default.is ∙ c.known.ensures) some
 
 pub overflow_sub-self : goal.overflow_sub-self
 overflow_sub-self c =
