@@ -1,18 +1,18 @@
 -- What exchanges of a file's pieces make of items, names and sums (this project's own).
 --
 -- Positions, lengths and sizes are in bytes.
-use Rattle.std.specs.Prelude.{◌≡◌, ℕ, ◌+◌, ◌≤◌, List, [], ◌++◌, map, length, Some, None, IsTrue, Contains}
+use Rattle.std.specs.Prelude.{◌≡◌, ℕ, ◌+◌, ◌^◌, ◌<◌, ◌≤◌, List, [], ◌++◌, map, length, Some, None, IsTrue, Contains}
 use Rattle.std.specs.List.{All, flat_map}
-use Rattle.std.specs.List.Sorted.{IsPermutation}
+use Rattle.std.specs.List.Sorted.{IsPermutation, IsStrictlyIncreasing}
 use Rattle.qg_num.specs.declared.piece.Piece.{Piece}
 use Rattle.qg_node.specs.declared.item.Item.{Item}
 use Rattle.qg_items.specs.declared.extent.Reference.{Reference}
 use Rattle.qg_image.specs.declared.file.File.{File}
 use Rattle.qg_image.specs.FilesOf.{are_pieces, pieces_bytes}
-use Rattle.qg_image.specs.Table.{value_at, with_value, without_key as without_value}
+use Rattle.qg_image.specs.Table.{keys_of, value_at, with_value, without_key as without_value}
 use Rattle.qg_machine.specs.FileChange.{before, moved, pieces_meeting, pieces_or_none, pieces_past, with_pieces, with_range, with_size, within}
 use Rattle.qg_state.specs.Reach.{extent_of}
-use Rattle.qg_rules.specs.Writable.{AreWritableFiles, IsWritableFile}
+use Rattle.qg_rules.specs.Writable.{AreWritableFiles, IsFileBy, IsWritableFile}
 use Rattle.qg_contents.specs.Written.{items_of_file}
 use Rattle.qg_fs_tree.specs.Standing.{names_times}
 use Rattle.qg_file_items.specs.Pieces.{pieces_cut, pieces_met}
@@ -20,7 +20,7 @@ use Rattle.qg_exchange.specs.declared.step.Step.{Step}
 use Rattle.qg_exchange.specs.Steps.{AreSteps, AscendByPosition}
 use Rattle.qg_exchange.specs.Applying.{CanExchange, MakesExchange}
 use Rattle.qg_exchange.specs.Exchange.{IsExchange}
-use Rattle.qg_exchange.specs.Named.{AreNamesExchanged, named, names_of}
+use Rattle.qg_exchange.specs.Named.{AreNamesExchanged, named, names_by, names_of}
 
 -- ---- steps
 
@@ -108,23 +108,25 @@ CutStepsAreFew = (size : ℕ) (old : List Piece) (steps : List Step)
 
 -- ---- names
 
--- files that can be written name what their pieces name, in their order
+-- the items of files that can be written, and that tell no generation past one that fits its field, tell the pieces of
+-- these files, in their order
 abbrev pub NamesAreThoseOfPieces : Type 0
-NamesAreThoseOfPieces = (files : List (ℕ × File)) → AreWritableFiles files
-    → named files ≡ flat_map (λ entry. names_of entry.0 entry.1.pieces) files
+NamesAreThoseOfPieces = (generation : ℕ) (files : List (ℕ × File)) → generation < 2 ^ 64 → AreWritableFiles files
+    → All (IsFileBy generation) files → named files ≡ names_by files
 
--- where pieces of a file are exchanged, so are the names
+-- where pieces of a file are exchanged, or those of one that is made are put in, so are the names
 abbrev pub ExchangesNames : Type 0
 ExchangesNames =
-    (ino : ℕ) (new : File) (gone put : List Piece) (files : List (ℕ × File)) → AreWritableFiles files
-    → IsWritableFile (ino, new) → IsExchange (pieces_or_none (value_at ino files)) new.pieces gone put
-    → AreNamesExchanged (named files) (named (with_value ino new files)) (names_of ino gone) (names_of ino put)
+    (ino : ℕ) (new : File) (gone put : List Piece) (files : List (ℕ × File)) → IsStrictlyIncreasing (keys_of files)
+    → IsExchange (pieces_or_none (value_at ino files)) new.pieces gone put
+    → AreNamesExchanged (names_by files) (names_by (with_value ino new files)) (names_of ino gone) (names_of ino put)
 
 -- where a file is taken out, its names go
 abbrev pub RemovesNames : Type 0
-RemovesNames = (ino : ℕ) (old : File) (files : List (ℕ × File)) → AreWritableFiles files
+RemovesNames =
+    (ino : ℕ) (old : File) (files : List (ℕ × File)) → IsStrictlyIncreasing (keys_of files)
     → value_at ino files ≡ Some old
-    → AreNamesExchanged (named files) (named (without_value ino files)) (names_of ino old.pieces) []
+    → AreNamesExchanged (names_by files) (names_by (without_value ino files)) (names_of ino old.pieces) []
 
 -- ---- extents
 
@@ -155,7 +157,7 @@ PiecesAreFew = (file : ℕ × File) → IsWritableFile file → length file.1.pi
 -- a name of one file is none of another
 abbrev pub NamesAreFew : Type 0
 NamesAreFew = (owner : ℕ) (files : List (ℕ × File)) → AreWritableFiles files → (at : ℕ) (reference : Reference)
-    → names_times owner (named files) at reference ≤ 268435456
+    → names_times owner (names_by files) at reference ≤ 268435456
 
 -- names count no more than they are, both lists count, and in any order they count the same
 abbrev pub NamesCountOnce : Type 0

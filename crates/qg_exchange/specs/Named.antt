@@ -1,4 +1,4 @@
--- Which pieces name extents, of files as they are written (this project's own).
+-- Which pieces of files name extents (this project's own).
 use Rattle.std.specs.Prelude.{ℕ, List, ◌++◌, map}
 use Rattle.std.specs.List.{filter_map, flat_map}
 use Rattle.std.specs.List.Sorted.{IsPermutation}
@@ -11,7 +11,11 @@ use Rattle.qg_fs_tree.specs.Standing.{name_told}
 abbrev pub names_of : ℕ → List Piece → List (ℕ × Piece)
 names_of ino pieces = map (λ piece. (ino, piece)) pieces
 
--- the pieces that the items of files tell
+-- those of all files
+abbrev pub names_by : List (ℕ × File) → List (ℕ × Piece)
+names_by files = flat_map (λ file. names_of file.0 file.1.pieces) files
+
+-- those that the items of files tell
 abbrev pub named : List (ℕ × File) → List (ℕ × Piece)
 named files = filter_map name_told (flat_map items_of_file files)
 
