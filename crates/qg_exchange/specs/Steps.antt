@@ -1,5 +1,5 @@
 -- The edits by which pieces of a file are exchanged for others (this project's own). Positions are in bytes.
-use Rattle.std.specs.Prelude.{◌≡◌, ℕ, ◌==◌, List, [], ◌∷◌, map, Option, Some, None, if◌then◌else◌}
+use Rattle.std.specs.Prelude.{◌≡◌, ℕ, ◌==◌, nat_lt, List, [], ◌∷◌, map, Option, Some, None, if◌then◌else◌}
 use Rattle.std.specs.List.Sorted.{IsStrictlyIncreasing}
 use Rattle.qg_num.specs.declared.piece.Piece.{Piece}
 use Rattle.qg_file_items.specs.Bodies.{piece_at}
@@ -33,3 +33,18 @@ pub record AreSteps (gone put : List Piece) (steps : List Step) : Type 0 where
   pub ascending : IsStrictlyIncreasing (map position_of steps)
   pub wanted : (position : ℕ)
       → step_at position steps ≡ step_for position (piece_at position gone) (piece_at position put)
+
+-- ---- the first of them
+
+-- of two pieces, the step at the lesser position
+abbrev pub first_of : Piece → Piece → Step
+first_of gone put =
+    if nat_lt gone.position put.position then Remove gone.position
+    else (if nat_lt put.position gone.position then Insert put else Replace put)
+
+-- of two lists, the step at the least position
+abbrev pub first_between : List Piece → List Piece → Option Step
+first_between [] [] = None
+first_between [] (put ∷ later) = Some (Insert put)
+first_between (gone ∷ later) [] = Some (Remove gone.position)
+first_between (gone ∷ later) (put ∷ others) = Some (first_of gone put)

@@ -1,7 +1,7 @@
 // The edits between two lists of pieces of one file.
-ghost use Rattle.std.specs.Prelude.{◌+◌, ◌≤◌, IfOk, length};
+ghost use Rattle.std.specs.Prelude.{◌≡◌, ◌+◌, ◌≤◌, IfOk, length};
 ghost use Rattle.qg_files.specs.Apart.{AreApart};
-ghost use Rattle.qg_exchange.specs.Steps.{AreSteps};
+ghost use Rattle.qg_exchange.specs.Steps.{AreSteps, first_between, first_of};
 
 use crate::Step;
 use qg_num::{NoMemory, Piece, Pieces};
@@ -15,16 +15,16 @@ pub fn steps_between(gone: &Pieces, put: &Pieces) -> Result<Vec<Step>, NoMemory>
     ensures few { IfOk result (λ steps. length steps.items ≤ length gone.now + length put.now) }
 {
     let mut steps = Vec::new(gone.allocator());
-    let mut gone = gone.as_slice();
-    let mut put = put.as_slice();
-    while let Some(step) = first_step(gone, put) {
+    let mut gone_left = gone.as_slice();
+    let mut put_left = put.as_slice();
+    while let Some(step) = first_step(gone_left, put_left) {
         steps.push(step)?;
         match step {
-            Step::Remove(_) => gone = &gone[1..],
-            Step::Insert(_) => put = &put[1..],
+            Step::Remove(_) => gone_left = &gone_left[1..],
+            Step::Insert(_) => put_left = &put_left[1..],
             Step::Replace(_) => {
-                gone = &gone[1..];
-                put = &put[1..];
+                gone_left = &gone_left[1..];
+                put_left = &put_left[1..];
             }
         }
     }
@@ -32,7 +32,9 @@ pub fn steps_between(gone: &Pieces, put: &Pieces) -> Result<Vec<Step>, NoMemory>
 }
 
 /// The edit at the least position of two lists of pieces, or none where both are empty.
-fn first_step(gone: &[Piece], put: &[Piece]) -> Option<Step> {
+fn first_step(gone: &[Piece], put: &[Piece]) -> Option<Step>
+    ensures { result ≡ first_between gone.now put.now }
+{
     match (gone.first(), put.first()) {
         (None, None) => None,
         (Some(gone), None) => Some(Step::Remove(gone.position)),
@@ -42,7 +44,9 @@ fn first_step(gone: &[Piece], put: &[Piece]) -> Option<Step> {
 }
 
 /// The first edit of two that begin with these pieces.
-fn step_of(gone: &Piece, put: &Piece) -> Step {
+fn step_of(gone: &Piece, put: &Piece) -> Step
+    ensures { result ≡ first_of gone.now put.now }
+{
     if gone.position < put.position {
         Step::Remove(gone.position)
     } else if put.position < gone.position {
