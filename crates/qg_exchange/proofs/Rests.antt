@@ -4,7 +4,7 @@ use Rattle.std.specs.Prelude.{Contains, nat_lt}
 use Rattle.std.specs.Bool.{then_some}
 use Rattle.std.specs.List.{All, AllByRecursion, cons_option}
 use Rattle.std.proofs.lemmas.Bool.{cases_Bool}
-use Rattle.std.proofs.lemmas.List.Elements.{All-contains_itself, All-from_map, All-from_recursion, All-append, All-nil, recursion_from_All}
+use Rattle.std.proofs.lemmas.List.Elements.{All-append, All-contains_itself, All-from_recursion, All-nil, recursion_from_All}
 use Rattle.qg_num.specs.declared.piece.Piece.{Piece}
 use Rattle.qg_image.specs.FilesOf.{piece_end}
 use Rattle.qg_machine.specs.FileChange.{after, before, part_after, part_before, with_range, within}
@@ -46,11 +46,18 @@ module _ (P : Element → Type 0) where
 abbrev Named : List Piece → Element → Type 0
 Named pieces extent = Contains (map extent_of pieces) extent
 
+-- what is true of extents is true of those of the pieces
+of_pieces : (P : Element → Type 0) (pieces : List Piece) → AllByRecursion P (map extent_of pieces)
+    → AllByRecursion (λ piece. P (extent_of piece)) pieces
+of_pieces P [] all = tt
+of_pieces P (piece ∷ pieces) all = (all.0, of_pieces P pieces all.1)
+
 -- each piece names one of them
 named_itself : (pieces : List Piece) → AllByRecursion (λ piece. Named pieces (extent_of piece)) pieces
 named_itself pieces =
-    recursion_from_All (λ (piece : Piece). Named pieces (extent_of piece)) pieces
-    (All-from_map (Named pieces) extent_of pieces (All-contains_itself (map extent_of pieces)))
+    let extents = map extent_of pieces in
+    of_pieces (Contains extents) pieces
+    (recursion_from_All (Contains extents) extents (All-contains_itself extents))
 
 all_named : (those these : List Piece) → AllByRecursion (λ piece. Named those (extent_of piece)) these
     → NameExtentsOf those these

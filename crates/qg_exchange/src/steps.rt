@@ -18,7 +18,6 @@ pub fn steps_between(gone: &Pieces, put: &Pieces) -> Result<Vec<Step>, NoMemory>
     let mut gone_left = gone.as_slice();
     let mut put_left = put.as_slice();
     while let Some(step) = first_step(gone_left, put_left) {
-        steps.push(step)?;
         match step {
             Step::Remove(_) => gone_left = &gone_left[1..],
             Step::Insert(_) => put_left = &put_left[1..],
@@ -27,6 +26,7 @@ pub fn steps_between(gone: &Pieces, put: &Pieces) -> Result<Vec<Step>, NoMemory>
                 put_left = &put_left[1..];
             }
         }
+        steps.push(step)?;
     }
     Ok(steps)
 }
