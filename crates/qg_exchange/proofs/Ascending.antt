@@ -49,8 +49,8 @@ ascend-front from [] ms ascend = tt
 ascend-front from (n ∷ ns) ms ascend = (ascend.0, ascend-front (n + 1) ns ms ascend.1)
 
 pub ascend-back : (from : ℕ) (ns ms : List ℕ) → AscendFrom from (ns ++ ms) → AscendFrom from ms
+unfolding AscendFrom
 ascend-back from [] ms ascend = ascend
-ascend-back from (n ∷ ns) ms ascend = back where
-  unfolding AscendFrom
-  back : AscendFrom from ms
-  back = ascend-lower (n + 1) from ms (omega (arith, ascend.0)) (ascend-back (n + 1) ns ms ascend.1)
+ascend-back from (n ∷ ns) ms ascend =
+    let later = ascend-back (n + 1) ns ms ascend.1 in
+    ascend-lower (n + 1) from ms (omega (arith, ascend.0)) later

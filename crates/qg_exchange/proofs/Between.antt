@@ -19,6 +19,13 @@ pub record AreStepsFrom (from : ℕ) (gone put : List Piece) (steps : List Step)
   pub wanted : (position : ℕ)
       → step_at position steps ≡ step_for position (piece_at position gone) (piece_at position put)
 
+-- the step of two pieces that are known
+steps_same : (position : ℕ) (gone out put new : Option Piece) → gone ≡ out → put ≡ new
+    → step_for position out new ≡ step_for position gone put
+steps_same position gone out put new gone_is put_is =
+    sym (ap (λ (o : Option Piece). step_for position o put) gone_is
+    ∙ ap (λ (o : Option Piece). step_for position out o) put_is)
+
 -- ---- one more step in front
 
 -- of a position at which one step stands, and no piece of the rest
@@ -102,7 +109,7 @@ module _ (gone put : List Piece) (done : List Step) where
         let none = none-in_front (at + 1) at put_left behind (omega arith) in
         let there = at-here at old gone_left refl in
         let here : ◌≡◌ (Some (Remove at)) (step_for at (piece_at at (old ∷ gone_left)) (piece_at at put_left)) =
-        rw (there, none) refl
+        steps_same at (piece_at at (old ∷ gone_left)) (Some old) (piece_at at put_left) None there none
         in
         step-done (Remove at) at (old ∷ gone_left) put_left gone_left put_left between between.gone_ascend.1 behind
         (omega arith)
@@ -121,7 +128,7 @@ module _ (gone put : List Piece) (done : List Step) where
         let none = none-in_front (at + 1) at gone_left behind (omega arith) in
         let there = at-here at new put_left refl in
         let here : ◌≡◌ (Some (Insert new)) (step_for at (piece_at at gone_left) (piece_at at (new ∷ put_left))) =
-        rw (there, none) refl
+        steps_same at (piece_at at gone_left) None (piece_at at (new ∷ put_left)) (Some new) none there
         in
         step-done (Insert new) at gone_left (new ∷ put_left) gone_left put_left between behind between.put_ascend.1
         (omega arith)
@@ -141,7 +148,8 @@ module _ (gone put : List Piece) (done : List Step) where
         let put_there = at-here at new put_left refl in
         let here : ◌≡◌ (Some (Replace new))
             (step_for at (piece_at at (old ∷ gone_left)) (piece_at at (new ∷ put_left))) =
-        rw (gone_there, put_there) refl
+        steps_same at (piece_at at (old ∷ gone_left)) (Some old) (piece_at at (new ∷ put_left)) (Some new) gone_there
+        put_there
         in
         let gone_behind : AscendFrom (at + 1) (positions gone_left) =
         subst (λ (n : ℕ). AscendFrom (n + 1) (positions gone_left)) same between.gone_ascend.1
@@ -259,9 +267,15 @@ made-less step (old ∷ gone_left) (new ∷ put_left) is =
     let same : first_of old new ≡ step = cc in
     subst (λ (s : Step). IsMade s (old ∷ gone_left) (new ∷ put_left)) same
     (elim (cases_lt old.position new.position) [
-      | inl less ↦ rw (first-removes old new less) (omega arith)
+      | inl less ↦
+          subst (λ (s : Step). IsMade s (old ∷ gone_left) (new ∷ put_left)) (sym (first-removes old new less))
+          (omega arith)
       | inr past ↦ elim (cases_eq old.position new.position) [
-        | inl equal ↦ rw (first-replaces old new equal) (omega arith)
-        | inr differ ↦ rw (first-inserts old new (omega (arith, past, differ))) (omega arith)
+        | inl equal ↦
+            subst (λ (s : Step). IsMade s (old ∷ gone_left) (new ∷ put_left)) (sym (first-replaces old new equal))
+            (omega arith)
+        | inr differ ↦
+            subst (λ (s : Step). IsMade s (old ∷ gone_left) (new ∷ put_left))
+            (sym (first-inserts old new (omega (arith, past, differ)))) (omega arith)
       ]
     ])

@@ -11,7 +11,6 @@ use Rattle.std.proofs.lemmas.List.Sums.{sum_by-cons}
 use Rattle.qg_num.specs.declared.piece.Piece.{Piece}
 use Rattle.qg_items.specs.declared.extent.Reference.{Reference}
 use Rattle.qg_items.specs.declared.extent.Reference.TheVariants.{KeyedBlock, SharedBlock, KeyedData, SharedData}
-use Rattle.qg_super.specs.Places.{sector}
 use Rattle.qg_image.specs.declared.file.File.{File}
 use Rattle.qg_image.specs.FilesOf.{are_pieces, piece_end}
 use Rattle.qg_image.proofs.Pieces.{FirstPiece-are_pieces, WholeFile-is_file, WholePiece-is_piece}
@@ -29,7 +28,7 @@ use Rattle.qg_exchange.specs.Named.{names_by, names_of}
 -- ---- the pieces of a file
 
 -- whole sectors, of which there are some
-whole_sector : (len : ℕ) → len % sector ≡ 0 → 0 < len → sector ≤ len
+whole_sector : (len : ℕ) → len % 4096 ≡ 0 → 0 < len → 4096 ≤ len
 whole_sector len whole some = omega (arith, whole, some)
 
 -- each has a sector at least
@@ -42,7 +41,7 @@ pieces_long from size (piece ∷ pieces) are =
     let whole = WholePiece-is_piece piece first.is in
     let some = whole.some in
     let begins = first.begins in
-    let sectors : sector ≤ piece.len = whole_sector piece.len whole.len some in
+    let sectors : 4096 ≤ piece.len = whole_sector piece.len whole.len some in
     let later : piece.position + piece.len + 4096 * length pieces ≤ size =
     pieces_long (piece_end piece) size pieces first.rest
     in

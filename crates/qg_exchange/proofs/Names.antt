@@ -28,22 +28,26 @@ use Rattle.qg_exchange.specs.Named.{AreNamesExchanged, named, names_by, names_of
 
 -- ---- what items tell
 
+inode_told : (ino : ℕ) (file : File) → InodeFits (inode_of file)
+    → file_part (item_of_inode ino file) ≡ Some (Inode ino (inode_of file))
+unfolding file_part
+inode_told ino file fits = rw (eq-eqb ino ino refl, inode_read-inode_text (inode_of file) fits) refl
+
 inode_names : (ino : ℕ) (file : File) → InodeFits (inode_of file) → name_told (item_of_inode ino file) ≡ None
-inode_names ino file fits = ap piece_in told where
-  unfolding file_part
-  told : file_part (item_of_inode ino file) ≡ Some (Inode ino (inode_of file))
-  told = rw (eq-eqb ino ino refl, inode_read-inode_text (inode_of file) fits) refl
+inode_names ino file fits = ap piece_in (inode_told ino file fits)
+
+piece_told : (ino : ℕ) (piece : Piece) → ExtentDataFits (extent_data_of piece)
+    → file_part (item_of_piece ino piece) ≡ Some (PieceOf ino piece)
+unfolding file_part
+piece_told ino piece fits = rw (
+  eq-eqb ino ino refl,
+  extent_data_read-extent_data_text (extent_data_of piece) fits,
+  eq-eqb piece.extent_bytes piece.extent_bytes refl,
+) refl
 
 piece_names : (ino : ℕ) (piece : Piece) → ExtentDataFits (extent_data_of piece)
     → name_told (item_of_piece ino piece) ≡ Some (ino, piece)
-piece_names ino piece fits = ap piece_in told where
-  unfolding file_part
-  told : file_part (item_of_piece ino piece) ≡ Some (PieceOf ino piece)
-  told = rw (
-    eq-eqb ino ino refl,
-    extent_data_read-extent_data_text (extent_data_of piece) fits,
-    eq-eqb piece.extent_bytes piece.extent_bytes refl,
-  ) refl
+piece_names ino piece fits = ap piece_in (piece_told ino piece fits)
 
 pieces_name : (ino : ℕ) (pieces : List Piece) → AllByRecursion (λ piece. ExtentDataFits (extent_data_of piece)) pieces
     → filter_map name_told (map (item_of_piece ino) pieces) ≡ names_of ino pieces
