@@ -20,10 +20,10 @@ pub record AreStepsFrom (from : ℕ) (gone put : List Piece) (steps : List Step)
       → step_at position steps ≡ step_for position (piece_at position gone) (piece_at position put)
 
 -- the step of two pieces that are known
-steps_same : (position : ℕ) (gone out put new : Option Piece) → gone ≡ out → put ≡ new
-    → step_for position out new ≡ step_for position gone put
-steps_same position gone out put new gone_is put_is =
-    sym (ap (λ (o : Option Piece). step_for position o put) gone_is
+steps_same : (position : ℕ) (old out put new : Option Piece) → old ≡ out → put ≡ new
+    → step_for position out new ≡ step_for position old put
+steps_same position old out put new old_is put_is =
+    sym (ap (λ (o : Option Piece). step_for position o put) old_is
     ∙ ap (λ (o : Option Piece). step_for position out o) put_is)
 
 -- ---- one more step in front
@@ -64,14 +64,22 @@ pub record Between (gone put : List Piece) (done : List Step) (gone_left put_lef
   pub goes_on : (rest : List Step) → AreStepsFrom from gone_left put_left rest → AreStepsFrom 0 gone put (done ++ rest)
   pub few : length done + (length gone_left + length put_left) ≤ length gone + length put
 
-pub between-begin : (gone put : List Piece) → AreApart gone → AreApart put → Between gone put [] gone put
-between-begin gone put gone_apart put_apart = record {
+nothing_done : (gone put : List Piece) → AreApart gone → AreApart put → Between gone put [] gone put
+nothing_done gone put gone_apart put_apart = record {
   from = 0;
   gone_ascend = apart-ascend 0 gone gone_apart;
   put_ascend = apart-ascend 0 put put_apart;
   goes_on = λ rest steps. steps;
   few = omega arith;
 }
+
+pub between-begin : (gone put : List Piece) (done : List Step) (gone_left put_left : List Piece) → done ≡ []
+    → gone_left ≡ gone → put_left ≡ put → AreApart gone → AreApart put → Between gone put done gone_left put_left
+between-begin gone put done gone_left put_left none gone_is put_is gone_apart put_apart =
+    subst (λ (steps : List Step). Between gone put steps gone_left put_left) (sym none)
+    (subst (λ (pieces : List Piece). Between gone put [] pieces put_left) (sym gone_is)
+    (subst (λ (pieces : List Piece). Between gone put [] gone pieces) (sym put_is)
+    (nothing_done gone put gone_apart put_apart)))
 
 module _ (gone put : List Piece) (done : List Step) where
   -- a step more, where it leads from what is left to what is left then
@@ -237,6 +245,18 @@ module _ (gone put : List Piece) (done : List Step) where
       let same : first_of old new ≡ step = cc in
       subst (λ (s : Step). Then s (old ∷ gone_left) (new ∷ put_left)) same
       (both_left old new gone_left put_left between)
+
+  -- so it is of lists that are known to be these
+  pub between-then : (step : Step) (gone_left put_left : List Piece) (steps : List Step) (gone_then put_then : List Piece)
+      → ◌≡◌ (Some step) (first_between gone_left put_left) → Between gone put done gone_left put_left
+      → steps ≡ done ++ step ∷ [] → gone_then ≡ gone_after step gone_left → put_then ≡ put_after step put_left
+      → Between gone put steps gone_then put_then
+  between-then step gone_left put_left steps gone_then put_then is between steps_are gone_is put_is =
+      subst (λ (all : List Step). Between gone put all gone_then put_then) (sym steps_are)
+      (subst (λ (pieces : List Piece). Between gone put (done ++ step ∷ []) pieces put_then) (sym gone_is)
+      (subst (λ (pieces : List Piece). Between gone put (done ++ step ∷ []) (gone_after step gone_left) pieces)
+      (sym put_is)
+      (between-step step gone_left put_left is between)))
 
   -- where there is none, all is done
   pub between-end : (gone_left put_left : List Piece) → ◌≡◌ None (first_between gone_left put_left)

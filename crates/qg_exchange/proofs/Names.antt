@@ -3,24 +3,29 @@ use Rattle.std.proofs.Common.{◌≡◌, ℕ, ◌+◌, ◌<◌, ◌≤◌, ◌^�
 use Rattle.std.specs.Prelude.{Bool, All, Option, ◌==◌, not, nat_lt}
 use Rattle.std.specs.List.{AllByRecursion, filter, filter_map, flat_map}
 use Rattle.std.specs.List.Sorted.{IsPermutation, IsStrictlyIncreasing}
+use Rattle.std.specs.Option.{option_map}
 use Rattle.std.proofs.lemmas.Bool.{cases_Bool, eq-eqb, eqb-true, eqb-false, le-ltb, ltb-false, ltb-true, ne_eqb}
 use Rattle.std.proofs.lemmas.List.{append-nil, map-append}
 use Rattle.std.proofs.lemmas.List.Elements.{filter_map-append, recursion_from_All}
 use Rattle.std.proofs.lemmas.List.Sorted.{IsPermutation-append_comm, IsPermutation-append_left, IsPermutation-refl}
-use Rattle.std.proofs.lemmas.Option.{none-some}
 use Rattle.qg_num.specs.declared.piece.Piece.{Piece}
 use Rattle.qg_node.specs.declared.item.Item.{Item}
-use Rattle.qg_items.specs.Laws.{ExtentDataFits, InodeFits}
-use Rattle.qg_items.proofs.FileBodies.{extent_data_read-extent_data_text, inode_read-inode_text}
+use Rattle.qg_items.specs.declared.file.InodeItem.{InodeItem}
+use Rattle.qg_items.specs.ItemReading.{inode_read}
+use Rattle.qg_items.specs.ItemText.{inode_text}
+use Rattle.qg_items.specs.Laws.{ExtentDataFits}
+use Rattle.qg_items.proofs.FileBodies.{extent_data_read-extent_data_text}
 use Rattle.qg_image.specs.declared.file.File.{File}
 use Rattle.qg_image.specs.declared.part.FilePart.{FilePart}
 use Rattle.qg_image.specs.declared.part.FilePart.TheVariants.{Inode, PieceOf}
-use Rattle.qg_image.specs.ItemMeaning.{file_part}
+use Rattle.qg_image.specs.ItemMeaning.{◌orelse◌, file_part}
+use Rattle.qg_image.specs.FilesOf.{are_pieces, piece_end}
+use Rattle.qg_image.proofs.Pieces.{FirstPiece-are_pieces, WholeFile-is_file, WholePiece-is_piece}
 use Rattle.qg_image.specs.Table.{keys_of, value_at, with_value, without_key as without_value}
 use Rattle.qg_machine.specs.FileChange.{pieces_or_none}
-use Rattle.qg_rules.specs.Writable.{AreWritableFiles, IsFileBy, IsWritableFile}
+use Rattle.qg_rules.specs.Writable.{AreWritableFiles, IsFileBy, IsPlaced, IsWritableFile}
 use Rattle.qg_contents.specs.Written.{extent_data_of, inode_of, item_of_inode, item_of_piece, items_of_file}
-use Rattle.qg_contents.proofs.FileBounds.{FileFits, file_fits}
+use Rattle.qg_file_items.proofs.Pieces.{range-order}
 use Rattle.qg_subvol.proofs.Ascending.{Ascends, Ascends-increasing, all_past}
 use Rattle.qg_fs_tree.specs.Standing.{name_told, piece_in}
 use Rattle.qg_exchange.specs.Exchange.{IsExchange}
@@ -28,13 +33,13 @@ use Rattle.qg_exchange.specs.Named.{AreNamesExchanged, named, names_by, names_of
 
 -- ---- what items tell
 
-inode_told : (ino : ℕ) (file : File) → InodeFits (inode_of file)
-    → file_part (item_of_inode ino file) ≡ Some (Inode ino (inode_of file))
-unfolding file_part
-inode_told ino file fits = rw (eq-eqb ino ino refl, inode_read-inode_text (inode_of file) fits) refl
+no_piece : (ino : ℕ) (inode : Option InodeItem) → piece_in (option_map (Inode ino) inode orelse None) ≡ None
+no_piece ino None = refl
+no_piece ino (Some inode) = refl
 
-inode_names : (ino : ℕ) (file : File) → InodeFits (inode_of file) → name_told (item_of_inode ino file) ≡ None
-inode_names ino file fits = ap piece_in (inode_told ino file fits)
+inode_names : (ino : ℕ) (file : File) → name_told (item_of_inode ino file) ≡ None
+unfolding file_part
+inode_names ino file = rw (eq-eqb ino ino refl) (no_piece ino (inode_read (inode_text (inode_of file))))
 
 piece_told : (ino : ℕ) (piece : Piece) → ExtentDataFits (extent_data_of piece)
     → file_part (item_of_piece ino piece) ≡ Some (PieceOf ino piece)
@@ -54,17 +59,44 @@ pieces_name : (ino : ℕ) (pieces : List Piece) → AllByRecursion (λ piece. Ex
 pieces_name ino [] fit = refl
 pieces_name ino (piece ∷ pieces) fit = rw (piece_names ino piece fit.0, pieces_name ino pieces fit.1) refl
 
-file_names : (file : ℕ × File) → FileFits file.1
+-- where no generation is past one that fits, the numbers of pieces fit their fields
+pieces_fit : (generation from size : ℕ) (pieces : List Piece) → generation < 2 ^ 64 → size ≤ 2 ^ 40
+    → are_pieces from size pieces ≡ true
+    → AllByRecursion IsPlaced pieces → AllByRecursion (λ piece. piece.stamp ≤ generation) pieces
+    → AllByRecursion (λ piece. ExtentDataFits (extent_data_of piece)) pieces
+pieces_fit generation from size [] small least are placed stamped = tt
+pieces_fit generation from size (piece ∷ pieces) small least are placed stamped =
+    let first = FirstPiece-are_pieces from size piece pieces are in
+    let ends : piece.position + piece.len ≤ size = range-order (piece_end piece) size pieces first.rest in
+    let inside : piece.offset + piece.len ≤ piece.extent_bytes = (WholePiece-is_piece piece first.is).in_extent in
+    let address : piece.extent < 2 ^ 64 = placed.0.address in
+    let bytes : piece.extent_bytes < 2 ^ 64 = placed.0.bytes in
+    let stamp : piece.stamp ≤ generation = stamped.0 in
+    let fits : ExtentDataFits (extent_data_of piece) = record {
+      generation = omega arith;
+      ram_bytes = bytes;
+      disk_bytenr = address;
+      disk_num_bytes = bytes;
+      offset = omega arith;
+      num_bytes = omega arith;
+    } in
+    (fits, pieces_fit generation (piece_end piece) size pieces small least first.rest placed.1 stamped.1)
+
+file_names : (generation : ℕ) (file : ℕ × File) → generation < 2 ^ 64 → IsWritableFile file → IsFileBy generation file
     → filter_map name_told (items_of_file file) ≡ names_of file.0 file.1.pieces
-file_names file fits = rw (inode_names file.0 file.1 fits.inode) (pieces_name file.0 file.1.pieces fits.pieces)
+file_names generation file small is by =
+    let whole = WholeFile-is_file file.1 is.sound in
+    let placed = recursion_from_All IsPlaced file.1.pieces is.placed in
+    let stamped = recursion_from_All (λ (piece : Piece). piece.stamp ≤ generation) file.1.pieces by.stamped in
+    let fit = pieces_fit generation 0 file.1.size file.1.pieces small whole.least whole.pieces placed stamped in
+    rw (inode_names file.0 file.1) (pieces_name file.0 file.1.pieces fit)
 
 files_name : (generation : ℕ) (files : List (ℕ × File)) → generation < 2 ^ 64 → AllByRecursion IsWritableFile files
     → AllByRecursion (IsFileBy generation) files → named files ≡ names_by files
 files_name generation [] small are by = refl
 files_name generation (file ∷ files) small are by =
     filter_map-append name_told (items_of_file file) (flat_map items_of_file files)
-    ∙ ap (λ (names : List (ℕ × Piece)). names ++ named files)
-    (file_names file (file_fits generation file small are.0 by.0))
+    ∙ ap (λ (names : List (ℕ × Piece)). names ++ named files) (file_names generation file small are.0 by.0)
     ∙ ap (λ (names : List (ℕ × Piece)). names_of file.0 file.1.pieces ++ names)
     (files_name generation files small are.1 by.1)
 
