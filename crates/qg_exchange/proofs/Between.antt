@@ -195,11 +195,6 @@ put_after (Remove position) put = put
 put_after (Insert piece) put = drop 1 put
 put_after (Replace piece) put = drop 1 put
 
--- so much of both is there
-abbrev pub IsMade : Step → List Piece → List Piece → Type 0
-IsMade step gone_left put_left = length (gone_after step gone_left) + length (put_after step put_left) + 1
-    ≤ length gone_left + length put_left
-
 module _ (gone put : List Piece) (done : List Step) where
   abbrev Then : Step → List Piece → List Piece → Type 0
   Then step gone_left put_left =
@@ -271,31 +266,3 @@ module _ (gone put : List Piece) (done : List Step) where
   between-end [] (new ∷ put_left) is between = absurd cc
   between-end (old ∷ gone_left) [] is between = absurd cc
   between-end (old ∷ gone_left) (new ∷ put_left) is between = absurd cc
-
--- ---- one step makes less
-
-pub made-less : (step : Step) (gone_left put_left : List Piece) → ◌≡◌ (Some step) (first_between gone_left put_left)
-    → IsMade step gone_left put_left
-made-less step [] [] is = absurd cc
-made-less step [] (new ∷ put_left) is =
-    let same : Insert new ≡ step = cc in
-    subst (λ (s : Step). IsMade s [] (new ∷ put_left)) same (omega arith)
-made-less step (old ∷ gone_left) [] is =
-    let same : Remove old.position ≡ step = cc in
-    subst (λ (s : Step). IsMade s (old ∷ gone_left) []) same (omega arith)
-made-less step (old ∷ gone_left) (new ∷ put_left) is =
-    let same : first_of old new ≡ step = cc in
-    subst (λ (s : Step). IsMade s (old ∷ gone_left) (new ∷ put_left)) same
-    (elim (cases_lt old.position new.position) [
-      | inl less ↦
-          subst (λ (s : Step). IsMade s (old ∷ gone_left) (new ∷ put_left)) (sym (first-removes old new less))
-          (omega arith)
-      | inr past ↦ elim (cases_eq old.position new.position) [
-        | inl equal ↦
-            subst (λ (s : Step). IsMade s (old ∷ gone_left) (new ∷ put_left)) (sym (first-replaces old new equal))
-            (omega arith)
-        | inr differ ↦
-            subst (λ (s : Step). IsMade s (old ∷ gone_left) (new ∷ put_left))
-            (sym (first-inserts old new (omega (arith, past, differ)))) (omega arith)
-      ]
-    ])

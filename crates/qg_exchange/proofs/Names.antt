@@ -154,7 +154,7 @@ module _ (ino : ℕ) where
       → AreNamesAround ino (entry ∷ files)
   around_here entry files same past =
       let here : (entry.0 == ino) ≡ true = eq-eqb entry.0 ino same in
-      let behind : nat_lt ino entry.0 ≡ false = le-ltb entry.0 ino (omega (arith, same)) in
+      let behind : nat_lt ino entry.0 ≡ false = le-ltb ino entry.0 (omega (arith, same)) in
       let kept : without_value entry.0 files ≡ files = kept_past entry.0 files past in
       let kept_too : without_value ino files ≡ files = subst (λ (n : ℕ). without_value n files ≡ files) same kept in
       let first : names_of entry.0 entry.1.pieces ≡ names_of ino entry.1.pieces =
@@ -175,7 +175,7 @@ module _ (ino : ℕ) where
       → AreNamesAround ino (entry ∷ files)
   around_later entry files less later =
       let differ : (entry.0 == ino) ≡ false = ne_eqb entry.0 ino (λ same. omega (arith, same)) in
-      let behind : nat_lt ino entry.0 ≡ false = le-ltb entry.0 ino (omega arith) in
+      let behind : nat_lt ino entry.0 ≡ false = le-ltb ino entry.0 (omega arith) in
       let first = names_of entry.0 entry.1.pieces in
       let in_front : (names : List (ℕ × Piece))
           → first ++ ((later.front ++ names) ++ later.back) ≡ ((first ++ later.front) ++ names) ++ later.back =

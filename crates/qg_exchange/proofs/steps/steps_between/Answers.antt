@@ -1,6 +1,9 @@
-use Rattle.std.proofs.Common.{◌≡◌, ◌++◌, ◌∷◌, [], Some, None, rules}
+use Rattle.std.proofs.Common.{◌≡◌, ◌++◌, ◌∷◌, [], Bor, List, Some, None, ap, sym, ◌∙◌, arith, drop, rules}
+use Rattle.std.proofs.lemmas.Grind.{common_steps}
+use Rattle.qg_num.specs.declared.piece.Piece.{Piece}
+use Rattle.qg_exchange.specs.declared.step.Step.{Step}
 use Rattle.qg_exchange.specs.Steps.{first_between}
-use Rattle.qg_exchange.proofs.Between.{between-begin, between-end, between-then, gone_after, made-less, put_after}
+use Rattle.qg_exchange.proofs.Between.{between-begin, between-end, between-then, gone_after, put_after}
 use Rattle.qg_exchange.proofs.steps.steps_between.Goals.{in-Remove, in-Insert, in-Replace}
 use Rattle.qg_exchange.proofs.steps.steps_between.Goals as goal
 
@@ -12,34 +15,49 @@ loop-step-init c =
 
 pub loop-step-preserved : goal.loop-step-preserved
 loop-step-preserved c =
-    let gone = c.loop-step.gone_left.now in
-    let put = c.loop-step.put_left.now in
-    let step = c.in-Some.step in
-    let is : ◌≡◌ (Some step) (first_between gone put) = cc (c.in-Some.is, c.first_step.ensures) in
+    let gone : List Piece = c.loop-step.gone_left.now in
+    let put : List Piece = c.loop-step.put_left.now in
+    let step : Step = c.in-Some.step in
+    let is : ◌≡◌ (Some step) (first_between gone put) = sym c.in-Some.is ∙ c.first_step.ensures in
+    let then =
+    between-then c.args.gone.now c.args.put.now c.loop-step.steps.items step gone put c.push.new.self.items
+    c.match-step.gone_left.now c.match-step.put_left.now is c.loop-step.invariant c.in_ok-push.ensures.items
+    in
     elim c.match-step.branch [
       | in-Remove w ↦
-          let a = w.in-Remove in
-          let b = w.gone_left-is in
-          let d = w.put_left-is in
-          between-then c.args.gone.now c.args.put.now c.loop-step.steps.items step gone put c.push.new.self.items
-          c.match-step.gone_left.now c.match-step.put_left.now is c.loop-step.invariant c.in_ok-push.ensures.items ? ?
+          let gone_is : c.match-step.gone_left.now ≡ drop 1 gone =
+          first_of (search rules, grind (arith, common_steps))
+          in
+          let put_is : c.match-step.put_left.now ≡ put = ap (λ (b : Bor (List Piece)). b.now) w.put_left-is in
+          then (gone_is ∙ sym (ap (λ (s : Step). gone_after s gone) w.in-Remove.is))
+          (put_is ∙ sym (ap (λ (s : Step). put_after s put) w.in-Remove.is))
       | in-Insert w ↦
-          let a = w.in-Insert in
-          let b = w.gone_left-is in
-          let d = w.put_left-is in ?
+          let gone_is : c.match-step.gone_left.now ≡ gone = ap (λ (b : Bor (List Piece)). b.now) w.gone_left-is in
+          let put_is : c.match-step.put_left.now ≡ drop 1 put =
+          first_of (search rules, grind (arith, common_steps))
+          in
+          then (gone_is ∙ sym (ap (λ (s : Step). gone_after s gone) w.in-Insert.is))
+          (put_is ∙ sym (ap (λ (s : Step). put_after s put) w.in-Insert.is))
       | in-Replace w ↦
-          let a = w.in-Replace in
-          let b = w.gone_left-is in
-          let d = w.put_left-is in ?
+          let gone_is : c.match-step.gone_left.now ≡ drop 1 gone =
+          first_of (search rules, grind (arith, common_steps))
+          in
+          let put_is : c.match-step.put_left.now ≡ drop 1 put =
+          first_of (search rules, grind (arith, common_steps))
+          in
+          then (gone_is ∙ sym (ap (λ (s : Step). gone_after s gone) w.in-Replace.is))
+          (put_is ∙ sym (ap (λ (s : Step). put_after s put) w.in-Replace.is))
     ]
 
 pub loop-step-smaller : goal.loop-step-smaller
 loop-step-smaller c =
-    elim c.match-step.branch [ in-Remove w ↦ search rules | in-Insert w ↦ search rules | in-Replace w ↦ ? ]
+    elim c.match-step.branch [
+      | in-Remove w ↦ search rules
+      | in-Insert w ↦ search rules
+      | in-Replace w ↦ search rules
+    ]
 
 pub returns-clause-value : goal.returns-clause-value
 returns-clause-value c =
-    let a = c.in_default.is in
-    let b = c.in_default.not-Some in
     between-end c.args.gone.now c.args.put.now c.loop-step.steps.items c.loop-step.gone_left.now
-    c.loop-step.put_left.now ? c.loop-step.invariant
+    c.loop-step.put_left.now (sym c.in_default.is ∙ c.first_step.ensures) c.loop-step.invariant
