@@ -261,8 +261,8 @@ module _ (ino : ℕ) (gone put : List Piece) (steps : List Step) (items : List I
       left_by_step at (piece_at at gone) (piece_at at put) old
       in
       let parts : (body_at key put_items orelse (if is_some (body_at key gone_items) then None else old))
-          ≡ (option_map piece_body (piece_at at put)
-          orelse (if is_some (option_map piece_body (piece_at at gone)) then None else old)) =
+      ≡ (option_map piece_body (piece_at at put)
+      orelse (if is_some (option_map piece_body (piece_at at gone)) then None else old)) =
       rw (pieces_own ino put key own, pieces_own ino gone key own) refl
       in
       steps_own ino key own 0 steps items ascend
@@ -274,7 +274,7 @@ module _ (ino : ℕ) (gone put : List Piece) (steps : List Step) (items : List I
       → body_at key (after_steps ino steps items) ≡ body_at key exchanged
   same_other key other =
       let parts : (body_at key put_items orelse (if is_some (body_at key gone_items) then None else body_at key items))
-          ≡ body_at key items =
+      ≡ body_at key items =
       rw (pieces_other ino put key other, pieces_other ino gone key other) refl
       in
       steps_other ino key other steps items ∙ sym (body_exchanged key ∙ parts)

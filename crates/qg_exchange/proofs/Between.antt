@@ -155,7 +155,7 @@ module _ (gone put : List Piece) (done : List Step) where
         let gone_there = at-here at old gone_left same in
         let put_there = at-here at new put_left refl in
         let here : ◌≡◌ (Some (Replace new))
-            (step_for at (piece_at at (old ∷ gone_left)) (piece_at at (new ∷ put_left))) =
+        (step_for at (piece_at at (old ∷ gone_left)) (piece_at at (new ∷ put_left))) =
         steps_same at (piece_at at (old ∷ gone_left)) (Some old) (piece_at at (new ∷ put_left)) (Some new) gone_there
         put_there
         in

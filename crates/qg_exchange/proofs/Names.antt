@@ -178,7 +178,7 @@ module _ (ino : ℕ) where
       let behind : nat_lt ino entry.0 ≡ false = le-ltb ino entry.0 (omega arith) in
       let first = names_of entry.0 entry.1.pieces in
       let in_front : (names : List (ℕ × Piece))
-          → first ++ ((later.front ++ names) ++ later.back) ≡ ((first ++ later.front) ++ names) ++ later.back =
+      → first ++ ((later.front ++ names) ++ later.back) ≡ ((first ++ later.front) ++ names) ++ later.back =
       λ names. simp append_assoc
       in
       record {
