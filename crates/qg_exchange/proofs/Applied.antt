@@ -1,11 +1,11 @@
 -- Steps on the items of files, one after the other: what they leave under each key.
-use Rattle.std.proofs.Common.{◌≡◌, ℕ, ◌+◌, ◌<◌, ◌≤◌, true, false, List, [], ◌∷◌, map, Some, None, refl, sym, ap, subst, ◌∙◌, arith, inl, inr}
-use Rattle.std.specs.Prelude.{Bool, Option, IsSome, IsTrue, ◌==◌, ◌&&◌, is_some, not, if◌then◌else◌}
+use Rattle.std.proofs.Common.{◌≡◌, ℕ, ◌+◌, ◌<◌, true, false, List, [], ◌∷◌, map, Some, None, refl, sym, ap, subst, ◌∙◌, arith, inl, inr}
+use Rattle.std.specs.Prelude.{Bool, Option, IsSome, ◌==◌, ◌&&◌, is_some, not, if◌then◌else◌}
 use Rattle.std.specs.Option.{option_map}
 use Rattle.std.specs.Ordering.{is_lt, nat_cmp}
 use Rattle.std.specs.Cmp.{nat_cmp_is}
 use Rattle.std.specs.declared.cmp.Ordering.TheVariants.{Less, Equal}
-use Rattle.std.proofs.lemmas.Bool.{and_from, cases_Bool, cases_eq, eq-eqb, eqb-true, ne_eqb}
+use Rattle.std.proofs.lemmas.Bool.{and_from, cases_Bool, cases_eq, eq-eqb, ne_eqb}
 use Rattle.qg_num.specs.declared.key.Key.{Key}
 use Rattle.qg_num.specs.declared.piece.Piece.{Piece}
 use Rattle.qg_num.specs.Key.{key_cmp}
@@ -14,7 +14,6 @@ use Rattle.qg_node.specs.Nodes.{ascends_from, is_ascending}
 use Rattle.qg_image.specs.IsShaped.{same_key}
 use Rattle.qg_image.specs.ItemMeaning.{◌orelse◌}
 use Rattle.qg_contents.specs.Written.{item_of_piece}
-use Rattle.qg_edit.specs.Edits.{has_key}
 use Rattle.qg_edit.proofs.Lists.{keys_of}
 use Rattle.qg_descent.specs.Reading.{body_at}
 use Rattle.qg_file_items.specs.Bodies.{Ascend, piece_at, piece_body}

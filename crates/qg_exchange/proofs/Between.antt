@@ -10,7 +10,7 @@ use Rattle.qg_file_items.proofs.Pieces.{at-here, at-later}
 use Rattle.qg_exchange.specs.declared.step.Step.{Step}
 use Rattle.qg_exchange.specs.declared.step.Step.TheVariants.{Remove, Insert, Replace}
 use Rattle.qg_exchange.specs.Steps.{AreSteps, first_between, first_of, position_of, step_at, step_for}
-use Rattle.qg_exchange.proofs.Ascending.{AscendFrom, ascend-lower, increasing-AscendFrom}
+use Rattle.qg_exchange.proofs.Ascending.{AscendFrom, increasing-AscendFrom}
 use Rattle.qg_exchange.proofs.Positions.{apart-ascend, none-in_front, positions, positions_of, step-here, step-later}
 
 -- steps between two lists, from a position on

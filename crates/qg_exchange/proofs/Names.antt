@@ -1,22 +1,20 @@
 -- Which pieces files name, and which once pieces of one are exchanged.
 use Rattle.std.proofs.Common.{◌≡◌, ℕ, ◌+◌, ◌<◌, ◌≤◌, ◌^◌, true, false, List, [], ◌∷◌, ◌++◌, map, Some, None, refl, sym, ap, subst, ◌∙◌, arith, inl, inr, append_assoc}
-use Rattle.std.specs.Prelude.{Bool, All, Option, ◌==◌, not, nat_lt}
-use Rattle.std.specs.List.{AllByRecursion, filter, filter_map, flat_map}
+use Rattle.std.specs.Prelude.{All, Option, ◌==◌, nat_lt}
+use Rattle.std.specs.List.{AllByRecursion, filter_map, flat_map}
 use Rattle.std.specs.List.Sorted.{IsPermutation, IsStrictlyIncreasing}
 use Rattle.std.specs.Option.{option_map}
 use Rattle.std.proofs.lemmas.Bool.{cases_Bool, eq-eqb, eqb-true, eqb-false, le-ltb, ltb-false, ltb-true, ne_eqb}
-use Rattle.std.proofs.lemmas.List.{append-nil, map-append}
+use Rattle.std.proofs.lemmas.List.{map-append}
 use Rattle.std.proofs.lemmas.List.Elements.{filter_map-append, recursion_from_All}
 use Rattle.std.proofs.lemmas.List.Sorted.{IsPermutation-append_comm, IsPermutation-append_left, IsPermutation-refl}
 use Rattle.qg_num.specs.declared.piece.Piece.{Piece}
-use Rattle.qg_node.specs.declared.item.Item.{Item}
 use Rattle.qg_items.specs.declared.file.InodeItem.{InodeItem}
 use Rattle.qg_items.specs.ItemReading.{inode_read}
 use Rattle.qg_items.specs.ItemText.{inode_text}
 use Rattle.qg_items.specs.Laws.{ExtentDataFits}
 use Rattle.qg_items.proofs.FileBodies.{extent_data_read-extent_data_text}
 use Rattle.qg_image.specs.declared.file.File.{File}
-use Rattle.qg_image.specs.declared.part.FilePart.{FilePart}
 use Rattle.qg_image.specs.declared.part.FilePart.TheVariants.{Inode, PieceOf}
 use Rattle.qg_image.specs.ItemMeaning.{◌orelse◌, file_part}
 use Rattle.qg_image.specs.FilesOf.{are_pieces, piece_end}

@@ -1,5 +1,5 @@
 -- In the items of files that can be written, exchanges of a stretch can be made.
-use Rattle.std.proofs.Common.{◌≡◌, ℕ, ◌+◌, ◌<◌, ◌≤◌, true, List, [], ◌∷◌, ◌++◌, map, Some, None, refl, sym, ap, subst, ◌∙◌, arith, inl, inr}
+use Rattle.std.proofs.Common.{◌≡◌, ℕ, ◌+◌, List, [], ◌∷◌, ◌++◌, Some, None, refl, sym, ap, subst, ◌∙◌, arith, inl, inr}
 use Rattle.std.specs.Prelude.{Option, IsSome, IsTrue, is_some}
 use Rattle.std.specs.List.{flat_map}
 use Rattle.std.specs.Option.{option_and_then, option_map}
@@ -19,7 +19,7 @@ use Rattle.qg_file_items.specs.Bodies.{body_in_file, piece_at, piece_body}
 use Rattle.qg_file_items.specs.Pieces.{pieces_cut, pieces_met}
 use Rattle.qg_file_items.proofs.FileBodies.{body-files}
 use Rattle.qg_file_items.proofs.Numbers.{files-ascend}
-use Rattle.qg_file_items.proofs.Pieces.{at-append, at-here, at-later}
+use Rattle.qg_file_items.proofs.Pieces.{at-append, at-later}
 use Rattle.qg_exchange.specs.Steps.{AscendByPosition}
 use Rattle.qg_exchange.specs.Applying.{CanExchange, key_at}
 use Rattle.qg_exchange.specs.Exchange.{IsExchange}

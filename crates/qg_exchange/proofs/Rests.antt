@@ -1,8 +1,7 @@
 -- What rests of pieces names the extents that they name.
-use Rattle.std.proofs.Common.{◌≡◌, ℕ, Bool, true, false, List, [], ◌∷◌, ◌++◌, map, min, max, ◌+◌, ◌-◌, refl, inl, inr}
+use Rattle.std.proofs.Common.{ℕ, List, [], ◌∷◌, ◌++◌, map, inl, inr}
 use Rattle.std.specs.Prelude.{Contains, nat_lt}
-use Rattle.std.specs.Bool.{then_some}
-use Rattle.std.specs.List.{All, AllByRecursion, cons_option}
+use Rattle.std.specs.List.{AllByRecursion, cons_option}
 use Rattle.std.proofs.lemmas.Bool.{cases_Bool}
 use Rattle.std.proofs.lemmas.List.Elements.{All-append, All-contains_itself, All-from_recursion, All-nil, recursion_from_All}
 use Rattle.qg_num.specs.declared.piece.Piece.{Piece}

@@ -12,7 +12,7 @@ use Rattle.qg_file_items.specs.Bodies.{Ascend, piece_at}
 use Rattle.qg_file_items.specs.FileEdits.{with_items, without_items}
 use Rattle.qg_exchange.specs.declared.step.Step.{Step}
 use Rattle.qg_exchange.specs.declared.step.Step.TheVariants.{Remove, Insert, Replace}
-use Rattle.qg_exchange.specs.Steps.{AscendByPosition, position_of}
+use Rattle.qg_exchange.specs.Steps.{AscendByPosition}
 
 -- the key of a file's EXTENT_DATA at a position
 abbrev pub key_at : ℕ → ℕ → Key

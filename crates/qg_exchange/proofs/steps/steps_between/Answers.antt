@@ -1,4 +1,4 @@
-use Rattle.std.proofs.Common.{◌≡◌, ◌++◌, ◌∷◌, [], Bor, List, Some, None, ap, sym, ◌∙◌, arith, drop, rules}
+use Rattle.std.proofs.Common.{◌≡◌, Bor, List, Some, ap, sym, ◌∙◌, arith, drop, rules}
 use Rattle.std.proofs.lemmas.Grind.{common_steps}
 use Rattle.qg_num.specs.declared.piece.Piece.{Piece}
 use Rattle.qg_exchange.specs.declared.step.Step.{Step}
