@@ -13,6 +13,7 @@ use Rattle.qg_node.specs.declared.item.Item.{Item}
 use Rattle.qg_node.specs.Nodes.{ascends_from, is_ascending}
 use Rattle.qg_image.specs.IsShaped.{same_key}
 use Rattle.qg_image.specs.ItemMeaning.{◌orelse◌}
+use Rattle.qg_parts.specs.Keys.{key_with}
 use Rattle.qg_contents.specs.Written.{item_of_piece}
 use Rattle.qg_edit.proofs.Lists.{keys_of}
 use Rattle.qg_descent.specs.Reading.{body_at}
@@ -284,6 +285,10 @@ module _ (ino : ℕ) (gone put : List Piece) (steps : List Step) (items : List I
     | inr other ↦ same_other key other
   ]
 
+  -- the INODE_ITEM's key is none of a piece
+  no_piece : ((ino == (key_with ino 1 0).objectid) && (108 == (key_with ino 1 0).kind)) ≡ false
+  no_piece = rw (eq-eqb ino ino refl) refl
+
   pub makes-exchange : MakesExchange ino gone put steps items
   makes-exchange =
       let ascending = ascending_all ino steps items can.ascending in
@@ -295,4 +300,5 @@ module _ (ino : ℕ) (gone put : List Piece) (steps : List Step) (items : List I
         applies = applies-from ino 0 steps items ascend all_find;
         made = same-bodies (after_steps ino steps items) exchanged ascending exchanged_ascend same_body;
         ascending = ascending;
+        inode = steps_other ino (key_with ino 1 0) no_piece steps items;
       }

@@ -26,7 +26,8 @@ unfolding AscendFrom
 AscendFrom-increasing [] up = tt
 AscendFrom-increasing (n ∷ ns) up = ascend_on 0 n ns (omega arith) up
 
-neighbours : (from : ℕ) (ns : List ℕ) (k : ℕ) → AscendFrom from ns → suc k < length ns → get_or ns k 0 < get_or ns (suc k) 0
+neighbours : (from : ℕ) (ns : List ℕ) (k : ℕ) → AscendFrom from ns → suc k < length ns
+    → get_or ns k 0 < get_or ns (suc k) 0
 unfolding AscendFrom
 neighbours from [] k ascend short = absurd (omega arith)
 neighbours from (n ∷ []) k ascend short = absurd (omega arith)

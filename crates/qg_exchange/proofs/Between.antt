@@ -242,7 +242,8 @@ module _ (gone put : List Piece) (done : List Step) where
       (both_left old new gone_left put_left between)
 
   -- so it is of lists that are known to be these
-  pub between-then : (step : Step) (gone_left put_left : List Piece) (steps : List Step) (gone_then put_then : List Piece)
+  pub between-then :
+      (step : Step) (gone_left put_left : List Piece) (steps : List Step) (gone_then put_then : List Piece)
       → ◌≡◌ (Some step) (first_between gone_left put_left) → Between gone put done gone_left put_left
       → steps ≡ done ++ step ∷ [] → gone_then ≡ gone_after step gone_left → put_then ≡ put_after step put_left
       → Between gone put steps gone_then put_then

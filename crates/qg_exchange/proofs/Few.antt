@@ -205,7 +205,8 @@ module _ (from to : ℕ) (given old : List Piece) where
   among = positions met ++ (positions given ++ (to ∷ []))
 
   has_met : (position : ℕ) → IsSome (piece_at position met) → Has position among
-  has_met position there = has-front position (positions met) (positions given ++ (to ∷ [])) (has-piece position met there)
+  has_met position there =
+      has-front position (positions met) (positions given ++ (to ∷ [])) (has-piece position met there)
 
   has_given : (position : ℕ) → IsSome (piece_at position given) → Has position among
   has_given position there =
@@ -275,5 +276,7 @@ cut-few size old steps are =
     (λ position there. has-piece position cut (some-before size position cut there))
     in
     let cuts : length (positions cut) ≡ length cut = length-map cut (λ (piece : Piece). piece.position) in
-    let count : length cut ≡ pieces_past size old = length-filter (λ (piece : Piece). nat_lt size (piece_end piece)) old in
+    let count : length cut ≡ pieces_past size old =
+    length-filter (λ (piece : Piece). nat_lt size (piece_end piece)) old
+    in
     omega (arith, most, cuts, count)

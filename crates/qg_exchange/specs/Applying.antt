@@ -3,7 +3,7 @@ use Rattle.std.specs.Prelude.{◌≡◌, ⊤, ℕ, List, [], ◌∷◌, map, Non
 use Rattle.qg_num.specs.declared.key.Key.{Key}
 use Rattle.qg_num.specs.declared.piece.Piece.{Piece}
 use Rattle.qg_node.specs.declared.item.Item.{Item}
-use Rattle.qg_items.specs.declared.kind.TheConstants.{EXTENT_DATA}
+use Rattle.qg_items.specs.declared.kind.TheConstants.{EXTENT_DATA, INODE_ITEM}
 use Rattle.qg_parts.specs.Keys.{key_with}
 use Rattle.qg_contents.specs.Written.{item_of_piece}
 use Rattle.qg_edit.specs.Edits.{has_key, with_item, without_key}
@@ -54,9 +54,12 @@ pub record CanExchange (ino : ℕ) (gone put : List Piece) (items : List Item) :
   pub free : (position : ℕ) → IsSome (piece_at position put) → piece_at position gone ≡ None
       → body_at (key_at ino position) items ≡ None
 
--- the steps can be made, and leave what is left once all that goes is taken out, and then all that comes is put in
+-- the steps can be made, and leave what is left once all that goes is taken out, and then all that comes is put in. The
+-- file's INODE_ITEM stays
 pub record MakesExchange (ino : ℕ) (gone put : List Piece) (steps : List Step) (items : List Item) : Type 0 where
   pub applies : Applies ino steps items
   pub made : after_steps ino steps items
       ≡ with_items (map (item_of_piece ino) put) (without_items (map (item_of_piece ino) gone) items)
   pub ascending : Ascend (after_steps ino steps items)
+  pub inode : body_at (key_with ino INODE_ITEM 0) (after_steps ino steps items)
+      ≡ body_at (key_with ino INODE_ITEM 0) items

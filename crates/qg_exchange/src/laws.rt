@@ -58,7 +58,8 @@ pub fn steps_are_few()
     ensures size { CutStepsAreFew }
 {}
 
-/// A law: which pieces files name, and which once pieces of one are exchanged, or one is taken out (this project's own).
+/// A law: which pieces files name, and which they name once pieces of one are exchanged, or one is taken out (this
+/// project's own).
 pub fn names_are_exchanged()
     ensures spelled { NamesAreThoseOfPieces }
     ensures exchanged { ExchangesNames }

@@ -1,4 +1,5 @@
-//! Pieces of a file are exchanged for others: by which edits of its items, and what that makes of items, names and sums.
+//! Pieces of a file are exchanged for others: by which edits of its items, and what that makes of items, names and
+//! sums.
 #![tactic(auto)]
 
 mod laws;

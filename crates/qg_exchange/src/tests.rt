@@ -9,7 +9,14 @@ use std::test::Fail;
 
 // A piece of an extent of 65536 bytes, by its position, its length and where it begins in the extent.
 fn piece(position: u64, len: u64, offset: u64) -> Piece
-    ensures { result ≡ record { position = position; len = len; extent = 67108864; offset = offset; stamp = 7; extent_bytes = 65536 } }
+    ensures { result ≡ record {
+      position = position;
+      len = len;
+      extent = 67108864;
+      offset = offset;
+      stamp = 7;
+      extent_bytes = 65536;
+    } }
 {
     Piece {
         position,
