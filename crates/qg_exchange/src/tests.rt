@@ -52,27 +52,61 @@ fn new_pieces(alloc: Global) -> Result<Pieces, NoMemory>
     Ok(pieces)
 }
 
+#[tactic(auto, unfolding(qg_files::specs::Apart::AreApartFrom))]
+fn no_pieces(alloc: Global) -> Pieces
+    ensures { AreApart result }
+{
+    Pieces::new(alloc)
+}
+
+// Whether those are the steps between two lists of pieces.
+fn are_between(gone: &Pieces, put: &Pieces, wanted: &[Step]) -> Result<bool, NoMemory>
+    requires gone { AreApart gone.now }
+    requires put { AreApart put.now }
+{
+    let steps = steps_between(gone, put)?;
+    Ok(steps.as_slice() == wanted)
+}
+
 #[test]
 fn steps_by_hand(rt: HostRuntime) -> Result<(), Fail> {
     let alloc = rt.alloc();
     let old = old_pieces(alloc)?;
     let new = new_pieces(alloc)?;
-    let none = Pieces::new(alloc);
-    let wanted = [
-        Step::Replace(piece(0, 4096, 0)),
-        Step::Insert(piece(8192, 4096, 4096)),
-        Step::Remove(16384),
-        Step::Replace(piece(20480, 4096, 12288)),
-    ];
-    assert!(rt; steps_between(&old, &new)?.as_slice() == wanted);
-    let removed = [Step::Remove(0), Step::Remove(16384), Step::Remove(20480)];
-    assert!(rt; steps_between(&old, &none)?.as_slice() == removed);
-    let put = [
-        Step::Insert(piece(0, 4096, 0)),
-        Step::Insert(piece(8192, 4096, 4096)),
-        Step::Insert(piece(20480, 4096, 12288)),
-    ];
-    assert!(rt; steps_between(&none, &new)?.as_slice() == put);
-    assert!(rt; steps_between(&none, &none)?.is_empty());
+    let none = no_pieces(alloc);
+    let first = piece(0, 4096, 0);
+    let second = piece(8192, 4096, 4096);
+    let last = piece(20480, 4096, 12288);
+    assert!(rt;
+        are_between(
+            &old,
+            &new,
+            &[
+                Step::Replace(first),
+                Step::Insert(second),
+                Step::Remove(16384),
+                Step::Replace(last)
+            ]
+        )?
+    );
+    assert!(rt;
+        are_between(
+            &old,
+            &none,
+            &[Step::Remove(0), Step::Remove(16384), Step::Remove(20480)]
+        )?
+    );
+    assert!(rt;
+        are_between(
+            &none,
+            &new,
+            &[
+                Step::Insert(first),
+                Step::Insert(second),
+                Step::Insert(last)
+            ]
+        )?
+    );
+    assert!(rt; are_between(&none, &none, &[])?);
     Ok(())
 }
