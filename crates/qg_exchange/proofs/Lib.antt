@@ -1,0 +1,12 @@
+pub mod Ascending
+pub mod Positions
+pub mod Between
+pub mod Applied
+pub mod Tables
+pub mod Stretches
+pub mod Possible
+pub mod Few
+pub mod Names
+pub mod Rests
+pub mod Counts
+pub mod Sums

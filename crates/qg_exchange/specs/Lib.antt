@@ -1,0 +1,5 @@
+pub mod Steps
+pub mod Applying
+pub mod Exchange
+pub mod Named
+pub mod Laws
