@@ -57,5 +57,5 @@ Empties-draft old mid new at draft space empties =
       sizes = ap (λ (d : Draft). d.sizes) draft ∙ empties.sizes;
       each = λ q node there. empties.each q node (sym (same q) ∙ there);
       stays = λ q some. IsSome-same (fresh_at mid.blocks.draft q) (fresh_at new.blocks.draft q) (same q) (empties.stays q some);
-      here = (empties.here.0, same at ∙ empties.here.1, empties.here.2);
+      here = (empties.here.0, same at ∙ empties.here.1, empties.here.2, empties.here.3);
     }

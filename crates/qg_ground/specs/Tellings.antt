@@ -75,12 +75,12 @@ pub record KeepsLevels (old new : Ground) : Type 0 where
 abbrev pub HoldsNothing : Node → Type 0
 HoldsNothing node = (own_items node ≡ []) × (own_pointers node ≡ [])
 
--- a fresh node was emptied before it is left, and is then of any level. Nodes are fresh where nodes were, each other one of the level that
--- the one before had, and space is as it was
+-- a fresh node, which names its own address, was emptied before it is left, and is then of any level. Nodes are fresh where nodes were, each
+-- other one of the level that the one before had, and space is as it was
 pub record Empties (old new : Ground) (at : ℕ) : Type 0 where
   pub space : new.space ≡ old.space
   pub sizes : new.blocks.draft.sizes ≡ old.blocks.draft.sizes
   pub each : (q : ℕ) (node : Node) → fresh_at new.blocks.draft q ≡ Some node
       → (was : Node) × (fresh_at old.blocks.draft q ≡ Some was) × (((header_of was).level ≡ (header_of node).level) ⊎ ((q ≡ at) × HoldsNothing node))
   pub stays : (q : ℕ) → IsSome (fresh_at old.blocks.draft q) → IsSome (fresh_at new.blocks.draft q)
-  pub here : (node : Node) × (fresh_at new.blocks.draft at ≡ Some node) × HoldsNothing node
+  pub here : (node : Node) × (fresh_at new.blocks.draft at ≡ Some node) × HoldsNothing node × ((header_of node).address ≡ at)

@@ -115,8 +115,7 @@ pub trait Book<D: Disk, L: Ledger> {
         ensures gone { OnOk result (LetsGo land.old land.new at) }
         ensures rests { (generation : ℕ) → IsDrafted land.old generation → Rests land.old land.new (D.history disk.new) generation }
         ensures stands { OnOk result (stands self.new land.new disk.new) }
-        ensures settled { (before : Land) (generation : ℕ) → IsDrafted land.old generation → Empties before land.old at → settled self.old before disk.old
-            → OnOk result (settled self.new land.new disk.new) }
+        ensures settled { (before : Land) → Empties before land.old at → settled self.old before disk.old → OnOk result (settled self.new land.new disk.new) }
         ensures no_image { (events : List Event) → D.history disk.old ≡ Some events → BreaksNone result }
         ensures disk { (D.history disk.new ≡ D.history disk.old) × (D.size disk.new ≡ D.size disk.old) }
         ensures cause { HasCause BlockFault.Disk (D.faults disk.old) (D.faults disk.new) result }

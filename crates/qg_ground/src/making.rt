@@ -68,8 +68,7 @@ pub fn leave_node<D: Disk, L: Ledger, B: Book<D, L>>(
     ensures told { (node : NodeValue) → told land.old.blocks.draft (D.history disk.old) at ≡ Some node
         → (before : B) (log : List Telling) → B.follows before log book.old → OnOk result (B.follows before (log ++ Left node ∷ []) book.new) }
     ensures stands { OnOk result (B.stands book.new land.new disk.new) }
-    ensures settled { (before : Land) (generation : ℕ) → IsDrafted land.old generation → Empties before land.old at → B.settled book.old before disk.old
-        → OnOk result (B.settled book.new land.new disk.new) }
+    ensures settled { (before : Land) → Empties before land.old at → B.settled book.old before disk.old → OnOk result (B.settled book.new land.new disk.new) }
     ensures answers { (events : List Event) → D.history disk.old ≡ Some events → Answers result at (found land.old.blocks.draft (content events) at) }
     ensures disk { (D.history disk.new ≡ D.history disk.old) × (D.size disk.new ≡ D.size disk.old) }
     ensures cause { HasCause BlockFault.Disk (D.faults disk.old) (D.faults disk.new) result }

@@ -46,12 +46,13 @@ module _ (old new : Ground) (at : ℕ) (node : Node) (here : fresh_at old.blocks
   }
 
   -- where it is emptied
-  pub rewritten-empties : fresh_at new.blocks.draft at ≡ Some (cleared node) → Empties old new at
-  rewritten-empties empty = record {
+  pub rewritten-empties : fresh_at new.blocks.draft at ≡ Some (cleared node) → (header_of node).address ≡ at
+      → Empties old new at
+  rewritten-empties empty address = record {
     space = rewritten-space;
     sizes = spared.sizes;
     stays = spared.fresh;
-    here = (cleared node, empty, (refl, refl));
+    here = (cleared node, empty, (refl, refl), address);
     each = λ q other there. elim (eqb_tells q at) [
       | inl (equal, same) ↦
           let that : Some other ≡ Some (cleared node) =
@@ -146,8 +147,8 @@ module _ (old mid : Ground) (left right : ℕ) (differ : left ≢ right) (pair :
   }
 
   -- where all is in the left one
-  pub joined-empties : joined ≡ Whole → Empties old mid right
-  joined-empties whole = record {
+  pub joined-empties : joined ≡ Whole → (header_of there.b).address ≡ right → Empties old mid right
+  joined-empties whole address = record {
     space = both-space;
     sizes = both-sizes;
     stays = both-stay;
@@ -155,6 +156,7 @@ module _ (old mid : Ground) (left right : ℕ) (differ : left ≢ right) (pair :
       there.b,
       there.right_there,
       right_emptied old.space.sizes.nodesize pair.a pair.b there.a there.b joined whole became,
+      address,
     );
     each = was (λ q n node. ((header_of n).level ≡ (header_of node).level) ⊎ ((q ≡ right) × HoldsNothing node))
         (inl (left_level old.space.sizes.nodesize pair.a pair.b there.a there.b joined became))

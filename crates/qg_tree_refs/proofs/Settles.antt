@@ -144,8 +144,8 @@ level_elsewhere at q was node differ (inl same) = same
 level_elsewhere at q was node differ (inr here) = absurd (differ here.0)
 
 pub IsEmptied-fresh : (old new : Ground) (at : ℕ) (node : Node) → Empties old new at
-    → fresh_at new.blocks.draft at ≡ Some node → (header_of node).address ≡ at → IsEmptied old new at node
-IsEmptied-fresh old new at node empties is address =
+    → fresh_at new.blocks.draft at ≡ Some node → IsEmptied old new at node
+IsEmptied-fresh old new at node empties is =
     let one : Some empties.here.0 ≡ Some node = sym empties.here.1 ∙ is in
     let same : empties.here.0 ≡ node = cc in
     let was = empties.each at node is in
@@ -153,7 +153,7 @@ IsEmptied-fresh old new at node empties is address =
       space = empties.space;
       sizes = empties.sizes;
       here = is;
-      address = address;
+      address = ap (λ (n : Node). (header_of n).address) (sym same) ∙ empties.here.3;
       no_items = ap own_items (sym same) ∙ empties.here.2.0;
       no_pointers = ap own_pointers (sym same) ∙ empties.here.2.1;
       was = was.0;

@@ -12,7 +12,8 @@ use Rattle.qg_owed.specs.Told.{owings_told}
 use Rattle.qg_tree_refs.specs.declared.coming.Coming.{Coming}
 use Rattle.qg_tree_refs.specs.declared.tree_refs.TreeRefs.{TreeRefs}
 use Rattle.qg_tree_refs.specs.Exchange.{CanExchange, Exchange, Exchanges}
-use Rattle.qg_tree_refs.specs.Following.{Follows, KeepsLevel, Step, coming_of, exchange_of}
+use Rattle.qg_tree_refs.specs.Following.{Follows, KeepsLevel, Step, coming_of, exchange_by_copy, exchange_by_leaving}
+use Rattle.qg_tree_refs.specs.Following.{exchange_of}
 
 -- ---- one telling
 
@@ -72,6 +73,16 @@ pub Step-exchanged : (before after : TreeRefs) (telling : Telling) (refs : List 
     → after ≡ record before { refs = refs; misfit = option_or before.misfit misfit } → Step before telling after
 Step-exchanged before after telling refs level misfit exchange coming is comes done can noted =
     (Step-whole before after telling refs level misfit exchange coming is comes done can noted).0
+
+-- what is exchanged by the references that were lent
+pub copy-lent : (book : TreeRefs) (refs : List (ℕ × Kept)) (tree : ℕ) (node : Node) → refs ≡ book.refs
+    → tree ≡ book.tree → exchange_by_copy (book_of refs) tree node ≡ exchange_by_copy (book_of book.refs) book.tree node
+copy-lent book refs tree node same owner = λ i. exchange_by_copy (book_of (same i)) (owner i) node
+
+pub leaving-lent : (book : TreeRefs) (refs : List (ℕ × Kept)) (tree : ℕ) (node : Node) → refs ≡ book.refs
+    → tree ≡ book.tree
+    → exchange_by_leaving (book_of refs) tree node ≡ exchange_by_leaving (book_of book.refs) book.tree node
+leaving-lent book refs tree node same owner = λ i. exchange_by_leaving (book_of (same i)) (owner i) node
 
 -- a misfit that was met before, or is
 pub or-none : (first last : Option ℕ) → option_or first last ≡ None → (first ≡ None) × (last ≡ None)

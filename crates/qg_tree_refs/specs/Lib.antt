@@ -1,3 +1,4 @@
+pub mod TreeBook
 pub mod Exchange
 pub mod Following
 pub mod Settled

@@ -3,9 +3,9 @@ ghost use Rattle.std.specs.Prelude.{◌≡◌, IfOk, None};
 ghost use Rattle.qg_extents.specs.Table.{book_of};
 ghost use Rattle.qg_tree_refs.specs.Exchange.{Begins, IsNew};
 
-use qg_extents::Extents;
 use qg_num::{Address, NoMemory, RootId};
 use qg_refs::{Reference, What};
+use qg_weighed::Weighed;
 
 /// A node to which a subvolume has the first reference (on-disk format, "backreferences").
 #[derive(Clone, Copy)]
@@ -18,11 +18,13 @@ pub(crate) struct Coming {
 /// Gives a node that comes its first reference. Where it has one already nothing changes, and the answer is the address
 /// of the node.
 pub(crate) fn give_first(
-    refs: &mut Extents,
+    refs: &mut Weighed,
     coming: &Option<Coming>,
 ) -> Result<Option<Address>, NoMemory>
-    ensures done { IfOk result (λ misfit. misfit ≡ None → Begins (book_of refs.old) (book_of refs.new) coming.now) }
-    ensures proper { IsNew (book_of refs.old) coming.now → IfOk result (λ misfit. misfit ≡ None) }
+    ensures done { IfOk result (λ misfit. misfit ≡ None
+        → Begins (book_of refs.old.refs) (book_of refs.new.refs) coming.now) }
+    ensures proper { IsNew (book_of refs.old.refs) coming.now → IfOk result (λ misfit. misfit ≡ None) }
+    ensures held { refs.new.held ≡ refs.old.held }
 {
     let Some(coming) = coming else {
         return Ok(None);

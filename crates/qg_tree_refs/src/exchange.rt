@@ -8,13 +8,14 @@ use crate::coming::{Coming, give_first};
 use crate::giving::give_all;
 use crate::lists::Lists;
 use crate::taking::take_all;
-use qg_extents::Extents;
 use qg_num::{Address, NoMemory};
+use qg_weighed::Weighed;
 
 /// Marks a node as full, if there is one to be.
-fn mark_full(refs: &mut Extents, full: Option<Address>)
-    requires { IfSome full (λ at. 0 < length (references_at (book_of refs.old) at)) }
-    ensures { IsMarked (book_of refs.old) (book_of refs.new) full }
+fn mark_full(refs: &mut Weighed, full: Option<Address>)
+    requires { IfSome full (λ at. 0 < length (references_at (book_of refs.old.refs) at)) }
+    ensures marked { IsMarked (book_of refs.old.refs) (book_of refs.new.refs) full }
+    ensures held { refs.new.held ≡ refs.old.held }
 {
     if let Some(at) = full {
         refs.mark(at);
@@ -25,15 +26,16 @@ fn mark_full(refs: &mut Extents, full: Option<Address>)
 ///
 /// What comes is given first, so that nothing that keeps a reference is forgotten meanwhile.
 pub(crate) fn exchange(
-    refs: &mut Extents,
+    refs: &mut Weighed,
     lists: &Lists,
     coming: Option<Coming>,
 ) -> Result<Option<Address>, NoMemory>
-    requires { IfSome lists.now.full (λ at. 0 < length (references_at (book_of refs.old) at)) }
+    requires { IfSome lists.now.full (λ at. 0 < length (references_at (book_of refs.old.refs) at)) }
     ensures done { IfOk result (λ misfit. misfit ≡ None
-        → Exchanges (book_of refs.old) (book_of refs.new) (exchange_told lists.now) coming) }
-    ensures proper { CanExchange (book_of refs.old) (exchange_told lists.now) coming
+        → Exchanges (book_of refs.old.refs) (book_of refs.new.refs) (exchange_told lists.now) coming) }
+    ensures proper { CanExchange (book_of refs.old.refs) (exchange_told lists.now) coming
         → IfOk result (λ misfit. misfit ≡ None) }
+    ensures held { refs.new.held ≡ refs.old.held }
 {
     let _before = refs.len();
     mark_full(refs, lists.full);

@@ -5,17 +5,19 @@ ghost use Rattle.qg_extents.specs.Table.{book_of};
 ghost use Rattle.qg_owed.specs.Told.{owing_told, owings_told};
 ghost use Rattle.qg_tree_refs.specs.Exchange.{CanGive, Gives};
 
-use qg_extents::Extents;
 use qg_num::{Address, NoMemory};
 use qg_owed::Owing;
 use qg_refs::Reference;
+use qg_weighed::Weighed;
 
 /// Gives references to what is known, in this order. One that is there as often as it may be, or that leads to what is
 /// not known, is left alone; the answer is the address of the first such, in bytes.
-pub(crate) fn give_all(refs: &mut Extents, owings: &[Owing]) -> Result<Option<Address>, NoMemory>
+pub(crate) fn give_all(refs: &mut Weighed, owings: &[Owing]) -> Result<Option<Address>, NoMemory>
     ensures done { IfOk result (λ misfit. misfit ≡ None
-        → Gives (book_of refs.old) (book_of refs.new) (owings_told owings.now)) }
-    ensures proper { CanGive (book_of refs.old) (owings_told owings.now) → IfOk result (λ misfit. misfit ≡ None) }
+        → Gives (book_of refs.old.refs) (book_of refs.new.refs) (owings_told owings.now)) }
+    ensures proper { CanGive (book_of refs.old.refs) (owings_told owings.now)
+        → IfOk result (λ misfit. misfit ≡ None) }
+    ensures held { refs.new.held ≡ refs.old.held }
 {
     let mut misfit = None;
     for owing in owings {
@@ -27,10 +29,12 @@ pub(crate) fn give_all(refs: &mut Extents, owings: &[Owing]) -> Result<Option<Ad
 }
 
 /// Gives one reference, and whether it could.
-fn give(refs: &mut Extents, owing: &Owing) -> Result<bool, NoMemory>
+fn give(refs: &mut Weighed, owing: &Owing) -> Result<bool, NoMemory>
     ensures done { IfOk result (λ given. given ≡ true
-        → Gives (book_of refs.old) (book_of refs.new) (owing_told owing.now ∷ [])) }
-    ensures proper { CanGive (book_of refs.old) (owing_told owing.now ∷ []) → IfOk result (λ given. given ≡ true) }
+        → Gives (book_of refs.old.refs) (book_of refs.new.refs) (owing_told owing.now ∷ [])) }
+    ensures proper { CanGive (book_of refs.old.refs) (owing_told owing.now ∷ [])
+        → IfOk result (λ given. given ≡ true) }
+    ensures held { refs.new.held ≡ refs.old.held }
 {
     let Some(what) = refs.known(owing.address) else {
         return Ok(false);

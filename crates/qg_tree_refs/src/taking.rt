@@ -4,15 +4,16 @@ ghost use Rattle.qg_extents.specs.Table.{book_of};
 ghost use Rattle.qg_owed.specs.Told.{owing_told, owings_told};
 ghost use Rattle.qg_tree_refs.specs.Exchange.{CanTake, Takes};
 
-use qg_extents::Extents;
 use qg_num::Address;
 use qg_owed::Owing;
+use qg_weighed::Weighed;
 
 /// Takes references away, in this order. One that is not there is left alone; the answer is the address of the first
 /// such, in bytes.
-pub(crate) fn take_all(refs: &mut Extents, owings: &[Owing]) -> Option<Address>
-    ensures done { result ≡ None → Takes (book_of refs.old) (book_of refs.new) (owings_told owings.now) }
-    ensures proper { CanTake (book_of refs.old) (owings_told owings.now) → result ≡ None }
+pub(crate) fn take_all(refs: &mut Weighed, owings: &[Owing]) -> Option<Address>
+    ensures done { result ≡ None → Takes (book_of refs.old.refs) (book_of refs.new.refs) (owings_told owings.now) }
+    ensures proper { CanTake (book_of refs.old.refs) (owings_told owings.now) → result ≡ None }
+    ensures held { refs.new.held ≡ refs.old.held }
 {
     let mut misfit = None;
     for owing in owings {
@@ -24,9 +25,10 @@ pub(crate) fn take_all(refs: &mut Extents, owings: &[Owing]) -> Option<Address>
 }
 
 /// Takes one reference away, and whether it was there.
-fn take(refs: &mut Extents, owing: &Owing) -> bool
-    ensures done { result ≡ true → Takes (book_of refs.old) (book_of refs.new) (owing_told owing.now ∷ []) }
-    ensures proper { CanTake (book_of refs.old) (owing_told owing.now ∷ []) → result ≡ true }
+fn take(refs: &mut Weighed, owing: &Owing) -> bool
+    ensures done { result ≡ true → Takes (book_of refs.old.refs) (book_of refs.new.refs) (owing_told owing.now ∷ []) }
+    ensures proper { CanTake (book_of refs.old.refs) (owing_told owing.now ∷ []) → result ≡ true }
+    ensures held { refs.new.held ≡ refs.old.held }
 {
     if refs.count_one(owing.address, &owing.reference) == 0 {
         return false;

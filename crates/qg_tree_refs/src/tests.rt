@@ -16,6 +16,7 @@ use qg_node::{Body, Header, Item, Items, Node, write_node};
 use qg_num::{Address, Generation, Ino, Key, NoMemory, RootId, Steps};
 use qg_refs::What;
 use qg_super::Sizes;
+use qg_weighed::Weighed;
 use std::alloc::Global;
 use std::marker::Brand;
 use std::process::Abort;
@@ -153,7 +154,7 @@ fn own<D: Disk, L: Ledger>(
     Ok(own_node(alloc, land, disk, book, root, owner, next, reads)?)
 }
 
-fn book_of(refs: Extents, tree: u64) -> TreeRefs {
+fn book_of(refs: Weighed, tree: u64) -> TreeRefs {
     TreeRefs::new(refs, RootId::new(tree), 4096, Generation::new(2))
 }
 
@@ -170,14 +171,18 @@ fn take_over<L: Ledger>(rt: &impl Abort, alloc: Global, blank: Blank) -> Result<
     let mut refs = Extents::new(alloc);
     put(&mut refs, ROOT, Some(0), way_of(5))?;
     put(&mut refs, EXTENT, None, from_file())?;
-    let mut book = book_of(refs, 5);
+    let mut book = book_of(Weighed::new(refs)?, 5);
     let copy = own(alloc, &mut land, &mut disk, &mut book, &mut reads)?;
     assert!(rt; copy.value() == COPY && book.misfit().is_none());
     assert!(rt; !land.space.has_slot(Address::new(ROOT)));
-    let refs = book.into_refs();
+    let refs = book.refs();
     assert!(rt; refs.how_many(Address::new(ROOT)) == 0);
-    assert!(rt; has(&refs, COPY, way_of(5)) && refs.how_many(copy) == 1);
-    assert!(rt; has(&refs, EXTENT, from_file()) && !has(&refs, EXTENT, from_root()));
+    assert!(rt; has(refs, COPY, way_of(5)) && refs.how_many(copy) == 1);
+    assert!(rt; has(refs, EXTENT, from_file()) && !has(refs, EXTENT, from_root()));
+    // A node and its reference take 49 + 25, the extent and its reference 49 + 53. The last commit recorded the root.
+    assert!(rt; book.bytes() == 74 + 74 + 102);
+    book.recorded(Generation::new(3))?;
+    assert!(rt; book.bytes() == 74 + 102);
     Ok(())
 }
 
@@ -202,19 +207,19 @@ fn share_and_leave<L: Ledger>(rt: &impl Abort, alloc: Global, blank: Blank) -> R
     put(&mut refs, ROOT, Some(0), way_of(5))?;
     put(&mut refs, ROOT, Some(0), way_of(256))?;
     put(&mut refs, EXTENT, None, from_file())?;
-    let mut book = book_of(refs, 5);
+    let mut book = book_of(Weighed::new(refs)?, 5);
     let copy = own(alloc, &mut land, &mut disk, &mut book, &mut reads)?;
     assert!(rt; book.misfit().is_none() && land.space.has_slot(root));
     let refs = book.into_refs();
     assert!(rt; refs.is_marked(root) && !refs.is_marked(copy));
-    assert!(rt; has(&refs, ROOT, way_of(256)) && !has(&refs, ROOT, way_of(5)));
-    assert!(rt; has(&refs, EXTENT, from_file()) && has(&refs, EXTENT, from_root()));
+    assert!(rt; has(refs.refs(), ROOT, way_of(256)) && !has(refs.refs(), ROOT, way_of(5)));
+    assert!(rt; has(refs.refs(), EXTENT, from_file()) && has(refs.refs(), EXTENT, from_root()));
     let mut book = book_of(refs, 256);
     leave_node(&mut land, &mut disk, &mut book, root, &mut reads)?;
     assert!(rt; book.misfit().is_none() && !land.space.has_slot(root));
     let refs = book.into_refs();
-    assert!(rt; refs.how_many(root) == 0 && has(&refs, COPY, way_of(5)));
-    assert!(rt; has(&refs, EXTENT, from_file()) && !has(&refs, EXTENT, from_root()));
+    assert!(rt; refs.how_many(root) == 0 && has(refs.refs(), COPY, way_of(5)));
+    assert!(rt; has(refs.refs(), EXTENT, from_file()) && !has(refs.refs(), EXTENT, from_root()));
     Ok(())
 }
 
@@ -235,7 +240,7 @@ fn copy_of_another<L: Ledger>(rt: &impl Abort, alloc: Global, blank: Blank) -> R
     let mut land = land(alloc)?;
     let mut refs = Extents::new(alloc);
     put(&mut refs, ROOT, Some(0), way_of(256))?;
-    let mut book = book_of(refs, 5);
+    let mut book = book_of(Weighed::new(refs)?, 5);
     let _copy = own(alloc, &mut land, &mut disk, &mut book, &mut reads)?;
     assert!(rt; book.misfit() == Some(Address::new(ROOT)));
     assert!(rt; has(book.refs(), ROOT, way_of(256)));

@@ -1,5 +1,5 @@
 // A subvolume's book.
-ghost use Rattle.std.specs.Prelude.{◌≡◌, None, OnOk};
+ghost use Rattle.std.specs.Prelude.{◌≡◌, ◌<◌, None, IfOk, IfSome, OnErr, OnOk, length};
 ghost use Rattle.std.specs.Option.{option_or};
 ghost use Rattle.qg_ground.specs.Tellings.Telling.{Copied, Made, Left};
 
@@ -11,25 +11,53 @@ use qg_extents::Extents;
 use qg_node::Node;
 use qg_num::{Address, Generation, NoMemory, RootId};
 use qg_refs::What;
+use qg_weighed::Weighed;
+use std::marker::Model;
 
-/// A subvolume's book: what its tree tells becomes references in the book in memory (on-disk format, "backreferences").
+/// A subvolume's book: what its tree tells becomes references in the book in memory (on-disk format, "backreferences"),
+/// and what these take with those that the last commit recorded is known all the while.
 #[derive(Drop)]
 pub struct TreeRefs {
-    pub(crate) refs: Extents,
+    pub(crate) refs: Weighed,
     tree: RootId,
     nodesize: u64,
     pub(crate) next: Generation,
     misfit: Option<Address>,
 }
 
+impl Model for TreeRefs {
+    ghost use Rattle.qg_tree_refs.specs.TreeBook.{TreeBook};
+
+    ghost Value = { TreeBook };
+
+    ghost view = { λ book. record {
+      refs = book.refs.refs;
+      held = book.refs.held;
+      tree = book.tree;
+      nodesize = book.nodesize;
+      next = book.next;
+      misfit = book.misfit;
+    } };
+}
+
 impl TreeRefs {
     ghost use Rattle.qg_extents.specs.Table.{book_of};
+    ghost use Rattle.qg_weighed.specs.Weight.{weight_of};
+    ghost use Rattle.qg_refs.specs.Book.{references_at};
+    ghost use Rattle.qg_tree_refs.specs.Exchange.{CanExchange, Exchanges, exchange_told};
     ghost use Rattle.qg_tree_refs.specs.Following.{Step, comes, other_level};
 
     /// The book of the subvolume `tree`, whose nodes have so many bytes. Those that come are of the generation `next`.
     /// No misfit is noted.
-    pub fn new(refs: Extents, tree: RootId, nodesize: u64, next: Generation) -> TreeRefs
-        ensures { result ≡ record { refs = refs; tree = tree; nodesize = nodesize; next = next; misfit = None } }
+    pub fn new(refs: Weighed, tree: RootId, nodesize: u64, next: Generation) -> TreeRefs
+        ensures { result ≡ record {
+          refs = refs.refs;
+          held = refs.held;
+          tree = tree;
+          nodesize = nodesize;
+          next = next;
+          misfit = None;
+        } }
     {
         TreeRefs {
             refs,
@@ -51,14 +79,49 @@ impl TreeRefs {
     pub fn refs(&self) -> &Extents
         ensures { result.now ≡ self.now.refs }
     {
-        &self.refs
+        self.refs.refs()
     }
 
-    /// The references, as they are now.
-    pub fn into_refs(self) -> Extents
-        ensures { result ≡ self.refs }
+    /// What the items take that stand for the references or for those that the last commit recorded, each once, in
+    /// bytes.
+    pub fn bytes(&self) -> u64
+        ensures { result ≡ weight_of self.now.held self.now.refs }
+    {
+        self.refs.bytes()
+    }
+
+    /// The references, as they are now, beside those that the last commit recorded.
+    pub fn into_refs(self) -> Weighed
+        ensures { result ≡ record { refs = self.refs; held = self.held } }
     {
         self.refs
+    }
+
+    /// A commit recorded the references: they are held from now on, and what comes is of this generation. Where memory
+    /// is refused, all is as it was.
+    pub fn recorded(&mut self, next: Generation) -> Result<(), NoMemory>
+        ensures ok { OnOk result (self.new ≡ record self.old { held = self.old.refs; next = next }) }
+        ensures err { OnErr result (self.new ≡ self.old) }
+    {
+        self.refs.hold()?;
+        self.next = next;
+        Ok(())
+    }
+
+    /// Gives and takes references. The answer is where the first lies that could not be given or taken.
+    fn exchange(
+        &mut self,
+        lists: &Lists,
+        coming: Option<Coming>,
+    ) -> Result<Option<Address>, NoMemory>
+        requires { IfSome lists.now.full (λ at. 0 < length (references_at (book_of self.old.refs) at)) }
+        ensures done { IfOk result (λ misfit. misfit ≡ None
+            → Exchanges (book_of self.old.refs) (book_of self.new.refs) (exchange_told lists.now) coming) }
+        ensures proper { CanExchange (book_of self.old.refs) (exchange_told lists.now) coming
+            → IfOk result (λ misfit. misfit ≡ None) }
+        ensures others { self.new ≡ record self.old { refs = self.new.refs } }
+    {
+        exchange(&mut self.refs, lists, coming)
     }
 
     /// Notes a misfit, if there is one and none is noted yet.
@@ -87,9 +150,9 @@ impl TreeRefs {
     pub(crate) fn copy(&mut self, node: &Node, copy: Address) -> Result<(), NoMemory>
         ensures { OnOk result (Step self.old (Copied node.now copy) self.new) }
     {
-        let lists = lists_of_copy(&self.refs, node, self.tree)?;
+        let lists = lists_of_copy(self.refs(), node, self.tree)?;
         let coming = self.comes(copy, node.level());
-        let misfit = exchange(&mut self.refs, &lists, Some(coming))?;
+        let misfit = self.exchange(&lists, Some(coming))?;
         self.note(misfit);
         Ok(())
     }
@@ -98,14 +161,14 @@ impl TreeRefs {
     pub(crate) fn make(&mut self, at: Address, level: u8) -> Result<(), NoMemory>
         ensures { OnOk result ((step : Step self.old (Made at) self.new) × (step.level ≡ level)) }
     {
-        let alloc = self.refs.allocator();
+        let alloc = self.refs().allocator();
         let lists = Lists {
             full: None,
             gains: Vec::new(alloc),
             losses: Vec::new(alloc),
         };
         let coming = self.comes(at, level);
-        let misfit = exchange(&mut self.refs, &lists, Some(coming))?;
+        let misfit = self.exchange(&lists, Some(coming))?;
         self.note(misfit);
         Ok(())
     }
@@ -131,8 +194,8 @@ impl TreeRefs {
             × (step.misfit ≡ None → other_level (book_of self.old.refs) node.now ≡ None)) }
     {
         let level = self.other_level(node);
-        let lists = lists_of_leaving(&self.refs, node, self.tree)?;
-        let misfit = exchange(&mut self.refs, &lists, None)?;
+        let lists = lists_of_leaving(self.refs(), node, self.tree)?;
+        let misfit = self.exchange(&lists, None)?;
         self.note(level.or(misfit));
         Ok(())
     }

@@ -1,8 +1,14 @@
 -- What the calls of a tree ask between any two of them.
-use Rattle.std.proofs.Common.{◌≡◌, ◌<◌, ◌≤◌, ℕ, List, Option, true, ap, sym, ◌∙◌, refl}
+use Rattle.std.proofs.Common.{◌≡◌, ◌<◌, ◌≤◌, ℕ, List, Option, length, lit≤, map, true, ap, subst, sym, ◌∙◌, refl}
+use Rattle.std.specs.List.{All}
 use Rattle.qg_device.specs.History.{Event}
 use Rattle.qg_super.specs.declared.sizes.Sizes.{Sizes}
+use Rattle.qg_node.specs.declared.item.Item.{Item}
+use Rattle.qg_node.specs.Nodes.{is_ascending}
+use Rattle.qg_node.specs.NodeText.{IsNodeSize}
 use Rattle.qg_super.specs.Places.{is_served, second_place}
+use Rattle.qg_super.proofs.Served.{SizesFit-is_served}
+use Rattle.qg_space.specs.Holding.{free_slots}
 use Rattle.qg_blocks.specs.Held.{Draft, Held, nothing_fresh}
 use Rattle.qg_blocks.specs.Told.{IsBacked}
 use Rattle.qg_image.specs.ItemMeaning.{is_subvolume_number}
@@ -13,6 +19,7 @@ use Rattle.qg_ground.proofs.Editing.{ArePlaced-drafted}
 use Rattle.qg_ground.proofs.Lands.{IsDrafted-none, Rests-draft}
 use Rattle.qg_descent.specs.Tree.{Root}
 use Rattle.qg_tree_edits.specs.Editing.{CanMake, IsEditable}
+use Rattle.qg_tree_build.specs.Building.{CanBuild, most_nodes}
 use Rattle.qg_descent.specs.Way.{HasRead, IsReadable}
 
 module _ (land : Ground) (history : Option (List Event)) (bytes generation : ℕ) where
@@ -63,3 +70,27 @@ module _ (land : Ground) (sizes : Sizes) (served : is_served sizes ≡ true) (dr
 -- and so their sizes are those of nodes in memory
 pub draft_sizes : (draft : Draft) (sizes : Sizes) → draft ≡ nothing_fresh sizes → draft.sizes ≡ sizes
 draft_sizes draft sizes is = ap (λ (d : Draft). d.sizes) is
+
+-- a tree may be built there, of items that are as a list of them
+pub can_build : (land : Ground) (sizes : Sizes) (history : Option (List Event)) (bytes owner next free : ℕ)
+    (items list : List Item) → is_served sizes ≡ true → land.blocks.draft ≡ nothing_fresh sizes
+    → land.space.sizes ≡ sizes → IsBacked land.blocks history → second_place ≤ bytes → owner ≡ 5 → next ≡ 1
+    → list ≡ items → free ≡ free_slots land.space → is_ascending (map (λ item. item.key) list) ≡ true
+    → All (λ item. length item.body ≤ 1024) list → most_nodes sizes.nodesize list ≤ free
+    → CanBuild Files land history bytes owner next items
+can_build land sizes history bytes owner next free items list served draft space backed room named dated same count
+    ascending short slots =
+    let enough : most_nodes sizes.nodesize items ≤ free_slots land.space =
+    subst (λ (n : ℕ). most_nodes sizes.nodesize items ≤ n) count
+    (subst (λ (is : List Item). most_nodes sizes.nodesize is ≤ free) same slots) in
+    record {
+      editable = empty_land land sizes served draft space history bytes next backed room;
+      owned = rw named own_number;
+      later = rw dated (lit≤ tt);
+      ascending = subst (λ (is : List Item). is_ascending (map (λ item. item.key) is) ≡ true) same ascending;
+      short = subst (λ (is : List Item). All (λ item. length item.body ≤ 1024) is) same short;
+      slots = subst (λ (s : Sizes). most_nodes s.nodesize items ≤ free_slots land.space) (sym space) enough;
+    }
+
+pub node_size : (sizes : Sizes) → is_served sizes ≡ true → IsNodeSize sizes.nodesize
+node_size sizes served = (SizesFit-is_served sizes served).node_size

@@ -5,6 +5,7 @@ ghost use Rattle.qg_super.specs.Places.{is_served};
 ghost use Rattle.qg_blocks.specs.Held.{most_clean, slots_of};
 ghost use Rattle.qg_space.specs.Holding.{free_slots};
 
+use crate::buildable::is_buildable;
 use crate::writing::{empty_land, hold_first, lengthen, write_fresh};
 use qg_descent::Tree;
 use qg_disk::Disk;
@@ -13,6 +14,7 @@ use qg_image::FilePart;
 use qg_node::{Body, Header, Item, Items, Node};
 use qg_num::{Address, BlockFault, Generation, Key, RootId, Sequence, Steps};
 use qg_super::Sizes;
+use qg_tree_build::build;
 use qg_tree_edits::{drop_first_leaf, insert, remove, replace};
 use std::alloc::Global;
 use std::marker::Model;
@@ -85,6 +87,55 @@ impl<D: Disk + Drop, L: Ledger> Setting<D, L> {
             nodesize,
             slots,
             tree: tree_at(root, 0, 1),
+            generation: 1,
+            land,
+            disk,
+            book,
+            reads,
+        })
+    }
+
+    /// A tree that is built of these items, of fresh nodes, over a disk that may be empty. At most `bound` clean nodes are
+    /// kept. Where keys don't ascend, the answer is `NoMemory` too.
+    pub fn built(
+        alloc: Global,
+        disk: D,
+        nodesize: u32,
+        slots: u64,
+        bound: usize,
+        blank: Blank,
+        items: &Items,
+    ) -> Result<Setting<D, L>, BlockFault>
+        requires served { IsTrue (is_served (slots_of nodesize slots)) }
+        requires some { 1 ≤ bound }
+        requires most { bound ≤ most_clean }
+        requires name { blank.name ≡ L.name }
+        requires parts { blank.parts ≡ L.parts }
+        requires full { 0 < blank.parts }
+    {
+        let mut disk = disk;
+        lengthen(&mut disk)?;
+        let mut land = empty_land(alloc, nodesize, slots, bound)?;
+        let mut book = SlotBook::new();
+        let mut reads = Steps::<L>::new(blank);
+        if !is_buildable(nodesize, items.as_slice(), land.space.free_slots()) {
+            return Err(BlockFault::NoMemory);
+        }
+        let tree = build::<FilePart, D, L, SlotBook>(
+            alloc,
+            &mut land,
+            &mut disk,
+            &mut book,
+            RootId::new(OWNER),
+            Generation::new(1),
+            items,
+            &mut reads,
+        )?;
+        Ok(Setting {
+            alloc,
+            nodesize,
+            slots,
+            tree,
             generation: 1,
             land,
             disk,

@@ -20,8 +20,7 @@ returns-clause-takes g c generation drafted =
     c.left.ensures.gone
 
 pub returns-clause-settled : goal.returns-clause-settled
-returns-clause-settled g c before generation drafted empties settled =
+returns-clause-settled g c before empties settled =
     let mid : Ground = record { blocks = c.load.new.self; space = c.args.land.now.space } in
-    let first = Rests-draft c.args.land.now mid (g.D.Disk.history c.load.new.disk) generation c.load.ensures.draft c.load.ensures.bound refl c.load.ensures.backed drafted in
-    c.left.ensures.settled before generation first.drafted (Empties-draft before c.args.land.now mid c.args.at c.load.ensures.draft refl empties)
+    c.left.ensures.settled before (Empties-draft before c.args.land.now mid c.args.at c.load.ensures.draft refl empties)
     (g.met.B.Book.keeps c.args.book.now before before c.args.disk.now c.load.new.disk c.load.ensures.history refl (KeepsLevels-draft before before refl) settled)

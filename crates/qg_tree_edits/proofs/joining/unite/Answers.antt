@@ -88,5 +88,7 @@ returns-in_ok-leave_node-in-Whole-clause-settled g c generation drafted settled 
     let new = c.join_nodes.new.land in
     let are = c.join_nodes.ensures.rewritten in
     let one = both-rests old new c.args.left c.args.right c.requires.apart c.requires.pair are (g.D.Disk.history c.args.disk.now) generation c.requires.backed drafted in
-    c.in_ok-leave_node-in-Whole.ensures.settled old generation one.drafted
-    (joined-empties old new c.args.left c.args.right c.requires.apart c.requires.pair are c.in_ok-join_nodes.field-0 c.in_ok-join_nodes.ensures.joined c.in-Whole.is) settled
+    let joined = c.in_ok-join_nodes.ensures.joined in
+    c.in_ok-leave_node-in-Whole.ensures.settled old
+    (joined-empties old new c.args.left c.args.right c.requires.apart c.requires.pair are c.in_ok-join_nodes.field-0 joined c.in-Whole.is
+    (one.drafted.each c.args.right joined.b joined.right_there).kept.placed) settled

@@ -163,11 +163,9 @@ returns-in_ok-leave_node-in-Some-clause-leaves g c items stands =
 pub returns-in_ok-leave_node-in-Some-clause-settled : goal.returns-in_ok-leave_node-in-Some-clause-settled
 returns-in_ok-leave_node-in-Some-clause-settled g c settled =
     let fresh = c.requires.fresh in
-    let next = c.args.tree.now.next in
-    let first = rewritten-rests c.args.land.now c.clear_at.new.land c.args.now next fresh.node fresh.here (c.clear_at.ensures.cleared fresh.node fresh.here)
-    (g.D.Disk.history c.args.disk.now) c.requires.editable.backed c.requires.editable.drafted in
-    c.in_ok-leave_node-in-Some.ensures.settled c.args.land.now next first.drafted
-    (rewritten-empties c.args.land.now c.clear_at.new.land c.args.now fresh.node fresh.here (c.clear_at.ensures.cleared fresh.node fresh.here) (c.clear_at.ensures.here fresh.node fresh.here)) settled
+    c.in_ok-leave_node-in-Some.ensures.settled c.args.land.now
+    (rewritten-empties c.args.land.now c.clear_at.new.land c.args.now fresh.node fresh.here (c.clear_at.ensures.cleared fresh.node fresh.here) (c.clear_at.ensures.here fresh.node fresh.here)
+    (c.requires.editable.drafted.each c.args.now fresh.node fresh.here).kept.placed) settled
 
 -- ---- owners
 

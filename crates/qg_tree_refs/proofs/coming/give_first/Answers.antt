@@ -14,12 +14,12 @@ use Rattle.qg_tree_refs.proofs.coming.give_first.Goals as goal
 
 pub returns-in_default-clause-done : goal.returns-in_default-clause-done
 returns-in_default-clause-done c same =
-    let book = book_of c.args.refs.now in
+    let book = book_of c.args.refs.now.refs in
     subst (λ (coming : Option Coming). Begins book book coming) (sym c.in_default.is) (Begins-none book)
 
 pub returns-then-is_some-clause-proper : goal.returns-then-is_some-clause-proper
 returns-then-is_some-clause-proper c first =
-    let book = book_of c.args.refs.now in
+    let book = book_of c.args.refs.now.refs in
     let coming = c.in-Some.coming in
     let none : book coming.address ≡ None =
     nothing-kept book coming.address c.len-count.ensures.table.book
@@ -29,7 +29,7 @@ returns-then-is_some-clause-proper c first =
 
 pub add_one-requires : goal.add_one-requires
 add_one-requires c =
-    let book = book_of c.args.refs.now in
+    let book = book_of c.args.refs.now.refs in
     let coming = c.in-Some.coming in
     let absent = none_of c.known.result (sym c.is_some.ensures ∙ c.if-is_some.false) in
     let zero =
@@ -39,8 +39,8 @@ add_one-requires c =
 
 pub returns-clause-done : goal.returns-clause-done
 returns-clause-done c same =
-    let book = book_of c.args.refs.now in
-    let after = book_of c.add_one.new.self in
+    let book = book_of c.args.refs.now.refs in
+    let after = book_of c.add_one.new.self.refs in
     let coming = c.in-Some.coming in
     let absent = none_of c.known.result (sym c.is_some.ensures ∙ c.if-is_some.false) in
     let none = nothing_known (book coming.address) (sym c.known.ensures ∙ absent) in

@@ -7,13 +7,13 @@ use Rattle.qg_tree_refs.proofs.giving.give_all.Goals.{then-not-branch, else-not-
 use Rattle.qg_tree_refs.proofs.giving.give_all.Goals as goal
 
 pub loop-owing-init : goal.loop-owing-init
-loop-owing-init c = record { done = λ none. Gives-none (book_of c.args.refs.now); proper = λ can. refl }
+loop-owing-init c = record { done = λ none. Gives-none (book_of c.args.refs.now.refs); proper = λ can. refl; held = refl }
 
 pub loop-owing-preserved : goal.loop-owing-preserved
 loop-owing-preserved c =
-    let old = book_of c.args.refs.now in
-    let mid = book_of c.loop-owing.refs in
-    let new = book_of c.give.new.refs in
+    let old = book_of c.args.refs.now.refs in
+    let mid = book_of c.loop-owing.refs.refs in
+    let new = book_of c.give.new.refs.refs in
     let met = c.loop-owing.invariant in
     elim c.if-not-branch.branch [
       | then-not-branch w ↦
@@ -27,6 +27,7 @@ loop-owing-preserved c =
                 CanGive-one old mid new c.args.owings.now c.loop-owing.owing-index c.owing-item.result
                 c.loop-owing-test.true c.owing-item.is can (met.done (met.proper can)) in
                 absurd (true≢false (sym (c.in_ok-give.ensures.proper one) ∙ failed));
+            held = c.give.ensures.held ∙ met.held;
           }
       | else-not-branch w ↦
           record {
@@ -35,5 +36,6 @@ loop-owing-preserved c =
                 c.loop-owing-test.true c.owing-item.is
                 (met.done (sym w.misfit-is ∙ none)) (c.in_ok-give.ensures.done w.if-not-branch.false);
             proper = λ can. w.misfit-is ∙ met.proper can;
+            held = c.give.ensures.held ∙ met.held;
           }
     ]

@@ -7,6 +7,8 @@ use Rattle.qg_tree_refs.proofs.giving.give_all.Given as goal
 
 abbrev pub invariant-loop-owing : goal.invariant-loop-owing
 invariant-loop-owing l = record {
-  done : l.misfit ≡ None → Gives (book_of l.initial.refs) (book_of l.refs) (owings_told (take l.owing-index l.owings));
-  proper : CanGive (book_of l.initial.refs) (owings_told l.owings) → l.misfit ≡ None;
+  done : l.misfit ≡ None → Gives (book_of l.initial.refs.refs) (book_of l.refs.refs)
+      (owings_told (take l.owing-index l.owings));
+  proper : CanGive (book_of l.initial.refs.refs) (owings_told l.owings) → l.misfit ≡ None;
+  held : l.refs.held ≡ l.initial.refs.held;
 }

@@ -8,13 +8,13 @@ use Rattle.qg_tree_refs.proofs.taking.take_all.Goals.{then-not-take, else-not-ta
 use Rattle.qg_tree_refs.proofs.taking.take_all.Goals as goal
 
 pub loop-owing-init : goal.loop-owing-init
-loop-owing-init c = record { done = λ none. Takes-none (book_of c.args.refs.now); proper = λ can. refl }
+loop-owing-init c = record { done = λ none. Takes-none (book_of c.args.refs.now.refs); proper = λ can. refl; held = refl }
 
 pub loop-owing-preserved : goal.loop-owing-preserved
 loop-owing-preserved c =
-    let old = book_of c.args.refs.now in
-    let mid = book_of c.loop-owing.refs in
-    let new = book_of c.take.new.refs in
+    let old = book_of c.args.refs.now.refs in
+    let mid = book_of c.loop-owing.refs.refs in
+    let new = book_of c.take.new.refs.refs in
     let met = c.loop-owing.invariant in
     elim c.if-not-take.branch [
       | then-not-take w ↦
@@ -28,6 +28,7 @@ loop-owing-preserved c =
                 CanTake-one old mid new c.args.owings.now c.loop-owing.owing-index c.owing-item.result
                 c.loop-owing-test.true c.owing-item.is can (met.done (met.proper can)) in
                 absurd (true≢false (sym (c.take.ensures.proper one) ∙ failed));
+            held = c.take.ensures.held ∙ met.held;
           }
       | else-not-take w ↦
           record {
@@ -36,5 +37,6 @@ loop-owing-preserved c =
                 c.loop-owing-test.true c.owing-item.is
                 (met.done (sym w.misfit-is ∙ none)) (c.take.ensures.done w.if-not-take.false);
             proper = λ can. w.misfit-is ∙ met.proper can;
+            held = c.take.ensures.held ∙ met.held;
           }
     ]

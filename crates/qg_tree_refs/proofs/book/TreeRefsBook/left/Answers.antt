@@ -22,7 +22,7 @@ returns-clause-rests g c generation drafted =
     c.let_go.ensures.rests (g.D.Disk.history c.args._disk.now) generation c.requires.backed drafted
 
 pub returns-clause-settled : goal.returns-clause-settled
-returns-clause-settled g c before generation drafted empties settled fits =
+returns-clause-settled g c before empties settled fits =
     let self = c.args.self.now in
     let land = c.args.land.now in
     let at = c.args.at in
@@ -31,7 +31,7 @@ returns-clause-settled g c before generation drafted empties settled fits =
     let same = fresh-held land.blocks at empties.here.0 node empties.here.1 c.peek.ensures in
     let here : fresh_at land.blocks.draft at ≡ Some node =
     empties.here.1 ∙ ap (λ (n : Node). Some n) (sym same) in
-    let emptied = IsEmptied-fresh before land at node empties here (drafted.each at node here).kept.placed in
+    let emptied = IsEmptied-fresh before land at node empties here in
     let gone = subst (λ (refs : List (ℕ × Kept)). IsLetGo (book_of refs) land c.let_go.new.land at) c.refs-2.ensures
     (record { stays = c.let_go.ensures.stays; goes = c.let_go.ensures.goes; gone = c.let_go.ensures.gone }) in
     Settled-left self c.leave.new.self before land c.let_go.new.land (g.D.Disk.history c.args._disk.now) at node table

@@ -1,0 +1,50 @@
+-- How often a reference is there while pieces of a file are exchanged.
+use Rattle.std.proofs.Common.{◌≡◌, ℕ, ◌^◌, ◌<◌, ◌≤◌, List, ◌++◌, length, length-append, arith, sym, ap, subst}
+use Rattle.std.proofs.lemmas.List.{length-map}
+use Rattle.std.proofs.lemmas.List.Sums.{sum_by-append}
+use Rattle.qg_num.specs.declared.piece.Piece.{Piece}
+use Rattle.qg_image.specs.declared.file.File.{File}
+use Rattle.qg_image.specs.FilesOf.{pieces_bytes}
+use Rattle.qg_fs_tree.specs.Standing.{names_times}
+use Rattle.qg_rules.specs.Writable.{AreWritableFiles, IsWritableFile}
+use Rattle.qg_rules.proofs.Pieces.{file_small}
+use Rattle.qg_exchange.specs.Exchange.{IsExchange}
+use Rattle.qg_exchange.specs.Named.{named, names_by, names_of}
+use Rattle.qg_exchange.proofs.Counts.{names-few, names-once, pieces-few}
+use Rattle.qg_file_edits.specs.Naming.{AreFewNames}
+use Rattle.qg_file_edits.proofs.Named.{times-both}
+
+-- the bytes of a file's pieces fit their type
+pub file-bytes : (ino : ℕ) (file : File) → IsWritableFile (ino, file) → pieces_bytes file.pieces < 2 ^ 64
+file-bytes ino file is = omega (arith, file_small file is.sound)
+
+-- what is taken out is a part of the old file
+pub gone-part : (old new gone put : List Piece) → IsExchange old new gone put → pieces_bytes gone ≤ pieces_bytes old
+gone-part old new gone put exchange =
+    let len = λ (piece : Piece). piece.len in
+    let whole = ap pieces_bytes exchange.was in
+    let both = sum_by-append len (exchange.front ++ gone) exchange.back in
+    let front = sum_by-append len exchange.front gone in
+    omega (arith, whole, both, front)
+
+-- what is put in is a part of the new file
+put_few : (old new gone put : List Piece) → IsExchange old new gone put → length put ≤ length new
+put_few old new gone put exchange =
+    let whole = ap (λ (xs : List Piece). length xs) exchange.is in
+    let both = length-append (exchange.front ++ put) exchange.back in
+    let front = length-append exchange.front put in
+    omega (arith, whole, both, front)
+
+pub put-few : (owner ino : ℕ) (file : File) (old gone put : List Piece) (files : List (ℕ × File))
+    → AreWritableFiles files → IsWritableFile (ino, file) → IsExchange old file.pieces gone put
+    → named files ≡ names_by files → AreFewNames owner (names_of ino put ++ named files)
+put-few owner ino file old gone put files are is exchange spelled at reference =
+    let both = times-both owner (names_of ino put) (named files) at reference in
+    let once = names-once owner at reference (names_of ino put) in
+    let long : length (names_of ino put) ≡ length put = length-map put (λ (piece : Piece). (ino, piece)) in
+    let part = put_few old file.pieces gone put exchange in
+    let most = pieces-few (ino, file) is in
+    let few : names_times owner (named files) at reference ≤ 268435456 =
+    subst (λ (names : List (ℕ × Piece)). names_times owner names at reference ≤ 268435456) (sym spelled)
+    (names-few owner at reference files are) in
+    omega (arith, both, once, long, part, most, few)

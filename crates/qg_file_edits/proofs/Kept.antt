@@ -1,0 +1,117 @@
+-- What stays over several calls.
+use Rattle.std.proofs.Common.{◌≡◌, ℕ, List, Option, Result, refl, ap, ◌∙◌}
+use Rattle.std.specs.Prelude.{OnOk}
+use Rattle.std.proofs.lemmas.Result.{on_ok_weaker}
+use Rattle.qg_device.specs.History.{Event}
+use Rattle.qg_num.specs.declared.fault.BlockFault.{BlockFault}
+use Rattle.qg_state.specs.declared.element.Element.{Element}
+use Rattle.qg_space.specs.Holding.{Holding}
+use Rattle.qg_ground.specs.declared.ground.Ground.{Ground}
+use Rattle.qg_descent.specs.Tree.{Root}
+use Rattle.qg_tree_edits.specs.Rooting.{Grows, LeavesBe}
+use Rattle.qg_fs_tree.specs.declared.fs_tree.FsTree.{FsTree}
+use Rattle.qg_fs_tree.specs.Standing.{IsSubvolume, KeepsTree, taken_slots}
+use Rattle.qg_file_edits.specs.Files.{LeavesHeld, StaysOwn}
+use Rattle.qg_file_edits.specs.Naming.{KeepsNodes}
+
+-- ---- a call that changes references and runs alone
+
+pub keeps-itself : (fs : FsTree) → KeepsTree fs fs
+keeps-itself fs = record { tree = refl; land = refl }
+
+pub keeps-then : (a b c : FsTree) → KeepsTree a b → KeepsTree b c → KeepsTree a c
+keeps-then a b c first later = record {
+  tree = later.tree ∙ first.tree;
+  land = later.land ∙ ap (λ (land : Ground). record land { space = record land.space { runs = c.land.space.runs } })
+      first.land;
+}
+
+taken_runs : (space : Holding) (runs : List Element) → taken_slots (record space { runs = runs }) ≡ taken_slots space
+unfolding taken_slots
+taken_runs space runs = refl
+
+pub taken-kept : (old new : FsTree) → KeepsTree old new → taken_slots new.land.space ≡ taken_slots old.land.space
+taken-kept old new keeps =
+    ap (λ (land : Ground). taken_slots land.space) keeps.land ∙ taken_runs old.land.space new.land.space.runs
+
+pub leaves-kept : (old new : FsTree) (history : Option (List Event)) (bytes : ℕ) → KeepsNodes old new
+    → IsSubvolume old history bytes → LeavesHeld old new history history bytes bytes
+leaves-kept old new history bytes nodes subvolume = let keeps = nodes.tree in record {
+  subvolume = nodes.subvolume history bytes subvolume;
+  node_sizes = ap (λ (land : Ground). land.blocks.draft.sizes) keeps.land;
+  bound = ap (λ (land : Ground). land.blocks.bound) keeps.land;
+  sizes = ap (λ (land : Ground). land.space.sizes) keeps.land;
+  held_slots = ap (λ (land : Ground). land.space.held_slots) keeps.land;
+  held_runs = ap (λ (land : Ground). land.space.held_runs) keeps.land;
+  history = refl;
+  size = refl;
+}
+
+pub own-kept : (old new : FsTree) → KeepsNodes old new → StaysOwn old new
+own-kept old new nodes = let keeps = nodes.tree in record {
+  owner = ap (λ (root : Root). root.owner) keeps.tree;
+  next = ap (λ (root : Root). root.next) keeps.tree;
+}
+
+-- ---- an edit
+
+pub leaves-edited : (old new : FsTree) (before after : Option (List Event)) (bytes left generation : ℕ)
+    → LeavesBe old.land new.land before after bytes left generation → IsSubvolume new after left
+    → LeavesHeld old new before after bytes left
+leaves-edited old new before after bytes left generation leaves subvolume = record {
+  subvolume = subvolume;
+  node_sizes = leaves.rests.node_sizes;
+  bound = leaves.rests.bound;
+  sizes = leaves.rests.sizes;
+  held_slots = leaves.rests.held_slots;
+  held_runs = leaves.rests.held_runs;
+  history = leaves.history;
+  size = leaves.size;
+}
+
+pub own-grown : (most : ℕ) (old new : FsTree) → Grows most old.tree new.tree old.land new.land → StaysOwn old new
+own-grown most old new grows = record { owner = grows.stays.owner; next = grows.stays.next }
+
+-- ---- one call after another
+
+pub nodes-itself : (fs : FsTree) → KeepsNodes fs fs
+nodes-itself fs = record {
+  tree = keeps-itself fs;
+  subvolume = λ history bytes subvolume. subvolume;
+  slots = refl;
+}
+
+pub nodes-then : (a b c : FsTree) → KeepsNodes a b → KeepsNodes b c → KeepsNodes a c
+nodes-then a b c first later = record {
+  tree = keeps-then a b c first.tree later.tree;
+  subvolume = λ history bytes subvolume. later.subvolume history bytes (first.subvolume history bytes subvolume);
+  slots = later.slots ∙ first.slots;
+}
+
+pub leaves-itself : (fs : FsTree) (history : Option (List Event)) (bytes : ℕ) → IsSubvolume fs history bytes
+    → LeavesHeld fs fs history history bytes bytes
+leaves-itself fs history bytes subvolume = leaves-kept fs fs history bytes (nodes-itself fs) subvolume
+
+pub leaves-then : (a b c : FsTree) (first second third : Option (List Event)) (bytes some left : ℕ)
+    → LeavesHeld a b first second bytes some → LeavesHeld b c second third some left
+    → LeavesHeld a c first third bytes left
+leaves-then a b c first second third bytes some left one two = record {
+  subvolume = two.subvolume;
+  node_sizes = two.node_sizes ∙ one.node_sizes;
+  bound = two.bound ∙ one.bound;
+  sizes = two.sizes ∙ one.sizes;
+  held_slots = two.held_slots ∙ one.held_slots;
+  held_runs = two.held_runs ∙ one.held_runs;
+  history = two.history ∙ one.history;
+  size = two.size ∙ one.size;
+}
+
+pub own-itself : (fs : FsTree) → StaysOwn fs fs
+own-itself fs = record { owner = refl; next = refl }
+
+pub own-then : (a b c : FsTree) → StaysOwn a b → StaysOwn b c → StaysOwn a c
+own-then a b c one two = record { owner = two.owner ∙ one.owner; next = two.next ∙ one.next }
+
+pub own-then-ok : (a b c : FsTree) (result : Result (Unit {0}) BlockFault) → StaysOwn a b → OnOk result (StaysOwn b c)
+    → OnOk result (StaysOwn a c)
+own-then-ok a b c result one two = on_ok_weaker result (own-then a b c one) two

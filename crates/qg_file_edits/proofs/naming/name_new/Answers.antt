@@ -1,0 +1,53 @@
+use Rattle.std.proofs.Common.{◌++◌, Ok, sym, subst}
+use Rattle.std.specs.Prelude.{⊤, IsTrue, MatchOption, Option}
+use Rattle.std.specs.Option.{option_to_list}
+use Rattle.qg_num.specs.declared.piece.Piece.{Piece}
+use Rattle.qg_space.specs.Holding.{is_free_run}
+use Rattle.qg_exchange.specs.Named.{names_of}
+use Rattle.qg_fs_layout.proofs.Moved.{moves-itself}
+use Rattle.qg_file_edits.specs.Naming.{AreNamed}
+use Rattle.qg_file_edits.proofs.Handed.{misfit-none}
+use Rattle.qg_file_edits.proofs.Kept.{nodes-itself}
+use Rattle.qg_file_edits.proofs.Named.{named-new}
+use Rattle.qg_file_edits.proofs.naming.name_new.Goals as goal
+
+pub name_new-requires : goal.name_new-requires
+name_new-requires c = record {
+  free = subst (λ (o : Option Piece). MatchOption o ⊤
+      (λ piece. IsTrue (is_free_run c.args.fs.now.land.space piece.extent piece.extent_bytes))) c.in-Some.is c.requires;
+}
+
+pub returns-in-Some-clause-named : goal.returns-in-Some-clause-named
+returns-in-Some-clause-named c history bytes items names subvolume stands =
+    let old = c.args.fs.now in
+    let new = c.name_new.new.self in
+    subst (λ (o : Option Piece). AreNamed old new history items (names_of c.args.ino (option_to_list o) ++ names)
+    c.name_new.result) (sym c.in-Some.is)
+    (named-new old new c.args.ino c.in-Some.piece history bytes items names c.name_new.result subvolume stands
+    (record {
+      tree = c.name_new.ensures.tree;
+      subvolume = c.name_new.ensures.subvolume;
+      slots = c.name_new.ensures.slots;
+    })
+    (c.name_new.ensures.named history bytes items names subvolume stands)
+    (c.name_new.ensures.sound history bytes items names subvolume stands) c.name_new.ensures.marks)
+
+pub returns-in-Some-clause-nodes : goal.returns-in-Some-clause-nodes
+returns-in-Some-clause-nodes c =
+    record {
+      tree = c.name_new.ensures.tree;
+      subvolume = c.name_new.ensures.subvolume;
+      slots = c.name_new.ensures.slots;
+    }
+
+pub returns-in-Some-clause-fault : goal.returns-in-Some-clause-fault
+returns-in-Some-clause-fault c = misfit-none c.in-Some.piece.extent c.name_new.result c.name_new.ensures.fault
+
+pub returns-in-None-clause-named : goal.returns-in-None-clause-named
+returns-in-None-clause-named c history bytes items names subvolume stands =
+    subst (λ (o : Option Piece). AreNamed c.args.fs.now c.args.fs.now history items
+    (names_of c.args.ino (option_to_list o) ++ names) (Ok tt)) (sym c.in-None.is)
+    (record { done = record { stands = stands; moved = moves-itself c.args.fs.now history }; sound = tt })
+
+pub returns-in-None-clause-nodes : goal.returns-in-None-clause-nodes
+returns-in-None-clause-nodes c = nodes-itself c.args.fs.now

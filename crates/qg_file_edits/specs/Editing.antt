@@ -1,0 +1,62 @@
+-- Several edits of a subvolume's tree, one after the other (this project's own).
+use Rattle.std.specs.Prelude.{◌≡◌, ℕ, ◌+◌, ◌*◌, ◌≤◌, List, Option, Some, Result, OnOk, IsTrue, not}
+use Rattle.qg_device.specs.History.{Event}
+use Rattle.qg_num.specs.declared.fault.BlockFault.{BlockFault}
+use Rattle.qg_num.specs.declared.key.Key.{Key}
+use Rattle.qg_num.specs.declared.piece.Piece.{Piece}
+use Rattle.qg_node.specs.declared.item.Item.{Item}
+use Rattle.qg_items.specs.declared.file.InodeItem.{InodeItem}
+use Rattle.qg_items.specs.declared.kind.TheConstants.{INODE_ITEM}
+use Rattle.qg_items.specs.ItemText.{inode_text}
+use Rattle.qg_parts.specs.Keys.{key_with}
+use Rattle.qg_blocks.specs.Told.{BreaksNone}
+use Rattle.qg_contents.specs.Written.{item_under}
+use Rattle.qg_space.specs.Holding.{free_slots}
+use Rattle.qg_edit.specs.Edits.{has_key, with_item, without_key}
+use Rattle.qg_fs_tree.specs.declared.fs_tree.FsTree.{FsTree}
+use Rattle.qg_fs_tree.specs.Standing.{Stands, taken_slots}
+use Rattle.qg_fs_layout.specs.Laying.{IsMoved}
+use Rattle.qg_file_edits.specs.declared.inode.InodeEdit.{InodeEdit}
+use Rattle.qg_file_edits.specs.declared.inode.InodeEdit.TheVariants.{Insert, Replace, Remove}
+
+-- ---- an INODE_ITEM
+
+-- the key of a file's INODE_ITEM
+abbrev pub inode_key : ℕ → Key
+inode_key ino = key_with ino INODE_ITEM 0
+
+-- an INODE_ITEM, under the number of its file
+abbrev pub inode_item : ℕ → InodeItem → Item
+inode_item ino inode = item_under ino INODE_ITEM 0 (inode_text inode)
+
+abbrev pub after_inode : ℕ → InodeEdit → List Item → List Item
+after_inode ino (Insert inode) items = with_item (inode_item ino inode) items
+after_inode ino (Replace inode) items = with_item (inode_item ino inode) items
+after_inode ino Remove items = without_key (inode_key ino) items
+
+-- none is there where one is put in, and one is where it is replaced or taken out
+abbrev pub CanEditInode : ℕ → InodeEdit → List Item → Type 0
+CanEditInode ino (Insert inode) items = IsTrue (not (has_key (inode_key ino) items))
+CanEditInode ino (Replace inode) items = IsTrue (has_key (inode_key ino) items)
+CanEditInode ino Remove items = IsTrue (has_key (inode_key ino) items)
+
+-- ---- edits
+
+-- A tree stands with these items and names, as edits between two commits leave it, so many at most. It has three levels
+-- above its leaves at most: so each edit takes at most five slots more than it gives back, and leaves at most nine
+-- fewer free
+pub record IsEditedBy (edits : ℕ) (old new : FsTree) (history : Option (List Event)) (items : List Item)
+    (names : List (ℕ × Piece)) : Type 0 where
+  pub stands : Stands new history items names
+  pub moved : IsMoved old new history
+  pub few : taken_slots new.land.space ≤ taken_slots old.land.space + 5 * edits
+  pub free : free_slots old.land.space ≤ free_slots new.land.space + 9 * edits
+
+-- So it is once a call is done that takes so many edits at most. It answers no rule where enough slots are free, and
+-- takes at most 45 steps for each edit
+pub record AreMade (edits : ℕ) (old new : FsTree) (history : Option (List Event)) (items : List Item)
+    (names : List (ℕ × Piece)) (steps steps_new : ℕ) (result : Result (Unit {0}) BlockFault) : Type 0 where
+  pub done : OnOk result (IsEditedBy edits old new history items names)
+  pub sound : (events : List Event) → history ≡ Some events → 9 * edits + 15 ≤ free_slots old.land.space
+      → BreaksNone result
+  pub reads : steps_new ≤ steps + 45 * edits

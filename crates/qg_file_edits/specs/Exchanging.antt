@@ -1,0 +1,50 @@
+-- Pieces of a file exchanged for others in a subvolume's tree (this project's own).
+use Rattle.std.specs.Prelude.{◌≡◌, ℕ, ◌+◌, ◌≤◌, List, ◌++◌, map, length, MatchOption, IsTrue, ⊤}
+use Rattle.std.specs.List.{flat_map}
+use Rattle.std.specs.List.Sorted.{IsPermutation}
+use Rattle.std.specs.Option.{option_to_list}
+use Rattle.qg_num.specs.declared.piece.Piece.{Piece}
+use Rattle.qg_node.specs.declared.item.Item.{Item}
+use Rattle.qg_image.specs.declared.file.File.{File}
+use Rattle.qg_contents.specs.Written.{item_of_piece, items_of_file}
+use Rattle.qg_space.specs.Holding.{Holding, is_free_run}
+use Rattle.qg_file_items.specs.FileEdits.{with_items, without_items}
+use Rattle.qg_exchange.specs.declared.step.Step.{Step}
+use Rattle.qg_exchange.specs.Applying.{CanExchange}
+use Rattle.qg_exchange.specs.Named.{AreNamesExchanged, named, names_of}
+use Rattle.qg_exchange.specs.Steps.{AreSteps}
+use Rattle.qg_files.specs.Apart.{AreApart}
+use Rattle.qg_file_edits.specs.declared.exchange.Exchange.{Exchange}
+use Rattle.qg_file_edits.specs.Editing.{CanEditInode, after_inode}
+use Rattle.qg_file_edits.specs.Naming.{AreFewNames, AreOfNamed}
+
+-- items once pieces of a file are taken out, and then others put in
+abbrev pub exchanged : ℕ → List Piece → List Piece → List Item → List Item
+exchanged ino gone put items =
+    with_items (map (item_of_piece ino) put) (without_items (map (item_of_piece ino) gone) items)
+
+-- and then the INODE_ITEM
+abbrev pub after_exchange : ℕ → Exchange → List Item → List Item
+after_exchange ino change items = after_inode ino change.inode (exchanged ino change.gone change.put items)
+
+-- over any disk: both lists ascend, and the run of a new extent is free
+pub record IsReadyFor (space : Holding) (change : Exchange) : Type 0 where
+  pub gone : AreApart change.gone
+  pub put : AreApart change.put
+  pub free : MatchOption change.new ⊤ (λ piece. IsTrue (is_free_run space piece.extent piece.extent_bytes))
+
+-- items can be edited so, by so many edits at most
+pub record CanEditSo (edits ino : ℕ) (change : Exchange) (items : List Item) : Type 0 where
+  pub can : CanExchange ino change.gone change.put items
+  pub inode : CanEditInode ino change.inode (exchanged ino change.gone change.put items)
+  pub short : (steps : List Step) → AreSteps change.gone change.put steps → length steps + 1 ≤ edits
+
+-- An exchange, of so many edits at most, makes these files of others. Those that are put in are the new one and some
+-- that name extents which are named already, and no reference is there too often meanwhile
+pub record MakesFiles (edits owner ino : ℕ) (change : Exchange) (files files_new : List (ℕ × File)) : Type 0 where
+  pub can : CanEditSo edits ino change (flat_map items_of_file files)
+  pub made : after_exchange ino change (flat_map items_of_file files) ≡ flat_map items_of_file files_new
+  pub names : AreNamesExchanged (named files) (named files_new) (names_of ino change.gone) (names_of ino change.put)
+  pub put : IsPermutation (names_of ino (change.named ++ option_to_list change.new)) (names_of ino change.put)
+  pub known : AreOfNamed (named files) change.named
+  pub few : AreFewNames owner (names_of ino change.put ++ named files)

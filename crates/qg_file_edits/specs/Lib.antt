@@ -1,0 +1,5 @@
+pub mod Files
+pub mod Naming
+pub mod Editing
+pub mod Exchanging
+pub mod Changes

@@ -1,0 +1,60 @@
+// All of some pieces of a file name extents, or name them no more.
+ghost use Rattle.std.specs.Prelude.{◌≡◌, ◌++◌, ℕ, ⊤, List, Option, MatchOption, IsErrOf, IsTrue};
+ghost use Rattle.std.specs.List.{filter_map};
+ghost use Rattle.std.specs.Option.{option_to_list};
+ghost use Rattle.qg_device.specs.History.{Event};
+ghost use Rattle.qg_num.specs.declared.piece.Piece.{Piece as PieceValue};
+ghost use Rattle.qg_node.specs.declared.item.Item.{Item as ItemValue};
+ghost use Rattle.qg_space.specs.Holding.{is_free_run};
+ghost use Rattle.qg_exchange.specs.Named.{names_of};
+ghost use Rattle.qg_fs_tree.specs.Standing.{IsSubvolume, Stands, name_told};
+ghost use Rattle.qg_file_edits.specs.Naming.{AreCovered, AreFewNames, AreNamed, AreOfNamed, KeepsNodes};
+
+use qg_fs_tree::FsTree;
+use qg_num::{BlockFault, Ino, Piece};
+
+/// Pieces of a file name extents that others name already.
+pub(crate) fn name_each(fs: &mut FsTree, ino: Ino, pieces: &[Piece]) -> Result<(), BlockFault>
+    ensures named { (history : Option (List Event)) (bytes : ℕ) (items : List ItemValue) (names : List (ℕ × PieceValue))
+        → IsSubvolume fs.old history bytes → Stands fs.old history items names → AreOfNamed names pieces.now
+        → AreFewNames fs.old.tree.owner (names_of ino pieces.now ++ names)
+        → AreNamed fs.old fs.new history items (names_of ino pieces.now ++ names) result }
+    ensures nodes { KeepsNodes fs.old fs.new }
+    ensures fault { IsErrOf result BlockFault.Disk → ⊥ }
+{
+    for piece in pieces {
+        fs.name(ino, piece)?;
+    }
+    Ok(())
+}
+
+/// Pieces of a file name their extents no more. The runs of extents that none names any more are given back.
+pub(crate) fn unname_each(fs: &mut FsTree, ino: Ino, pieces: &[Piece]) -> Result<(), BlockFault>
+    ensures unnamed { (history : Option (List Event)) (bytes : ℕ) (items : List ItemValue)
+        (names : List (ℕ × PieceValue))
+        → IsSubvolume fs.old history bytes → Stands fs.old history items (names_of ino pieces.now ++ names)
+        → AreCovered fs.old.tree.owner (filter_map name_told items) names
+        → AreNamed fs.old fs.new history items names result }
+    ensures nodes { KeepsNodes fs.old fs.new }
+    ensures fault { IsErrOf result BlockFault.Disk → ⊥ }
+{
+    for piece in pieces {
+        fs.unname(ino, piece)?;
+    }
+    Ok(())
+}
+
+/// A piece, if there is one, names a new extent, whose run is free.
+pub(crate) fn name_new(fs: &mut FsTree, ino: Ino, new: Option<Piece>) -> Result<(), BlockFault>
+    requires { MatchOption new ⊤ (λ piece. IsTrue (is_free_run fs.old.land.space piece.extent piece.extent_bytes)) }
+    ensures named { (history : Option (List Event)) (bytes : ℕ) (items : List ItemValue) (names : List (ℕ × PieceValue))
+        → IsSubvolume fs.old history bytes → Stands fs.old history items names
+        → AreNamed fs.old fs.new history items (names_of ino (option_to_list new) ++ names) result }
+    ensures nodes { KeepsNodes fs.old fs.new }
+    ensures fault { IsErrOf result BlockFault.Disk → ⊥ }
+{
+    match new {
+        Some(piece) => fs.name_new(ino, &piece),
+        None => Ok(()),
+    }
+}

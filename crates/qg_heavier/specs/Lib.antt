@@ -1,0 +1,3 @@
+pub mod Heavier
+pub mod Laws
+pub mod Need

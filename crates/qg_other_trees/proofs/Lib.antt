@@ -1,0 +1,16 @@
+pub mod Slots
+pub mod Enough
+pub mod TreesIn
+pub mod Others
+pub mod Recorded
+pub mod Telling
+pub mod Weight
+pub mod Bound
+pub mod Whole
+pub mod Walked
+pub mod MetNodes
+pub mod Found
+pub mod Tables
+pub mod LayoutSame
+pub mod Owing
+pub mod Sound

@@ -1,0 +1,532 @@
+-- An image that holds the trees of a commit, and the nodes of a whole layout where they lie, is sound.
+use Rattle.std.proofs.Common.{◌≡◌, ℕ, ◌+◌, ◌≤◌, Bool, true, false, cond, List, [], ◌∷◌, ◌++◌, map, length, get_or, not, refl, sym, ap, subst, ◌∙◌}
+use Rattle.std.specs.Bool.{then_some}
+use Rattle.std.specs.Prelude.{◌&&◌, ◌==◌, nat_le, nat_lt, unwrap_or, Option, Some, None, Ok, slice_range}
+use Rattle.std.specs.List.{All, IsDistinct, filter_map, find, flat_map, list_all}
+use Rattle.std.proofs.lemmas.Bool.{eq-eqb, le-leb}
+use Rattle.std.proofs.lemmas.List.{append-nil}
+use Rattle.std.proofs.lemmas.List.Elements.{All-contains, Contains-append_left, Contains-append_right, Contains-get_or}
+use Rattle.std.proofs.lemmas.Option.{same_Some}
+use Rattle.qg_num.specs.declared.counters.Counters.{Counters}
+use Rattle.qg_num.specs.declared.rule.Rule.{Rule}
+use Rattle.qg_num.specs.declared.rule.Rule.TheVariants as rule
+use Rattle.qg_node.specs.declared.item.Item.{Item}
+use Rattle.qg_node.specs.declared.node.Node.{Node}
+use Rattle.qg_node.specs.Nodes.{header_of}
+use Rattle.qg_items.specs.declared.root.RootItem.{RootItem}
+use Rattle.qg_items.specs.declared.tree.TheConstants.{ROOT_TREE, EXTENT_TREE, TOP_LEVEL, QUOTA_TREE}
+use Rattle.qg_super.specs.declared.sizes.Sizes.{Sizes}
+use Rattle.qg_super.specs.declared.superblock.Super.{Super}
+use Rattle.qg_super.specs.Places.{first_place, is_served, second_place, total_bytes}
+use Rattle.qg_super.specs.SuperText.{choose, sizes_of, super_read}
+use Rattle.qg_super.proofs.Served.{SuperFits-is_super}
+use Rattle.qg_super.proofs.SuperTexts.{super_writes_back}
+use Rattle.qg_image.specs.FilesOf.{are_files, file_parts, files_in, files_of, is_file_item}
+use Rattle.qg_image.specs.ItemMeaning.{extent_part, is_subvolume_number, quota_part, root_part}
+use Rattle.qg_image.specs.Table.{keys_of, value_at}
+use Rattle.qg_image.specs.declared.file.File.{File}
+use Rattle.qg_image.specs.declared.part.ExtentPart.{ExtentPart}
+use Rattle.qg_image.specs.declared.part.QuotaPart.{QuotaPart}
+use Rattle.qg_state.specs.declared.quota.Quota.{Quota}
+use Rattle.qg_state.specs.declared.element.Element.{Element}
+use Rattle.qg_state.specs.Owed.{Agrees, agrees_at, disagreement, homeless}
+use Rattle.qg_state.specs.Space.{present_extents}
+use Rattle.qg_state.specs.State.{Layout, Placed, State, Subvolume, layout_of, next_generation}
+use Rattle.qg_verdict.specs.declared.failure.Failure.{Failure}
+use Rattle.qg_verdict.specs.declared.tree.Tree.TheVariants.{Extents, Files, Quotas, Roots}
+use Rattle.qg_verdict.specs.Failure.{first_failure, unless}
+use Rattle.qg_verdict.specs.ImageState.{as_committed, extent_parts, items_of_root, layout_in, nodes_of_root, other_nodes, quota_in, quota_parts, quota_told, roots_in, state_in, subvolume_in, subvolume_roots, subvolumes_in, super_in, super_of}
+use Rattle.qg_verdict.specs.OtherTrees.{root_item_of, super_at}
+use Rattle.qg_verdict.specs.Verdict.{IsSound, are_few, are_roots, counts_failure, extent_set, is_quota, most_subvolumes, places_failure, quota_failure, references_failure, root_failure, roots_failure, space_failure, subvolume_failure, together_failure}
+use Rattle.qg_verdict.specs.Walk.{node_found, root_expected, root_told, tree_failure}
+use Rattle.qg_machine.specs.Layout.{IsTreeOf, IsWhole}
+use Rattle.qg_reach.proofs.Layouts.{layout_by, layout_in-nodes}
+use Rattle.qg_check.specs.Trees.{AreNamed}
+use Rattle.qg_check.proofs.Verdicts.{image_failure_parts, rest_failure, verdict_some}
+use Rattle.qg_refs.specs.declared.kept.Kept.{Kept}
+use Rattle.qg_extents.specs.Written.{parts_of_book}
+use Rattle.qg_other_trees.specs.declared.laying.OtherTrees.{OtherTrees}
+use Rattle.qg_other_trees.specs.Holds.{AreRuns, HasCommit, HoldsLayout, IsToCome, IsTreeIn}
+use Rattle.qg_other_trees.specs.Sound.{IsCommitted, KeepsRules, committed}
+use Rattle.qg_other_trees.specs.Telling.{IsStateOf, one_group}
+use Rattle.qg_other_trees.specs.Trees.{AreTrees, nodes_laid, quota_parts_laid, roots_laid, superblock_laid}
+use Rattle.qg_other_trees.proofs.Found.{one_tree}
+use Rattle.qg_other_trees.proofs.LayoutSame.{layout_is}
+use Rattle.qg_other_trees.proofs.Recorded.{book_agrees}
+use Rattle.qg_other_trees.proofs.Telling.{are_those, behind_extents, behind_quotas, extents_root, for_extents, for_quotas, for_roots, others, quota_laid_told, quotas_root}
+use Rattle.qg_other_trees.proofs.TreesIn.{IsTreeIn-open, IsTreeIn-told, those_open, those_told}
+use Rattle.qg_other_trees.proofs.Walked.{in_slots, nodes_found, tree_in}
+use Rattle.qg_other_trees.proofs.Whole.{nodes, root_node, root_there}
+
+-- ---- parts of a list
+
+all_front : {A : Type 0} (P : A → Type 0) (front back : List A) → All P (front ++ back) → All P front
+all_front P front back all = λ k d below.
+    All-contains P (front ++ back) (get_or front k d) all
+    (Contains-append_left front back (get_or front k d) (Contains-get_or front k d below))
+
+all_back : {A : Type 0} (P : A → Type 0) (front back : List A) → All P (front ++ back) → All P back
+all_back P front back all = λ k d below.
+    All-contains P (front ++ back) (get_or back k d) all
+    (Contains-append_right front back (get_or back k d) (Contains-get_or back k d below))
+
+-- ---- parts that fail nowhere
+
+both_none : (a b : Option Failure) → a ≡ None → b ≡ None → first_failure (a ∷ b ∷ []) ≡ None
+both_none a b ha hb = rw (ha, hb) refl
+
+three_none : (a b c : Option Failure) → a ≡ None → b ≡ None → c ≡ None → first_failure (a ∷ b ∷ c ∷ []) ≡ None
+three_none a b c ha hb hc = rw (ha, hb, hc) refl
+
+four_none : (a b c d : Option Failure) → a ≡ None → b ≡ None → c ≡ None → d ≡ None
+    → first_failure (a ∷ b ∷ c ∷ d ∷ []) ≡ None
+four_none a b c d ha hb hc hd = rw (ha, hb, hc, hd) refl
+
+kept_so : (test : Bool) (broken : Rule) (address : ℕ) → test ≡ true → unless test broken address ≡ None
+kept_so test broken address h = rw h refl
+
+-- ---- the superblocks
+
+places_pass : (super : Super) (len : ℕ) → total_bytes (sizes_of super) ≤ len
+    → places_failure super (Some super) (Some super) len ≡ None
+places_pass super len long =
+    simp (
+      le-leb (total_bytes (sizes_of super)) len long,
+      eq-eqb super.generation super.generation refl,
+      eq-eqb super.root super.root refl,
+      eq-eqb super.nodesize super.nodesize refl,
+      eq-eqb super.slots super.slots refl,
+      eq-eqb super.sectors super.sectors refl,
+      eq-eqb super.format super.format refl,
+    ) refl
+
+-- none of two that are the same is before the other
+chosen_same : (super : Super) → choose (Some super) (Some super) ≡ Some super
+chosen_same super = either (nat_lt super.generation super.generation) where
+  either : (before : Bool) → cond before (Some super) (Some super) ≡ Some super
+  either true = refl
+  either false = refl
+
+pub super_chosen : (super : Super) (image : List ℕ) → super_in image first_place ≡ Some super
+    → super_in image second_place ≡ Some super → super_of image ≡ Some super
+unfolding super_of
+super_chosen super image first second = rw (first, second) (chosen_same super)
+
+read_served : (place : ℕ) (bytes : List ℕ) (super : Super) → super_read place bytes ≡ Some super
+    → is_served (sizes_of super) ≡ true
+read_served place bytes super read = (SuperFits-is_super super (super_writes_back place bytes super read).served).served
+
+-- ---- what trees say
+
+named_laid : (extents files quotas : RootItem) → AreNamed (roots_laid extents files quotas) extents quotas files
+unfolding are_roots is_subvolume_number
+named_laid extents files quotas = record { are = refl; extent_tree = refl; quota_tree = refl; only = refl }
+
+quota_keeps : (generation : ℕ) (counters : Counters) (stamp : ℕ)
+    → is_quota (TOP_LEVEL ∷ []) (quota_parts_laid generation counters stamp) ≡ true
+unfolding is_quota is_subvolume_number
+quota_keeps generation counters stamp =
+    rw (eq-eqb counters.rfer counters.rfer refl, eq-eqb counters.excl counters.excl refl) refl
+
+quota_few : (generation : ℕ) (counters : Counters) (stamp : ℕ)
+    → are_few (quota_parts_laid generation counters stamp) ≡ true
+unfolding are_few
+quota_few generation counters stamp = refl
+
+then_passes : {A : Type 0} (a b : Bool) (x y : A) → then_some (a && b) x ≡ Some y → b ≡ true
+then_passes true true x y h = refl
+then_passes true false x y h = absurd cc
+then_passes false b x y h = absurd cc
+
+-- the parts of a subvolume's files fit each other
+files_fit : (generation : ℕ) (items : List Item) (files : List (ℕ × File)) → files_of generation items ≡ Some files
+    → are_files (file_parts items) ≡ true
+unfolding files_of
+files_fit generation items files h =
+    then_passes (list_all (is_file_item generation) items) (are_files (file_parts items)) (files_in (file_parts items)) files h
+
+none_found : (test : ℕ → Bool) (xs : List ℕ) → ((x : ℕ) → test x ≡ true) → find (λ x. not (test x)) xs ≡ None
+none_found test [] all = refl
+none_found test (x ∷ xs) all = rw (all x) (none_found test xs all)
+
+nothing_disagrees : (layout : Layout) (parts : List ExtentPart) → Agrees layout parts → disagreement layout parts ≡ None
+unfolding disagreement
+nothing_disagrees layout parts agrees = none_found (agrees_at layout parts) _ agrees
+
+references_kept : (super : Super) (image : List ℕ) (layout : Layout) → disagreement layout (extent_parts super image) ≡ None
+    → homeless layout ≡ None → references_failure super image layout ≡ None
+unfolding references_failure
+references_kept super image layout agree home = rw (agree, home) refl
+
+-- ---- the image
+
+module _ (sizes : Sizes) (root : RootItem) (book : List (ℕ × Kept)) (counters : Counters) (stamp : ℕ) (slots : List ℕ)
+    (trees : OtherTrees) (old : State) (image : List ℕ) (whole : IsWhole old)
+    (differ : IsDistinct (λ a b. a == b) slots)
+    (are : AreTrees sizes (next_generation old) root book counters stamp slots trees)
+    (is : IsStateOf sizes (next_generation old) root book counters stamp (committed [] old counters stamp))
+    (has_given : HasCommit trees.superblock (nodes_laid trees) image)
+    (holds_given : HoldsLayout trees.superblock image old.layout)
+    (runs : AreRuns old) (space : space_failure old.sizes (extent_set (present_extents old)) ≡ None)
+    (counts : counts_failure (layout_of old) (Some (one_group counters stamp)) ≡ None)
+    (home : homeless (layout_of old) ≡ None) where
+  abbrev state : State
+  state = committed [] old counters stamp
+
+  abbrev generation : ℕ
+  generation = next_generation old
+
+  abbrev super : Super
+  super = super_at state trees.roots.root
+
+  same_super : trees.superblock ≡ super
+  same_super =
+      are.leads ∙ ap (λ (s : Sizes). superblock_laid s generation trees.roots.root) is.same_sizes
+
+  has : HasCommit super (nodes_laid trees) image
+  has = subst (λ (s : Super). HasCommit s (nodes_laid trees) image) same_super has_given
+
+  holds : HoldsLayout super image old.layout
+  holds = subst (λ (s : Super). HoldsLayout s image old.layout) same_super holds_given
+
+  comes : IsToCome old super
+  comes = record { generation = refl; same_sizes = refl }
+
+  served : is_served old.sizes ≡ true
+  served = read_served first_place (slice_range image first_place (first_place + 4096)) super has.first
+
+  abbrev own : Subvolume
+  own = is.subvolume
+
+  tree : IsTreeOf old own
+  tree = one_tree old own whole is.alone
+
+  -- ---- the other trees
+
+  abbrev IsThere : Node → Type 0
+  IsThere node = node_found super image (header_of node).address ≡ Ok node
+
+  found_first : All IsThere (trees.roots.nodes ++ trees.extents.nodes)
+  found_first = all_front IsThere (trees.roots.nodes ++ trees.extents.nodes) trees.quotas.nodes has.found
+
+  abbrev root_items : List Item
+  root_items = are.root_tree.items
+
+  abbrev extent_items : List Item
+  extent_items = are.extent_tree.items
+
+  abbrev quota_items : List Item
+  quota_items = are.quota_tree.items
+
+  abbrev named_extents : RootItem
+  named_extents = extents_root sizes generation root book counters stamp slots trees state differ are is
+
+  abbrev named_quotas : RootItem
+  named_quotas = quotas_root sizes generation root book counters stamp slots trees state differ are is
+
+  root_tree : IsTreeIn Roots super image (root_expected None None) super.root root_items trees.roots.nodes
+  root_tree =
+      IsTreeIn-open Roots super sizes.nodesize ROOT_TREE generation root_items
+      (behind_quotas sizes generation root book counters stamp slots trees state differ are is) trees.roots.nodes
+      trees.roots.root trees.roots.level
+      (for_roots sizes generation root book counters stamp slots trees state differ are is) image
+      (all_front IsThere trees.roots.nodes trees.extents.nodes found_first)
+
+  root_order : root_tree.those ≡ are.root_tree.stands.reached.those
+  unfolding root_tree
+  root_order =
+      those_open Roots super sizes.nodesize ROOT_TREE generation root_items
+      (behind_quotas sizes generation root book counters stamp slots trees state differ are is) trees.roots.nodes
+      trees.roots.root trees.roots.level
+      (for_roots sizes generation root book counters stamp slots trees state differ are is) image
+      (all_front IsThere trees.roots.nodes trees.extents.nodes found_first)
+
+  extent_tree : IsTreeIn Extents super image (root_told named_extents) named_extents.bytenr extent_items
+      trees.extents.nodes
+  extent_tree =
+      IsTreeIn-told Extents super sizes.nodesize EXTENT_TREE generation extent_items slots trees.extents.nodes
+      trees.extents.root trees.extents.level
+      (for_extents sizes generation root book counters stamp slots trees state differ are is) image
+      (all_back IsThere trees.roots.nodes trees.extents.nodes found_first)
+
+  extent_order : extent_tree.those ≡ are.extent_tree.stands.reached.those
+  unfolding extent_tree
+  extent_order =
+      those_told Extents super sizes.nodesize EXTENT_TREE generation extent_items slots trees.extents.nodes
+      trees.extents.root trees.extents.level
+      (for_extents sizes generation root book counters stamp slots trees state differ are is) image
+      (all_back IsThere trees.roots.nodes trees.extents.nodes found_first)
+
+  quota_tree : IsTreeIn Quotas super image (root_told named_quotas) named_quotas.bytenr quota_items trees.quotas.nodes
+  quota_tree =
+      IsTreeIn-told Quotas super sizes.nodesize QUOTA_TREE generation quota_items
+      (behind_extents sizes generation root book counters stamp slots trees state differ are is) trees.quotas.nodes
+      trees.quotas.root trees.quotas.level
+      (for_quotas sizes generation root book counters stamp slots trees state differ are is) image
+      (all_back IsThere (trees.roots.nodes ++ trees.extents.nodes) trees.quotas.nodes has.found)
+
+  quota_order : quota_tree.those ≡ are.quota_tree.stands.reached.those
+  unfolding quota_tree
+  quota_order =
+      those_told Quotas super sizes.nodesize QUOTA_TREE generation quota_items
+      (behind_extents sizes generation root book counters stamp slots trees state differ are is) trees.quotas.nodes
+      trees.quotas.root trees.quotas.level
+      (for_quotas sizes generation root book counters stamp slots trees state differ are is) image
+      (all_back IsThere (trees.roots.nodes ++ trees.extents.nodes) trees.quotas.nodes has.found)
+
+  -- ---- what they say
+
+  roots_said : roots_in super image ≡ roots_laid named_extents root named_quotas
+  unfolding roots_in
+  roots_said = ap (λ (items : List Item). filter_map root_part items) root_tree.items_are ∙ are.root_tree.told.told
+
+  named : AreNamed (roots_in super image) named_extents named_quotas root
+  named =
+      subst (λ (roots : List (ℕ × RootItem)). AreNamed roots named_extents named_quotas root) (sym roots_said)
+      (named_laid named_extents root named_quotas)
+
+  extents_said : extent_parts super image ≡ parts_of_book book
+  unfolding extent_parts
+  extents_said =
+      rw named.extent_tree
+      (ap (λ (items : List Item). filter_map extent_part items) extent_tree.items_are ∙ are.extent_tree.told.told)
+
+  quotas_said : quota_parts super image ≡ quota_parts_laid generation counters stamp
+  unfolding quota_parts
+  quotas_said =
+      rw named.quota_tree
+      (ap (λ (items : List Item). filter_map quota_part items) quota_tree.items_are ∙ are.quota_tree.told.told)
+
+  agrees : Agrees (layout_of old) (extent_parts super image)
+  agrees =
+      subst (λ (parts : List ExtentPart). Agrees (layout_of old) parts) (sym extents_said)
+      (book_agrees (layout_of old) book is.table is.known)
+
+  -- ---- the subvolume's tree
+
+  abbrev own_nodes : List Node
+  own_nodes = nodes old whole own tree
+
+  abbrev at_root : Node
+  at_root = root_node old whole own tree
+
+  root_is : root_item_of own at_root ≡ root
+  root_is =
+      ap (root_item_of own)
+      (same_Some at_root is.node (sym (root_there old whole own tree) ∙ is.there))
+      ∙ is.root_is
+
+  file_tree : IsTreeIn Files super image (root_told root) root.bytenr tree.items own_nodes
+  file_tree =
+      subst (λ (item : RootItem). IsTreeIn Files super image (root_told item) item.bytenr tree.items own_nodes) root_is
+      (tree_in old super image whole comes holds own tree)
+
+  file_nodes : nodes_of_root Files super image root ≡ own_nodes
+  file_nodes =
+      subst (λ (item : RootItem). nodes_of_root Files super image item ≡ own_nodes) root_is
+      (nodes_found old super image whole comes holds own tree)
+
+  fit : are_files (file_parts tree.items) ≡ true
+  fit = files_fit generation tree.items own.files tree.files
+
+  -- ---- the state
+
+  others_in : other_nodes super image ≡ others sizes generation root book counters stamp slots trees state differ are is
+  others_in =
+      rw (
+        named.extent_tree,
+        named.quota_tree,
+        root_tree.nodes_are,
+        extent_tree.nodes_are,
+        quota_tree.nodes_are,
+        root_order,
+        extent_order,
+        quota_order,
+      ) refl
+
+  own_in : subvolume_in super image root ≡ own
+  own_in =
+      let told : unwrap_or (files_of generation (items_of_root Files super image root)) [] ≡ own.files =
+      ap (λ (items : List Item). unwrap_or (files_of generation items) []) file_tree.items_are
+      ∙ ap (λ (files : Option (List (ℕ × File))). unwrap_or files []) tree.files in
+      let at : root.bytenr ≡ own.root = ap (λ (item : RootItem). item.bytenr) (sym root_is) in
+      let copied : root.last_snapshot ≡ own.last_snapshot = ap (λ (item : RootItem). item.last_snapshot) (sym root_is) in
+      λ i. record { files = told i; root = at i; last_snapshot = copied i }
+
+  subvolumes_are : subvolumes_in super image ≡ old.subvolumes
+  unfolding subvolumes_in
+  subvolumes_are =
+      ap (λ (roots : List (ℕ × RootItem)). map (λ entry. (entry.0, subvolume_in super image entry.1)) roots) named.only
+      ∙ ap (λ (subvolume : Subvolume). (TOP_LEVEL, subvolume) ∷ []) own_in
+      ∙ sym is.alone
+
+  layout_same : layout_in super image ≡ old.layout
+  layout_same =
+      let nodes_are : flat_map (λ entry. nodes_of_root Files super image entry.1) (subvolume_roots (roots_in super image)) ≡ own_nodes =
+      ap (λ (roots : List (ℕ × RootItem)). flat_map (λ entry. nodes_of_root Files super image entry.1) roots) named.only
+      ∙ append-nil (nodes_of_root Files super image root) ∙ file_nodes in
+      layout_in-nodes super image
+      ∙ ap (λ (list : List Node). layout_by (extent_parts super image) list) nodes_are
+      ∙ layout_is old whole own tree is.alone served runs (in_slots old super image whole comes holds)
+      (extent_parts super image) agrees
+
+  quota_same : quota_in super image ≡ Some (one_group counters stamp)
+  quota_same =
+      rw named.quota_tree
+      (ap (λ (parts : List QuotaPart). Some (quota_told parts)) quotas_said
+      ∙ ap (λ (quota : Quota). Some quota) (sym (quota_laid_told generation counters stamp)))
+
+  abbrev those : List Node
+  those = others sizes generation root book counters stamp slots trees state differ are is
+
+  abbrev now : List Node → List (ℕ × Subvolume) → List (ℕ × Placed) → Option Quota → State
+  now nodes subvolumes layout quota = as_committed nodes (record {
+    sizes = old.sizes;
+    generation = generation;
+    subvolumes = subvolumes;
+    layout = layout;
+    quota = quota;
+    pending = [];
+    held = record { nodes = []; others = []; extents = [] };
+  })
+
+  state_parts : state_in super image
+      ≡ now (other_nodes super image) (subvolumes_in super image) (layout_in super image) (quota_in super image)
+  unfolding state_in
+  state_parts = refl
+
+  state_same : state_in super image ≡ committed those old counters stamp
+  state_same =
+      state_parts
+      ∙ ap (λ (list : List Node). now list (subvolumes_in super image) (layout_in super image) (quota_in super image)) others_in
+      ∙ ap (λ (list : List (ℕ × Subvolume)). now those list (layout_in super image) (quota_in super image)) subvolumes_are
+      ∙ ap (λ (list : List (ℕ × Placed)). now those old.subvolumes list (quota_in super image)) layout_same
+      ∙ ap (λ (quota : Option Quota). now those old.subvolumes old.layout quota) quota_same
+
+  layout_now : layout_of (state_in super image) ≡ layout_of old
+  layout_now = ap layout_of state_same
+
+  -- ---- no rule is broken
+
+  roots_pass : roots_failure super image ≡ None
+  roots_pass =
+      three_none (tree_failure Roots super image (root_expected None None) super.root)
+      (unless (are_roots (roots_in super image)) rule.Root super.root)
+      (unless (nat_le (length (subvolume_roots (roots_in super image))) most_subvolumes) rule.Limits super.root)
+      root_tree.walked (kept_so (are_roots (roots_in super image)) rule.Root super.root named.are)
+      (kept_so (nat_le (length (subvolume_roots (roots_in super image))) most_subvolumes) rule.Limits super.root
+      (ap (λ (roots : List (ℕ × RootItem)). nat_le (length roots) most_subvolumes) named.only))
+
+  extents_pass : root_failure Extents super image (value_at EXTENT_TREE (roots_in super image)) ≡ None
+  extents_pass = ap (root_failure Extents super image) named.extent_tree ∙ extent_tree.walked
+
+  quota_pass : quota_failure super image (roots_in super image) (Some named_quotas) ≡ None
+  quota_pass =
+      let parts = quota_parts super image in
+      let subvolumes = keys_of (subvolume_roots (roots_in super image)) in
+      let only : subvolumes ≡ TOP_LEVEL ∷ [] = ap (λ (roots : List (ℕ × RootItem)). keys_of roots) named.only in
+      let keeps : is_quota subvolumes parts ≡ true =
+      ap (λ (subs : List ℕ). is_quota subs parts) only ∙ ap (is_quota (TOP_LEVEL ∷ [])) quotas_said
+      ∙ quota_keeps generation counters stamp in
+      three_none (tree_failure Quotas super image (root_told named_quotas) named_quotas.bytenr)
+      (unless (is_quota subvolumes parts) rule.Quota named_quotas.bytenr)
+      (unless (are_few parts) rule.Limits named_quotas.bytenr) quota_tree.walked
+      (kept_so (is_quota subvolumes parts) rule.Quota named_quotas.bytenr keeps)
+      (kept_so (are_few parts) rule.Limits named_quotas.bytenr
+      (ap are_few quotas_said ∙ quota_few generation counters stamp))
+
+  quotas_pass : quota_failure super image (roots_in super image) (value_at QUOTA_TREE (roots_in super image)) ≡ None
+  quotas_pass = ap (quota_failure super image (roots_in super image)) named.quota_tree ∙ quota_pass
+
+  subvolume_pass : subvolume_failure super image root ≡ None
+  subvolume_pass =
+      let test = are_files (file_parts (items_of_root Files super image root)) in
+      both_none (tree_failure Files super image (root_told root) root.bytenr) (unless test rule.File root.bytenr)
+      file_tree.walked
+      (kept_so test rule.File root.bytenr
+      (ap (λ (items : List Item). are_files (file_parts items)) file_tree.items_are ∙ fit))
+
+  subvolumes_pass : first_failure (map (λ entry. subvolume_failure super image entry.1) (subvolume_roots (roots_in super image)))
+      ≡ None
+  subvolumes_pass =
+      ap (λ (roots : List (ℕ × RootItem)). first_failure (map (λ entry. subvolume_failure super image entry.1) roots)) named.only
+      ∙ rw subvolume_pass refl
+
+  present_now : present_extents (committed those old counters stamp) ≡ present_extents old
+  unfolding present_extents
+  present_now = refl
+
+  space_pass : space_failure (sizes_of super) (extent_set (present_extents (state_in super image))) ≡ None
+  space_pass =
+      ap (λ (now : State). space_failure old.sizes (extent_set (present_extents now))) state_same
+      ∙ ap (λ (named : List Element). space_failure old.sizes (extent_set named)) present_now
+      ∙ space
+
+  references_pass : references_failure super image (layout_of (state_in super image)) ≡ None
+  references_pass =
+      ap (references_failure super image) layout_now
+      ∙ references_kept super image (layout_of old) (nothing_disagrees (layout_of old) (extent_parts super image) agrees) home
+
+  counts_pass : counts_failure (layout_of (state_in super image)) (state_in super image).quota ≡ None
+  counts_pass = ap (λ (now : State). counts_failure (layout_of now) now.quota) state_same ∙ counts
+
+  places_pass_here : places_failure super (super_in image first_place) (super_in image second_place) (length image) ≡ None
+  places_pass_here = rw (has.first, has.second) (places_pass super (length image) has.long)
+
+  keeps : KeepsRules super image
+  keeps = record {
+    places = places_pass_here;
+    roots = roots_pass;
+    extents = extents_pass;
+    quotas = quotas_pass;
+    subvolumes = subvolumes_pass;
+    space = space_pass;
+    references = references_pass;
+    counts = counts_pass;
+  }
+
+  together_pass : together_failure super image ≡ None
+  together_pass =
+      three_none (space_failure (sizes_of super) (extent_set (present_extents (state_in super image)))) _
+      (counts_failure (layout_of (state_in super image)) (state_in super image).quota) space_pass
+      (cc references_pass) counts_pass
+
+  sound : IsSound image
+  sound =
+      let rest : rest_failure super image ≡ None =
+      four_none (root_failure Extents super image (value_at EXTENT_TREE (roots_in super image)))
+      (quota_failure super image (roots_in super image) (value_at QUOTA_TREE (roots_in super image)))
+      (first_failure (map (λ entry. subvolume_failure super image entry.1) (subvolume_roots (roots_in super image))))
+      (together_failure super image) extents_pass quotas_pass subvolumes_pass together_pass in
+      verdict_some image super (super_chosen super image has.first has.second) ∙ image_failure_parts super image
+      ∙ three_none (places_failure super (super_in image first_place) (super_in image second_place) (length image))
+      (roots_failure super image) (rest_failure super image) places_pass_here roots_pass rest
+
+  -- the state with these nodes is one that the trees tell, too
+  is_now : IsStateOf sizes generation root book counters stamp (committed those old counters stamp)
+  is_now = record {
+    some = is.some;
+    same_sizes = is.same_sizes;
+    same_generation = is.same_generation;
+    subvolume = is.subvolume;
+    alone = is.alone;
+    node = is.node;
+    there = is.there;
+    root_is = is.root_is;
+    quota = is.quota;
+    table = is.table;
+    known = is.known;
+  }
+
+  pub is_committed : IsCommitted trees old counters stamp slots image
+  is_committed = record {
+    others = those;
+    told = are_those sizes generation root book counters stamp slots trees (committed those old counters stamp) differ are is_now;
+    rules = subst (λ (s : Super). KeepsRules s image) (sym same_super) keeps;
+    stands = record {
+      sound = sound;
+      super = super;
+      chosen = super_chosen super image has.first has.second;
+      stands = sym state_same;
+    };
+  }

@@ -1,0 +1,5 @@
+pub mod Trees
+pub mod Telling
+pub mod Holds
+pub mod Sound
+pub mod Laws

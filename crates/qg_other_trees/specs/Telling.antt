@@ -1,0 +1,112 @@
+-- A state that the root, extent and quota trees of a commit tell (this project's own). Addresses and lengths are in
+-- bytes.
+use Rattle.std.specs.Prelude.{◌≡◌, ℕ, ◌<◌, ◌≤◌, false, List, [], ◌∷◌, ◌++◌, Option, Some, None, Contains, ◌==◌}
+use Rattle.std.specs.List.{AllByRecursion, IsDistinct, filter_map}
+use Rattle.std.specs.List.Sorted.{IsPermutation}
+use Rattle.std.specs.Option.{option_map}
+use Rattle.qg_num.specs.declared.counters.Counters.{Counters}
+use Rattle.qg_node.specs.declared.item.Item.{Item}
+use Rattle.qg_node.specs.declared.node.Node.{Node}
+use Rattle.qg_node.specs.Nodes.{header_of}
+use Rattle.qg_items.specs.declared.extent.Reference.{Reference}
+use Rattle.qg_items.specs.declared.root.RootItem.{RootItem}
+use Rattle.qg_items.specs.declared.tree.TheConstants.{EXTENT_TREE, TOP_LEVEL, QUOTA_TREE}
+use Rattle.qg_super.specs.declared.sizes.Sizes.{Sizes}
+use Rattle.qg_image.specs.ItemMeaning.{extent_part, quota_part, root_part}
+use Rattle.qg_image.specs.Table.{value_at}
+use Rattle.qg_state.specs.declared.element.Element.{Element}
+use Rattle.qg_state.specs.declared.quota.Quota.{Quota}
+use Rattle.qg_state.specs.State.{Layout, Placed, State, Subvolume, layout_of, node_at}
+use Rattle.qg_state.specs.Owed.{Agrees, is_nothing, layout_extents, owed_count, what_at}
+use Rattle.qg_verdict.specs.declared.tree.Tree.TheVariants.{Extents, Quotas, Roots}
+use Rattle.qg_verdict.specs.ImageState.{addresses_of, quota_told, subvolume_roots}
+use Rattle.qg_verdict.specs.OtherTrees.{IsOfFormat, IsTreeOfNodes, IsTreeOfRoot, root_item_of, subvolume_items, super_at}
+use Rattle.qg_verdict.specs.Walk.{root_expected}
+use Rattle.qg_refs.specs.declared.kept.Kept.{Kept}
+use Rattle.qg_refs.specs.Book.{AgreesWithOwed, Book, full_in, what_in}
+use Rattle.qg_extents.specs.Table.{book_of, IsTable}
+use Rattle.qg_other_trees.specs.declared.laying.OtherTrees.{OtherTrees}
+use Rattle.qg_other_trees.specs.Trees.{nodes_laid}
+
+-- ---- what a book knows
+
+-- of a node: its level, generation and full mark
+pub record IsKnownNode (placed : Placed) (kept : Option Kept) : Type 0 where
+  pub bytes : ℕ
+  pub known : what_in kept ≡ Some (record {
+    bytes = bytes;
+    level = Some (header_of placed.node).level;
+    generation = (header_of placed.node).generation;
+  })
+  pub full : full_in kept ≡ placed.full
+
+-- of a data extent: its length
+pub record IsKnownExtent (bytes : ℕ) (kept : Option Kept) : Type 0 where
+  pub generation : ℕ
+  pub known : what_in kept ≡ Some (record { bytes = bytes; level = None; generation = generation })
+
+-- A book knows what a layout has: it counts what is owed, of each node and data extent it knows what it is, and what is
+-- owed is owed to a node or a data extent
+pub record Knows (layout : Layout) (book : Book) : Type 0 where
+  pub owed : AgreesWithOwed layout book
+  pub nodes : (at : ℕ) (placed : Placed) → value_at at layout.nodes ≡ Some placed → IsKnownNode placed (book at)
+  pub extents : (run : Element) → Contains (layout_extents layout) run → IsKnownExtent run.bytes (book run.address)
+  pub begins : (at : ℕ) (reference : Reference) → 0 < owed_count layout at reference
+      → is_nothing (what_at layout at) ≡ false
+
+-- ---- the state
+
+-- quota with one group, that of the top-level subvolume, which has these counters since a generation and no limit
+abbrev pub one_group : Counters → ℕ → Quota
+one_group counters stamp = record {
+  groups = (TOP_LEVEL, record { counters = counters; max_rfer = None; max_excl = None; stamp = stamp }) ∷ [];
+  pairs = [];
+}
+
+-- a committed state with these sizes and this generation; its only subvolume has this ROOT_ITEM, its only group these
+-- counters since a generation; and a table has the references to its nodes and data extents
+pub record IsStateOf (sizes : Sizes) (generation : ℕ) (root : RootItem) (book : List (ℕ × Kept)) (counters : Counters)
+    (stamp : ℕ) (state : State) : Type 0 where
+  pub some : 1 ≤ generation
+  pub same_sizes : sizes ≡ state.sizes
+  pub same_generation : generation ≡ state.generation
+  pub subvolume : Subvolume
+  pub alone : state.subvolumes ≡ (TOP_LEVEL, subvolume) ∷ []
+  pub node : Node
+  pub there : node_at state.layout subvolume.root ≡ Some node
+  pub root_is : root_item_of subvolume node ≡ root
+  pub quota : state.quota ≡ Some (one_group counters stamp)
+  pub table : IsTable book
+  pub known : Knows (layout_of state) (book_of book)
+
+-- ---- what is told
+
+-- All that `AreOtherTrees` asks, but for what the extent tree has until it records what is owed: it records that. The
+-- fields are those
+pub record TellState (state : State) (others : List Node) : Type 0 where
+  pub format : AllByRecursion (IsOfFormat state.sizes.nodesize) others
+  pub root : ℕ
+  pub root_nodes : List Node
+  pub root_items : List Item
+  pub roots : IsTreeOfNodes Roots (super_at state root) (root_expected None None) root root_nodes root_items
+  pub subvolumes : subvolume_roots (filter_map root_part root_items) ≡ subvolume_items state
+  pub extent_root : RootItem
+  pub extents_named : value_at EXTENT_TREE (filter_map root_part root_items) ≡ Some extent_root
+  pub extent_nodes : List Node
+  pub extent_items : List Item
+  pub extents : IsTreeOfRoot Extents (super_at state root) (Some extent_root) extent_nodes extent_items
+  pub agrees : Agrees (layout_of state) (filter_map extent_part extent_items)
+  pub quota_root : Option RootItem
+  pub quotas_named : value_at QUOTA_TREE (filter_map root_part root_items) ≡ quota_root
+  pub quota_nodes : List Node
+  pub quota_items : List Item
+  pub quotas : IsTreeOfRoot Quotas (super_at state root) quota_root quota_nodes quota_items
+  pub told : state.quota ≡ option_map (λ root. quota_told (filter_map quota_part quota_items)) quota_root
+  pub all : others ≡ root_nodes ++ extent_nodes ++ quota_nodes
+
+-- these are the nodes that were laid out in slots, each tree's in the order of its walk; they tell this state, and lie apart
+pub record AreToldBy (state : State) (slots : List ℕ) (trees : OtherTrees) (others : List Node) : Type 0 where
+  pub moved : IsPermutation others (nodes_laid trees)
+  pub within : (slot : ℕ) → Contains (addresses_of others) slot → Contains slots slot
+  pub apart : IsDistinct (λ a b. a == b) (addresses_of others)
+  pub tell : TellState state others

@@ -1,0 +1,64 @@
+// A node put into the slot that it names.
+ghost use Rattle.std.specs.Prelude.{◌≡◌, ◌+◌, ◌≤◌, List, [], ◌∷◌, ◌++◌, Option, Some, OnErr, OnOk, IsTrue};
+ghost use Rattle.qg_device.specs.Cause.{HasCause};
+ghost use Rattle.qg_device.specs.History.{Event};
+ghost use Rattle.qg_node.specs.Nodes.{header_of};
+ghost use Rattle.qg_node.specs.NodeText.{IsNode};
+ghost use Rattle.qg_blocks.specs.Told.{BreaksNone, IsBacked};
+ghost use Rattle.qg_space.specs.Holding.{is_free_slot};
+ghost use Rattle.qg_ground.specs.Land.{IsDrafted, Rests};
+ghost use Rattle.qg_ground.specs.Changes.{Makes, Takes};
+ghost use Rattle.qg_ground.specs.Tellings.{Spares, Telling};
+ghost use Rattle.qg_ground.specs.Tellings.Telling.{Made};
+
+use qg_disk::Disk;
+use qg_ground::{Book, Ground};
+use qg_node::Node;
+use qg_num::{BlockFault, NoMemory, Steps};
+use std::sync::ledger::Ledger;
+
+// Puts a node into the free slot that it names, where it is fresh. After an `Err` the slot may be taken, and nodes are
+// as they were.
+fn put_there(land: &mut Ground, node: Node) -> Result<(), NoMemory>
+    requires { IsTrue (is_free_slot land.old.space (header_of node).address) }
+    ensures made { OnOk result (Makes land.old land.new (header_of node).address node) }
+    ensures err { OnErr result (land.new.blocks ≡ land.old.blocks) }
+    ensures spares { Spares land.old land.new }
+    ensures bound { land.new.blocks.bound ≡ land.old.blocks.bound }
+    ensures backed { (history : Option (List Event))
+        → IsBacked land.old.blocks history → IsBacked land.new.blocks history }
+{
+    land.space.take_slot_at(node.header().address)?;
+    land.blocks.put_fresh(node)?;
+    Ok(())
+}
+
+/// Puts a node into the free slot that it names, and tells the book. The node has a text, and the generation to come.
+pub(crate) fn lay_node<D: Disk, L: Ledger, B: Book<D, L>>(
+    land: &mut Ground,
+    disk: &mut D,
+    book: &mut B,
+    node: Node,
+    reads: &mut Steps<L>,
+) -> Result<(), BlockFault>
+    requires backed { IsBacked land.old.blocks (D.history disk.old) }
+    requires drafted { IsDrafted land.old (header_of node).generation }
+    requires sound { IsNode land.old.space.sizes.nodesize node }
+    requires stands { B.stands book.old land.old disk.old }
+    requires free { IsTrue (is_free_slot land.old.space (header_of node).address) }
+    ensures made { OnOk result (Makes land.old land.new (header_of node).address node) }
+    ensures takes { OnOk result (Takes 1 (λ q. ⊥) land.old land.new) }
+    ensures rests { Rests land.old land.new (D.history disk.new) (header_of node).generation }
+    ensures told { (before : B) (log : List Telling) → B.follows before log book.old
+        → OnOk result (B.follows before (log ++ Made (header_of node).address ∷ []) book.new) }
+    ensures stands { OnOk result (B.stands book.new land.new disk.new) }
+    ensures settled { B.settled book.old land.old disk.old → OnOk result (B.settled book.new land.new disk.new) }
+    ensures no_image { (events : List Event) → D.history disk.old ≡ Some events → BreaksNone result }
+    ensures disk { (D.history disk.new ≡ D.history disk.old) × (D.size disk.new ≡ D.size disk.old) }
+    ensures cause { HasCause BlockFault.Disk (D.faults disk.old) (D.faults disk.new) result }
+    ensures reads { reads.new ≤ reads.old + B.to_read book.old (header_of node).address }
+{
+    let at = node.header().address;
+    put_there(land, node)?;
+    book.made(land, disk, at, reads)
+}
