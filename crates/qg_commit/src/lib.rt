@@ -13,3 +13,4 @@ pub use fault::MkfsFault;
 pub use making::mkfs;
 pub use opening::open;
 pub use qg_walk::OpenFault;
+pub use write::{write_nodes, write_superblocks};

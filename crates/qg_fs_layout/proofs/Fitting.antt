@@ -30,7 +30,7 @@ use Rattle.qg_fs_tree.specs.declared.fs_tree.FsTree.{FsTree}
 use Rattle.qg_fs_tree.specs.Standing.{IsReached, IsSubvolume, Stands, nodes_of}
 use Rattle.qg_fs_layout.specs.Laying.{AreFit}
 use Rattle.qg_fs_layout.proofs.Lists.{all-contained}
-use Rattle.qg_fs_layout.proofs.Sound.{told-formed}
+use Rattle.qg_fs_tree.proofs.Sound.{told-formed}
 use Rattle.qg_fs_layout.proofs.Told.{IsToldAt, told-at}
 use Rattle.qg_fs_layout.proofs.Trees.{branch}
 

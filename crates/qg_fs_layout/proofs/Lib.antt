@@ -1,10 +1,8 @@
 pub mod Lists
 pub mod Nodes
-pub mod Formed
 pub mod Told
 pub mod Walks
 pub mod Trees
-pub mod Sound
 pub mod Fitting
 pub mod Files
 pub mod Reach

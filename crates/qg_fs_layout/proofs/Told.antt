@@ -22,7 +22,8 @@ use Rattle.qg_blocks.specs.Standing.{has_slot, ruled, standing}
 use Rattle.qg_blocks.specs.Told.{fresh_at, told, told_or}
 use Rattle.qg_ground.specs.declared.ground.Ground.{Ground}
 use Rattle.qg_ground.specs.Land.{IsDrafted}
-use Rattle.qg_fs_layout.proofs.Formed.{check-ok}
+use Rattle.qg_fs_tree.proofs.Formed.{check-ok}
+use Rattle.qg_fs_tree.proofs.Sound.{ok-there, standing-read}
 
 -- ---- what is read
 
@@ -97,24 +98,6 @@ read_at at bytes node is =
       level = omega (arith, high, same);
       placed = ap (λ (h : Header). h.address) header ∙ eqb-true (u64_at 48 bytes) at second.0;
     }
-
--- ---- what stands in an image
-
-slot_read : (has : Bool) (read : Result Node NodeFault) (node : Node)
-    → (if has then ruled read else Err rule.Slot) ≡ Ok node → read ≡ Ok node
-slot_read true (Ok other) node is = let same : other ≡ node = cc in rw same refl
-slot_read true (Err fault) node is = absurd cc
-slot_read false read node is = absurd cc
-
-pub standing-read : (sizes : Sizes) (image : List ℕ) (at : ℕ) (node : Node) → standing sizes image at ≡ Ok node
-    → node_read at (range at sizes.nodesize image) ≡ Ok node
-unfolding standing
-standing-read sizes image at node is =
-    slot_read (has_slot sizes (length image) at) (node_read at (range at sizes.nodesize image)) node is
-
-pub ok-there : (read : Result Node Rule) (node : Node) → result_ok read ≡ Some node → read ≡ Ok node
-ok-there (Ok other) node is = let same : other ≡ node = cc in rw same refl
-ok-there (Err broken) node is = absurd cc
 
 -- ---- what is told
 

@@ -42,6 +42,8 @@ module _ (old new : FsTree) (history : Option (List Event)) (bytes : ℕ) (items
     bare = told.bare;
     truth = true-told old history items names stands drafted (committed_at old.land history)
         (λ q node held is. committed-is old.land history q held ∙ is) tellings told.as_was told.down told.unheld;
+    as_was = told.as_was;
+    few_come = told.few_come;
     few = told.few_made;
   }
 
@@ -53,7 +55,8 @@ module _ (old new : FsTree) (history : Option (List Event)) (bytes : ℕ) (items
       (replaced : IsReplaced Files old.tree new.tree old.land new.land history left_items)
       (leaves : LeavesBe old.land new.land history later bytes left old.tree.next)
       (stays : StaysTree most old.tree new.tree) (owned : IsOwnedBy old.tree.owner old.land new.land)
-      (settled : new.refs.misfit ≡ None → IsSettled new.refs new.land later) where
+      (settled : new.refs.misfit ≡ None → IsSettled new.refs new.land later)
+      (new_table : IsTable new.refs.refs) where
     pub IsEditedTo-called : IsEditedTo old new history left_items names (old.tree.height + 2)
     IsEditedTo-called =
         let rests = subst (λ (h : Option (List Event)). Rests old.land new.land h old.tree.next) leaves.history
@@ -61,7 +64,7 @@ module _ (old new : FsTree) (history : Option (List Event)) (bytes : ℕ) (items
         let settled_then = subst (λ (h : Option (List Event)). IsSettled new.refs new.land h) leaves.history
         (settled fits-called) in
         IsEditedTo-told old new history items left_items names tellings stands drafted table is_told follows replaced
-        rests stays.owner stays.next owned.each rests.runs settled_then
+        rests stays.owner stays.next owned.each rests.runs settled_then new_table
 
 -- ---- what stands over any disk
 

@@ -14,7 +14,12 @@ pub mod After
 pub mod Renamed
 pub mod Named
 pub mod Ordered
+pub mod Formed
+pub mod Sound
+pub mod Heavier
+pub mod Made
 pub mod Edited
+pub mod Low
 pub mod Kept
 pub mod Told
 pub mod Called

@@ -1,6 +1,6 @@
 -- A subvolume's tree and the references that it owes (on-disk format, "B-tree" and "backreferences"; how they stand
 -- together is this project's own). Addresses are in bytes.
-use Rattle.std.specs.Prelude.{◌≡◌, ◌⊎◌, ◌↔◌, ⊤, ℕ, ◌+◌, ◌≤◌, false, List, [], ◌∷◌, map, Option, Some, None, IsSome, IsTrue, Contains, nat_lt, if◌then◌else◌}
+use Rattle.std.specs.Prelude.{◌≡◌, ◌⊎◌, ◌↔◌, ⊤, ℕ, ◌+◌, ◌*◌, ◌≤◌, false, ◌&&◌, not, List, [], ◌∷◌, map, Option, Some, None, IsSome, IsTrue, Contains, nat_lt, if◌then◌else◌}
 use Rattle.std.specs.List.{All, count_by, filter_map, range_with_len}
 use Rattle.std.specs.Option.{option_map}
 use Rattle.qg_device.specs.History.{Event}
@@ -34,6 +34,7 @@ use Rattle.qg_tree_edits.specs.Rooting.{IsRooted}
 use Rattle.qg_tree_refs.specs.Exchange.{times}
 use Rattle.qg_tree_refs.specs.Following.{references_to}
 use Rattle.qg_tree_refs.specs.Settled.{IsSettled}
+use Rattle.qg_heavier.specs.Heavier.{BookGetsHeavier, edit_bytes}
 use Rattle.qg_fs_tree.specs.declared.fs_tree.FsTree.{FsTree}
 
 -- ---- over any disk
@@ -156,9 +157,17 @@ IsMisfitAt at (Image rule address) = (rule ≡ Refs) × (address ≡ at)
 unfoldable pub taken_slots : Holding → ℕ
 taken_slots holding = count_by (has_slot holding) (every_slot holding.sizes)
 
--- an edit left the tree with these items, and the same names; of slots it took at most so many more than it gave back
+-- how many slots a present state has that another, of the same sizes, has not
+unfoldable pub made_slots : Holding → Holding → ℕ
+made_slots old new = count_by (λ slot. has_slot new slot && not (has_slot old slot)) (every_slot new.sizes)
+
+-- an edit left the tree with these items, and the same names; of slots it took at most so many more than it gave back,
+-- and fewer than twice so many that were not taken before. What the items take that stand for the references is no more
+-- than before and what such an edit may bring
 pub record IsEditedTo (old new : FsTree) (history : Option (List Event)) (items : List Item) (names : List (ℕ × Piece))
     (most : ℕ) : Type 0 where
   pub stands : Stands new history items names
   pub moves : Moves old new history
   pub few : taken_slots new.land.space ≤ taken_slots old.land.space + most
+  pub made : made_slots old.land.space new.land.space + 1 ≤ 2 * most
+  pub heavier : BookGetsHeavier old.refs new.refs (edit_bytes old.land.space.sizes.nodesize old.tree.height)

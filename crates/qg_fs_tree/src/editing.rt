@@ -61,6 +61,7 @@ impl FsTree {
             body,
             reads,
         )?;
+        let _ascending_still = self.refs.refs().len();
         self.fitting()
     }
 
@@ -100,6 +101,7 @@ impl FsTree {
             body,
             reads,
         )?;
+        let _ascending_still = self.refs.refs().len();
         self.fitting()
     }
 
@@ -136,6 +138,7 @@ impl FsTree {
             key,
             reads,
         )?;
+        let _ascending_still = self.refs.refs().len();
         self.fitting()
     }
 }

@@ -7,4 +7,4 @@ mod laws;
 mod naming;
 
 pub use fs_tree::FsTree;
-pub use laws::names_in_another_order;
+pub use laws::{few_bytes_stand_low, names_in_another_order, new_slots_add_up};

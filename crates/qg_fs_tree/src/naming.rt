@@ -12,6 +12,7 @@ ghost use Rattle.qg_blocks.specs.Told.{BreaksNone};
 ghost use Rattle.qg_space.specs.Holding.{free_slots, has_run, is_free_run};
 ghost use Rattle.qg_refs.specs.Book.{full_in};
 ghost use Rattle.qg_extents.specs.Table.{book_of};
+ghost use Rattle.qg_heavier.specs.Heavier.{BookGetsHeavier, name_bytes, name_new_bytes};
 ghost use Rattle.qg_fs_tree.specs.Standing.{IsMisfitAt, IsSubvolume, KeepsTree, Stands, name_of, name_told, names_times};
 
 use crate::FsTree;
@@ -69,6 +70,7 @@ impl FsTree {
         ensures marks { OnOk result ((q : ℕ) → q ≢ piece.now.extent → full_in (book_of self.new.refs.refs q) ≡ full_in (book_of self.old.refs.refs q)) }
         ensures subvolume { (history : Option (List Event)) (bytes : ℕ) → IsSubvolume self.old history bytes → IsSubvolume self.new history bytes }
         ensures slots { free_slots self.new.land.space ≡ free_slots self.old.land.space }
+        ensures heavier { OnOk result (BookGetsHeavier self.old.refs self.new.refs name_bytes) }
         ensures fault { MatchResult result (λ done. ⊤) (IsMisfitAt piece.now.extent) }
     {
         let _ascending = self.refs.refs().len();
@@ -80,6 +82,7 @@ impl FsTree {
         if !self.refs.name(at, piece.extent_bytes, reference)? {
             return Err(misfit_at(at));
         }
+        let _ascending_still = self.refs.refs().len();
         Ok(())
     }
 
@@ -98,6 +101,7 @@ impl FsTree {
         ensures marks { OnOk result ((q : ℕ) → q ≢ piece.now.extent → full_in (book_of self.new.refs.refs q) ≡ full_in (book_of self.old.refs.refs q)) }
         ensures subvolume { (history : Option (List Event)) (bytes : ℕ) → IsSubvolume self.old history bytes → IsSubvolume self.new history bytes }
         ensures slots { free_slots self.new.land.space ≡ free_slots self.old.land.space }
+        ensures heavier { OnOk result (BookGetsHeavier self.old.refs self.new.refs name_new_bytes) }
         ensures fault { MatchResult result (λ done. ⊤) (IsMisfitAt piece.now.extent) }
     {
         let _ascending = self.refs.refs().len();
@@ -110,6 +114,7 @@ impl FsTree {
         if !self.refs.name(at, piece.extent_bytes, reference)? {
             return Err(misfit_at(at));
         }
+        let _ascending_still = self.refs.refs().len();
         Ok(())
     }
 
@@ -131,6 +136,7 @@ impl FsTree {
         ensures marks { OnOk result ((q : ℕ) → q ≢ piece.now.extent → full_in (book_of self.new.refs.refs q) ≡ full_in (book_of self.old.refs.refs q)) }
         ensures subvolume { (history : Option (List Event)) (bytes : ℕ) → IsSubvolume self.old history bytes → IsSubvolume self.new history bytes }
         ensures slots { free_slots self.new.land.space ≡ free_slots self.old.land.space }
+        ensures heavier { OnOk result (BookGetsHeavier self.old.refs self.new.refs 0) }
         ensures fault { MatchResult result (λ done. ⊤) (IsMisfitAt piece.now.extent) }
     {
         let _ascending = self.refs.refs().len();

@@ -30,7 +30,8 @@ returns-clause-inserted g c items names stands there =
     let edited = IsEditedTo-called old new history bytes items (with_item (record { key = c.args.key; body = c.args.body }) items) names told.0
     c.requires.subvolume stands table told.2 told.1 (g.D.Disk.history c.insert.new.disk) (g.D.Disk.size c.insert.new.disk)
     1 (met.inserted items stands.rooted there) c.insert.ensures.rests met.tree.stays met.owners
-    (met.settled (λ none. stands.settled)) in
+    (met.settled (λ none. stands.settled))
+    (subst (λ (refs : List (ℕ × Kept)). IsTable refs) c.refs-2.ensures c.len-ascending_still.ensures.table) in
     ok-known _ c.fitting.result edited
 
 pub returns-clause-sound : goal.returns-clause-sound

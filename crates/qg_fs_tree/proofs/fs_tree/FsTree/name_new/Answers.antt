@@ -9,6 +9,8 @@ use Rattle.qg_refs.specs.declared.kept.What.{What}
 use Rattle.qg_refs.specs.Book.{Adds, full_in, references_at}
 use Rattle.qg_space.specs.Holding.{Holding, free_slots, is_free_run, with_run}
 use Rattle.qg_extents.specs.Table.{IsTable, book_of}
+use Rattle.qg_weighed.specs.Weight.{reference_bytes}
+use Rattle.qg_fs_tree.proofs.Heavier.{heavier-new}
 use Rattle.qg_fs_tree.proofs.Kept.{slots-runs, subvolume-space}
 use Rattle.qg_fs_tree.proofs.Named.{Stands-new, free-run, none-named, room-new, unknown-new, whole-bytes}
 use Rattle.qg_fs_tree.proofs.fs_tree.FsTree.name_new.Goals as goal
@@ -98,3 +100,14 @@ returns-clause-slots c = ap free_slots c.in_ok-take_run.ensures.ok ∙ slots-run
 pub returns-clause-marks : goal.returns-clause-marks
 returns-clause-marks c q other =
     ap full_in ((c.in_ok-name.ensures.given c.if-not-branch.false).elsewhere q other)
+
+pub returns-clause-heavier : goal.returns-clause-heavier
+returns-clause-heavier c =
+    let fs = c.args.self.now in
+    let piece = c.args.piece.now in
+    let table = subst (λ (refs : List (ℕ × Kept)). IsTable refs) c.refs.ensures c.len-ascending.ensures.table in
+    let later = subst (λ (refs : List (ℕ × Kept)). IsTable refs) c.refs-3.ensures c.len-ascending_still.ensures.table in
+    let what : What = record { bytes = piece.extent_bytes; level = None; generation = fs.refs.next } in
+    heavier-new fs.refs c.name.new.self piece.extent c.reference_of-reference.result table later c.name.ensures.others
+    what (c.in_ok-name.ensures.given c.if-not-branch.false)
+    (ap (λ (r : Reference). reference_bytes r) c.reference_of-reference.ensures)

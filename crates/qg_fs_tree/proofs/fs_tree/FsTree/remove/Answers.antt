@@ -30,7 +30,8 @@ returns-clause-removed g c items names stands there =
     let edited = IsEditedTo-called old new history bytes items (without_key c.args.key items) names told.0
     c.requires.subvolume stands table told.2 told.1 (g.D.Disk.history c.remove.new.disk) (g.D.Disk.size c.remove.new.disk)
     0 (met.removed items stands.rooted there) c.remove.ensures.rests met.tree.stays met.owners
-    (met.settled (λ none. stands.settled)) in
+    (met.settled (λ none. stands.settled))
+    (subst (λ (refs : List (ℕ × Kept)). IsTable refs) c.refs-2.ensures c.len-ascending_still.ensures.table) in
     ok-known _ c.fitting.result edited
 
 pub returns-clause-sound : goal.returns-clause-sound

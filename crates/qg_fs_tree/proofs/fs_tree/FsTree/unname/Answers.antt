@@ -7,6 +7,7 @@ use Rattle.qg_refs.specs.declared.kept.Kept.{Kept}
 use Rattle.qg_refs.specs.Book.{Drops, count_at, full_in, references_at}
 use Rattle.qg_space.specs.Holding.{Holding, free_slots, without_run}
 use Rattle.qg_extents.specs.Table.{IsTable, book_of}
+use Rattle.qg_fs_tree.proofs.Heavier.{heavier-unnamed}
 use Rattle.qg_fs_tree.proofs.Kept.{slots-runs, subvolume-space}
 use Rattle.qg_fs_tree.proofs.Named.{Stands-gone, Stands-left, taken-own, there-own, whole-own}
 use Rattle.qg_fs_tree.proofs.fs_tree.FsTree.unname.Goals as goal
@@ -84,3 +85,19 @@ returns-then-how_many-gt0-clause-marks c q other =
 pub returns-clause-marks : goal.returns-clause-marks
 returns-clause-marks c q other =
     ap full_in ((c.unname.ensures.taken c.if-not-unname.false).elsewhere q other)
+
+pub returns-then-how_many-gt0-clause-heavier : goal.returns-then-how_many-gt0-clause-heavier
+returns-then-how_many-gt0-clause-heavier c =
+    let fs = c.args.self.now in
+    let table = subst (λ (refs : List (ℕ × Kept)). IsTable refs) c.refs.ensures c.len-ascending.ensures.table in
+    let later = subst (λ (refs : List (ℕ × Kept)). IsTable refs) c.refs-2.ensures c.len-ascending_still.ensures.table in
+    heavier-unnamed fs.refs c.unname.new.self c.args.piece.now.extent c.reference_of-reference.result table later
+    c.unname.ensures.others (c.unname.ensures.taken c.if-not-unname.false)
+
+pub returns-clause-heavier : goal.returns-clause-heavier
+returns-clause-heavier c =
+    let fs = c.args.self.now in
+    let table = subst (λ (refs : List (ℕ × Kept)). IsTable refs) c.refs.ensures c.len-ascending.ensures.table in
+    let later = subst (λ (refs : List (ℕ × Kept)). IsTable refs) c.refs-2.ensures c.len-ascending_still.ensures.table in
+    heavier-unnamed fs.refs c.unname.new.self c.args.piece.now.extent c.reference_of-reference.result table later
+    c.unname.ensures.others (c.unname.ensures.taken c.if-not-unname.false)

@@ -1,11 +1,13 @@
 -- Nodes that are told have a text: what stands on a disk was read, and fresh nodes are such as a commit may write.
 use Rattle.std.proofs.Common.{◌≡◌, ℕ, Bool, true, false, List, length, drop, Option, Some, None, arith, refl, sym, subst, length-drop}
 use Rattle.std.specs.Prelude.{Result, Ok, Err, if◌then◌else◌}
+use Rattle.std.specs.Result.{result_ok}
 use Rattle.std.proofs.lemmas.List.{length-take}
 use Rattle.qg_device.specs.History.{Event, content, range}
 use Rattle.qg_num.specs.declared.rule.Rule.{Rule}
 use Rattle.qg_num.specs.declared.rule.Rule.TheVariants as rule
 use Rattle.qg_node.specs.declared.node.Node.{Node}
+use Rattle.qg_node.specs.declared.fault.NodeFault.{NodeFault}
 use Rattle.qg_node.specs.NodeText.{IsNode}
 use Rattle.qg_node.specs.Reading.{node_read}
 use Rattle.qg_super.specs.declared.sizes.Sizes.{Sizes}
@@ -14,8 +16,25 @@ use Rattle.qg_blocks.specs.Told.{fresh_at, told, told_or}
 use Rattle.qg_blocks.proofs.Stands.{HasSlot-has_slot}
 use Rattle.qg_ground.specs.declared.ground.Ground.{Ground}
 use Rattle.qg_ground.specs.Land.{IsDrafted}
-use Rattle.qg_fs_layout.proofs.Formed.{read-formed}
-use Rattle.qg_fs_layout.proofs.Told.{ok-there, standing-read}
+use Rattle.qg_fs_tree.proofs.Formed.{read-formed}
+
+-- ---- what stands in an image
+
+slot_read : (has : Bool) (read : Result Node NodeFault) (node : Node)
+    → (if has then ruled read else Err rule.Slot) ≡ Ok node → read ≡ Ok node
+slot_read true (Ok other) node is = let same : other ≡ node = cc in rw same refl
+slot_read true (Err fault) node is = absurd cc
+slot_read false read node is = absurd cc
+
+pub standing-read : (sizes : Sizes) (image : List ℕ) (at : ℕ) (node : Node) → standing sizes image at ≡ Ok node
+    → node_read at (range at sizes.nodesize image) ≡ Ok node
+unfolding standing
+standing-read sizes image at node is =
+    slot_read (has_slot sizes (length image) at) (node_read at (range at sizes.nodesize image)) node is
+
+pub ok-there : (read : Result Node Rule) (node : Node) → result_ok read ≡ Some node → read ≡ Ok node
+ok-there (Ok other) node is = let same : other ≡ node = cc in rw same refl
+ok-there (Err broken) node is = absurd cc
 
 -- what stands at an address has a slot there
 slot_has : (has : Bool) (read : Result Node Rule) (node : Node) → (if has then read else Err rule.Slot) ≡ Ok node

@@ -1,0 +1,156 @@
+-- Slots that the present state has and had not before: how many there are after an edit, and after one and another.
+use Rattle.std.proofs.Common.{◌≡◌, ℕ, zero, suc, ◌+◌, ◌-◌, ◌*◌, ◌<◌, ◌≤◌, Bool, true, false, List, [], ◌∷◌, arith, refl, ap, subst, ◌∙◌}
+use Rattle.std.specs.Prelude.{◌&&◌, cond, nat_lt, not}
+use Rattle.std.specs.List.{sum_by}
+use Rattle.std.proofs.lemmas.Bool.{lt-ltb}
+use Rattle.std.proofs.lemmas.List.Sums.{sum_by-cons}
+use Rattle.qg_node.specs.Nodes.{header_of}
+use Rattle.qg_super.specs.declared.sizes.Sizes.{Sizes}
+use Rattle.qg_super.specs.Places.{is_slot, slot_at}
+use Rattle.qg_super.proofs.Slots.{is_slot-slot_at}
+use Rattle.qg_space.specs.Holding.{Holding, has_slot}
+use Rattle.qg_ground.specs.declared.ground.Ground.{Ground}
+use Rattle.qg_ground.specs.Tellings.{Telling}
+use Rattle.qg_ground.specs.Tellings.Telling.{Copied, Made, Left}
+use Rattle.qg_tree_edits.specs.Counting.{Turns, copied_in, gains, losses, made_in, one}
+use Rattle.qg_tree_edits.proofs.Ways.{one-here}
+use Rattle.qg_fs_tree.specs.declared.fs_tree.FsTree.{FsTree}
+use Rattle.qg_fs_tree.specs.Standing.{KeepsTree, every_slot, made_slots}
+use Rattle.qg_fs_tree.proofs.Places.{slots_from}
+use Rattle.qg_fs_tree.proofs.SlotSums.{IsOnce, over, over-each, over-none, over-one, sums-less, sums-none, sums-plus}
+use Rattle.qg_fs_tree.proofs.Turned.{turned_by}
+
+-- ---- one and another
+
+each_then : (a b c : Bool) → cond (c && not a) 1 0 ≤ cond (b && not a) 1 0 + cond (c && not b) 1 0
+each_then a b false = omega arith
+each_then true b true = omega arith
+each_then false true true = omega arith
+each_then false false true = omega arith
+
+pub made-then : (first second third : Holding) → second.sizes ≡ third.sizes
+    → made_slots first third ≤ made_slots first second + made_slots second third
+unfolding made_slots
+made-then first second third same =
+    let new = λ (s : ℕ). cond (has_slot second s && not (has_slot first s)) 1 0 in
+    let newer = λ (s : ℕ). cond (has_slot third s && not (has_slot second s)) 1 0 in
+    let all = λ (s : ℕ). cond (has_slot third s && not (has_slot first s)) 1 0 in
+    let less : made_slots first third ≤ sum_by (λ (s : ℕ). new s + newer s) (every_slot third.sizes) =
+    sums-less all (λ (s : ℕ). new s + newer s) (every_slot third.sizes)
+    (λ s. each_then (has_slot first s) (has_slot second s) (has_slot third s)) in
+    let both : sum_by (λ (s : ℕ). new s + newer s) (every_slot third.sizes)
+    ≡ sum_by new (every_slot third.sizes) + sum_by newer (every_slot third.sizes) =
+    sums-plus new newer (every_slot third.sizes) in
+    let front : made_slots first second ≡ sum_by new (every_slot third.sizes) =
+    ap (λ (sizes : Sizes). sum_by new (every_slot sizes)) same in
+    let back : made_slots second third ≡ sum_by newer (every_slot third.sizes) = refl in
+    omega (arith, less, both, front, back)
+
+each_none : (a : Bool) → ◌≡◌ {A = ℕ} (cond (a && not a) 1 0) 0
+each_none true = refl
+each_none false = refl
+
+pub made-same : (holding : Holding) → made_slots holding holding ≡ 0
+unfolding made_slots
+made-same holding =
+    sums-none (λ (s : ℕ). cond (has_slot holding s && not (has_slot holding s)) 1 0) (every_slot holding.sizes)
+    (λ s. each_none (has_slot holding s))
+
+-- what is named takes none
+pub made-named : (old new : FsTree) → KeepsTree old new → made_slots old.land.space new.land.space ≡ 0
+unfolding made_slots
+made-named old new keeps =
+    let space = ap (λ (land : Ground). land.space) keeps.land in
+    ap (λ (holding : Holding). made_slots old.land.space holding) space
+    ∙ sums-none (λ (s : ℕ). cond (has_slot old.land.space s && not (has_slot old.land.space s)) 1 0)
+    (every_slot old.land.space.sizes) (λ s. each_none (has_slot old.land.space s))
+
+-- ---- by ways
+
+module _ (sizes : Sizes) where
+  less_from : (f g : ℕ → ℕ) (from count : ℕ) → ((k : ℕ) → from ≤ k → k < from + count → f (slot_at sizes k)
+      ≤ g (slot_at sizes k))
+      → sum_by f (slots_from sizes from count) ≤ sum_by g (slots_from sizes from count)
+  less_from f g from zero less = omega arith
+  less_from f g from (suc count) less =
+      let here = less from (omega arith) (omega arith) in
+      let rest = less_from f g (from + 1) count (λ k low high. less k (omega (arith, low)) (omega (arith, high))) in
+      let first = sum_by-cons f (slot_at sizes from) (slots_from sizes (from + 1) count) in
+      let last = sum_by-cons g (slot_at sizes from) (slots_from sizes (from + 1) count) in
+      omega (arith, here, rest, first, last)
+
+  slots-less : (f g : ℕ → ℕ) → 0 < sizes.nodesize → ((at : ℕ) → is_slot sizes at ≡ true → f at ≤ g at)
+      → sum_by f (every_slot sizes) ≤ sum_by g (every_slot sizes)
+  slots-less f g some less = less_from f g 0 sizes.slots
+      (λ k low high. less (slot_at sizes k) (is_slot-slot_at sizes k some (omega (arith, high))))
+
+-- ways that lead to an address and did not before were gained
+turns-gain : (tellings : List Telling) (w v : ℕ → ℕ) → Turns w tellings v → (q : ℕ)
+    → v q ≤ w q + sum_by (λ telling. gains telling q) tellings
+turns-gain [] w v turns q = let same = turns q in omega (arith, same)
+turns-gain (telling ∷ tellings) w v turns q =
+    let rest = turns-gain tellings (turned_by telling w) v turns.1 q in
+    let sum = sum_by-cons (λ (t : Telling). gains t q) telling tellings in
+    omega (arith, rest, sum)
+
+-- a slot that is new is one that a way leads to and none did
+new_one : (w v g : ℕ) (had has : Bool) → had ≡ nat_lt 0 w → has ≡ nat_lt 0 v → v ≤ w + g
+    → cond (has && not had) 1 0 ≤ g * 1
+new_one w v g had false was is gained = omega arith
+new_one w v g true true was is gained = omega arith
+new_one zero zero g false true was is gained = let wrong : true ≡ false = is in cc
+new_one zero (suc v) g false true was is gained = omega (arith, gained)
+new_one (suc w) v g false true was is gained = let wrong : false ≡ true = was ∙ lt-ltb 0 (suc w) (omega arith) in cc
+
+module _ (slots : List ℕ) (IsPlace : ℕ → Type 0) (once : (at : ℕ) → IsPlace at → IsOnce slots at) where
+  gained_by : (telling : Telling) → ((q : ℕ) → 0 < gains telling q → IsPlace q)
+      → over slots (gains telling) (λ s. 1) ≡ copied_in telling + made_in telling
+  gained_by (Copied node copy) new =
+      let here = one-here copy copy refl in
+      let one_way = over-one slots copy (once copy (new copy (omega (arith, here)))) (λ (s : ℕ). 1) in
+      omega (arith, one_way)
+  gained_by (Made address) new =
+      let here = one-here address address refl in
+      let one_way = over-one slots address (once address (new address (omega (arith, here)))) (λ (s : ℕ). 1) in
+      omega (arith, one_way)
+  gained_by (Left node) new = over-none slots (gains (Left node)) (λ (s : ℕ). 1)
+      (λ s some. absurd (omega (arith, some)))
+
+  gained_in : (tellings : List Telling) → ((q : ℕ) → 0 < sum_by (λ telling. gains telling q) tellings → IsPlace q)
+      → sum_by (λ telling. over slots (gains telling) (λ s. 1)) tellings
+      ≡ sum_by copied_in tellings + sum_by made_in tellings
+  gained_in [] new = omega arith
+  gained_in (telling ∷ tellings) new =
+      let sum = λ (q : ℕ). sum_by-cons (λ (t : Telling). gains t q) telling tellings in
+      let here = gained_by telling (λ q some. new q (let s = sum q in omega (arith, s, some))) in
+      let rest = gained_in tellings (λ q some. new q (let s = sum q in omega (arith, s, some))) in
+      omega (
+        arith,
+        here,
+        rest,
+        sum_by-cons (λ (t : Telling). over slots (gains t) (λ s. 1)) telling tellings,
+        sum_by-cons copied_in telling tellings,
+        sum_by-cons made_in telling tellings,
+      )
+
+module _ (old new : Holding) (w v : ℕ → ℕ) (tellings : List Telling) (some : 0 < new.sizes.nodesize)
+    (had : (at : ℕ) → is_slot new.sizes at ≡ true → has_slot old at ≡ nat_lt 0 (w at))
+    (has : (at : ℕ) → is_slot new.sizes at ≡ true → has_slot new at ≡ nat_lt 0 (v at))
+    (turns : Turns w tellings v) (IsPlace : ℕ → Type 0)
+    (once : (at : ℕ) → IsPlace at → IsOnce (every_slot new.sizes) at)
+    (placed : (q : ℕ) → 0 < sum_by (λ telling. gains telling q) tellings → IsPlace q) where
+  -- no more slots come than nodes do
+  pub made-few : made_slots old new ≤ sum_by copied_in tellings + sum_by made_in tellings
+  unfolding made_slots
+  made-few =
+      let gained = λ (s : ℕ). sum_by (λ (t : Telling). gains t s) tellings in
+      let less : made_slots old new ≤ sum_by (λ (s : ℕ). gained s * 1) (every_slot new.sizes) =
+      slots-less new.sizes (λ (s : ℕ). cond (has_slot new s && not (has_slot old s)) 1 0)
+      (λ (s : ℕ). gained s * 1) some
+      (λ at is. new_one (w at) (v at) (gained at) (has_slot old at) (has_slot new at) (had at is) (has at is)
+      (turns-gain tellings w v turns at)) in
+      let each : sum_by (λ (s : ℕ). gained s * 1) (every_slot new.sizes)
+      ≡ sum_by (λ (t : Telling). over (every_slot new.sizes) (gains t) (λ (s : ℕ). 1)) tellings =
+      over-each (every_slot new.sizes) (λ (t : Telling) (s : ℕ). gains t s) tellings (λ (s : ℕ). 1) in
+      let all = gained_in (every_slot new.sizes) IsPlace once tellings placed in
+      omega (arith, less, each, all)

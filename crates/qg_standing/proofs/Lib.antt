@@ -1,0 +1,12 @@
+pub mod Later
+pub mod Reread
+pub mod Still
+pub mod Besides
+pub mod Listed
+pub mod Recorded
+pub mod Short
+pub mod Few
+pub mod Opened
+pub mod OpenedLayout
+pub mod OpenedBook
+pub mod OpenedStands

@@ -1,0 +1,4 @@
+pub mod Slots
+pub mod Committing
+pub mod Opening
+pub mod Laws

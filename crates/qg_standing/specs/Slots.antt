@@ -1,0 +1,15 @@
+-- Slots that are taken, held and given back, many at once (this project's own).
+use Rattle.std.specs.Prelude.{◌≡◌, ◌⊎◌, ◌↔◌, ℕ, List}
+use Rattle.std.specs.List.{Contains}
+use Rattle.qg_space.specs.Holding.{Holding}
+
+-- the present state has other slots, and nothing else changes
+pub record ChangesSlots (old new : Holding) (Has : ℕ → Type 0) : Type 0 where
+  pub rest : new ≡ record old { slots = new.slots }
+  pub slots : (slot : ℕ) → Contains new.slots slot ↔ Has slot
+
+-- the last commit holds what the present state has, and some slots besides. The present state has what it had
+pub record HoldsBesides (old new : Holding) (others : List ℕ) : Type 0 where
+  pub rest : new ≡ record old { held_runs = old.runs; slots = new.slots; held_slots = new.held_slots }
+  pub slots : (slot : ℕ) → Contains new.slots slot ↔ Contains old.slots slot
+  pub held_slots : (slot : ℕ) → Contains new.held_slots slot ↔ (Contains old.slots slot ⊎ Contains others slot)

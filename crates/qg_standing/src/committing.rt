@@ -1,0 +1,45 @@
+// What a commit makes of a subvolume's tree.
+ghost use Rattle.std.specs.Prelude.{◌≡◌, ◌+◌, ◌^◌, ◌<◌, ◌≤◌, ℕ, List, Option, Some, IsTrue, OnErr, OnOk};
+ghost use Rattle.std.specs.List.{list_all};
+ghost use Rattle.qg_device.specs.History.{Event};
+ghost use Rattle.qg_num.specs.declared.piece.Piece.{Piece};
+ghost use Rattle.qg_node.specs.declared.item.Item.{Item};
+ghost use Rattle.qg_blocks.specs.Told.{IsBacked};
+ghost use Rattle.qg_blocks.specs.Writing.{AreWritten, Keeps};
+ghost use Rattle.qg_space.specs.Holding.{is_free_slot};
+ghost use Rattle.qg_fs_tree.specs.Standing.{IsSubvolume, Stands};
+ghost use Rattle.qg_standing.specs.Committing.{IsCommitted, StandsStill, WritesTree};
+
+use crate::slots::hold_besides;
+use qg_descent::Tree;
+use qg_disk::Disk;
+use qg_fs_tree::FsTree;
+use qg_num::{Address, Generation, NoMemory};
+
+/// A commit has written the fresh nodes to the disk: they are clean from now on, and the tree stands for the generation
+/// to come. The commit holds the slots of the present state, and `others` besides, where the other trees lie. It is
+/// done whole, or memory is refused and nothing changes.
+pub fn committed<D: Disk>(fs: &mut FsTree, disk: &D, others: &[Address]) -> Result<(), NoMemory>
+    requires backed { IsBacked fs.old.land.blocks (D.history disk.now) }
+    requires written { AreWritten fs.old.land.blocks.draft (D.history disk.now) }
+    requires free { IsTrue (list_all (is_free_slot fs.old.land.space) others.now) }
+    requires later { fs.old.tree.next + 1 < 2 ^ 64 }
+    ensures committed { OnOk result (IsCommitted fs.old fs.new others.now) }
+    ensures subvolume { (before : Option (List Event)) (bytes : ℕ) → IsSubvolume fs.old before bytes
+        → bytes ≤ D.size disk.now
+        → OnOk result (IsSubvolume fs.new (D.history disk.now) (D.size disk.now)) }
+    ensures stands { (events : List Event) (bytes : ℕ) (items : List Item) (names : List (ℕ × Piece))
+        → IsSubvolume fs.old (Some events) bytes → Stands fs.old (Some events) items names
+        → WritesTree fs.old (Some events) (D.history disk.now) → (later : List Event)
+        → D.history disk.now ≡ Some later
+        → OnOk result (StandsStill fs.old fs.new (Some events) (D.history disk.now) items names) }
+    ensures err { OnErr result (fs.new ≡ fs.old) }
+{
+    let _ascending = fs.refs.refs().len();
+    let next = Generation::new(fs.tree.next().value() + 1);
+    fs.refs.recorded(next)?;
+    hold_besides(&mut fs.land.space, others);
+    fs.land.blocks.written(disk);
+    fs.tree = Tree::at(fs.tree.root(), fs.tree.height(), fs.tree.owner(), next);
+    Ok(())
+}

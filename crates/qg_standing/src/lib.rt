@@ -1,0 +1,9 @@
+//! A subvolume's tree once an image was opened, and once a commit has written it: it stands.
+#![tactic(auto)]
+
+mod committing;
+mod laws;
+mod slots;
+
+pub use committing::committed;
+pub use laws::{commit_leaves_it, opening_makes_it};

@@ -1,0 +1,10 @@
+pub mod Ascending
+pub mod FreshNodes
+pub mod Stays
+pub mod LaidNodes
+pub mod AllNodes
+pub mod Subvolume
+pub mod OnDisk
+pub mod NewNodes
+pub mod Calls
+pub mod Laying

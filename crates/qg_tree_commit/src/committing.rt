@@ -1,0 +1,63 @@
+// A commit.
+ghost use Rattle.std.specs.Prelude.{◌≡◌, ◌⊎◌, ◌≤◌, List, Some, All, IfOk, IfErr, IsTrue};
+ghost use Rattle.std.specs.Option.{option_map};
+ghost use Rattle.qg_device.specs.Cause.{HasCause};
+ghost use Rattle.qg_device.specs.History.{Event};
+ghost use Rattle.qg_super.specs.Places.{is_slot, total_bytes};
+ghost use Rattle.qg_commit.specs.Calls.{IsReadBack, with_commit};
+ghost use Rattle.qg_other_trees.specs.Trees.{CanBeLaid};
+ghost use Rattle.qg_tree_commit.specs.Writing.{AreWritable, IsLayingOf, StopsLaying, fresh_nodes, nodes_written};
+
+use crate::write::write_all;
+use qg_blocks::Blocks;
+use qg_disk::{Disk, DiskFault};
+use qg_num::{Address, BlockFault, Generation};
+use qg_other_trees::{OtherTrees, Told, lay_other_trees};
+use qg_super::Sizes;
+use std::alloc::Global;
+
+/// Writes the fresh nodes of a subvolume's tree, and the root, extent and quota trees built whole in free slots; then
+/// the superblocks (this project's own).
+///
+/// The image has these sizes, and `next` is the generation of the commit. `slots` are addresses of free slots, in
+/// bytes, of which nothing is in memory (`Blocks::forget`). Nodes in memory stay as they are: after an `Ok` it is time
+/// for `Blocks::written`.
+pub fn commit<D: Disk>(
+    alloc: Global,
+    disk: &mut D,
+    blocks: &Blocks,
+    sizes: Sizes,
+    next: Generation,
+    told: &Told<'_>,
+    slots: &[Address],
+) -> Result<OtherTrees, BlockFault>
+    requires trees { CanBeLaid sizes next told.now slots.now }
+    requires fresh { AreWritable sizes blocks.now.draft }
+    requires slots { All (λ slot. IsTrue (is_slot sizes slot)) slots.now }
+    requires long { total_bytes sizes ≤ D.size disk.old }
+
+    // What was laid out, and over a disk that tells what it holds exactly the calls that write it.
+    ensures laid { IfOk result (λ trees. IsLayingOf sizes next told.now slots.now blocks.now.draft trees) }
+    ensures calls { IfOk result (λ trees. D.history disk.new
+        ≡ option_map (with_commit trees.superblock (nodes_written blocks.now.draft trees)) (D.history disk.old)) }
+    ensures read { IfOk result (λ trees. All (IsReadBack sizes.nodesize) (fresh_nodes blocks.now.draft)) }
+
+    // Where it does not end, nothing else was done than some of these calls, from the first on.
+    ensures stopped { (events : List Event) → D.history disk.old ≡ Some events
+        → IfErr result (λ fault.
+        StopsLaying sizes next told.now slots.now blocks.now.draft events (D.history disk.new)) }
+
+    // Over any disk.
+    ensures no_less { D.size disk.old ≤ D.size disk.new }
+    ensures no_image { IfErr result (λ fault. (fault ≡ BlockFault.Disk) ⊎ (fault ≡ BlockFault.NoMemory)) }
+    ensures cause { HasCause BlockFault.Disk (D.faults disk.old) (D.faults disk.new) result }
+{
+    let trees = lay_other_trees(alloc, sizes, next, told, slots)?;
+    let addresses = blocks.dirty()?;
+    let mut buffer = vec![in alloc; 0; sizes.nodesize as usize]?;
+    match write_all(disk, blocks, addresses.as_slice(), &trees, &mut buffer) {
+        Ok(()) => Ok(trees),
+        Err(DiskFault::Failed) => Err(BlockFault::Disk),
+        Err(DiskFault::NoMemory) => Err(BlockFault::NoMemory),
+    }
+}
