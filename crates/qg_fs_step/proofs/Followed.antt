@@ -1,0 +1,195 @@
+-- A file command leaves a state that follows the one before by copy on write.
+use Rattle.std.proofs.Common.{◌≡◌, ℕ, ◌+◌, ◌≤◌, Bool, true, false, List, [], ◌∷◌, length, Option, Some, None, refl}
+use Rattle.std.proofs.Common.{sym, ap, subst, ◌∙◌, inl, inr, arith}
+use Rattle.std.specs.Prelude.{◌&&◌, ◌↔◌, IsTrue, not, is_some, cond, nat_lt, if◌then◌else◌}
+use Rattle.std.specs.List.{AllByRecursion, Contains, filter, filter_map, flat_map, list_all, sum_by}
+use Rattle.std.proofs.lemmas.Bool.{cases_Bool, cond-false, cond-true}
+use Rattle.std.proofs.lemmas.List.Sums.{sum_by-cons}
+use Rattle.std.specs.Option.{option_map}
+use Rattle.qg_device.specs.History.{Event}
+use Rattle.qg_node.specs.declared.node.Node.{Node}
+use Rattle.qg_super.specs.declared.sizes.Sizes.{Sizes}
+use Rattle.qg_super.specs.Places.{is_slot}
+use Rattle.qg_items.specs.declared.tree.TheConstants.{TOP_LEVEL}
+use Rattle.qg_image.specs.declared.file.File.{File}
+use Rattle.qg_image.specs.Table.{has_key}
+use Rattle.qg_state.specs.declared.element.Element.{Element}
+use Rattle.qg_state.specs.State.{Accepted, Committed, Placed, State, Subvolume, next_generation}
+use Rattle.qg_contents.specs.Written.{items_of_file}
+use Rattle.qg_machine.specs.Layout.{KeepsNode, is_made_node, made_nodes}
+use Rattle.qg_machine.specs.Step.{with_tree}
+use Rattle.qg_space.specs.Holding.{has_slot}
+use Rattle.qg_refs.specs.Book.{full_in}
+use Rattle.qg_extents.specs.Table.{book_of}
+use Rattle.qg_tree_edits.specs.Counting.{ways}
+use Rattle.qg_fs_tree.specs.declared.fs_tree.FsTree.{FsTree}
+use Rattle.qg_fs_tree.specs.Standing.{every_slot, made_slots, nodes_of, placed_at}
+use Rattle.qg_fs_tree.proofs.Places.{slots-same}
+use Rattle.qg_fs_layout.specs.Laying.{CopiesNodes, IsLaidOutAlone}
+use Rattle.qg_fs_layout.proofs.Copied.{commands-copy}
+use Rattle.qg_fs_layout.proofs.Nodes.{nodes-are}
+use Rattle.qg_exchange.specs.Named.{named}
+use Rattle.qg_file_edits.specs.Files.{LeavesFiles}
+use Rattle.qg_fs_step.specs.Keeping.{AreRead, FollowsCommand, IsKept, KeepsState, mine_after, state_after}
+use Rattle.qg_fs_step.proofs.Kept.{only, placed-ways, slot-ways, some_bytes, stands, taken-told, whole}
+
+-- ---- how many
+
+-- 1 where something is there and passes
+abbrev weigh : (ℕ × Placed → Bool) → Option (ℕ × Placed) → ℕ
+weigh test None = 0
+weigh test (Some entry) = cond (test entry) 1 0
+
+many_pass : (test : ℕ × Placed → Bool) (placed : ℕ → Option (ℕ × Placed)) (slots : List ℕ)
+    → length (filter test (filter_map placed slots)) ≡ sum_by (λ s. weigh test (placed s)) slots
+many_pass test placed [] = refl
+many_pass test placed (slot ∷ slots) = from (placed slot) refl (many_pass test placed slots) where
+  both : sum_by (λ s. weigh test (placed s)) (slot ∷ slots)
+      ≡ weigh test (placed slot) + sum_by (λ s. weigh test (placed s)) slots
+  both = sum_by-cons (λ (s : ℕ). weigh test (placed s)) slot slots
+
+  from : (o : Option (ℕ × Placed)) → placed slot ≡ o
+      → length (filter test (filter_map placed slots)) ≡ sum_by (λ s. weigh test (placed s)) slots
+      → length (filter test (filter_map placed (slot ∷ slots))) ≡ sum_by (λ s. weigh test (placed s)) (slot ∷ slots)
+  from None is rest =
+      let none : weigh test (placed slot) ≡ 0 = ap (weigh test) is in
+      let same : length (filter test (filter_map placed (slot ∷ slots)))
+      ≡ length (filter test (filter_map placed slots)) = rw is refl in
+      omega (arith, rest, both, none, same)
+  from (Some entry) is rest = elim (cases_Bool (test entry)) [
+    | inl passes ↦
+        let one : weigh test (placed slot) ≡ 1 = ap (weigh test) is ∙ cond-true _ _ _ passes in
+        let same : length (filter test (filter_map placed (slot ∷ slots)))
+        ≡ length (entry ∷ filter test (filter_map placed slots)) = rw (is, passes) refl in
+        omega (arith, rest, both, one, same)
+    | inr fails ↦
+        let none : weigh test (placed slot) ≡ 0 = ap (weigh test) is ∙ cond-false _ _ _ fails in
+        let same : length (filter test (filter_map placed (slot ∷ slots)))
+        ≡ length (filter test (filter_map placed slots)) = rw (is, fails) refl in
+        omega (arith, rest, both, none, same)
+  ]
+
+-- what is placed at a slot, if anything, is one that the present state has
+weigh_slot : (old : List (ℕ × Placed)) (at : ℕ) (o : Option (ℕ × Placed)) (has had : Bool)
+    → ((entry : ℕ × Placed) → o ≡ Some entry → entry.0 ≡ at) → has ≡ is_some o → had ≡ has_key at old
+    → weigh (λ entry. not (has_key entry.0 old)) o ≡ cond (has && not had) 1 0
+weigh_slot old at None has had there is was = rw is refl
+weigh_slot old at (Some entry) has had there is was =
+    rw (is, was) (ap (λ (n : ℕ). cond (not (has_key n old)) 1 0) (there entry refl))
+
+-- ---- the state afterwards
+
+tree_is : (state : State) (mine : Subvolume) (files : List (ℕ × File)) (root : ℕ)
+    → state.subvolumes ≡ (TOP_LEVEL, mine) ∷ []
+    → with_tree state TOP_LEVEL files root
+    ≡ record state { subvolumes = (TOP_LEVEL, record mine { files = files; root = root }) ∷ [] }
+tree_is state mine files root alone = rw alone refl
+
+placed_from : (led : Bool) (told : Option Node) (at : ℕ) (full : Bool) (entry : ℕ × Placed)
+    → (if led then option_map (λ node. (at, record { node = node; full = full })) told else None) ≡ Some entry
+    → entry.0 ≡ at
+placed_from true None at full entry is = let wrong : None ≡ Some entry = is in cc
+placed_from true (Some node) at full entry is =
+    let own : ℕ × Placed = (at, record { node = node; full = full }) in
+    let same : own ≡ entry = let e : Some own ≡ Some entry = is in cc in
+    ap (λ (e : ℕ × Placed). e.0) (sym same)
+placed_from false told at full entry is = let wrong : None ≡ Some entry = is in cc
+
+placed_own : (fs : FsTree) (history : Option (List Event)) (at : ℕ) (entry : ℕ × Placed)
+    → placed_at fs history at ≡ Some entry → entry.0 ≡ at
+placed_own fs history at entry is =
+    placed_from (nat_lt 0 (ways (nodes_of fs history) fs.tree.height fs.tree.address at)) (nodes_of fs history at) at
+    (full_in (book_of fs.refs.refs at)) entry is
+
+module _ (old new : FsTree) (history : Option (List Event)) (bytes left copies : ℕ) (before : State)
+    (mine : Subvolume) (files files_new : List (ℕ × File)) (last : Accepted) (kept : IsKept old history bytes)
+    (keeps : KeepsState old history before mine files) (kept_new : IsKept new history left)
+    (leaves : LeavesFiles old new history files_new copies) (read : AreRead new.tree.next files_new)
+    (runs : new.land.space.held_runs ≡ old.land.space.held_runs)
+    (few : made_slots old.land.space new.land.space ≤ copies) where
+  abbrev after : State
+  after = state_after before files_new new history last
+
+  tree_now : with_tree before TOP_LEVEL files_new new.tree.address
+      ≡ record before { subvolumes = (TOP_LEVEL, mine_after mine files_new new) ∷ [] }
+  tree_now = tree_is before mine files_new new.tree.address (only old history bytes before mine files kept keeps)
+
+  held_now : after.held ≡ before.held
+  held_now = ap (λ (state : State). state.held) tree_now
+
+  own_now : new.tree.owner ≡ TOP_LEVEL
+  own_now = leaves.moved.owner ∙ keeps.own
+
+  laid_now : IsLaidOutAlone after (mine_after mine files_new new) new history
+  laid_now = record {
+    laid = record {
+      sizes = ap (λ (state : State). state.sizes) tree_now ∙ keeps.laid.laid.sizes ∙ sym leaves.moved.sizes;
+      generation = ap (λ (state : State). next_generation state) tree_now ∙ keeps.laid.laid.generation
+          ∙ sym leaves.moved.next;
+      layout = refl;
+      root = refl;
+    };
+    alone = ap (λ (state : State). state.subvolumes) tree_now
+        ∙ ap (λ (owner : ℕ). (owner, mine_after mine files_new new) ∷ []) (sym own_now);
+  }
+
+  keeps_now : KeepsState new history after (mine_after mine files_new new) files_new
+  keeps_now = record {
+    holds = leaves.holds;
+    read = read;
+    laid = laid_now;
+    are = refl;
+    own = own_now;
+    held_slots = λ slot.
+        subst (λ (slots : List ℕ). Contains slots slot ↔ Contains after.held.nodes slot) (sym leaves.moved.held_slots)
+        (subst (λ (held : Committed). Contains old.land.space.held_slots slot ↔ Contains held.nodes slot) (sym held_now)
+        (keeps.held_slots slot));
+    held_runs = λ run.
+        subst (λ (runs : List Element). Contains runs run ↔ Contains after.held.extents run) (sym runs)
+        (subst (λ (held : Committed). Contains old.land.space.held_runs run ↔ Contains held.extents run) (sym held_now)
+        (keeps.held_runs run));
+  }
+
+  nodes_copied : CopiesNodes before after old.tree.owner
+  nodes_copied = commands-copy old new history bytes left (flat_map items_of_file files)
+      (flat_map items_of_file files_new) (named files) (named files_new) before after mine
+      (mine_after mine files_new new) kept.subvolume
+      (stands old history bytes before mine files kept keeps) kept_new.subvolume leaves.holds.stands leaves.moved
+      keeps.laid laid_now keeps.held_slots
+
+  -- at each slot
+  new_there : (at : ℕ) → is_slot new.land.space.sizes at ≡ true
+      → weigh (λ entry. not (has_key entry.0 before.layout)) (placed_at new history at)
+      ≡ cond (has_slot new.land.space at && not (has_slot old.land.space at)) 1 0
+  new_there at slot =
+      weigh_slot before.layout at (placed_at new history at) (has_slot new.land.space at) (has_slot old.land.space at)
+      (placed_own new history at)
+      (slot-ways new history left after (mine_after mine files_new new) files_new kept_new keeps_now at slot
+      ∙ sym (placed-ways new history left after (mine_after mine files_new new) files_new kept_new keeps_now at))
+      (taken-told old history bytes before mine files kept keeps at
+      (ap (λ (sizes : Sizes). is_slot sizes at) (sym leaves.moved.sizes) ∙ slot))
+
+  made_many : length (made_nodes before after) ≡ made_slots old.land.space new.land.space
+  unfolding made_slots
+  made_many =
+      ap (λ (table : List (ℕ × Placed)). length (filter (λ entry. not (has_key entry.0 before.layout)) table))
+      (nodes-are new history)
+      ∙ many_pass (λ entry. not (has_key entry.0 before.layout)) (placed_at new history)
+      (every_slot new.land.space.sizes)
+      ∙ slots-same new.land.space.sizes
+      (λ (s : ℕ). weigh (λ entry. not (has_key entry.0 before.layout)) (placed_at new history s))
+      (λ (s : ℕ). cond (has_slot new.land.space s && not (has_slot old.land.space s)) 1 0)
+      (some_bytes new history left after (mine_after mine files_new new) files_new kept_new keeps_now) new_there
+
+  pub follows : FollowsCommand new history before after (mine_after mine files_new new) files_new copies
+  follows = record {
+    copied = record {
+      whole = whole new history left after (mine_after mine files_new new) files_new kept_new keeps_now;
+      kept = subst (λ (owner : ℕ). AllByRecursion (KeepsNode before after owner) before.layout) keeps.own
+          nodes_copied.kept;
+      made = subst (λ (owner : ℕ). IsTrue (list_all (is_made_node before owner) (made_nodes before after))) keeps.own
+          nodes_copied.made;
+      few = omega (arith, made_many, few);
+    };
+    keeps = keeps_now;
+  }
