@@ -4,4 +4,4 @@ mod QuotaTree
 mod FileBounds
 mod FileParts
 mod FileKeys
-mod FileTree
+pub mod FileTree

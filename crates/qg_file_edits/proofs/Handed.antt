@@ -27,12 +27,12 @@ named-failed old new history items names result fault is none =
     subst (λ (r : Result (Unit {0}) BlockFault). AreNamed old new history items names r) (sym is)
     (record { done = tt; sound = none })
 
-pub made-handed : (edits : ℕ) (old new : FsTree) (history : Option (List Event)) (items : List Item)
+pub made-handed : (edits added : ℕ) (old new : FsTree) (history : Option (List Event)) (items : List Item)
     (names : List (ℕ × Piece)) (reads reads_new : ℕ) (result : Result (Unit {0}) BlockFault) (fault : BlockFault)
-    → result ≡ Err fault → AreMade edits old new history items names reads reads_new (Err fault)
-    → AreMade edits old new history items names reads reads_new result
-made-handed edits old new history items names reads reads_new result fault is made =
-    subst (λ (r : Result (Unit {0}) BlockFault). AreMade edits old new history items names reads reads_new r) (sym is)
+    → result ≡ Err fault → AreMade edits added old new history items names reads reads_new (Err fault)
+    → AreMade edits added old new history items names reads reads_new result
+made-handed edits added old new history items names reads reads_new result fault is made =
+    subst (λ (r : Result (Unit {0}) BlockFault). AreMade edits added old new history items names reads reads_new r) (sym is)
     made
 
 -- a reference that is not what it should be is no fault of the disk's

@@ -1,7 +1,8 @@
 -- What a command leaves, once its edits are done.
-use Rattle.std.proofs.Common.{◌≡◌, ℕ, ◌+◌, ◌*◌, ◌≤◌, List, Option, Some, Result, Ok, Err, arith, sym, subst}
+use Rattle.std.proofs.Common.{◌≡◌, ℕ, zero, suc, ◌+◌, ◌*◌, ◌≤◌, List, ◌++◌, length, Option, Some, Result, Ok, Err, arith, refl, sym, subst}
 use Rattle.std.specs.Prelude.{OnOk}
 use Rattle.std.specs.List.{All, flat_map}
+use Rattle.std.specs.Option.{option_to_list}
 use Rattle.std.proofs.Math.Nat.{mul-le-mul_right}
 use Rattle.qg_device.specs.History.{Event}
 use Rattle.qg_num.specs.declared.fault.BlockFault.{BlockFault}
@@ -11,13 +12,19 @@ use Rattle.qg_rules.specs.Writable.{AreWritableFiles, IsFileBy}
 use Rattle.qg_contents.specs.Written.{items_of_file}
 use Rattle.qg_blocks.specs.Told.{BreaksNone}
 use Rattle.qg_space.specs.Holding.{free_slots}
+use Rattle.qg_extents.specs.Table.{IsTable}
 use Rattle.qg_exchange.specs.Named.{named}
+use Rattle.qg_heavier.specs.Heavier.{edit_bytes, name_new_bytes}
+use Rattle.qg_heavier.proofs.Sums.{BookGetsHeavier-most}
 use Rattle.qg_fs_tree.specs.declared.fs_tree.FsTree.{FsTree}
-use Rattle.qg_fs_tree.specs.Standing.{Stands}
+use Rattle.qg_fs_tree.specs.Standing.{IsSubvolume, Stands, made_slots, taken_slots}
+use Rattle.qg_fs_tree.proofs.Leaf.{leaf-slots}
+use Rattle.qg_fs_tree.proofs.Made.{made-free, made-there}
 use Rattle.qg_file_edits.specs.Editing.{AreMade, IsEditedBy}
 use Rattle.qg_file_edits.specs.Files.{HoldsFiles, LeavesFiles}
 use Rattle.qg_file_edits.specs.declared.exchange.Exchange.{Exchange}
 use Rattle.qg_file_edits.specs.Exchanging.{MakesFiles}
+use Rattle.qg_file_edits.proofs.Edited.{most_bytes}
 use Rattle.qg_file_edits.proofs.Told.{IsToldFor}
 
 -- what a command may copy is six nodes at least for each edit
@@ -28,24 +35,52 @@ enough : (edits touched copies free : ℕ) → edits ≤ touched → 3 ≤ touch
     → 9 * edits + 15 ≤ free
 enough edits touched copies free most some many room = omega (arith, most, some, many, room)
 
+-- and nine where the tree is more than one leaf
+nine_most : (height pieces : ℕ) → 1 ≤ height → 9 * (pieces + 3) ≤ file_copies height pieces
+nine_most height pieces high = mul-le-mul_right (pieces + 3) (omega (arith, high))
+
+nine_covered : (edits touched copies : ℕ) → edits ≤ touched → 9 * touched ≤ copies → 9 * edits ≤ copies
+nine_covered edits touched copies most many = omega (arith, most, many)
+
+-- where it was one leaf, all that are there came but one
+leaf_covered : (edits touched copies taken there come : ℕ) → edits ≤ touched → 1 ≤ touched → 6 * touched ≤ copies
+    → taken ≡ 1 → there ≤ taken + 5 * edits → come ≤ there → come ≤ copies
+leaf_covered edits touched copies taken there come most some many one few all =
+    omega (arith, most, some, many, one, few, all)
+
+-- how many slots come that were not taken before
+come_covered : (height edits pieces taken there come : ℕ) → edits ≤ pieces + 3 → (height ≡ 0 → taken ≡ 1)
+    → there ≤ taken + 5 * edits → come ≤ there → come ≤ 9 * edits → come ≤ file_copies height pieces
+come_covered zero edits pieces taken there come most low few all each =
+    leaf_covered edits (pieces + 3) (file_copies 0 pieces) taken there come most (omega arith) (copies_most 0 pieces)
+    (low refl) few all
+come_covered (suc height) edits pieces taken there come most low few all each =
+    let bound = nine_covered edits (pieces + 3) (file_copies (suc height) pieces) most
+    (nine_most (suc height) pieces (omega arith)) in
+    omega (arith, each, bound)
+
 covered : (edits touched copies : ℕ) → edits ≤ touched → 6 * touched ≤ copies → 5 * edits ≤ copies
 covered edits touched copies most many = omega (arith, most, many)
 
 -- what the clauses of a command say, by what its exchange did
-module _ (edits pieces : ℕ) (old new : FsTree) (history : Option (List Event)) (files_new : List (ℕ × File))
-    (reads reads_new : ℕ) (result : Result (Unit {0}) BlockFault) (most : edits ≤ pieces + 3)
-    (made : AreMade edits old new history (flat_map items_of_file files_new) (named files_new) reads reads_new result)
+module _ (edits added pieces : ℕ) (old new : FsTree) (history : Option (List Event)) (files_new : List (ℕ × File))
+    (reads reads_new : ℕ) (result : Result (Unit {0}) BlockFault) (most : edits ≤ pieces + 3) (names : added ≤ 2 * (pieces + 3))
+    (made : AreMade edits added old new history (flat_map items_of_file files_new) (named files_new) reads reads_new result)
   where
-    pub left-files : AreWritableFiles files_new → All (IsFileBy old.tree.next) files_new
-        → OnOk result (LeavesFiles old new history files_new (file_copies old.tree.height pieces))
-    left-files are by = cases result made.done where
+    pub left-files : (old.tree.height ≡ 0 → taken_slots old.land.space ≡ 1) → AreWritableFiles files_new
+        → All (IsFileBy old.tree.next) files_new → OnOk result (LeavesFiles old new history files_new pieces)
+    left-files low are by = cases result made.done where
       cases : (r : Result (Unit {0}) BlockFault)
-          → OnOk r (IsEditedBy edits old new history (flat_map items_of_file files_new) (named files_new))
-          → OnOk r (LeavesFiles old new history files_new (file_copies old.tree.height pieces))
+          → OnOk r (IsEditedBy edits added old new history (flat_map items_of_file files_new) (named files_new))
+          → OnOk r (LeavesFiles old new history files_new pieces)
       cases (Ok done) edited =
           let few = edited.few in
           let bound = covered edits (pieces + 3) (file_copies old.tree.height pieces) most
           (copies_most old.tree.height pieces) in
+          let come = come_covered old.tree.height edits pieces (taken_slots old.land.space)
+          (taken_slots new.land.space) (made_slots old.land.space new.land.space) most low edited.few
+          (made-there old.land.space new.land.space) edited.made in
+          let left = made-free old.land.space new.land.space edited.moved.sizes edited.moved.held_slots in
           record {
             holds = record {
               stands = edited.stands;
@@ -54,6 +89,13 @@ module _ (edits pieces : ℕ) (old new : FsTree) (history : Option (List Event))
             };
             moved = edited.moved;
             few = omega (arith, few, bound);
+            made = come;
+            free = omega (arith, left, come);
+            heavier = BookGetsHeavier-most old.refs new.refs
+                (edits * edit_bytes old.land.space.sizes.nodesize 3 + added * name_new_bytes)
+                ((pieces + 3) * edit_bytes old.land.space.sizes.nodesize 3 + 2 * (pieces + 3) * name_new_bytes)
+                (most_bytes (edit_bytes old.land.space.sizes.nodesize 3) edits (pieces + 3) added (2 * (pieces + 3)) most
+                names) edited.heavier;
           }
       cases (Err fault) edited = tt
 
@@ -74,18 +116,21 @@ module _ (pieces : ℕ) (old new : FsTree) (ino : ℕ) (change : Exchange) (hist
     (called : (edits : ℕ) (files files_new : List (ℕ × File))
     → Stands old history (flat_map items_of_file files) (named files)
     → MakesFiles edits old.tree.owner ino change files files_new
-    → AreMade edits old new history (flat_map items_of_file files_new) (named files_new) reads reads_new result) where
-  all_made : AreMade told.edits old new history (flat_map items_of_file files_new) (named files_new) reads reads_new result
+    → AreMade edits (length (change.named ++ option_to_list change.new)) old new history (flat_map items_of_file files_new) (named files_new) reads reads_new result) where
+  all_made : AreMade told.edits (length (change.named ++ option_to_list change.new)) old new history (flat_map items_of_file files_new) (named files_new) reads reads_new result
   all_made = called told.edits files files_new holds.stands told.makes
 
-  pub done-files : OnOk result (LeavesFiles old new history files_new (file_copies old.tree.height pieces))
-  done-files =
-      left-files told.edits pieces old new history files_new reads reads_new result told.most all_made told.writable
-      told.by
+  pub done-files : (bytes : ℕ) → IsSubvolume old history bytes → IsTable old.refs.refs
+      → OnOk result (LeavesFiles old new history files_new pieces)
+  done-files bytes subvolume table =
+      left-files told.edits (length (change.named ++ option_to_list change.new)) pieces old new history files_new reads reads_new result told.most told.few all_made
+      (leaf-slots old history (flat_map items_of_file files) (named files) holds.stands subvolume.editable.drafted
+      table)
+      told.writable told.by
 
   pub done-sound : (events : List Event) → history ≡ Some events
       → 10 * file_copies old.tree.height pieces ≤ free_slots old.land.space → BreaksNone result
-  done-sound = left-sound told.edits pieces old new history files_new reads reads_new result told.most all_made
+  done-sound = left-sound told.edits (length (change.named ++ option_to_list change.new)) pieces old new history files_new reads reads_new result told.most told.few all_made
 
   pub done-reads : reads_new ≤ reads + 45 * (pieces + 3)
-  done-reads = left-reads told.edits pieces old new history files_new reads reads_new result told.most all_made
+  done-reads = left-reads told.edits (length (change.named ++ option_to_list change.new)) pieces old new history files_new reads reads_new result told.most told.few all_made

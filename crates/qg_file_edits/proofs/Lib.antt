@@ -18,5 +18,7 @@ pub mod Cuts
 pub mod Removals
 pub mod Taken
 pub mod Given
+pub mod Few
 pub mod Told
 pub mod Left
+pub mod Room

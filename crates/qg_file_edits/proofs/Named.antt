@@ -1,5 +1,5 @@
 -- Pieces that name extents, or name them no more, one after the other.
-use Rattle.std.proofs.Common.{◌≡◌, ◌≢◌, ℕ, ◌+◌, ◌<◌, ◌≤◌, List, [], ◌∷◌, ◌++◌, map, take, drop, Option, Result, Ok, Err, arith, sym, ap, subst, true, ◌∙◌}
+use Rattle.std.proofs.Common.{◌≡◌, ◌≢◌, ℕ, ◌+◌, ◌*◌, ◌<◌, ◌≤◌, List, [], ◌∷◌, ◌++◌, map, take, drop, length, length-append, Option, Result, Ok, Err, arith, sym, ap, subst, true, ◌∙◌}
 use Rattle.std.specs.Prelude.{Contains, OnOk}
 use Rattle.std.specs.List.{filter_map}
 use Rattle.std.proofs.lemmas.Bool.{and_parts, leb-true}
@@ -22,6 +22,9 @@ use Rattle.qg_extents.specs.Table.{book_of}
 use Rattle.qg_descent.specs.Tree.{Root}
 use Rattle.qg_tree_refs.specs.Exchange.{times}
 use Rattle.qg_tree_refs.proofs.Times.{times-append}
+use Rattle.qg_tree_refs.specs.declared.tree_refs.TreeRefs.{TreeRefs}
+use Rattle.qg_heavier.specs.Heavier.{BookGetsHeavier, name_bytes, name_new_bytes}
+use Rattle.qg_heavier.proofs.Sums.{BookGetsHeavier-most, BookGetsHeavier-same, BookGetsHeavier-then}
 use Rattle.qg_fs_tree.specs.declared.fs_tree.FsTree.{FsTree}
 use Rattle.qg_fs_tree.specs.Standing.{IsKnownExtent, IsSubvolume, KeepsTree, Stands, name_of, name_told, names_times}
 use Rattle.qg_fs_tree.proofs.Ordered.{stands-ordered}
@@ -72,7 +75,8 @@ run_behind sizes address bytes is =
 first_behind : (fs : FsTree) (history : Option (List Event)) (items : List Item) (ino : ℕ) (piece : Piece)
     (names : List (ℕ × Piece)) → Stands fs history items ((ino, piece) ∷ names) → data_begin ≤ piece.extent
 first_behind fs history items ino piece names stands =
-    let known = All-head (λ (name : ℕ × Piece). IsKnownExtent fs.land.space.sizes (book_of fs.refs.refs) name.1)
+    let known = All-head
+    (λ (name : ℕ × Piece). IsKnownExtent fs.land.space.sizes fs.tree.next (book_of fs.refs.refs) name.1)
     (ino, piece) names stands.known in
     run_behind fs.land.space.sizes piece.extent piece.extent_bytes known.lies
 
@@ -105,6 +109,7 @@ KeepsMarks old new at = (q : ℕ) → q ≢ at
 -- the first pieces are named
 pub record NamesUpTo (old now : FsTree) (ino : ℕ) (pieces : List Piece) (count : ℕ) : Type 0 where
   pub nodes : KeepsNodes old now
+  pub heavier : BookGetsHeavier old.refs now.refs (length (take count pieces) * name_bytes)
   pub told : (history : Option (List Event)) (bytes : ℕ) (items : List Item) (names : List (ℕ × Piece))
       → IsSubvolume old history bytes → Stands old history items names → AreOfNamed names pieces
       → AreFewNames old.tree.owner (names_of ino pieces ++ names)
@@ -113,6 +118,7 @@ pub record NamesUpTo (old now : FsTree) (ino : ℕ) (pieces : List Piece) (count
 -- the first pieces are named no more
 pub record UnnamesUpTo (old now : FsTree) (ino : ℕ) (pieces : List Piece) (count : ℕ) : Type 0 where
   pub nodes : KeepsNodes old now
+  pub heavier : BookGetsHeavier old.refs now.refs 0
   pub told : (history : Option (List Event)) (bytes : ℕ) (items : List Item) (names : List (ℕ × Piece))
       → IsSubvolume old history bytes → Stands old history items (names_of ino pieces ++ names)
       → AreCovered old.tree.owner (filter_map name_told items) names
@@ -121,6 +127,8 @@ pub record UnnamesUpTo (old now : FsTree) (ino : ℕ) (pieces : List Piece) (cou
 pub names-none : (fs : FsTree) (ino : ℕ) (pieces : List Piece) → NamesUpTo fs fs ino pieces 0
 names-none fs ino pieces = record {
   nodes = nodes-itself fs;
+  heavier = BookGetsHeavier-most fs.refs fs.refs 0 (length (take 0 pieces) * name_bytes) (omega arith)
+      (BookGetsHeavier-same fs.refs);
   told = λ history bytes items names subvolume stands among few.
       record { stands = stands; moved = moves-itself fs history };
 }
@@ -128,6 +136,7 @@ names-none fs ino pieces = record {
 pub unnames-none : (fs : FsTree) (ino : ℕ) (pieces : List Piece) → UnnamesUpTo fs fs ino pieces 0
 unnames-none fs ino pieces = record {
   nodes = nodes-itself fs;
+  heavier = BookGetsHeavier-same fs.refs;
   told = λ history bytes items names subvolume stands covered.
       record { stands = stands; moved = moves-itself fs history };
 }
@@ -178,12 +187,19 @@ module _ (old mid : FsTree) (ino : ℕ) (pieces : List Piece) (i : ℕ) (piece :
 
   -- and then it is
   pub names-more : (new : FsTree) → NamesUpTo old mid ino pieces i → KeepsNodes mid new
-      → KeepsMarks mid new piece.extent
+      → KeepsMarks mid new piece.extent → BookGetsHeavier mid.refs new.refs name_bytes
       → ((history : Option (List Event)) (bytes : ℕ) (items : List Item) (names : List (ℕ × Piece))
       → CanName mid history bytes items names ino piece → Stands new history items ((ino, piece) ∷ names))
       → NamesUpTo old new ino pieces (i + 1)
-  names-more new so_far nodes marks named = record {
+  names-more new so_far nodes marks heavier named = record {
     nodes = nodes-then old mid new so_far.nodes nodes;
+    heavier =
+        let longer = ap (λ (xs : List Piece). length xs) at.more in
+        let sum = length-append (take i pieces) (piece ∷ []) in
+        BookGetsHeavier-most old.refs new.refs (length (take i pieces) * name_bytes + name_bytes)
+        (length (take (i + 1) pieces) * name_bytes) (omega (arith, longer, sum))
+        (BookGetsHeavier-then old.refs mid.refs new.refs (length (take i pieces) * name_bytes) name_bytes so_far.heavier
+        heavier);
     told = λ history bytes items names subvolume stands among few.
         let before = so_far.told history bytes items names subvolume stands among few in
         let front = names_of ino (take i pieces) in
@@ -228,12 +244,13 @@ module _ (old mid : FsTree) (ino : ℕ) (pieces : List Piece) (i : ℕ) (piece :
 
   -- and then it is
   pub unnames-more : (new : FsTree) → UnnamesUpTo old mid ino pieces i → KeepsNodes mid new
-      → KeepsMarks mid new piece.extent
+      → KeepsMarks mid new piece.extent → BookGetsHeavier mid.refs new.refs 0
       → ((history : Option (List Event)) (bytes : ℕ) (items : List Item) (names : List (ℕ × Piece))
       → CanUnname mid history bytes items names ino piece → Stands new history items names)
       → UnnamesUpTo old new ino pieces (i + 1)
-  unnames-more new so_far nodes marks unnamed = record {
+  unnames-more new so_far nodes marks heavier unnamed = record {
     nodes = nodes-then old mid new so_far.nodes nodes;
+    heavier = BookGetsHeavier-then old.refs mid.refs new.refs 0 0 so_far.heavier heavier;
     told = λ history bytes items names subvolume stands covered.
         let before = so_far.told history bytes items names subvolume stands covered in
         let behind = names_of ino (drop (i + 1) pieces) in
@@ -266,3 +283,16 @@ named-new old new ino piece history bytes items names (Ok done) subvolume stands
 }
 named-new old new ino piece history bytes items names (Err fault) subvolume stands nodes after unbroken marks =
     record { done = tt; sound = unbroken }
+
+-- ---- how much heavier names make what the extent tree's items take
+
+-- a new one, if one is, and those of extents that are named already
+pub heavier-named_both : (old mid new : TreeRefs) (slice named fresh : List Piece) → slice ≡ named
+    → BookGetsHeavier old mid (length fresh * name_new_bytes) → BookGetsHeavier mid new (length slice * name_bytes)
+    → BookGetsHeavier old new (length (named ++ fresh) * name_new_bytes)
+heavier-named_both old mid new slice named fresh is first later =
+    let same = ap (λ (xs : List Piece). length xs) is in
+    let both = length-append named fresh in
+    BookGetsHeavier-most old new (length fresh * name_new_bytes + length slice * name_bytes)
+    (length (named ++ fresh) * name_new_bytes) (omega (arith, same, both))
+    (BookGetsHeavier-then old mid new (length fresh * name_new_bytes) (length slice * name_bytes) first later)

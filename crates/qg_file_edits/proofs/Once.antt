@@ -40,7 +40,7 @@ module _ (old new : FsTree) (before after : Option (List Event)) (bytes left rea
           → BreaksNone result)
 
       made : (most : ℕ) (items_new : List Item) → MakesOnce most items_new
-          → AreMade 1 old new before items_new names reads reads_new result
+          → AreMade 1 0 old new before items_new names reads reads_new result
       unfolding MakesOnce
       made most items_new is =
           made-once old new before after bytes left most items items_new names reads reads_new result subvolume stands
@@ -54,11 +54,11 @@ module _ (old new : FsTree) (before after : Option (List Event)) (bytes left rea
           → ((events : List Event) → before ≡ Some events → IsTrue (has_key key items)
           → 3 * (old.tree.height + 2) ≤ free_slots old.land.space → BreaksNone result)
           → IsTrue (has_key wanted items)
-          → AreMade 1 old new before (without_key wanted items) names reads reads_new result
+          → AreMade 1 0 old new before (without_key wanted items) names reads reads_new result
       unfolding MakesOnce
       once-removed key wanted is removed grows sound there =
           let here = subst (λ (k : Key). IsTrue (has_key k items)) (sym is) there in
-          subst (λ (k : Key). AreMade 1 old new before (without_key k items) names reads reads_new result) is
+          subst (λ (k : Key). AreMade 1 0 old new before (without_key k items) names reads reads_new result) is
           (made 0 (without_key key items) (removed here, grows, λ events known. sound events known here))
 
       pub once-put : (can : Key → Type 0) (key wanted : Key) (body text : List ℕ) → key ≡ wanted → body ≡ text
@@ -68,15 +68,15 @@ module _ (old new : FsTree) (before after : Option (List Event)) (bytes left rea
           → ((events : List Event) → before ≡ Some events → can key
           → 3 * (old.tree.height + 2) ≤ free_slots old.land.space → BreaksNone result)
           → can wanted
-          → AreMade 1 old new before (with_item (record { key = wanted; body = text }) items) names reads reads_new result
+          → AreMade 1 0 old new before (with_item (record { key = wanted; body = text }) items) names reads reads_new result
       unfolding MakesOnce
       once-put can key wanted body text key_is body_is put grows sound may =
           let here = subst can (sym key_is) may in
           let made_here = made 1 (with_item (record { key = key; body = body }) items)
           (put here, grows, λ events known. sound events known here) in
-          subst (λ (k : Key). AreMade 1 old new before (with_item (record { key = k; body = text }) items) names reads
+          subst (λ (k : Key). AreMade 1 0 old new before (with_item (record { key = k; body = text }) items) names reads
           reads_new result) key_is
-          (subst (λ (b : List ℕ). AreMade 1 old new before (with_item (record { key = key; body = b }) items) names reads
+          (subst (λ (b : List ℕ). AreMade 1 0 old new before (with_item (record { key = key; body = b }) items) names reads
           reads_new result) body_is made_here)
 
 -- what is said of an item by its key and its body

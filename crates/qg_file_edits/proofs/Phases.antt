@@ -1,7 +1,8 @@
 -- The phases of an exchange: pieces are named, items edited, and pieces named no more.
-use Rattle.std.proofs.Common.{◌≡◌, ℕ, ◌+◌, List, ◌++◌, length, Option, Result, Ok, Err, arith, sym, subst}
+use Rattle.std.proofs.Common.{◌≡◌, ℕ, ◌+◌, ◌*◌, List, ◌++◌, length, Option, Result, Ok, Err, arith, sym, subst}
 use Rattle.std.specs.List.{filter_map, flat_map}
 use Rattle.std.specs.List.Sorted.{IsPermutation}
+use Rattle.std.specs.Prelude.{OnOk}
 use Rattle.std.specs.Option.{option_to_list}
 use Rattle.std.proofs.lemmas.List.{append_assoc}
 use Rattle.std.proofs.lemmas.List.Sorted.{IsPermutation-append_comm, IsPermutation-append_left, IsPermutation-append_right, IsPermutation-sym, IsPermutation-trans}
@@ -17,6 +18,7 @@ use Rattle.qg_exchange.specs.Named.{AreNamesExchanged, named, names_of}
 use Rattle.qg_exchange.specs.Steps.{AreSteps}
 use Rattle.qg_exchange.proofs.Applied.{makes-exchange}
 use Rattle.qg_exchange.proofs.Counts.{names-ordered}
+use Rattle.qg_heavier.specs.Heavier.{BookGetsHeavier, name_new_bytes}
 use Rattle.qg_fs_tree.specs.declared.fs_tree.FsTree.{FsTree}
 use Rattle.qg_fs_tree.specs.Standing.{IsSubvolume, Stands, name_told}
 use Rattle.qg_fs_tree.proofs.Ordered.{stands-ordered}
@@ -74,37 +76,37 @@ module _ (edits ino : ℕ) (change : Exchange) (steps : List Step) (old mid : Fs
   pub items-edited : (new : FsTree) (after : Option (List Event)) (reads_new : ℕ)
       (result : Result (Unit {0}) BlockFault) → after ≡ before
       → ((items : List Item) (names : List (ℕ × Piece)) → Stands old before items names → Applies ino steps items
-      → AreMade (length steps) old mid before (after_steps ino steps items) names reads some (Ok tt))
+      → AreMade (length steps) 0 old mid before (after_steps ino steps items) names reads some (Ok tt))
       → ((items : List Item) (names : List (ℕ × Piece)) → Stands mid after items names
       → CanEditInode ino change.inode items
-      → AreMade 1 mid new after (after_inode ino change.inode items) names some reads_new result)
+      → AreMade 1 0 mid new after (after_inode ino change.inode items) names some reads_new result)
       → (items : List Item) (names : List (ℕ × Piece)) → Stands old before items names → CanEditSo edits ino change
       items
-      → AreMade edits old new before (after_exchange ino change items) names reads reads_new result
+      → AreMade edits 0 old new before (after_exchange ino change items) names reads reads_new result
   items-edited new after reads_new result same stepped followed items names stands can =
       let makes = makes-exchange ino change.gone change.put steps items can.can are in
       let first = stepped items names stands makes.applies in
       let left = exchanged ino change.gone change.put items in
-      let edited = subst (λ (xs : List Item). IsEditedBy (length steps) old mid before xs names) makes.made first.done
+      let edited = subst (λ (xs : List Item). IsEditedBy (length steps) 0 old mid before xs names) makes.made first.done
       in
       let here = subst (λ (h : Option (List Event)). Stands mid h left names) (sym same) edited.stands in
-      let later = subst (λ (h : Option (List Event)). AreMade 1 mid new h (after_inode ino change.inode left) names some
+      let later = subst (λ (h : Option (List Event)). AreMade 1 0 mid new h (after_inode ino change.inode left) names some
       reads_new result) same (followed left names here can.inode) in
-      made-then (length steps) 1 edits old mid new before left (after_exchange ino change items) names names reads some
-      reads_new result (can.short steps are) edited first.reads later
+      made-then (length steps) 1 edits 0 0 0 old mid new before left (after_exchange ino change items) names names reads some
+      reads_new result (can.short steps are) (omega arith) edited first.reads later
 
   -- or a step fails
   pub items-failed : (fault : BlockFault)
       → ((items : List Item) (names : List (ℕ × Piece)) → Stands old before items names → Applies ino steps items
-      → AreMade (length steps) old mid before (after_steps ino steps items) names reads some (Err fault))
+      → AreMade (length steps) 0 old mid before (after_steps ino steps items) names reads some (Err fault))
       → (items : List Item) (names : List (ℕ × Piece)) → Stands old before items names → CanEditSo edits ino change
       items
-      → AreMade edits old mid before (after_exchange ino change items) names reads some (Err fault)
+      → AreMade edits 0 old mid before (after_exchange ino change items) names reads some (Err fault)
   items-failed fault stepped items names stands can =
       let makes = makes-exchange ino change.gone change.put steps items can.can are in
       let failed = stepped items names stands makes.applies in
       let short = can.short steps are in
-      made-failed (length steps) edits old mid mid before (after_steps ino steps items) (after_exchange ino change
+      made-failed (length steps) edits 0 0 old mid mid before (after_steps ino steps items) (after_exchange ino change
       items)
       names names reads some fault (omega (arith, short)) failed
 
@@ -132,43 +134,51 @@ module _ (edits ino : ℕ) (change : Exchange) (files files_new : List (ℕ × F
   first-named result called = called (flat_map items_of_file files) (named files) stands makes.known few_besides
 
   module _ (nodes : KeepsNodes old named_tree)
-      (first : StandsMoved old named_tree before (flat_map items_of_file files) besides) where
+      (first : StandsMoved old named_tree before (flat_map items_of_file files) besides)
+      (heavier : BookGetsHeavier old.refs named_tree.refs
+      (length (change.named ++ option_to_list change.new) * name_new_bytes)) where
     -- items are edited
     pub then-edited : (edited : FsTree) (reads some : ℕ) (result : Result (Unit {0}) BlockFault)
         → ((items : List Item) (names : List (ℕ × Piece)) → Stands named_tree before items names
         → CanEditSo edits ino change items
-        → AreMade edits named_tree edited before (after_exchange ino change items) names reads some result)
-        → AreMade edits named_tree edited before (flat_map items_of_file files_new) besides reads some result
+        → AreMade edits 0 named_tree edited before (after_exchange ino change items) names reads some result)
+        → AreMade edits 0 named_tree edited before (flat_map items_of_file files_new) besides reads some result
     then-edited edited reads some result called =
-        subst (λ (items : List Item). AreMade edits named_tree edited before items besides reads some result) makes.made
+        subst (λ (items : List Item). AreMade edits 0 named_tree edited before items besides reads some result) makes.made
         (called (flat_map items_of_file files) besides first.stands makes.can)
 
     -- and it fails
     pub edit-failed : (edited : FsTree) (reads some : ℕ) (fault : BlockFault)
-        → AreMade edits named_tree edited before (flat_map items_of_file files_new) besides reads some (Err fault)
-        → AreMade edits old edited before (flat_map items_of_file files_new) (named files_new) reads some (Err fault)
+        → AreMade edits 0 named_tree edited before (flat_map items_of_file files_new) besides reads some (Err fault)
+        → AreMade edits (length (change.named ++ option_to_list change.new)) old edited before (flat_map items_of_file files_new) (named files_new) reads some (Err fault)
     edit-failed edited reads some fault failed =
-        let begun = edited-named old named_tree before (flat_map items_of_file files) besides nodes first in
-        let all = made-then 0 edits edits old named_tree edited before (flat_map items_of_file files)
-        (flat_map items_of_file files_new) besides besides reads reads some (Err fault) (omega arith) begun (omega
+        let begun = edited-named (length (change.named ++ option_to_list change.new)) old named_tree before
+        (flat_map items_of_file files) besides nodes heavier first in
+        let all = made-then 0 edits edits (length (change.named ++ option_to_list change.new)) 0
+        (length (change.named ++ option_to_list change.new)) old named_tree edited before (flat_map items_of_file files)
+        (flat_map items_of_file files_new) besides besides reads reads some (Err fault) (omega arith) (omega arith) begun (omega
         arith)
         failed in
-        made-failed edits edits old edited edited before (flat_map items_of_file files_new)
+        made-failed edits edits (length (change.named ++ option_to_list change.new))
+        (length (change.named ++ option_to_list change.new)) old edited edited before (flat_map items_of_file files_new)
         (flat_map items_of_file files_new) besides (named files_new) reads some fault (omega arith) all
 
     -- and pieces are named no more
     pub last-unnamed : (edited new : FsTree) (after : Option (List Event)) (left reads some : ℕ)
         (result : Result (Unit {0}) BlockFault) → after ≡ before → IsSubvolume edited after left → KeepsNodes edited new
-        → AreMade edits named_tree edited before (flat_map items_of_file files_new) besides reads some (Ok tt)
+        → OnOk result (BookGetsHeavier edited.refs new.refs 0)
+        → AreMade edits 0 named_tree edited before (flat_map items_of_file files_new) besides reads some (Ok tt)
         → ((items : List Item) (names : List (ℕ × Piece)) → Stands edited after items (names_of ino change.gone ++
         names)
         → AreCovered edited.tree.owner (filter_map name_told items) names
         → AreNamed edited new after items names result)
-        → AreMade edits old new before (flat_map items_of_file files_new) (named files_new) reads some result
-    last-unnamed edited new after left reads some result same still kept made called =
+        → AreMade edits (length (change.named ++ option_to_list change.new)) old new before (flat_map items_of_file files_new) (named files_new) reads some result
+    last-unnamed edited new after left reads some result same still kept light made called =
         let items = flat_map items_of_file files_new in
-        let begun = edited-named old named_tree before (flat_map items_of_file files) besides nodes first in
-        let edited_all = edited-then 0 edits old named_tree edited before (flat_map items_of_file files) items besides
+        let begun = edited-named (length (change.named ++ option_to_list change.new)) old named_tree before
+        (flat_map items_of_file files) besides nodes heavier first in
+        let edited_all = edited-then 0 edits (length (change.named ++ option_to_list change.new)) 0 old
+        named_tree edited before (flat_map items_of_file files) items besides
         besides begun made.done in
         let turned = stands-gone_first (names_of ino (change.named ++ option_to_list change.new))
         (names_of ino change.put) (names_of ino change.gone) (named files) (named files_new) makes.put makes.names
@@ -178,9 +188,10 @@ module _ (edits ino : ℕ) (change : Exchange) (files files_new : List (ℕ × F
         files_new))
         (sym same) turned in
         let unnamed = called items (named files_new) here (λ at reference. omega arith) in
-        let last = subst (λ (h : Option (List Event)). AreMade 0 edited new h items (named files_new) some some result)
+        let last = subst (λ (h : Option (List Event)). AreMade 0 0 edited new h items (named files_new) some some result)
         same
-        (made-named edited new after items (named files_new) some result kept unnamed) in
+        (made-named 0 edited new after items (named files_new) some result kept light unnamed) in
         let steps = made.reads in
-        made-then (0 + edits) 0 edits old edited new before items items besides (named files_new) reads some some result
-        (omega arith) edited_all (omega (arith, steps)) last
+        made-then (0 + edits) 0 edits (length (change.named ++ option_to_list change.new) + 0) 0
+        (length (change.named ++ option_to_list change.new)) old edited new before items items besides (named files_new) reads some some result
+        (omega arith) (omega arith) edited_all (omega (arith, steps)) last

@@ -30,7 +30,7 @@ applies-behind ino (step ∷ front) back items applies =
 -- what the first steps made of items and names
 pub record IsSteppedTo (ino : ℕ) (steps : List Step) (count : ℕ) (old now : FsTree) (history : Option (List Event))
     (items : List Item) (names : List (ℕ × Piece)) (taken taken_now : ℕ) : Type 0 where
-  pub edited : IsEditedBy count old now history (after_steps ino (take count steps) items) names
+  pub edited : IsEditedBy count 0 old now history (after_steps ino (take count steps) items) names
   pub reads : taken_now ≤ taken + 45 * count
 
 pub record StepsUpTo (ino : ℕ) (steps : List Step) (count : ℕ) (old now : FsTree) (before after : Option (List Event))
@@ -70,7 +70,7 @@ module _ (ino : ℕ) (steps : List Step) (i : ℕ) (step : Step) (at : IsAt step
   pub steps-more : (new : FsTree) (now : Option (List Event)) (size faults_new reads_new : ℕ)
       → LeavesHeld mid new after now left size → StaysOwn mid new → faults_now ≤ faults_new
       → ((items : List Item) (names : List (ℕ × Piece)) → Stands mid after items names → CanApply ino step items
-      → AreMade 1 mid new after (after_step ino step items) names reads_now reads_new (Ok tt))
+      → AreMade 1 0 mid new after (after_step ino step items) names reads_now reads_new (Ok tt))
       → StepsUpTo ino steps (i + 1) old new before now bytes size faults faults_new reads reads_new
   steps-more new now size faults_new reads_new leaves own later told =
       let earlier = so_far.later in
@@ -83,15 +83,15 @@ module _ (ino : ℕ) (steps : List Step) (i : ℕ) (step : Step) (at : IsAt step
             let items_here = after_steps ino (take i steps) items in
             let told_here = subst (λ (h : Option (List Event)). (items : List Item) (names : List (ℕ × Piece))
             → Stands mid h items names → CanApply ino step items
-            → AreMade 1 mid new h (after_step ino step items) names reads_now reads_new (Ok tt)) so_far.leaves.history
+            → AreMade 1 0 mid new h (after_step ino step items) names reads_now reads_new (Ok tt)) so_far.leaves.history
             told in
             let made = told_here items_here names here.edited.stands (can_step items applies) in
-            let edited = edited-then i 1 old mid new before items_here (after_step ino step items_here) names names
+            let edited = edited-then i 1 0 0 old mid new before items_here (after_step ino step items_here) names names
             here.edited made.done in
             let some = here.reads in
             let more = made.reads in
             record {
-              edited = subst (λ (all : List Item). IsEditedBy (i + 1) old new before all names) (sym (stepped items))
+              edited = subst (λ (all : List Item). IsEditedBy (i + 1) 0 old new before all names) (sym (stepped items))
                   edited;
               reads = omega (arith, some, more);
             };
@@ -100,21 +100,21 @@ module _ (ino : ℕ) (steps : List Step) (i : ℕ) (step : Step) (at : IsAt step
   -- or the call gives up there
   pub steps-failed : (new : FsTree) (reads_new : ℕ) (fault : BlockFault) → i < length steps
       → ((items : List Item) (names : List (ℕ × Piece)) → Stands mid after items names → CanApply ino step items
-      → AreMade 1 mid new after (after_step ino step items) names reads_now reads_new (Err fault))
+      → AreMade 1 0 mid new after (after_step ino step items) names reads_now reads_new (Err fault))
       → (items : List Item) (names : List (ℕ × Piece)) → Stands old before items names → Applies ino steps items
-      → AreMade (length steps) old new before (after_steps ino steps items) names reads reads_new (Err fault)
+      → AreMade (length steps) 0 old new before (after_steps ino steps items) names reads reads_new (Err fault)
   steps-failed new reads_new fault below told items names stands applies =
       let here = so_far.told items names stands applies in
       let items_here = after_steps ino (take i steps) items in
       let told_here = subst (λ (h : Option (List Event)). (items : List Item) (names : List (ℕ × Piece))
       → Stands mid h items names → CanApply ino step items
-      → AreMade 1 mid new h (after_step ino step items) names reads_now reads_new (Err fault)) so_far.leaves.history
+      → AreMade 1 0 mid new h (after_step ino step items) names reads_now reads_new (Err fault)) so_far.leaves.history
       told in
       let made = told_here items_here names here.edited.stands (can_step items applies) in
-      let failed = made-then i 1 (length steps) old mid new before items_here (after_step ino step items_here) names
+      let failed = made-then i 1 (length steps) 0 0 0 old mid new before items_here (after_step ino step items_here) names
       names
-      reads reads_now reads_new (Err fault) (omega (arith, below)) here.edited here.reads made in
-      made-failed (length steps) (length steps) old new new before (after_step ino step items_here)
+      reads reads_now reads_new (Err fault) (omega (arith, below)) (omega arith) here.edited here.reads made in
+      made-failed (length steps) (length steps) 0 0 old new new before (after_step ino step items_here)
       (after_steps ino steps items) names names reads reads_new fault (omega arith) failed
 
 -- all steps are made
@@ -123,13 +123,13 @@ pub steps-all : (ino : ℕ) (steps : List Step) (i : ℕ) (old new : FsTree) (be
     → take i steps ≡ steps
     → StepsUpTo ino steps i old new before after bytes left faults faults_now reads reads_now
     → (items : List Item) (names : List (ℕ × Piece)) → Stands old before items names → Applies ino steps items
-    → AreMade (length steps) old new before (after_steps ino steps items) names reads reads_now (Ok tt)
+    → AreMade (length steps) 0 old new before (after_steps ino steps items) names reads reads_now (Ok tt)
 steps-all ino steps i old new before after bytes left faults faults_now reads reads_now past below whole so_far items names stands applies =
     let here = so_far.told items names stands applies in
     let some = here.reads in
     record {
-      done = edited-most i (length steps) old new before (after_steps ino steps items) names below
-          (subst (λ (all : List Step). IsEditedBy i old new before (after_steps ino all items) names) whole
+      done = edited-most i (length steps) 0 0 old new before (after_steps ino steps items) names below (omega arith)
+          (subst (λ (all : List Step). IsEditedBy i 0 old new before (after_steps ino all items) names) whole
           here.edited);
       sound = λ events is room. tt;
       reads = omega (arith, some, below);

@@ -139,7 +139,7 @@ part_few : (part : Option Piece) (rest : List Piece) → length (cons_option par
 part_few None rest = omega arith
 part_few (Some piece) rest = omega arith
 
-before_few : (to : ℕ) (pieces : List Piece) → length (before to pieces) ≤ length pieces
+pub before_few : (to : ℕ) (pieces : List Piece) → length (before to pieces) ≤ length pieces
 unfolding before
 before_few to [] = omega arith
 before_few to (piece ∷ pieces) =
@@ -147,7 +147,7 @@ before_few to (piece ∷ pieces) =
     let later = before_few to pieces in
     omega (arith, one, later)
 
-after_few : (from : ℕ) (pieces : List Piece) → length (after from pieces) ≤ length pieces
+pub after_few : (from : ℕ) (pieces : List Piece) → length (after from pieces) ≤ length pieces
 unfolding after
 after_few from [] = omega arith
 after_few from (piece ∷ pieces) =

@@ -1,7 +1,7 @@
 -- What each command makes of files, where the tree has their items.
 --
 -- Positions, lengths and sizes are in bytes.
-use Rattle.std.proofs.Common.{◌≡◌, ℕ, ◌+◌, ◌^◌, ◌<◌, ◌≤◌, List, [], ◌∷◌, ◌++◌, length, map, Option, Some, None, arith, refl, sym, ap, subst, true, ◌∙◌}
+use Rattle.std.proofs.Common.{◌≡◌, ℕ, ◌+◌, ◌*◌, ◌^◌, ◌<◌, ◌≤◌, List, [], ◌∷◌, ◌++◌, length, map, Option, Some, None, arith, refl, sym, ap, subst, true, ◌∙◌}
 use Rattle.std.specs.Prelude.{MatchOption, IsTrue, ⊤}
 use Rattle.std.specs.List.{All}
 use Rattle.std.specs.List.Sorted.{IsPermutation}
@@ -30,6 +30,7 @@ use Rattle.qg_file_edits.specs.Changes.{IsCut, IsRangeChange, IsUnlinked, files_
 use Rattle.qg_file_edits.specs.Exchanging.{IsReadyFor, MakesFiles}
 use Rattle.qg_file_edits.specs.Files.{Finds, HoldsFiles, IsFileRange, pieces_of}
 use Rattle.qg_file_edits.specs.Naming.{AreOfNamed}
+use Rattle.qg_file_edits.proofs.Few.{cut-names, no-names, range-names}
 use Rattle.qg_file_edits.proofs.Cuts.{cut-files, cut-files_by, cut-makes, met-all, met-past}
 use Rattle.qg_file_edits.proofs.Files.{file-found}
 use Rattle.qg_file_edits.proofs.Ranges.{none-besides, one-between, range-files, range-files_by, range-makes, range-put_named, range-rests_named}
@@ -41,6 +42,7 @@ pub record IsToldFor (pieces : ℕ) (fs : FsTree) (ino : ℕ) (change : Exchange
     : Type 0 where
   pub edits : ℕ
   pub most : edits ≤ pieces + 3
+  pub few : length (change.named ++ option_to_list change.new) ≤ 2 * (pieces + 3)
   pub makes : MakesFiles edits fs.tree.owner ino change files files_new
   pub writable : AreWritableFiles files_new
   pub by : All (IsFileBy fs.tree.next) files_new
@@ -99,6 +101,10 @@ module _ (fs : FsTree) (history : Option (List Event)) (ino off len run : ℕ) (
   told-write = record {
     edits = pieces_meeting off (off + len) (pieces_of ino files) + length given + 2;
     most = let one : length given ≡ 1 = refl in omega (arith, one);
+    few =
+        let names = range-names off (off + len) [] found.met (pieces_of ino files) change.named
+        (Some (new_piece next off len run)) change.new is.named is.new finds.met in
+        omega (arith, names);
     makes = range-makes next ino off (off + len) given files holds.writable holds.by fits range.least range.below
         range.off_aligned end_aligned range.near may.sound may.placed may.stamped fs.tree.owner
         (with_range off (off + len) [] found.met) (Some (new_piece next off len run)) found change finds is known order;
@@ -177,6 +183,13 @@ module _ (fs : FsTree) (history : Option (List Event)) (other from len ino off :
           length-map (within from (from + len) (pieces_of other files)) (moved from off) in
           let few = taken-few from (from + len) (pieces_of other files) in
           omega (arith, long, few);
+      few =
+          let long : length cloned ≡ length (within from (from + len) (pieces_of other files)) =
+          length-map (within from (from + len) (pieces_of other files)) (moved from off) in
+          let taken = taken-few from (from + len) (pieces_of other files) in
+          let names = range-names off (off + len) cloned found.met (pieces_of ino files) change.named None change.new
+          is_cloned.named is_cloned.new finds.met in
+          omega (arith, long, taken, names);
       makes = range-makes cloned_next ino off (off + len) cloned files holds.writable holds.by fits range.least
           range.below range.off_aligned clone_end range.near clone_may.sound clone_may.placed clone_may.stamped
           fs.tree.owner (with_range off (off + len) cloned found.met) None found change finds is_cloned clone_known
@@ -207,6 +220,7 @@ module _ (fs : FsTree) (history : Option (List Event)) (ino : ℕ) (file : File)
       record {
         edits = pieces_past size file.pieces + 1;
         most = omega arith;
+        few = let names = cut-names size met file.pieces change.named change.new is.named is.new met_is in omega (arith, names);
         makes = cut-makes fs.tree.next ino size file files there holds.writable holds.by fits aligned near fs.tree.owner
             inode met change inode_is met_is is;
         writable = cut-files fs.tree.next ino size file files there holds.writable holds.by fits aligned near;
@@ -220,6 +234,7 @@ module _ (fs : FsTree) (history : Option (List Event)) (ino : ℕ) (file : File)
       record {
         edits = length file.pieces + 1;
         most = omega arith;
+        few = let names = no-names change.named change.new is.named is.new in omega (arith, names);
         makes = removal-makes fs.tree.next ino file files there holds.writable holds.by fits fs.tree.owner met change
             (met_found ∙ met-all ino file sound) is;
         writable = left-files fs.tree.next ino file files there holds.writable holds.by fits;

@@ -13,8 +13,9 @@ use Rattle.qg_blocks.specs.Told.{BreaksNone}
 use Rattle.qg_contents.specs.Written.{item_under}
 use Rattle.qg_space.specs.Holding.{free_slots}
 use Rattle.qg_edit.specs.Edits.{has_key, with_item, without_key}
+use Rattle.qg_heavier.specs.Heavier.{BookGetsHeavier, edit_bytes, name_new_bytes}
 use Rattle.qg_fs_tree.specs.declared.fs_tree.FsTree.{FsTree}
-use Rattle.qg_fs_tree.specs.Standing.{Stands, taken_slots}
+use Rattle.qg_fs_tree.specs.Standing.{Stands, made_slots, taken_slots}
 use Rattle.qg_fs_layout.specs.Laying.{IsMoved}
 use Rattle.qg_file_edits.specs.declared.inode.InodeEdit.{InodeEdit}
 use Rattle.qg_file_edits.specs.declared.inode.InodeEdit.TheVariants.{Insert, Replace, Remove}
@@ -43,20 +44,24 @@ CanEditInode ino Remove items = IsTrue (has_key (inode_key ino) items)
 -- ---- edits
 
 -- A tree stands with these items and names, as edits between two commits leave it, so many at most. It has three levels
--- above its leaves at most: so each edit takes at most five slots more than it gives back, and leaves at most nine
--- fewer free
-pub record IsEditedBy (edits : ℕ) (old new : FsTree) (history : Option (List Event)) (items : List Item)
+-- above its leaves at most: so each edit takes at most five slots more than it gives back, leaves at most nine fewer
+-- free, and takes at most nine that were not taken before. What the extent tree's items take grows by no more than so
+-- many edits and so many names more bring
+pub record IsEditedBy (edits added : ℕ) (old new : FsTree) (history : Option (List Event)) (items : List Item)
     (names : List (ℕ × Piece)) : Type 0 where
   pub stands : Stands new history items names
   pub moved : IsMoved old new history
   pub few : taken_slots new.land.space ≤ taken_slots old.land.space + 5 * edits
   pub free : free_slots old.land.space ≤ free_slots new.land.space + 9 * edits
+  pub made : made_slots old.land.space new.land.space ≤ 9 * edits
+  pub heavier : BookGetsHeavier old.refs new.refs
+      (edits * edit_bytes old.land.space.sizes.nodesize 3 + added * name_new_bytes)
 
--- So it is once a call is done that takes so many edits at most. It answers no rule where enough slots are free, and
+-- So it is once a call is done that takes so many edits and names so many extents at most. It answers no rule where enough slots are free, and
 -- takes at most 45 steps for each edit
-pub record AreMade (edits : ℕ) (old new : FsTree) (history : Option (List Event)) (items : List Item)
+pub record AreMade (edits added : ℕ) (old new : FsTree) (history : Option (List Event)) (items : List Item)
     (names : List (ℕ × Piece)) (steps steps_new : ℕ) (result : Result (Unit {0}) BlockFault) : Type 0 where
-  pub done : OnOk result (IsEditedBy edits old new history items names)
+  pub done : OnOk result (IsEditedBy edits added old new history items names)
   pub sound : (events : List Event) → history ≡ Some events → 9 * edits + 15 ≤ free_slots old.land.space
       → BreaksNone result
   pub reads : steps_new ≤ steps + 45 * edits

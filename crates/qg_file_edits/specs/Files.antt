@@ -1,7 +1,7 @@
 -- A subvolume's tree that has the items of files, before a command and after it (this project's own).
 --
 -- Positions, lengths and sizes are in bytes.
-use Rattle.std.specs.Prelude.{◌≡◌, ℕ, ◌+◌, ◌<◌, ◌≤◌, List, All, Option, IsTrue}
+use Rattle.std.specs.Prelude.{◌≡◌, ℕ, ◌+◌, ◌*◌, ◌<◌, ◌≤◌, List, All, Option, IsTrue}
 use Rattle.std.specs.List.{flat_map}
 use Rattle.std.specs.Option.{option_map}
 use Rattle.qg_device.specs.History.{Event}
@@ -12,10 +12,13 @@ use Rattle.qg_image.specs.Table.{value_at}
 use Rattle.qg_machine.specs.FileChange.{pieces_or_none}
 use Rattle.qg_rules.specs.Writable.{AreWritableFiles, IsFileBy}
 use Rattle.qg_contents.specs.Written.{inode_of, items_of_file}
+use Rattle.qg_space.specs.Holding.{free_slots}
 use Rattle.qg_file_items.specs.Pieces.{pieces_met}
 use Rattle.qg_exchange.specs.Named.{named}
+use Rattle.qg_state.specs.Need.{file_copies}
+use Rattle.qg_heavier.specs.Heavier.{BookGetsHeavier, edit_bytes, name_new_bytes}
 use Rattle.qg_fs_tree.specs.declared.fs_tree.FsTree.{FsTree}
-use Rattle.qg_fs_tree.specs.Standing.{IsSubvolume, Stands, taken_slots}
+use Rattle.qg_fs_tree.specs.Standing.{IsSubvolume, Stands, made_slots, taken_slots}
 use Rattle.qg_fs_layout.specs.Laying.{IsMoved}
 use Rattle.qg_file_edits.specs.declared.found.Found.{Found}
 
@@ -37,13 +40,19 @@ pub record Finds (files : List (ℕ × File)) (ino from to : ℕ) (found : Found
   pub inode : found.inode ≡ option_map inode_of (value_at ino files)
   pub met : found.met ≡ pieces_met from to (pieces_of ino files)
 
--- A command left the tree with these files, as edits between two commits do, and of slots it took at most so many more
--- than it gave back
-pub record LeavesFiles (old new : FsTree) (history : Option (List Event)) (files : List (ℕ × File)) (copies : ℕ)
+-- A command left the tree with these files, as edits between two commits do. Of slots it took at most so many more than
+-- it gave back, and at most so many that were not taken before; and at most so many fewer are free. What the extent
+-- tree's items take grows by no more than edits and names bring, as many as pieces that are touched and three, and twice
+-- so many
+pub record LeavesFiles (old new : FsTree) (history : Option (List Event)) (files : List (ℕ × File)) (pieces : ℕ)
     : Type 0 where
   pub holds : HoldsFiles new history files
   pub moved : IsMoved old new history
-  pub few : taken_slots new.land.space ≤ taken_slots old.land.space + copies
+  pub few : taken_slots new.land.space ≤ taken_slots old.land.space + file_copies old.tree.height pieces
+  pub made : made_slots old.land.space new.land.space ≤ file_copies old.tree.height pieces
+  pub free : free_slots old.land.space ≤ free_slots new.land.space + file_copies old.tree.height pieces
+  pub heavier : BookGetsHeavier old.refs new.refs
+      ((pieces + 3) * edit_bytes old.land.space.sizes.nodesize 3 + 2 * (pieces + 3) * name_new_bytes)
 
 -- ---- over any disk
 

@@ -3,3 +3,4 @@ pub mod Naming
 pub mod Editing
 pub mod Exchanging
 pub mod Changes
+pub mod Laws

@@ -50,7 +50,7 @@ pub fn write<D: Disk, L: Ledger>(
         → Finds files ino off (off + len) found
         → OnOk result (LeavesFiles fs.old fs.new (D.history disk.old)
         (files_written fs.old.tree.next ino off len run files)
-        (file_copies fs.old.tree.height (pieces_meeting off (off + len) (pieces_of ino files)))) }
+        (pieces_meeting off (off + len) (pieces_of ino files))) }
     ensures sound { (events : List Event) → D.history disk.old ≡ Some events → (files : List (ℕ × FileValue))
         → HoldsFiles fs.old (D.history disk.old) files → Finds files ino off (off + len) found
         → 10 * file_copies fs.old.tree.height (pieces_meeting off (off + len) (pieces_of ino files))
@@ -96,8 +96,8 @@ pub fn clone_into<D: Disk, L: Ledger>(
         → source.now ≡ pieces_met from (from + len) (pieces_of other files) → Finds files ino off (off + len) found
         → OnOk result (LeavesFiles fs.old fs.new (D.history disk.old)
         (files_cloned fs.old.tree.next other from len ino off files)
-        (file_copies fs.old.tree.height (pieces_meeting off (off + len) (pieces_of ino files)
-        + pieces_meeting from (from + len) (pieces_of other files)))) }
+        (pieces_meeting off (off + len) (pieces_of ino files)
+        + pieces_meeting from (from + len) (pieces_of other files))) }
     ensures sound { (events : List Event) → D.history disk.old ≡ Some events → (files : List (ℕ × FileValue))
         (other : ℕ)
         → HoldsFiles fs.old (D.history disk.old) files
@@ -139,7 +139,7 @@ pub fn truncate<D: Disk, L: Ledger>(
     ensures cut { (files : List (ℕ × FileValue)) (file : FileValue) → HoldsFiles fs.old (D.history disk.old) files
         → value_at ino files ≡ Some file → Finds files ino size largest_size found
         → OnOk result (LeavesFiles fs.old fs.new (D.history disk.old) (files_cut fs.old.tree.next ino size file files)
-        (file_copies fs.old.tree.height (pieces_past size file.pieces))) }
+        (pieces_past size file.pieces)) }
     ensures sound { (events : List Event) → D.history disk.old ≡ Some events → (files : List (ℕ × FileValue))
         (file : FileValue) → HoldsFiles fs.old (D.history disk.old) files → value_at ino files ≡ Some file
         → Finds files ino size largest_size found
@@ -177,7 +177,7 @@ pub fn unlink<D: Disk, L: Ledger>(
     ensures unlinked { (files : List (ℕ × FileValue)) (file : FileValue) → HoldsFiles fs.old (D.history disk.old) files
         → value_at ino files ≡ Some file → met ≡ pieces_met 0 largest_size file.pieces
         → OnOk result (LeavesFiles fs.old fs.new (D.history disk.old) (without_key ino files)
-        (file_copies fs.old.tree.height (length file.pieces))) }
+        (length file.pieces)) }
     ensures sound { (events : List Event) → D.history disk.old ≡ Some events → (files : List (ℕ × FileValue))
         (file : FileValue) → HoldsFiles fs.old (D.history disk.old) files → value_at ino files ≡ Some file
         → met ≡ pieces_met 0 largest_size file.pieces

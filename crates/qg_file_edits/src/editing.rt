@@ -33,7 +33,7 @@ fn put_new<D: Disk, L: Ledger>(
     requires short { length bytes.now ≤ 1024 }
     ensures told { (items : List ItemValue) (names : List (ℕ × PieceValue))
         → Stands fs.old (D.history disk.old) items names → IsTrue (not (has_key key items))
-        → AreMade 1 fs.old fs.new (D.history disk.old) (with_item (record { key = key; body = bytes.now }) items) names
+        → AreMade 1 0 fs.old fs.new (D.history disk.old) (with_item (record { key = key; body = bytes.now }) items) names
         reads.old reads.new result }
     ensures leaves { LeavesHeld fs.old fs.new (D.history disk.old) (D.history disk.new) (D.size disk.old)
         (D.size disk.new) }
@@ -57,7 +57,7 @@ fn put_again<D: Disk, L: Ledger>(
     requires short { length bytes.now ≤ 1024 }
     ensures told { (items : List ItemValue) (names : List (ℕ × PieceValue))
         → Stands fs.old (D.history disk.old) items names → IsTrue (has_key key items)
-        → AreMade 1 fs.old fs.new (D.history disk.old) (with_item (record { key = key; body = bytes.now }) items) names
+        → AreMade 1 0 fs.old fs.new (D.history disk.old) (with_item (record { key = key; body = bytes.now }) items) names
         reads.old reads.new result }
     ensures leaves { LeavesHeld fs.old fs.new (D.history disk.old) (D.history disk.new) (D.size disk.old)
         (D.size disk.new) }
@@ -79,7 +79,7 @@ fn take_out<D: Disk, L: Ledger>(
     requires { IsSubvolume fs.old (D.history disk.old) (D.size disk.old) }
     ensures told { (items : List ItemValue) (names : List (ℕ × PieceValue))
         → Stands fs.old (D.history disk.old) items names → IsTrue (has_key key items)
-        → AreMade 1 fs.old fs.new (D.history disk.old) (without_key key items) names reads.old reads.new result }
+        → AreMade 1 0 fs.old fs.new (D.history disk.old) (without_key key items) names reads.old reads.new result }
     ensures leaves { LeavesHeld fs.old fs.new (D.history disk.old) (D.history disk.new) (D.size disk.old)
         (D.size disk.new) }
     ensures own { OnOk result (StaysOwn fs.old fs.new) }
@@ -100,7 +100,7 @@ fn take_step<D: Disk, L: Ledger>(
     requires { IsSubvolume fs.old (D.history disk.old) (D.size disk.old) }
     ensures told { (items : List ItemValue) (names : List (ℕ × PieceValue))
         → Stands fs.old (D.history disk.old) items names → CanApply ino step items
-        → AreMade 1 fs.old fs.new (D.history disk.old) (after_step ino step items) names reads.old reads.new result }
+        → AreMade 1 0 fs.old fs.new (D.history disk.old) (after_step ino step items) names reads.old reads.new result }
     ensures leaves { LeavesHeld fs.old fs.new (D.history disk.old) (D.history disk.new) (D.size disk.old)
         (D.size disk.new) }
     ensures own { OnOk result (StaysOwn fs.old fs.new) }
@@ -133,7 +133,7 @@ pub(crate) fn take_steps<D: Disk, L: Ledger>(
     requires { IsSubvolume fs.old (D.history disk.old) (D.size disk.old) }
     ensures told { (items : List ItemValue) (names : List (ℕ × PieceValue))
         → Stands fs.old (D.history disk.old) items names → Applies ino steps.now items
-        → AreMade (length steps.now) fs.old fs.new (D.history disk.old) (after_steps ino steps.now items) names
+        → AreMade (length steps.now) 0 fs.old fs.new (D.history disk.old) (after_steps ino steps.now items) names
         reads.old reads.new result }
     ensures leaves { LeavesHeld fs.old fs.new (D.history disk.old) (D.history disk.new) (D.size disk.old)
         (D.size disk.new) }
@@ -158,7 +158,7 @@ pub(crate) fn edit_inode<D: Disk, L: Ledger>(
     requires { IsSubvolume fs.old (D.history disk.old) (D.size disk.old) }
     ensures told { (items : List ItemValue) (names : List (ℕ × PieceValue))
         → Stands fs.old (D.history disk.old) items names → CanEditInode ino edit items
-        → AreMade 1 fs.old fs.new (D.history disk.old) (after_inode ino edit items) names reads.old reads.new result }
+        → AreMade 1 0 fs.old fs.new (D.history disk.old) (after_inode ino edit items) names reads.old reads.new result }
     ensures leaves { LeavesHeld fs.old fs.new (D.history disk.old) (D.history disk.new) (D.size disk.old)
         (D.size disk.new) }
     ensures own { OnOk result (StaysOwn fs.old fs.new) }

@@ -1,5 +1,5 @@
 // Pieces of a file come in the place of others, and its INODE_ITEM follows.
-ghost use Rattle.std.specs.Prelude.{◌≡◌, ◌++◌, ℕ, List, Option, OnOk, IsErrOf};
+ghost use Rattle.std.specs.Prelude.{◌≡◌, ◌++◌, ◌*◌, ℕ, List, Option, OnOk, IsErrOf, length};
 ghost use Rattle.std.specs.List.{flat_map};
 ghost use Rattle.std.specs.Option.{option_to_list};
 ghost use Rattle.qg_device.specs.Cause.{HasCause};
@@ -9,6 +9,8 @@ ghost use Rattle.qg_node.specs.declared.item.Item.{Item as ItemValue};
 ghost use Rattle.qg_image.specs.declared.file.File.{File as FileValue};
 ghost use Rattle.qg_contents.specs.Written.{items_of_file};
 ghost use Rattle.qg_exchange.specs.Named.{named, names_of};
+ghost use Rattle.qg_extents.specs.Table.{IsTable};
+ghost use Rattle.qg_heavier.specs.Heavier.{BookGetsHeavier, name_new_bytes};
 ghost use Rattle.qg_fs_tree.specs.Standing.{IsSubvolume, Stands};
 ghost use Rattle.qg_files.specs.Apart.{AreApart};
 ghost use Rattle.qg_file_edits.specs.Editing.{AreMade};
@@ -56,13 +58,15 @@ pub(crate) fn make_exchange<D: Disk, L: Ledger>(
     ensures told { (edits : ℕ) (files files_new : List (ℕ × FileValue))
         → Stands fs.old (D.history disk.old) (flat_map items_of_file files) (named files)
         → MakesFiles edits fs.old.tree.owner ino change.now files files_new
-        → AreMade edits fs.old fs.new (D.history disk.old) (flat_map items_of_file files_new) (named files_new)
+        → AreMade edits (length (change.now.named ++ option_to_list change.now.new)) fs.old fs.new (D.history disk.old) (flat_map items_of_file files_new) (named files_new)
         reads.old reads.new result }
+    ensures table { IsTable fs.old.refs.refs }
     ensures leaves { LeavesHeld fs.old fs.new (D.history disk.old) (D.history disk.new) (D.size disk.old)
         (D.size disk.new) }
     ensures own { OnOk result (StaysOwn fs.old fs.new) }
     ensures cause { HasCause BlockFault.Disk (D.faults disk.old) (D.faults disk.new) result }
 {
+    let _ascending = fs.refs.refs().len();
     name_those_put(fs, ino, change)?;
     edit_items(fs, alloc, disk, ino, change, reads)?;
     unname_each(fs, ino, change.gone.as_slice())
@@ -77,6 +81,8 @@ fn name_those_put(fs: &mut FsTree, ino: Ino, change: &Exchange) -> Result<(), Bl
         → AreNamed fs.old fs.new history items (names_of ino (change.now.named ++ option_to_list change.now.new)
         ++ names) result }
     ensures nodes { KeepsNodes fs.old fs.new }
+    ensures heavier { OnOk result (BookGetsHeavier fs.old.refs fs.new.refs
+        (length (change.now.named ++ option_to_list change.now.new) * name_new_bytes)) }
     ensures fault { IsErrOf result BlockFault.Disk → ⊥ }
 {
     name_new(fs, ino, change.new)?;
@@ -97,7 +103,7 @@ fn edit_items<D: Disk, L: Ledger>(
     requires put { AreApart change.now.put }
     ensures told { (edits : ℕ) (items : List ItemValue) (names : List (ℕ × PieceValue))
         → Stands fs.old (D.history disk.old) items names → CanEditSo edits ino change.now items
-        → AreMade edits fs.old fs.new (D.history disk.old) (after_exchange ino change.now items) names reads.old
+        → AreMade edits 0 fs.old fs.new (D.history disk.old) (after_exchange ino change.now items) names reads.old
         reads.new result }
     ensures leaves { LeavesHeld fs.old fs.new (D.history disk.old) (D.history disk.new) (D.size disk.old)
         (D.size disk.new) }

@@ -7,8 +7,10 @@ mod editing;
 mod exchange;
 mod found;
 mod inode;
+mod laws;
 mod naming;
 mod texts;
 
 pub use commands::{clone_into, truncate, unlink, write};
 pub use found::Found;
+pub use laws::commands_leave_room;

@@ -1,11 +1,12 @@
 // All of some pieces of a file name extents, or name them no more.
-ghost use Rattle.std.specs.Prelude.{◌≡◌, ◌++◌, ℕ, ⊤, List, Option, MatchOption, IsErrOf, IsTrue};
+ghost use Rattle.std.specs.Prelude.{◌≡◌, ◌++◌, ◌*◌, ℕ, ⊤, List, Option, MatchOption, IsErrOf, IsTrue, OnOk, length};
 ghost use Rattle.std.specs.List.{filter_map};
 ghost use Rattle.std.specs.Option.{option_to_list};
 ghost use Rattle.qg_device.specs.History.{Event};
 ghost use Rattle.qg_num.specs.declared.piece.Piece.{Piece as PieceValue};
 ghost use Rattle.qg_node.specs.declared.item.Item.{Item as ItemValue};
 ghost use Rattle.qg_space.specs.Holding.{is_free_run};
+ghost use Rattle.qg_heavier.specs.Heavier.{BookGetsHeavier, name_bytes, name_new_bytes};
 ghost use Rattle.qg_exchange.specs.Named.{names_of};
 ghost use Rattle.qg_fs_tree.specs.Standing.{IsSubvolume, Stands, name_told};
 ghost use Rattle.qg_file_edits.specs.Naming.{AreCovered, AreFewNames, AreNamed, AreOfNamed, KeepsNodes};
@@ -20,6 +21,7 @@ pub(crate) fn name_each(fs: &mut FsTree, ino: Ino, pieces: &[Piece]) -> Result<(
         → AreFewNames fs.old.tree.owner (names_of ino pieces.now ++ names)
         → AreNamed fs.old fs.new history items (names_of ino pieces.now ++ names) result }
     ensures nodes { KeepsNodes fs.old fs.new }
+    ensures heavier { OnOk result (BookGetsHeavier fs.old.refs fs.new.refs (length pieces.now * name_bytes)) }
     ensures fault { IsErrOf result BlockFault.Disk → ⊥ }
 {
     for piece in pieces {
@@ -36,6 +38,7 @@ pub(crate) fn unname_each(fs: &mut FsTree, ino: Ino, pieces: &[Piece]) -> Result
         → AreCovered fs.old.tree.owner (filter_map name_told items) names
         → AreNamed fs.old fs.new history items names result }
     ensures nodes { KeepsNodes fs.old fs.new }
+    ensures heavier { OnOk result (BookGetsHeavier fs.old.refs fs.new.refs 0) }
     ensures fault { IsErrOf result BlockFault.Disk → ⊥ }
 {
     for piece in pieces {
@@ -51,6 +54,8 @@ pub(crate) fn name_new(fs: &mut FsTree, ino: Ino, new: Option<Piece>) -> Result<
         → IsSubvolume fs.old history bytes → Stands fs.old history items names
         → AreNamed fs.old fs.new history items (names_of ino (option_to_list new) ++ names) result }
     ensures nodes { KeepsNodes fs.old fs.new }
+    ensures heavier { OnOk result (BookGetsHeavier fs.old.refs fs.new.refs
+        (length (option_to_list new) * name_new_bytes)) }
     ensures fault { IsErrOf result BlockFault.Disk → ⊥ }
 {
     match new {

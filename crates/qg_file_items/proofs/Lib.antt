@@ -13,3 +13,4 @@ pub mod Sequences
 pub mod Exchanged
 pub mod MetPieces
 pub mod RangeEdits
+pub mod Counted

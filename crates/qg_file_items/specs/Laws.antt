@@ -1,5 +1,5 @@
 -- What edits of items, one by one, make of a subvolume's files (this project's own).
-use Rattle.std.specs.Prelude.{◌≡◌, ℕ, List, [], All, IsTrue, is_some, Some, None, if◌then◌else◌}
+use Rattle.std.specs.Prelude.{◌≡◌, ℕ, List, [], All, IsTrue, is_some, length, Some, None, if◌then◌else◌}
 use Rattle.std.specs.List.{flat_map}
 use Rattle.std.specs.List.Sorted.{IsStrictlyIncreasing}
 use Rattle.std.specs.Option.{option_map}
@@ -10,9 +10,10 @@ use Rattle.qg_node.specs.declared.item.Item.{Item}
 use Rattle.qg_items.specs.declared.kind.TheConstants.{EXTENT_DATA, INODE_ITEM}
 use Rattle.qg_image.specs.declared.file.File.{File}
 use Rattle.qg_image.specs.IsShaped.{same_key}
-use Rattle.qg_image.specs.FilesOf.{are_pieces, files_of, is_aligned}
+use Rattle.qg_image.specs.FilesOf.{are_pieces, files_of, is_aligned, largest_size}
 use Rattle.qg_image.specs.Table.{keys_of, value_at, with_value, without_key as without_value}
-use Rattle.qg_machine.specs.FileChange.{before, pieces_or_none, with_pieces, with_range, with_size}
+use Rattle.qg_machine.specs.FileChange.{before, pieces_meeting, pieces_or_none, pieces_past}
+use Rattle.qg_machine.specs.FileChange.{with_pieces, with_range, with_size}
 use Rattle.qg_parts.specs.Keys.{key_with}
 use Rattle.qg_rules.specs.Writable.{AreWritableFiles, IsFileBy, IsWritableFile}
 use Rattle.qg_contents.specs.Written.{items_of_file}
@@ -186,3 +187,23 @@ RemovesFile =
     (ino : ℕ) (file : File) (files : List (ℕ × File)) → AreWritableFiles files → value_at ino files ≡ Some file
     → without_items (items_of_file (ino, file)) (flat_map items_of_file files)
     ≡ flat_map items_of_file (without_value ino files)
+
+-- ---- how many pieces
+
+-- as many meet a range as are counted there
+abbrev pub CountsMet : Type 0
+CountsMet = (from to : ℕ) (pieces : List Piece) → length (pieces_met from to pieces) ≡ pieces_meeting from to pieces
+
+-- of a file that can be written, as many meet the range from a size on as end past it
+abbrev pub CountsPast : Type 0
+CountsPast = (ino size : ℕ) (file : File) → IsWritableFile (ino, file)
+    → length (pieces_met size largest_size file.pieces) ≡ pieces_past size file.pieces
+
+-- they are those that end past it
+abbrev pub MeetsPast : Type 0
+MeetsPast = (ino size : ℕ) (file : File) → IsWritableFile (ino, file)
+    → pieces_met size largest_size file.pieces ≡ pieces_cut size file.pieces
+
+-- and all of them meet the range of all
+abbrev pub MeetsAll : Type 0
+MeetsAll = (ino : ℕ) (file : File) → IsWritableFile (ino, file) → pieces_met 0 largest_size file.pieces ≡ file.pieces

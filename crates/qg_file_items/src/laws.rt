@@ -2,6 +2,8 @@
 ghost use Rattle.qg_file_items.specs.Laws.{
   AreSpelled,
   AreTold,
+  CountsMet,
+  CountsPast,
   CutHasBodies,
   CutsPieces,
   EditsRange,
@@ -13,6 +15,8 @@ ghost use Rattle.qg_file_items.specs.Laws.{
   HasFileBodies,
   HasNoFileBodies,
   MakesFile,
+  MeetsAll,
+  MeetsPast,
   PutsFile,
   PutsIn,
   PutsRange,
@@ -68,4 +72,13 @@ pub fn edits_of_one_file()
     ensures range { EditsRange }
     ensures size { EditsSize }
     ensures removed { RemovesFile }
+{}
+
+/// A law: how many pieces meet a range; and of a file that can be written, which and how many meet the range from a size
+/// on, and that all meet the range of all (this project's own).
+pub fn pieces_by_range()
+    ensures met { CountsMet }
+    ensures past { CountsPast }
+    ensures cut { MeetsPast }
+    ensures all { MeetsAll }
 {}

@@ -6,5 +6,5 @@ mod laws;
 
 pub use laws::{
     edits_by_bodies, edits_of_one_file, items_are_told_by_bodies, items_of_files,
-    one_file_by_bodies, one_range_by_positions,
+    one_file_by_bodies, one_range_by_positions, pieces_by_range,
 };

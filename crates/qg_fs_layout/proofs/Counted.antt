@@ -119,7 +119,8 @@ module _ (fs : FsTree) (history : Option (List Event)) (bytes : ℕ) (items : Li
   known_run run has =
       let found = layout_item run has in
       let name = in-names items found.0 run found.1 found.2 in
-      let known = held_of_all (λ (name : ℕ × Piece). IsKnownExtent fs.land.space.sizes (book_of fs.refs.refs) name.1)
+      let known = held_of_all
+      (λ (name : ℕ × Piece). IsKnownExtent fs.land.space.sizes fs.tree.next (book_of fs.refs.refs) name.1)
       (names_in items) found.2.name stands.known name in
       subst (λ (element : Element). IsKnownRun fs.land.space.sizes (book_of fs.refs.refs) element) found.2.is
       (record { lies = known.lies; generation = known.generation; known = known.known })

@@ -14,6 +14,7 @@ use Rattle.qg_items.specs.declared.tree.TheConstants.{TOP_LEVEL}
 use Rattle.qg_image.specs.declared.file.File.{File}
 use Rattle.qg_image.specs.Table.{has_key}
 use Rattle.qg_state.specs.declared.element.Element.{Element}
+use Rattle.qg_state.specs.Need.{file_copies}
 use Rattle.qg_state.specs.State.{Accepted, Committed, Placed, State, Subvolume, next_generation}
 use Rattle.qg_contents.specs.Written.{items_of_file}
 use Rattle.qg_machine.specs.Layout.{KeepsNode, is_made_node, made_nodes}
@@ -30,7 +31,7 @@ use Rattle.qg_fs_layout.proofs.Copied.{commands-copy}
 use Rattle.qg_fs_layout.proofs.Nodes.{nodes-are}
 use Rattle.qg_exchange.specs.Named.{named}
 use Rattle.qg_file_edits.specs.Files.{LeavesFiles}
-use Rattle.qg_fs_step.specs.Keeping.{AreRead, FollowsCommand, IsKept, KeepsState, mine_after, state_after}
+use Rattle.qg_fs_step.specs.Keeping.{FollowsCommand, IsKept, KeepsState, mine_after, state_after}
 use Rattle.qg_fs_step.proofs.Kept.{only, placed-ways, slot-ways, some_bytes, stands, taken-told, whole}
 
 -- ---- how many
@@ -101,12 +102,11 @@ placed_own fs history at entry is =
     placed_from (nat_lt 0 (ways (nodes_of fs history) fs.tree.height fs.tree.address at)) (nodes_of fs history at) at
     (full_in (book_of fs.refs.refs at)) entry is
 
-module _ (old new : FsTree) (history : Option (List Event)) (bytes left copies : ℕ) (before : State)
+module _ (old new : FsTree) (history : Option (List Event)) (bytes left pieces : ℕ) (before : State)
     (mine : Subvolume) (files files_new : List (ℕ × File)) (last : Accepted) (kept : IsKept old history bytes)
     (keeps : KeepsState old history before mine files) (kept_new : IsKept new history left)
-    (leaves : LeavesFiles old new history files_new copies) (read : AreRead new.tree.next files_new)
-    (runs : new.land.space.held_runs ≡ old.land.space.held_runs)
-    (few : made_slots old.land.space new.land.space ≤ copies) where
+    (leaves : LeavesFiles old new history files_new pieces)
+    (runs : new.land.space.held_runs ≡ old.land.space.held_runs) where
   abbrev after : State
   after = state_after before files_new new history last
 
@@ -136,7 +136,6 @@ module _ (old new : FsTree) (history : Option (List Event)) (bytes left copies :
   keeps_now : KeepsState new history after (mine_after mine files_new new) files_new
   keeps_now = record {
     holds = leaves.holds;
-    read = read;
     laid = laid_now;
     are = refl;
     own = own_now;
@@ -181,7 +180,8 @@ module _ (old new : FsTree) (history : Option (List Event)) (bytes left copies :
       (λ (s : ℕ). cond (has_slot new.land.space s && not (has_slot old.land.space s)) 1 0)
       (some_bytes new history left after (mine_after mine files_new new) files_new kept_new keeps_now) new_there
 
-  pub follows : FollowsCommand new history before after (mine_after mine files_new new) files_new copies
+  pub follows : FollowsCommand new history before after (mine_after mine files_new new) files_new
+      (file_copies old.tree.height pieces)
   follows = record {
     copied = record {
       whole = whole new history left after (mine_after mine files_new new) files_new kept_new keeps_now;
@@ -189,7 +189,7 @@ module _ (old new : FsTree) (history : Option (List Event)) (bytes left copies :
           nodes_copied.kept;
       made = subst (λ (owner : ℕ). IsTrue (list_all (is_made_node before owner) (made_nodes before after))) keeps.own
           nodes_copied.made;
-      few = omega (arith, made_many, few);
+      few = let few = leaves.made in omega (arith, made_many, few);
     };
     keeps = keeps_now;
   }

@@ -19,6 +19,7 @@ use Rattle.qg_state.specs.Reach.{extent_of, level_of}
 use Rattle.qg_state.specs.Space.{present_extents}
 use Rattle.qg_state.specs.State.{Placed, State, Subvolume, layout_of, node_at}
 use Rattle.qg_contents.specs.Written.{items_of_file}
+use Rattle.qg_contents.proofs.FileTree.{file_items-told}
 use Rattle.qg_machine.specs.Layout.{IsWhole}
 use Rattle.qg_machine.specs.Refusals.{root_level}
 use Rattle.qg_space.specs.Agreement.{IsHoldingOf}
@@ -51,7 +52,8 @@ module _ (fs : FsTree) (history : Option (List Event)) (bytes : ℕ) (state : St
   stands = keeps.holds.stands
 
   pub told : files_of fs.tree.next (flat_map items_of_file files) ≡ Some mine.files
-  told = keeps.read ∙ ap (λ (table : List (ℕ × File)). Some table) (sym keeps.are)
+  told = file_items-told fs.tree.next files keeps.holds.writable kept.near keeps.holds.by
+      ∙ ap (λ (table : List (ℕ × File)). Some table) (sym keeps.are)
 
   fit : AreFit fs history
   fit = nodes-fit fs history bytes (flat_map items_of_file files) (named files) kept.subvolume stands kept.near

@@ -11,7 +11,6 @@ use Rattle.qg_node.specs.declared.node.Node.{Node}
 use Rattle.qg_items.specs.declared.tree.TheConstants.{EXTENT_TREE, TOP_LEVEL, QUOTA_TREE}
 use Rattle.qg_super.specs.Places.{is_slot}
 use Rattle.qg_image.specs.declared.file.File.{File}
-use Rattle.qg_image.specs.FilesOf.{files_of}
 use Rattle.qg_image.specs.Table.{has_key, value_at, without_key}
 use Rattle.qg_state.specs.declared.element.Element.{Element}
 use Rattle.qg_state.specs.Counts.{bytes_of}
@@ -20,7 +19,6 @@ use Rattle.qg_state.specs.Record.{Record, InfoOf, LimitOf, RootOf, Status}
 use Rattle.qg_state.specs.Space as present
 use Rattle.qg_state.specs.State.{Accepted, Committed, State, Subvolume, file_at, files_in_sub}
 use Rattle.qg_verdict.specs.ImageState.{addresses_of, as_committed}
-use Rattle.qg_contents.specs.Written.{items_of_file}
 use Rattle.qg_machine.specs.FileChange.{file_change, pieces_meeting, pieces_past}
 use Rattle.qg_machine.specs.Layout.{CopiesOnWrite, is_other_slot}
 use Rattle.qg_machine.specs.Step.{settled, with_tree}
@@ -42,16 +40,11 @@ pub record IsKept (fs : FsTree) (history : Option (List Event)) (bytes : ℕ) : 
   pub table : IsTable fs.refs.refs
   pub near : fs.tree.next < 2 ^ 64
 
--- what is written for files is read as these
-abbrev pub AreRead : ℕ → List (ℕ × File) → Type 0
-AreRead generation files = files_of generation (flat_map items_of_file files) ≡ Some files
-
 -- A tree is kept of a state: it has the items of these files, which the state's only subvolume has, the top-level one;
 -- it is the state's layout; and of its space, slots and runs of the last commit are those that the state's holds
 pub record KeepsState (fs : FsTree) (history : Option (List Event)) (state : State) (mine : Subvolume)
     (files : List (ℕ × File)) : Type 0 where
   pub holds : HoldsFiles fs history files
-  pub read : AreRead fs.tree.next files
   pub laid : IsLaidOutAlone state mine fs history
   pub are : mine.files ≡ files
   pub own : fs.tree.owner ≡ TOP_LEVEL

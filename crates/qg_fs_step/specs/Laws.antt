@@ -8,7 +8,7 @@ use Rattle.qg_items.specs.declared.tree.TheConstants.{TOP_LEVEL}
 use Rattle.qg_image.specs.declared.file.File.{File}
 use Rattle.qg_state.specs.Counts.{direct_count}
 use Rattle.qg_state.specs.Members.{hierarchy_of}
-use Rattle.qg_state.specs.Need.{held_records}
+use Rattle.qg_state.specs.Need.{file_copies, held_records}
 use Rattle.qg_state.specs.Record.{records_bytes}
 use Rattle.qg_state.specs.Space.{is_free_slot}
 use Rattle.qg_state.specs.State.{Accepted, State, Subvolume, layout_of, next_generation}
@@ -17,13 +17,13 @@ use Rattle.qg_machine.specs.Refusals.{root_level}
 use Rattle.qg_weighed.specs.Laws.{CountsLayout, IsRecorded, whole_records}
 use Rattle.qg_weighed.specs.Weight.{weight_of}
 use Rattle.qg_fs_tree.specs.declared.fs_tree.FsTree.{FsTree}
-use Rattle.qg_fs_tree.specs.Standing.{made_slots, taken_slots}
+use Rattle.qg_fs_tree.specs.Standing.{taken_slots}
 use Rattle.qg_file_edits.specs.Files.{LeavesFiles}
 use Rattle.qg_other_trees.specs.declared.laying.OtherTrees.{OtherTrees}
 use Rattle.qg_other_trees.specs.Sound.{committed}
 use Rattle.qg_other_trees.specs.Telling.{AreToldBy, one_group}
 use Rattle.qg_other_trees.specs.Trees.{stamp_after}
-use Rattle.qg_fs_step.specs.Keeping.{AreRead, CommitsInPlace, FollowsCommand, IsKept, KeepsState, LieApart}
+use Rattle.qg_fs_step.specs.Keeping.{CommitsInPlace, FollowsCommand, IsKept, KeepsState, LieApart}
 use Rattle.qg_fs_step.specs.Keeping.{NamesOthers}
 use Rattle.qg_fs_step.specs.Keeping.{TellsChanges, TellsSpace, counters_of, mine_after, other_weight}
 use Rattle.qg_fs_step.specs.Keeping.{state_after}
@@ -78,14 +78,12 @@ StateIsWhole = (fs : FsTree) (history : Option (List Event)) (bytes : ℕ) (stat
 
 -- a file command copies on write, and leaves a tree that is kept of the state afterwards
 abbrev pub FileCommandCopies : Type 0
-FileCommandCopies = (old new : FsTree) (history : Option (List Event)) (bytes left copies : ℕ) (before : State)
+FileCommandCopies = (old new : FsTree) (history : Option (List Event)) (bytes left pieces : ℕ) (before : State)
     (mine : Subvolume) (files files_new : List (ℕ × File)) (last : Accepted)
     → IsKept old history bytes → KeepsState old history before mine files → IsKept new history left
-    → LeavesFiles old new history files_new copies → AreRead new.tree.next files_new
-    → new.land.space.held_runs ≡ old.land.space.held_runs
-    → made_slots old.land.space new.land.space ≤ copies
+    → LeavesFiles old new history files_new pieces → new.land.space.held_runs ≡ old.land.space.held_runs
     → FollowsCommand new history before (state_after before files_new new history last)
-    (mine_after mine files_new new) files_new copies
+    (mine_after mine files_new new) files_new (file_copies old.tree.height pieces)
 
 -- a commit whose other trees tell the state that it leaves, and lie in free slots, is one of the machine
 abbrev pub CommitIsOfMachine : Type 0

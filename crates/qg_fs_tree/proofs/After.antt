@@ -280,7 +280,7 @@ module _ (old new : FsTree) (history : Option (List Event)) (items left_items : 
       (way_new q reaches)
 
   known_new : (i : ℕ) (d : ℕ × Piece) → i < length names
-      → IsKnownExtent new.land.space.sizes (book_of new.refs.refs) (get_or names i d).1
+      → IsKnownExtent new.land.space.sizes new.tree.next (book_of new.refs.refs) (get_or names i d).1
   known_new i d inside =
       let known = stands.known i d inside in
       record {
@@ -289,6 +289,7 @@ module _ (old new : FsTree) (history : Option (List Event)) (items left_items : 
             (sym rests.sizes) known.lies;
         generation = known.generation;
         known = counted.named (get_or names i d).1.extent (named-there old.tree.owner names i d inside) ∙ known.known;
+        dated = subst (λ (n : ℕ). known.generation ≤ n) (sym same_next) known.dated;
       }
 
   -- a node that stays, and that the last commit holds, keeps its mark

@@ -1,5 +1,5 @@
 -- A tree that stands: its book stands for its ways.
-use Rattle.std.proofs.Common.{◌≡◌, ℕ, ◌<◌, ◌≤◌, Bool, true, false, List, get_or, Option, Some, None, arith, refl, sym, ap, ◌∙◌, inl, inr}
+use Rattle.std.proofs.Common.{◌≡◌, ℕ, zero, suc, ◌<◌, ◌≤◌, Bool, true, false, List, get_or, Option, Some, None, arith, refl, sym, ap, ◌∙◌, inl, inr}
 use Rattle.std.specs.Prelude.{IsSome, IsTrue, Contains, if◌then◌else◌, is_some, nat_lt}
 use Rattle.std.proofs.lemmas.Bool.{and_parts, leb-true, lt-ltb, ltb-true}
 use Rattle.qg_device.specs.History.{Event}
@@ -135,6 +135,19 @@ module _ (fs : FsTree) (history : Option (List Event)) (items : List Item) (name
   taken q some =
       stands.settled.slots q (placed q some)
       ∙ ap (λ (n : ℕ). nat_lt 0 n) (stands.alone q (reached q some))
+
+  -- and only there
+  pub taken-led : IsTable fs.refs.refs → (at : ℕ) → is_slot fs.land.space.sizes at ≡ true
+      → has_slot fs.land.space at ≡ nat_lt 0 (ways_in fs history at)
+  taken-led table at slot = from (ways_in fs history at) refl where
+    from : (n : ℕ) → ways_in fs history at ≡ n → has_slot fs.land.space at ≡ nat_lt 0 (ways_in fs history at)
+    from zero none =
+        stands.settled.slots at slot
+        ∙ ap (λ (n : ℕ). nat_lt 0 n) (none-before table at slot none)
+        ∙ ap (λ (n : ℕ). nat_lt 0 n) (sym none)
+    from (suc n) is =
+        let one : ways_in fs history at ≡ 1 = (let most = single at in omega (arith, most, is)) in
+        taken at (omega (arith, is)) ∙ ap (λ (k : ℕ). nat_lt 0 k) (sym one)
 
   -- what is reached and not fresh the last commit holds
   pub held : (q : ℕ) → 0 < ways_in fs history q → fresh_at fs.land.blocks.draft q ≡ None

@@ -25,7 +25,7 @@ use Rattle.qg_heavier.proofs.Sums.{BookGetsHeavier-most}
 use Rattle.qg_heavier.proofs.Told.{BookGetsHeavier-followed}
 use Rattle.qg_fs_tree.specs.Standing.{IsEditedTo, IsReached, Stands, every_slot, made_slots, taken_slots}
 use Rattle.qg_fs_tree.proofs.After.{AreOwned, Stands-after, marks-kept}
-use Rattle.qg_fs_tree.proofs.Before.{StandsFor-before, full_in_tree, none-before, once, placed, single, taken, unnamed}
+use Rattle.qg_fs_tree.proofs.Before.{StandsFor-before, full_in_tree, once, placed, single, taken-led, unnamed}
 use Rattle.qg_fs_tree.proofs.Counts.{slots_of, ways_in}
 use Rattle.qg_fs_tree.proofs.Exchanged.{StandsFor-followed, StaysBook-followed, references-none, references-one}
 use Rattle.qg_fs_tree.proofs.Few.{taken-ways, turns-few}
@@ -95,16 +95,7 @@ module _ (old new : FsTree) (history : Option (List Event)) (items left_items : 
     -- a slot is taken where a way leads
     has_before : (at : ℕ) → is_slot old.land.space.sizes at ≡ true → has_slot old.land.space at
         ≡ nat_lt 0 (ways_in old history at)
-    has_before at slot = from (ways_in old history at) refl where
-      from : (n : ℕ) → ways_in old history at ≡ n → has_slot old.land.space at ≡ nat_lt 0 (ways_in old history at)
-      from zero none =
-          stands.settled.slots at slot
-          ∙ ap (λ (n : ℕ). nat_lt 0 n) (none-before old history items names stands drafted table at slot none)
-          ∙ ap (λ (n : ℕ). nat_lt 0 n) (sym none)
-      from (suc n) is =
-          let one : ways_in old history at
-          ≡ 1 = (let most = single old history items names stands drafted at in omega (arith, most, is)) in
-          taken old history items names stands drafted at (omega (arith, is)) ∙ ap (λ (k : ℕ). nat_lt 0 k) (sym one)
+    has_before = taken-led old history items names stands drafted table
 
     has_after : (at : ℕ) → is_slot new.land.space.sizes at ≡ true → has_slot new.land.space at
         ≡ nat_lt 0 (ways_in new history at)

@@ -1,6 +1,6 @@
 -- How much heavier an edit of a tree, and a piece that names an extent, make what the extent tree's items take.
 use Rattle.std.proofs.Common.{◌≡◌, ℕ, ◌+◌, ◌*◌, ◌<◌, ◌≤◌, Bool, true, false, List, [], ◌∷◌, length, Option, Some, None}
-use Rattle.std.proofs.Common.{arith, refl, ap, subst}
+use Rattle.std.proofs.Common.{arith, refl, ap}
 use Rattle.std.proofs.Math.Nat.{mul-le-mul_right}
 use Rattle.std.specs.Prelude.{if◌then◌else◌, is_some}
 use Rattle.std.specs.List.{All, AllByRecursion, sum_by}
@@ -8,7 +8,6 @@ use Rattle.std.proofs.lemmas.Bool.{cond-true}
 use Rattle.std.proofs.lemmas.List.Elements.{recursion_from_All}
 use Rattle.std.proofs.lemmas.List.Sums.{sum_by-cons}
 use Rattle.qg_device.specs.History.{Event}
-use Rattle.qg_node.specs.declared.item.Item.{Item}
 use Rattle.qg_node.specs.declared.pointer.Pointer.{Pointer}
 use Rattle.qg_node.specs.declared.node.Node.{Node}
 use Rattle.qg_node.specs.declared.node.Node.TheVariants.{Leaf, Inner}
@@ -27,7 +26,7 @@ use Rattle.qg_extents.specs.Table.{IsTable, book_of}
 use Rattle.qg_weighed.specs.Weight.{extent_record_bytes, reference_bytes}
 use Rattle.qg_tree_edits.specs.Counting.{IsAsWas, IsBare, clean_at, copied_in, made_in}
 use Rattle.qg_tree_refs.specs.declared.tree_refs.TreeRefs.{TreeRefs}
-use Rattle.qg_heavier.specs.Heavier.{BookGetsHeavier, GetsHeavier, edit_bytes, name_bytes, name_new_bytes, node_bytes}
+use Rattle.qg_heavier.specs.Heavier.{BookGetsHeavier, GetsHeavier, name_bytes, name_new_bytes, node_bytes}
 use Rattle.qg_heavier.specs.Heavier.{telling_bytes}
 use Rattle.qg_heavier.proofs.Sums.{GetsHeavier-most}
 use Rattle.qg_heavier.proofs.Weighs.{GetsHeavier-added, GetsHeavier-dropped}

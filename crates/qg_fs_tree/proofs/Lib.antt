@@ -19,6 +19,7 @@ pub mod Sound
 pub mod Heavier
 pub mod Made
 pub mod Edited
+pub mod Leaf
 pub mod Low
 pub mod Kept
 pub mod Told

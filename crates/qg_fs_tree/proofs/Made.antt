@@ -1,21 +1,22 @@
--- Slots that the present state has and had not before: how many there are after an edit, and after one and another.
-use Rattle.std.proofs.Common.{◌≡◌, ℕ, zero, suc, ◌+◌, ◌-◌, ◌*◌, ◌<◌, ◌≤◌, Bool, true, false, List, [], ◌∷◌, arith, refl, ap, subst, ◌∙◌}
-use Rattle.std.specs.Prelude.{◌&&◌, cond, nat_lt, not}
-use Rattle.std.specs.List.{sum_by}
+-- Slots that the present state has and had not before: how many there are after an edit, and after one and another; and
+-- how many slots fewer are free.
+use Rattle.std.proofs.Common.{◌≡◌, ℕ, zero, suc, ◌+◌, ◌*◌, ◌<◌, ◌≤◌, Bool, true, false, List, [], ◌∷◌, ◌++◌, ◌==◌, arith, refl, sym, ap, ◌∙◌}
+use Rattle.std.specs.Prelude.{◌&&◌, ◌||◌, cond, nat_lt, not}
+use Rattle.std.specs.List.{list_any, sum_by}
 use Rattle.std.proofs.lemmas.Bool.{lt-ltb}
+use Rattle.std.proofs.lemmas.List.Folds.{list_any-append}
 use Rattle.std.proofs.lemmas.List.Sums.{sum_by-cons}
-use Rattle.qg_node.specs.Nodes.{header_of}
 use Rattle.qg_super.specs.declared.sizes.Sizes.{Sizes}
 use Rattle.qg_super.specs.Places.{is_slot, slot_at}
 use Rattle.qg_super.proofs.Slots.{is_slot-slot_at}
-use Rattle.qg_space.specs.Holding.{Holding, has_slot}
+use Rattle.qg_space.specs.Holding.{Holding, free_slots, has_slot, is_free_slot}
 use Rattle.qg_ground.specs.declared.ground.Ground.{Ground}
 use Rattle.qg_ground.specs.Tellings.{Telling}
 use Rattle.qg_ground.specs.Tellings.Telling.{Copied, Made, Left}
-use Rattle.qg_tree_edits.specs.Counting.{Turns, copied_in, gains, losses, made_in, one}
+use Rattle.qg_tree_edits.specs.Counting.{Turns, copied_in, gains, made_in}
 use Rattle.qg_tree_edits.proofs.Ways.{one-here}
 use Rattle.qg_fs_tree.specs.declared.fs_tree.FsTree.{FsTree}
-use Rattle.qg_fs_tree.specs.Standing.{KeepsTree, every_slot, made_slots}
+use Rattle.qg_fs_tree.specs.Standing.{KeepsTree, every_slot, made_slots, taken_slots}
 use Rattle.qg_fs_tree.proofs.Places.{slots_from}
 use Rattle.qg_fs_tree.proofs.SlotSums.{IsOnce, over, over-each, over-none, over-one, sums-less, sums-none, sums-plus}
 use Rattle.qg_fs_tree.proofs.Turned.{turned_by}
@@ -64,6 +65,74 @@ made-named old new keeps =
     ap (λ (holding : Holding). made_slots old.land.space holding) space
     ∙ sums-none (λ (s : ℕ). cond (has_slot old.land.space s && not (has_slot old.land.space s)) 1 0)
     (every_slot old.land.space.sizes) (λ s. each_none (has_slot old.land.space s))
+
+-- ---- of those that are there
+
+each_there : (had has : Bool) → cond (has && not had) 1 0 ≤ cond has 1 0
+each_there had false = omega arith
+each_there true true = omega arith
+each_there false true = omega arith
+
+-- no more come than are there
+pub made-there : (old new : Holding) → made_slots old new ≤ taken_slots new
+unfolding made_slots taken_slots
+made-there old new =
+    sums-less (λ (s : ℕ). cond (has_slot new s && not (has_slot old s)) 1 0) (λ (s : ℕ). cond (has_slot new s) 1 0)
+    (every_slot new.sizes) (λ s. each_there (has_slot old s) (has_slot new s))
+
+-- ---- of those that were free
+
+-- 1 where something holds
+abbrev one_if : Bool → ℕ
+one_if holds = cond holds 1 0
+
+-- what was free is free, or has come
+each_free : (slot had has held : Bool)
+    → one_if (slot && not (had || held)) ≤ one_if (slot && not (has || held)) + one_if (has && not had)
+each_free false had has held = omega arith
+each_free true true has held = omega arith
+each_free true false has true = omega arith
+each_free true false true false = omega arith
+each_free true false false false = omega arith
+
+free_split : (holding : Holding) (at : ℕ) → is_free_slot holding at
+    ≡ (is_slot holding.sizes at && not (has_slot holding at || list_any (λ slot. slot == at) holding.held_slots))
+unfolding is_free_slot
+free_split holding at =
+    ap (λ (b : Bool). is_slot holding.sizes at && not b)
+    (list_any-append (λ (slot : ℕ). slot == at) holding.slots holding.held_slots)
+
+free_each : (old new : Holding) (at : ℕ) → new.sizes ≡ old.sizes → new.held_slots ≡ old.held_slots
+    → one_if (is_free_slot old at) ≤ one_if (is_free_slot new at) + one_if (has_slot new at && not (has_slot old at))
+free_each old new at sizes held =
+    let held_there = list_any (λ (slot : ℕ). slot == at) old.held_slots in
+    let same = ap (λ (s : Sizes). is_slot s at && not (has_slot new at || list_any (λ (slot : ℕ). slot == at)
+    new.held_slots)) sizes
+    ∙ ap (λ (slots : List ℕ). is_slot old.sizes at && not (has_slot new at || list_any (λ (slot : ℕ). slot == at) slots))
+    held in
+    let was = ap one_if (free_split old at) in
+    let is = ap one_if (free_split new at ∙ same) in
+    let less = each_free (is_slot old.sizes at) (has_slot old at) (has_slot new at) held_there in
+    omega (arith, was, is, less)
+
+-- where sizes and what the last commit holds stay, no more slots fewer are free than come
+pub made-free : (old new : Holding) → new.sizes ≡ old.sizes → new.held_slots ≡ old.held_slots
+    → free_slots old ≤ free_slots new + made_slots old new
+unfolding free_slots made_slots
+made-free old new sizes held =
+    let was = λ (s : ℕ). one_if (is_free_slot old s) in
+    let is = λ (s : ℕ). one_if (is_free_slot new s) in
+    let come = λ (s : ℕ). one_if (has_slot new s && not (has_slot old s)) in
+    let less : sum_by was (every_slot new.sizes) ≤ sum_by (λ (s : ℕ). is s + come s) (every_slot new.sizes) =
+    sums-less was (λ (s : ℕ). is s + come s) (every_slot new.sizes) (λ s. free_each old new s sizes held) in
+    let both : sum_by (λ (s : ℕ). is s + come s) (every_slot new.sizes)
+    ≡ sum_by is (every_slot new.sizes) + sum_by come (every_slot new.sizes) =
+    sums-plus is come (every_slot new.sizes) in
+    let front : free_slots old ≡ sum_by was (every_slot new.sizes) =
+    ap (λ (s : Sizes). sum_by was (every_slot s)) (sym sizes) in
+    let back : free_slots new ≡ sum_by is (every_slot new.sizes) = refl in
+    let more : made_slots old new ≡ sum_by come (every_slot new.sizes) = refl in
+    omega (arith, less, both, front, back, more)
 
 -- ---- by ways
 

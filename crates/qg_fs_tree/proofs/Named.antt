@@ -257,10 +257,10 @@ unfolding times
 times_many xs at reference = count_by-le-length (same_reference reference) (those_at xs at)
 
 -- what is known of an extent hangs on its run alone
-known_as : (sizes : Sizes) (book : Book) (piece other : Piece) → extent_of piece ≡ extent_of other
-    → IsKnownExtent sizes book piece
-    → IsKnownExtent sizes book other
-known_as sizes book piece other same known =
+known_as : (sizes : Sizes) (next : ℕ) (book : Book) (piece other : Piece) → extent_of piece ≡ extent_of other
+    → IsKnownExtent sizes next book piece
+    → IsKnownExtent sizes next book other
+known_as sizes next book piece other same known =
     let address : piece.extent ≡ other.extent = ap (λ (e : Element). e.address) same in
     let bytes : piece.extent_bytes ≡ other.extent_bytes = ap (λ (e : Element). e.bytes) same in
     record {
@@ -268,17 +268,20 @@ known_as sizes book piece other same known =
       generation = known.generation;
       known = ap (λ (a : ℕ). what_in (book a)) (sym address) ∙ known.known
           ∙ ap (λ (n : ℕ). Some (record { bytes = n; level = None; generation = known.generation })) bytes;
+      dated = known.dated;
     }
 
 -- and on what a book knows there
-known_in : (sizes : Sizes) (old new : Book) (piece : Piece) → what_in (new piece.extent) ≡ what_in (old piece.extent)
-    → IsKnownExtent sizes old piece
-    → IsKnownExtent sizes new piece
-known_in sizes old new piece same known = record {
+known_in : (sizes : Sizes) (next : ℕ) (old new : Book) (piece : Piece)
+    → what_in (new piece.extent) ≡ what_in (old piece.extent)
+    → IsKnownExtent sizes next old piece
+    → IsKnownExtent sizes next new piece
+known_in sizes next old new piece same known = record {
   lies = known.lies;
   generation = known.generation;
   known = same
       ∙ known.known;
+  dated = known.dated;
 }
 
 unwrapped : (known : Option What) (what some : What) → known ≡ Some some → Some (unwrap_or known what) ≡ known
@@ -334,9 +337,9 @@ module _ (old : FsTree) (history : Option (List Event)) (items : List Item)
     beside : IsExtent names (extent_of piece)
     beside = name_there names (extent_of piece) among
 
-    beside_known : IsKnownExtent old.land.space.sizes (book_of old.refs.refs) piece
-    beside_known = known_as old.land.space.sizes (book_of old.refs.refs) (get_or names beside.i beside.d).1 piece
-        beside.same (stands.known beside.i beside.d beside.inside)
+    beside_known : IsKnownExtent old.land.space.sizes old.tree.next (book_of old.refs.refs) piece
+    beside_known = known_as old.land.space.sizes old.tree.next (book_of old.refs.refs)
+        (get_or names beside.i beside.d).1 piece beside.same (stands.known beside.i beside.d beside.inside)
 
     -- its run is taken
     taken_named : Contains old.land.space.runs (extent_of piece)
@@ -380,7 +383,7 @@ module _ (old : FsTree) (history : Option (List Event)) (items : List Item)
         (runs : new.land.space.runs ≡ old.land.space.runs)
         (room : names_times old.tree.owner names piece.extent (name_of old.tree.owner (ino, piece)).reference <
         4294967295) where
-      known_same : (q : Piece) → IsKnownExtent old.land.space.sizes (book_of old.refs.refs) q
+      known_same : (q : Piece) → IsKnownExtent old.land.space.sizes old.tree.next (book_of old.refs.refs) q
           → what_in (book_of new.refs.refs q.extent) ≡ what_in (book_of old.refs.refs q.extent)
       known_same q known = elim (eqb_tells q.extent piece.extent) [
         | inl (equal, same) ↦
@@ -405,11 +408,12 @@ module _ (old : FsTree) (history : Option (List Event)) (items : List Item)
           let all = times-cons (name_of old.tree.owner (ino, piece)) (names_of old.tree.owner names) q reference in
           omega (arith, more, all))
           (one_more old.tree.owner names (ino, piece) room stands.few)
-          (All-cons (λ (name : ℕ × Piece). IsKnownExtent old.land.space.sizes (book_of new.refs.refs) name.1)
+          (All-cons
+          (λ (name : ℕ × Piece). IsKnownExtent old.land.space.sizes old.tree.next (book_of new.refs.refs) name.1)
           (ino, piece) names
-          (known_in old.land.space.sizes (book_of old.refs.refs) (book_of new.refs.refs) piece
+          (known_in old.land.space.sizes old.tree.next (book_of old.refs.refs) (book_of new.refs.refs) piece
           (known_same piece beside_known) beside_known)
-          (λ i d inside. known_in old.land.space.sizes (book_of old.refs.refs) (book_of new.refs.refs)
+          (λ i d inside. known_in old.land.space.sizes old.tree.next (book_of old.refs.refs) (book_of new.refs.refs)
           (get_or names i d).1
           (known_same (get_or names i d).1 (stands.known i d inside)) (stands.known i d inside)))
           (λ run. (
@@ -467,6 +471,7 @@ module _ (old : FsTree) (history : Option (List Event)) (items : List Item)
         (adds : Adds (book_of old.refs.refs) (book_of new.refs.refs) piece.extent what
         (name_of old.tree.owner (ino, piece)).reference)
         (generation : ℕ) (what_is : what ≡ record { bytes = piece.extent_bytes; level = None; generation = generation })
+        (dated : generation ≤ old.tree.next)
         (none : what_in (book_of old.refs.refs piece.extent) ≡ None)
         (runs : new.land.space.runs ≡ with_run (extent_of piece) old.land.space.runs) where
       known_new : what_in (book_of new.refs.refs piece.extent)
@@ -497,10 +502,11 @@ module _ (old : FsTree) (history : Option (List Event)) (items : List Item)
           (let most = times_many (names_of old.tree.owner names) piece.extent
           (name_of old.tree.owner (ino, piece)).reference in let no = no_name in omega (arith, most, no))
           stands.few)
-          (All-cons (λ (name : ℕ × Piece). IsKnownExtent old.land.space.sizes (book_of new.refs.refs) name.1)
+          (All-cons
+          (λ (name : ℕ × Piece). IsKnownExtent old.land.space.sizes old.tree.next (book_of new.refs.refs) name.1)
           (ino, piece) names
-          (record { lies = free_run; generation = generation; known = known_new })
-          (λ i d inside. known_in old.land.space.sizes (book_of old.refs.refs) (book_of new.refs.refs)
+          (record { lies = free_run; generation = generation; known = known_new; dated = dated })
+          (λ i d inside. known_in old.land.space.sizes old.tree.next (book_of old.refs.refs) (book_of new.refs.refs)
           (get_or names i d).1
           (ap what_in (adds.elsewhere (get_or names i d).1.extent (other_extent i d inside)))
           (stands.known i d inside)))
@@ -524,7 +530,7 @@ module _ (old : FsTree) (history : Option (List Event)) (items : List Item)
 
   -- ---- a piece that goes
   module _ (names : List (ℕ × Piece)) (stands : Stands old history items ((ino, piece) ∷ names)) where
-    own_known : IsKnownExtent old.land.space.sizes (book_of old.refs.refs) piece
+    own_known : IsKnownExtent old.land.space.sizes old.tree.next (book_of old.refs.refs) piece
     own_known = stands.known 0 (ino, piece) (omega arith)
 
     own_outside : IsTrue (is_slot old.land.space.sizes piece.extent) → ⊥
@@ -620,7 +626,7 @@ module _ (old : FsTree) (history : Option (List Event)) (items : List Item)
           let all = times-cons (name_of old.tree.owner (ino, piece)) (names_of old.tree.owner names) q reference in
           let most = stands.few q reference in
           omega (arith, all, most))
-          (λ i d inside. known_in old.land.space.sizes (book_of old.refs.refs) (book_of new.refs.refs)
+          (λ i d inside. known_in old.land.space.sizes old.tree.next (book_of old.refs.refs) (book_of new.refs.refs)
           (get_or names i d).1 (known_left i d inside)
           (stands.known (suc i) d (omega (arith, inside))))
           runs

@@ -59,8 +59,9 @@ stands-ordered fs history items names others same stands = record {
       let alike = names_same fs.tree.owner names others same at reference in
       omega (arith, most, alike);
   settled = stands.settled;
-  known = All-permutation (λ (name : ℕ × Piece). IsKnownExtent fs.land.space.sizes (book_of fs.refs.refs) name.1) names
-      others same stands.known;
+  known = All-permutation
+      (λ (name : ℕ × Piece). IsKnownExtent fs.land.space.sizes fs.tree.next (book_of fs.refs.refs) name.1) names others
+      same stands.known;
   runs = λ run.
       let extents = IsPermutation-map (λ (name : ℕ × Piece). extent_of name.1) names others same in
       let back = IsPermutation-sym (map (λ (name : ℕ × Piece). extent_of name.1) names)

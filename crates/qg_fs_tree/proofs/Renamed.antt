@@ -215,7 +215,7 @@ module _ (old new : FsTree) (history : Option (List Event)) (items : List Item) 
         names q reference
         ≡ count_at (book_of old.refs.refs) q reference + names_times old.tree.owner names_new q reference)
         → ((q : ℕ) (reference : Reference) → names_times old.tree.owner names_new q reference ≤ 4294967295)
-        → All (λ name. IsKnownExtent old.land.space.sizes (book_of new.refs.refs) name.1) names_new
+        → All (λ name. IsKnownExtent old.land.space.sizes old.tree.next (book_of new.refs.refs) name.1) names_new
         → ((run : Element) → Contains new.land.space.runs run ↔ Contains (map (λ name. extent_of name.1) names_new) run)
         → Stands new history items names_new
     Stands-renamed counts few known runs = record {
@@ -248,8 +248,12 @@ module _ (old new : FsTree) (history : Option (List Event)) (items : List Item) 
       few = λ q reference. subst (λ (o : ℕ). names_times o names_new q reference ≤ 4294967295)
           (ap (λ (r : Root). r.owner) (sym tree)) (few q reference);
       settled = settled_new;
-      known = subst (λ (s : Sizes). All (λ (name : ℕ × Piece). IsKnownExtent s (book_of new.refs.refs) name.1) names_new)
-          (sym sizes) known;
+      known = subst
+          (λ (s : Sizes). All (λ (name : ℕ × Piece). IsKnownExtent s new.tree.next (book_of new.refs.refs) name.1)
+          names_new) (sym sizes)
+          (subst
+          (λ (r : Root). All (λ (name : ℕ × Piece). IsKnownExtent old.land.space.sizes r.next (book_of new.refs.refs)
+          name.1) names_new) (sym tree) known);
       runs = runs;
     } where
       rooted_new : IsRooted Files new.tree new.land history items

@@ -93,12 +93,14 @@ name_told item = piece_in (file_part item)
 abbrev pub names_times : ℕ → List (ℕ × Piece) → ℕ → Reference → ℕ
 names_times owner names at reference = times (map (name_of owner) names) at reference
 
--- the extent that a piece names is a run of whole sectors in the data area, and its length is known
-pub record IsKnownExtent (sizes : Sizes) (book : Book) (piece : Piece) : Type 0 where
+-- the extent that a piece names is a run of whole sectors in the data area, its length is known, and that it is of no
+-- generation past the one to come
+pub record IsKnownExtent (sizes : Sizes) (next : ℕ) (book : Book) (piece : Piece) : Type 0 where
   pub lies : IsTrue (is_run sizes piece.extent piece.extent_bytes)
   pub generation : ℕ
   pub known : what_in (book piece.extent)
       ≡ Some (record { bytes = piece.extent_bytes; level = None; generation = generation })
+  pub dated : generation ≤ next
 
 -- a book of references is one of a tree that lies in an image
 pub record IsBookOf (fs : FsTree) : Type 0 where
@@ -127,7 +129,7 @@ pub record Stands (fs : FsTree) (history : Option (List Event)) (items : List It
         ≡ owed_count (layout_in fs history) at reference + names_times fs.tree.owner names at reference
     pub few : (at : ℕ) (reference : Reference) → names_times fs.tree.owner names at reference ≤ 4294967295
     pub settled : IsSettled fs.refs fs.land history
-    pub known : All (λ name. IsKnownExtent fs.land.space.sizes (book_of fs.refs.refs) name.1) names
+    pub known : All (λ name. IsKnownExtent fs.land.space.sizes fs.tree.next (book_of fs.refs.refs) name.1) names
     pub runs : (run : Element) → Contains fs.land.space.runs run ↔ Contains (map (λ name. extent_of name.1) names) run
 
 -- What an edit makes of a tree and the nodes: what it reaches it reached before, or lies in a slot that was free; only

@@ -10,7 +10,7 @@ use Rattle.qg_heavier.specs.Need.{GetsHeavierBy}
 -- where so many nodes hold the bytes before, and one node fewer than so many doesn't hold those after; `m` is three more
 -- than the pieces, and `l` the level
 module _ (c f g m l before after : ℕ) (wide : 3995 ≤ c) (holds : before ≤ c * f) (fills : c * g ≤ after + (c - 1))
-    (most : after ≤ before + m * ((2 * l + 9) * (74 + c)) + m * 102) where
+    (most : after ≤ before + m * ((2 * l + 9) * (74 + c)) + m * 204) where
   levels-wide : 3995 * (m * l) ≤ c * (m * l)
   levels-wide = mul-le-mul_right (m * l) wide
 
@@ -20,15 +20,15 @@ module _ (c f g m l before after : ℕ) (wide : 3995 ≤ c) (holds : before ≤ 
   spread : m * ((2 * l + 9) * (74 + c)) ≡ 148 * (m * l) + 666 * m + 2 * (c * (m * l)) + 9 * (c * m)
   spread = omega arith
 
-  joined : c * (5 * f + 5 + m * (11 * l + 46)) ≡ 5 * (c * f) + 5 * c + 11 * (c * (m * l)) + 46 * (c * m)
+  joined : c * (5 * f + 5 + m * (11 * l + 47)) ≡ 5 * (c * f) + 5 * c + 11 * (c * (m * l)) + 47 * (c * m)
   joined = omega arith
 
-  times_c : c * (5 * g) ≤ c * (5 * f + 5 + m * (11 * l + 46))
+  times_c : c * (5 * g) ≤ c * (5 * f + 5 + m * (11 * l + 47))
   times_c =
       let five : c * (5 * g) ≡ 5 * (c * g) = omega arith in
       omega (arith, five, joined, spread, levels-wide, pieces-wide, holds, fills, most, wide)
 
-  pub filled_after : 5 * g ≤ 5 * f + 5 + m * (11 * l + 46)
+  pub filled_after : 5 * g ≤ 5 * f + 5 + m * (11 * l + 47)
   filled_after = le_of_mul-le-mul_left times_c (omega (arith, wide))
 
 holds-filled : (c bytes : ℕ) → 0 < c → bytes ≤ c * ((bytes + (c - 1)) / c)
@@ -40,13 +40,13 @@ edits-most nodesize level pieces height edits low few =
     mul-le edits (edit_bytes nodesize height) (pieces + 3) ((2 * level + 9) * (74 + capacity nodesize)) few
     (mul-le-mul_right (74 + capacity nodesize) (omega (arith, low)))
 
-names-most : (pieces names : ℕ) → names ≤ pieces + 3 → names * name_new_bytes ≤ (pieces + 3) * 102
-names-most pieces names few = mul-le-mul_right 102 few
+names-most : (pieces names : ℕ) → names ≤ 2 * (pieces + 3) → names * name_new_bytes ≤ (pieces + 3) * 204
+names-most pieces names few = omega (arith, few)
 
 copies-are : (level pieces : ℕ) → 9 * file_copies level pieces ≡ (pieces + 3) * (27 * level + 54)
 copies-are level pieces = omega arith
 
-least : (m l : ℕ) → m * (11 * l + 46) ≤ m * (27 * l + 54)
+least : (m l : ℕ) → m * (11 * l + 47) ≤ m * (27 * l + 54)
 least m l = mul-le-mul_left m (omega arith)
 
 pub covers-need : (nodesize level pieces height edits names before after : ℕ)
@@ -63,7 +63,7 @@ covers-need nodesize level pieces height edits names before after is =
     let edited = edits-most nodesize level pieces height edits is.low is.few_edits in
     let named = names-most pieces names is.few_names in
     let all = is.after_most in
-    let most : after ≤ before + (pieces + 3) * ((2 * level + 9) * (74 + c)) + (pieces + 3) * 102 =
+    let most : after ≤ before + (pieces + 3) * ((2 * level + 9) * (74 + c)) + (pieces + 3) * 204 =
     omega (arith, edited, named, all) in
     let filled = filled_after c f g (pieces + 3) level before after wide holds fills most in
     let enough = least (pieces + 3) level in

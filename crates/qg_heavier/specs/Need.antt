@@ -5,12 +5,13 @@ use Rattle.qg_state.specs.Need.{file_copies, nodes_filled}
 use Rattle.qg_heavier.specs.Heavier.{edit_bytes, name_new_bytes}
 
 -- What a file command in a tree of this level, which touches so many pieces, makes of what the root, extent and quota
--- trees' items take: for each piece, and three times besides, a tree of this height is edited, and a new extent named
+-- trees' items take: for each piece, and three times besides, a tree of this height is edited, and two new extents
+-- named
 pub record GetsHeavierBy (nodesize level pieces height edits names before after : ℕ) : Type 0 where
   pub size : 4096 ≤ nodesize
   pub low : height ≤ level + 3
   pub few_edits : edits ≤ pieces + 3
-  pub few_names : names ≤ pieces + 3
+  pub few_names : names ≤ 2 * (pieces + 3)
   pub after_most : after ≤ before + edits * edit_bytes nodesize height + names * name_new_bytes
 
 -- then the slots that a file command needs are, but for those that it may take, as many as what is left behind may want

@@ -1,4 +1,7 @@
 pub mod Later
+pub mod Known
+pub mod Dated
+pub mod Alike
 pub mod Reread
 pub mod Still
 pub mod Besides

@@ -40,7 +40,6 @@ use Rattle.qg_fs_layout.proofs.Moved.{free-apart}
 use Rattle.qg_fs_layout.proofs.Reach.{reach-on}
 use Rattle.qg_fs_layout.proofs.Told.{told-at}
 use Rattle.qg_standing.specs.Opening.{IsOpened, IsSoundImage}
-use Rattle.qg_standing.proofs.Later.{generation-low}
 use Rattle.qg_standing.proofs.Listed.{listed-met, met-listed}
 use Rattle.qg_standing.proofs.Short.{items-short}
 
@@ -194,22 +193,16 @@ module _ (fs : FsTree) (super : Super) (events : List Event) (root : RootItem) (
   branch-opened = subst (λ (r : Root). IsBranch Files super (nodes_of fs (Some events)) r.height r.address
       (items_of_root Files super (content events) root)) (sym opened.tree) branch_before
 
-  -- no node is of a later generation
-  pub dated-opened : (q : ℕ) → IsReached fs (Some events) q → (node : Node) → nodes_of fs (Some events) q ≡ Some node
-      → (header_of node).generation ≤ super.generation
-  dated-opened = generation-low Files super (nodes_of fs (Some events)) fs.tree.height fs.tree.address items
-      branch-opened
-
   -- each address that is reached has a node, and is that of a slot
-  pub there-opened : (q : ℕ) → IsReached fs (Some events) q → (node : Node) × (nodes_of fs (Some events) q ≡ Some node)
-  there-opened q reached =
+  there_opened : (q : ℕ) → IsReached fs (Some events) q → (node : Node) × (nodes_of fs (Some events) q ≡ Some node)
+  there_opened q reached =
       let found = branch-level Files super (nodes_of fs (Some events)) fs.tree.height fs.tree.address items
       branch-opened q reached in
       (found.0, found.1)
 
   pub placed-opened : (q : ℕ) → IsReached fs (Some events) q → IsTrue (is_slot fs.land.space.sizes q)
   placed-opened q reached =
-      let node = there-opened q reached in
+      let node = there_opened q reached in
       told-slot fs.land (Some events) fs.tree.next drafted-there q node.0 node.1
 
   pub lies-opened : (q : ℕ) (node : Node) → nodes_of fs (Some events) q ≡ Some node → (header_of node).address ≡ q
@@ -249,7 +242,7 @@ module _ (fs : FsTree) (super : Super) (events : List Event) (root : RootItem) (
 
   pub reached-slot : (q : ℕ) → IsReached fs (Some events) q → Contains fs.land.space.slots q
   reached-slot q reached =
-      let node = there-opened q reached in
+      let node = there_opened q reached in
       let has = has-mapped (λ (n : Node). (header_of n).address) listed node.0
       (reached-listed q reached node.0 node.1) in
       (opened.slots q).1 (subst (λ (a : ℕ). Contains (addresses_of listed) a) (lies-opened q node.0 node.1) has)

@@ -38,6 +38,7 @@ use Rattle.qg_refs.specs.Book.{count_at, full_in, references_at, what_in}
 use Rattle.qg_extents.specs.Table.{IsTable, book_of}
 use Rattle.qg_extents.proofs.Agreeing.{book_agrees}
 use Rattle.qg_space.proofs.Marks.{SlotsFit-is_served}
+use Rattle.qg_descent.specs.Tree.{Root}
 use Rattle.qg_tree_edits.proofs.Ways.{ways-some}
 use Rattle.qg_tree_refs.specs.Following.{references_to}
 use Rattle.qg_tree_refs.proofs.Counted.{many, total}
@@ -57,6 +58,7 @@ use Rattle.qg_fs_layout.proofs.Lists.{all-contained, from-some, has-mapped}
 use Rattle.qg_fs_layout.proofs.Nodes.{value-reached}
 use Rattle.qg_fs_tree.proofs.Sound.{told-formed}
 use Rattle.qg_standing.specs.Opening.{IsOpened, IsSoundImage}
+use Rattle.qg_standing.proofs.Dated.{told-low}
 use Rattle.qg_standing.proofs.Few.{names-few}
 use Rattle.qg_standing.proofs.Opened.{branch-opened, drafted-there, owner-opened, placed-opened, rooted-opened}
 use Rattle.qg_standing.proofs.OpenedLayout.{entry-is, layout-opened, nodes-opened, roots-are}
@@ -254,7 +256,7 @@ module _ (fs : FsTree) (super : Super) (events : List Event) (root : RootItem) (
         absurd (omega (arith, low, high))
 
   known_extent : (item : Item) (name : ℕ × Piece) → Contains items item → name_told item ≡ Some name
-      → IsKnownExtent fs.land.space.sizes (book_of fs.refs.refs) name.1
+      → IsKnownExtent fs.land.space.sizes fs.tree.next (book_of fs.refs.refs) name.1
   known_extent item name has is =
       let run = extent_of name.1 in
       let tells : TellsExtent item run = record { name = name; told = is; is = refl } in
@@ -272,18 +274,24 @@ module _ (fs : FsTree) (super : Super) (events : List Event) (root : RootItem) (
             (member_fits (sizes_of super) extents run sound.space (in_set run present)));
         generation = known.0;
         known = known.1;
+        dated =
+            let low = told-low super.nodesize (extent_parts super (content events)) (book_of fs.refs.refs) opened.told
+            super.generation sound.dated run.address _ known.1 in
+            let next = ap (λ (r : Root). r.next) opened.tree in
+            omega (arith, low, next);
       }
 
   each_known : (name : ℕ × Piece) → Contains (names_in items) name
-      → IsKnownExtent fs.land.space.sizes (book_of fs.refs.refs) name.1
+      → IsKnownExtent fs.land.space.sizes fs.tree.next (book_of fs.refs.refs) name.1
   each_known name has =
       let item = from-some name_told items name has in
       known_extent item.0 name item.1 item.2
 
-  pub extents-opened : All (λ name. IsKnownExtent fs.land.space.sizes (book_of fs.refs.refs) name.1) (names_in items)
+  pub extents-opened : All (λ name. IsKnownExtent fs.land.space.sizes fs.tree.next (book_of fs.refs.refs) name.1)
+      (names_in items)
   extents-opened = All-from_recursion
-      (λ (name : ℕ × Piece). IsKnownExtent fs.land.space.sizes (book_of fs.refs.refs) name.1) (names_in items)
-      (all-contained (λ (name : ℕ × Piece). IsKnownExtent fs.land.space.sizes (book_of fs.refs.refs) name.1)
+      (λ (name : ℕ × Piece). IsKnownExtent fs.land.space.sizes fs.tree.next (book_of fs.refs.refs) name.1) (names_in items)
+      (all-contained (λ (name : ℕ × Piece). IsKnownExtent fs.land.space.sizes fs.tree.next (book_of fs.refs.refs) name.1)
       (names_in items) each_known)
 
   run_into : (run : Element) → Contains fs.land.space.runs run

@@ -15,7 +15,7 @@ use Rattle.qg_super.specs.Places.{is_slot}
 use Rattle.qg_image.specs.declared.file.File.{File}
 use Rattle.qg_state.specs.Owed.{owed_count}
 use Rattle.qg_verdict.specs.declared.tree.Tree.TheVariants.{Files}
-use Rattle.qg_verdict.specs.ImageState.{items_of_root}
+use Rattle.qg_verdict.specs.ImageState.{extent_parts, items_of_root}
 use Rattle.qg_blocks.specs.Told.{fresh_at}
 use Rattle.qg_space.specs.Holding.{has_slot}
 use Rattle.qg_space.proofs.Members.{Contains-has_slot}
@@ -30,15 +30,15 @@ use Rattle.qg_tree_refs.proofs.Counted.{many}
 use Rattle.qg_tree_refs.proofs.Single.{length-total}
 use Rattle.qg_fs_tree.specs.declared.fs_tree.FsTree.{FsTree}
 use Rattle.qg_fs_tree.specs.Standing.{Stands, layout_in, name_told, names_times, nodes_of}
-use Rattle.qg_fs_tree.proofs.Counts.{names-apart, ways_in}
+use Rattle.qg_fs_tree.proofs.Counts.{ways_in}
 use Rattle.qg_fs_tree.proofs.Owings.{names_of}
 use Rattle.qg_fs_tree.proofs.Renamed.{told-slot}
 use Rattle.qg_fs_layout.specs.Laying.{names_in}
 use Rattle.qg_standing.specs.Opening.{IsOpened, IsSoundImage, StandsOpened}
-use Rattle.qg_standing.proofs.Opened.{dated-opened, drafted-there, no-fresh-opened, placed-opened, reached-slot, rooted-opened, slot-reached, there-opened}
+use Rattle.qg_standing.proofs.Opened.{drafted-there, no-fresh-opened, placed-opened, reached-slot, rooted-opened, slot-reached}
 use Rattle.qg_standing.proofs.OpenedBook.{alone-opened, extents-opened, few-opened, home-opened, known-opened, none-opened, owed-opened, reached-opened, runs-opened, total-opened, unnamed-opened, way-opened}
 use Rattle.qg_standing.proofs.OpenedLayout.{layout-opened}
-use Rattle.qg_standing.proofs.Still.{date_in, level_in, some_kept}
+use Rattle.qg_standing.proofs.Dated.{told-low}
 
 not_some : (o : Option Node) → o ≡ None → IsSome o → ⊥
 not_some None none some = absurd cc
@@ -100,20 +100,10 @@ module _ (fs : FsTree) (super : Super) (events : List Event) (root : RootItem) (
       ≡ Some (record { bytes = fs.refs.nodesize; level = Some level; generation = fs.refs.next }) → ⊥
   none_newer at level known =
       let what : What = record { bytes = fs.refs.nodesize; level = Some level; generation = fs.refs.next } in
-      let some = some_there at (some_kept (book_of fs.refs.refs at) what known (table.book.some at)) in
-      let unnamed = names-apart fs.tree.owner (names_in items) at (λ i d inside same.
-      let extent = extents-opened fs super events root files table sound opened i d inside in
-      let levels : None ≡ Some level = ap level_in (sym extent.known
-      ∙ ap (λ (a : ℕ). what_in (book_of fs.refs.refs a)) same ∙ known) in
-      absurd cc) in
-      let way : 0 < ways_in fs (Some events) at = omega (arith, some, unnamed) in
-      let reached = reached-opened fs super events root files table sound opened at way in
-      let node = there-opened fs super events root files sound opened at reached in
-      let dates : (header_of node.0).generation ≡ fs.refs.next =
-      ap date_in (sym (known_node at node.0 way node.1) ∙ known) in
-      let low = dated-opened fs super events root files sound opened at reached node.0 node.1 in
+      let low = told-low super.nodesize (extent_parts super (content events)) (book_of fs.refs.refs) opened.told
+      super.generation sound.dated at what known in
       let next = next_is in
-      absurd (omega (arith, dates, low, next))
+      absurd (omega (arith, low, next))
 
   clean_there : (at : ℕ) (node : Node) → nodes_of fs (Some events) at ≡ Some node
       → 0 < references_to (book_of fs.refs.refs) at

@@ -11,7 +11,7 @@ use Rattle.qg_node.specs.declared.node.Node.{Node}
 use Rattle.qg_node.specs.Nodes.{header_of}
 use Rattle.qg_items.specs.declared.extent.Reference.{Reference}
 use Rattle.qg_super.specs.declared.sizes.Sizes.{Sizes}
-use Rattle.qg_super.specs.Places.{is_served, is_slot}
+use Rattle.qg_super.specs.Places.{is_run, is_served, is_slot}
 use Rattle.qg_state.specs.declared.element.Element.{Element}
 use Rattle.qg_state.specs.Owed.{owed_count}
 use Rattle.qg_state.specs.Reach.{extent_of}
@@ -25,7 +25,7 @@ use Rattle.qg_space.proofs.Members.{Contains-has_slot, any_same}
 use Rattle.qg_ground.specs.Land.{IsDrafted}
 use Rattle.qg_refs.specs.declared.kept.What.{What}
 use Rattle.qg_refs.specs.declared.kept.Kept.{Kept}
-use Rattle.qg_refs.specs.Book.{count_at, full_in, references_at, references_in, what_in}
+use Rattle.qg_refs.specs.Book.{count_at, full_in, what_in}
 use Rattle.qg_extents.specs.Table.{IsTable, book_of}
 use Rattle.qg_descent.specs.Tree.{IsTree, Root, super_of}
 use Rattle.qg_descent.proofs.Frames.{IsTree-same}
@@ -35,18 +35,16 @@ use Rattle.qg_tree_edits.proofs.Ways.{ways-same, ways-some}
 use Rattle.qg_tree_refs.specs.declared.tree_refs.TreeRefs.{TreeRefs}
 use Rattle.qg_tree_refs.specs.Following.{references_to}
 use Rattle.qg_tree_refs.specs.Settled.{IsSettled, what_of}
-use Rattle.qg_tree_refs.proofs.Single.{length-total}
 use Rattle.qg_fs_tree.specs.declared.fs_tree.FsTree.{FsTree}
 use Rattle.qg_fs_tree.specs.Standing.{IsKnownExtent, IsReached, IsSubvolume, Stands, every_slot, layout_in, name_told, names_times, nodes_of, placed_at}
-use Rattle.qg_fs_tree.proofs.Before.{StandsFor-before, full_in_tree, taken}
-use Rattle.qg_fs_tree.proofs.Counts.{mark_of, names-apart, node-there, slots_of, ways_in}
+use Rattle.qg_fs_tree.proofs.Before.{taken}
+use Rattle.qg_fs_tree.proofs.Counts.{mark_of, ways_in}
 use Rattle.qg_fs_tree.proofs.Reached.{reached-some}
 use Rattle.qg_fs_tree.proofs.Renamed.{told-slot}
-use Rattle.qg_fs_tree.proofs.Turned.{total-is}
-use Rattle.qg_fs_layout.proofs.Moved.{free-apart, fresh-told}
-use Rattle.qg_fs_layout.proofs.Trees.{branch}
+use Rattle.qg_fs_layout.proofs.Moved.{free-apart}
 use Rattle.qg_standing.specs.Committing.{IsCommitted, StandsStill, WritesTree}
-use Rattle.qg_standing.proofs.Later.{IsTree-later, generation-low}
+use Rattle.qg_standing.proofs.Known.{known-low, known-node}
+use Rattle.qg_standing.proofs.Later.{IsTree-later}
 use Rattle.qg_standing.proofs.Reread.{no-fresh, told-now}
 
 -- ---- words
@@ -60,20 +58,6 @@ filter_same f g [] same = refl
 filter_same {A} {B} f g (x ∷ xs) same =
     ap (λ (o : Option B). cons_option o (filter_map f xs)) (same x)
     ∙ ap (λ (ys : List B). cons_option (g x) ys) (filter_same f g xs same)
-
--- what is known there
-abbrev pub date_in : Option What → ℕ
-date_in None = 0
-date_in (Some known) = known.generation
-
-abbrev pub level_in : Option What → Option ℕ
-level_in None = None
-level_in (Some known) = known.level
-
-pub some_kept : (kept : Option Kept) (what : What) → what_in kept ≡ Some what
-    → ((there : Kept) → kept ≡ Some there → 0 < length there.references) → 0 < length (references_in kept)
-some_kept None what is some = absurd cc
-some_kept (Some kept) what is some = some kept refl
 
 layout_alike : (a b : Layout) → a.nodesize ≡ b.nodesize → a.roots ≡ b.roots → a.nodes ≡ b.nodes → a ≡ b
 layout_alike a b size roots nodes =
@@ -234,48 +218,13 @@ module _ (old new : FsTree) (others : List ℕ) (events later : List Event) (byt
       let named = ap (λ (n : ℕ). names_times n names at reference) owner in
       omega (arith, was, count, told_names, owed, named)
 
-  -- ---- what the book knows
-
-  -- of each node that references lead to, level and generation
-  known_node : (at : ℕ) (node : Node) → nodes_of old (Some events) at ≡ Some node
-      → 0 < references_to (book_of old.refs.refs) at
-      → what_in (book_of old.refs.refs at) ≡ Some (what_of old.refs.nodesize (header_of node).generation node)
-  known_node at node there some = from (fresh_at old.land.blocks.draft at) refl where
-    from : (o : Option Node) → fresh_at old.land.blocks.draft at ≡ o
-        → what_in (book_of old.refs.refs at) ≡ Some (what_of old.refs.nodesize (header_of node).generation node)
-    from None none = stands.settled.clean at node none there some
-    from (Some mine) is =
-        let same : mine ≡ node =
-        let e : Some mine ≡ Some node = sym (fresh-told old.land (Some events) at mine is) ∙ there in cc in
-        let dated = (drafted.each at mine is).dated in
-        stands.settled.fresh at mine is
-        ∙ ap (λ (n : ℕ). Some (what_of old.refs.nodesize n mine)) (stands.book.next ∙ sym dated)
-        ∙ ap (λ (n : Node). Some (what_of old.refs.nodesize (header_of n).generation n)) same
-
   -- there is no node of the generation behind the one to come
   none_newer : (at level size : ℕ) → what_in (book_of old.refs.refs at)
       ≡ Some (record { bytes = size; level = Some level; generation = old.tree.next + 1 }) → ⊥
   none_newer at level size known =
       let what : What = record { bytes = size; level = Some level; generation = old.tree.next + 1 } in
-      let book = book_of old.refs.refs in
-      let some = some_kept (book at) what known (table.book.some at) in
-      let few = length-total (references_at book at) (table.book.sound at) in
-      let counted = StandsFor-before old (Some events) items names stands drafted table in
-      let all = total-is old.tree.owner names (slots_of old) book (ways_in old (Some events))
-      (full_in_tree old (Some events)) counted.counts at in
-      let unnamed = names-apart old.tree.owner names at (λ i d inside same.
-      let extent = stands.known i d inside in
-      let levels : None ≡ Some level = ap level_in (sym extent.known
-      ∙ ap (λ (a : ℕ). what_in (book a)) same ∙ known) in
-      absurd cc) in
-      let way : 0 < ways_in old (Some events) at = omega (arith, some, few, all, unnamed) in
-      let node = node-there old (Some events) items stands.rooted drafted at way in
-      let dates : (header_of node.0).generation ≡ old.tree.next + 1 =
-      ap date_in (sym (known_node at node.0 node.1 some) ∙ known) in
-      let low = generation-low Files (super_of old.tree old.land.blocks.draft) (nodes_of old (Some events))
-      old.tree.height old.tree.address items (branch old (Some events) bytes items names subvolume stands) at
-      (reached_old at way) node.0 node.1 in
-      absurd (omega (arith, dates, low))
+      let low = known-low old (Some events) bytes items names subvolume stands table at what known in
+      absurd (omega (arith, low))
 
   -- ---- what is settled
 
@@ -300,7 +249,7 @@ module _ (old new : FsTree) (others : List ℕ) (events later : List Event) (byt
       stands.settled.slots at (subst (λ (sizes : Sizes). IsTrue (is_slot sizes at)) committed.sizes slot)
       ∙ lt-ltb 0 (references_to (book_of old.refs.refs) at) some_old in
       ap (λ (t : List (ℕ × Kept)). what_in (book_of t at)) same_table
-      ∙ known_node at node (sym (taken_told at has) ∙ there) some_old
+      ∙ known-node old (Some events) bytes items names subvolume stands at node (sym (taken_told at has) ∙ there) some_old
       ∙ ap (λ (n : ℕ). Some (what_of n (header_of node).generation node)) (sym book_size)
 
   newer_now : (at level : ℕ) → what_in (book_of new.refs.refs at)
@@ -343,12 +292,18 @@ module _ (old new : FsTree) (others : List ℕ) (events later : List Event) (byt
   }
 
   known_now : (i : ℕ) (d : ℕ × Piece) → i < length names
-      → IsKnownExtent new.land.space.sizes (book_of new.refs.refs) (get_or names i d).1
+      → IsKnownExtent new.land.space.sizes new.tree.next (book_of new.refs.refs) (get_or names i d).1
   known_now i d inside =
-      subst (λ (t : List (ℕ × Kept)). IsKnownExtent new.land.space.sizes (book_of t) (get_or names i d).1)
-      (sym same_table)
-      (subst (λ (sizes : Sizes). IsKnownExtent sizes (book_of old.refs.refs) (get_or names i d).1)
-      (sym committed.sizes) (stands.known i d inside))
+      let was = stands.known i d inside in
+      let next = next_is old new others committed in
+      record {
+        lies = subst
+            (λ (sizes : Sizes). IsTrue (is_run sizes (get_or names i d).1.extent (get_or names i d).1.extent_bytes))
+            (sym committed.sizes) was.lies;
+        generation = was.generation;
+        known = ap (λ (t : List (ℕ × Kept)). what_in (book_of t (get_or names i d).1.extent)) same_table ∙ was.known;
+        dated = let date = was.dated in omega (arith, date, next);
+      }
 
   stands_now : Stands new (Some later) items names
   stands_now = record {

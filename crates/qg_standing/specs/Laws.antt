@@ -1,18 +1,21 @@
--- When a subvolume's tree stands (this project's own).
-use Rattle.std.specs.Prelude.{ℕ, ◌≤◌, List, Option, Some, IsTrue}
-use Rattle.qg_device.specs.History.{Event, content}
+-- When a subvolume's tree stands, and what its book knows then (this project's own). Places and lengths are in bytes.
+use Rattle.std.specs.Prelude.{◌≡◌, ◌⊎◌, ⊤, ℕ, ◌≤◌, All, List, ◌∷◌, length, Option, Some, IsTrue}
+use Rattle.qg_device.specs.History.{Event, Synced, Wrote, content}
 use Rattle.qg_num.specs.declared.piece.Piece.{Piece}
 use Rattle.qg_node.specs.declared.item.Item.{Item}
 use Rattle.qg_items.specs.declared.root.RootItem.{RootItem}
+use Rattle.qg_super.specs.declared.sizes.Sizes.{Sizes}
 use Rattle.qg_super.specs.declared.superblock.Super.{Super}
-use Rattle.qg_super.specs.Places.{is_served, second_place}
-use Rattle.qg_super.specs.SuperText.{sizes_of}
+use Rattle.qg_super.specs.Places.{first_place, is_served, second_place, total_bytes}
+use Rattle.qg_super.specs.SuperText.{sizes_of, super_text}
 use Rattle.qg_image.specs.declared.file.File.{File}
 use Rattle.qg_blocks.specs.Told.{IsBacked}
+use Rattle.qg_blocks.specs.Writing.{Keeps}
 use Rattle.qg_extents.specs.Table.{IsTable}
 use Rattle.qg_fs_tree.specs.declared.fs_tree.FsTree.{FsTree}
-use Rattle.qg_fs_tree.specs.Standing.{IsSubvolume, Stands}
+use Rattle.qg_fs_tree.specs.Standing.{IsSubvolume, Stands, nodes_of}
 use Rattle.qg_standing.specs.Committing.{IsCommitted, StandsStill, WritesTree}
+use Rattle.qg_standing.specs.Knowing.{IsSameButClean, KnowsRoot}
 use Rattle.qg_standing.specs.Opening.{IsOpened, IsSoundImage, StandsOpened}
 
 -- over any disk that is no shorter than before, a tree is left for the next generation to edit, where clean nodes are
@@ -41,3 +44,50 @@ abbrev pub StandsOnceOpened : Type 0
 StandsOnceOpened = (fs : FsTree) (super : Super) (events : List Event) (root : RootItem) (files : List (ℕ × File))
     → IsTable fs.refs.refs → IsSoundImage super (content events) root files
     → IsOpened fs super (content events) root → StandsOpened fs super events root
+
+-- ---- what is told alike
+
+-- over any disk that is no shorter, a tree with other clean nodes in memory is left to be edited, where these are the
+-- disk's
+abbrev pub IsSubvolumeAlike : Type 0
+IsSubvolumeAlike = (old new : FsTree) (before after : Option (List Event)) (bytes left : ℕ)
+    → IsSubvolume old before bytes → IsSameButClean old new → IsBacked new.land.blocks after → bytes ≤ left
+    → IsSubvolume new after left
+
+-- and where it tells what it told, a tree stands that stood
+abbrev pub StandsWhereToldAlike : Type 0
+StandsWhereToldAlike = (old new : FsTree) (before after : Option (List Event)) (items : List Item)
+    (names : List (ℕ × Piece)) → IsSameButClean old new
+    → ((q : ℕ) → nodes_of new after q ≡ nodes_of old before q)
+    → Stands old before items names → StandsStill old new before after items names
+
+-- the same is told where nothing changes in slots
+abbrev pub IsToldAlike : Type 0
+IsToldAlike = (old new : FsTree) (before : Option (List Event)) (later : List Event) → IsSameButClean old new
+    → Keeps old.land.blocks.draft.sizes before (Some later) (λ at. ⊤)
+    → (q : ℕ) → nodes_of new (Some later) q ≡ nodes_of old before q
+
+-- a sync changes nothing there, nor does a superblock that is written at its place and made sure of, where nodes and
+-- slots are those of sizes that are served
+abbrev pub SyncsKeepSlots : Type 0
+SyncsKeepSlots = (sizes : Sizes) (events : List Event)
+    → Keeps sizes (Some events) (Some (Synced ∷ events)) (λ at. ⊤)
+
+abbrev pub SuperblocksKeepSlots : Type 0
+SuperblocksKeepSlots = (sizes whole : Sizes) (super : Super) (place : ℕ) (events : List Event)
+    → IsTrue (is_served whole) → sizes.nodesize ≡ whole.nodesize → sizes.slots ≡ whole.slots
+    → total_bytes whole ≤ length (content events) → (place ≡ first_place) ⊎ (place ≡ second_place)
+    → Keeps sizes (Some events) (Some (Synced ∷ Wrote place (super_text place super) ∷ events)) (λ at. ⊤)
+
+-- ---- what a book knows
+
+-- the book of a tree that stands knows the root
+abbrev pub StandingKnowsRoot : Type 0
+StandingKnowsRoot = (fs : FsTree) (history : Option (List Event)) (bytes : ℕ) (items : List Item)
+    (names : List (ℕ × Piece)) → IsSubvolume fs history bytes → Stands fs history items names → KnowsRoot fs history
+
+-- and nothing that is of a generation past the one to come
+abbrev pub StandingKnowsNoLater : Type 0
+StandingKnowsNoLater = (fs : FsTree) (history : Option (List Event)) (bytes : ℕ) (items : List Item)
+    (names : List (ℕ × Piece)) → IsTable fs.refs.refs → IsSubvolume fs history bytes → Stands fs history items names
+    → All (λ entry. entry.1.what.generation ≤ fs.tree.next) fs.refs.refs

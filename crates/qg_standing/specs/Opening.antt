@@ -9,6 +9,7 @@ use Rattle.qg_super.specs.Places.{is_served, total_bytes}
 use Rattle.qg_super.specs.SuperText.{sizes_of}
 use Rattle.qg_image.specs.declared.file.File.{File}
 use Rattle.qg_image.specs.FilesOf.{files_of}
+use Rattle.qg_image.specs.ItemMeaning.{extent_part_stamps}
 use Rattle.qg_state.specs.declared.element.Element.{Element}
 use Rattle.qg_state.specs.Owed.{Agrees, homeless}
 use Rattle.qg_state.specs.Space.{present_extents}
@@ -17,7 +18,7 @@ use Rattle.qg_verdict.specs.declared.tree.Tree.TheVariants.{Files}
 use Rattle.qg_verdict.specs.ImageState.{addresses_of, extent_parts, items_of_root, level_in, nodes_of_root, roots_in, state_in, subvolume_roots}
 use Rattle.qg_verdict.specs.ItemsUnder.{items_under, nodes_under}
 use Rattle.qg_verdict.specs.Verdict.{extent_set, space_failure}
-use Rattle.qg_verdict.specs.Walk.{is_item_of, node_found, root_told, tree_failure}
+use Rattle.qg_verdict.specs.Walk.{are_by, is_item_of, node_found, root_told, tree_failure}
 use Rattle.qg_blocks.specs.Held.{nothing_fresh, slots_of}
 use Rattle.qg_extents.specs.Table.{book_of}
 use Rattle.qg_extents.specs.Told.{IsTold}
@@ -27,7 +28,8 @@ use Rattle.qg_fs_layout.specs.Laying.{names_in}
 
 -- What is known of a sound image of served sizes whose only subvolume has this root and these files: the walk of its
 -- tree meets no failure, and its items and nodes are told; the extents that the files name keep the rule `space`; the
--- extent tree's records are exactly what is owed; and each node that is not full is reached by its owner
+-- extent tree's records are exactly what is owed, and none is of a generation past the superblock's; and each node that
+-- is not full is reached by its owner
 pub record IsSoundImage (super : Super) (image : List ℕ) (root : RootItem) (files : List (ℕ × File)) : Type 0 where
   pub served : IsTrue (is_served (sizes_of super))
   pub long : total_bytes (sizes_of super) ≤ length image
@@ -43,6 +45,7 @@ pub record IsSoundImage (super : Super) (image : List ℕ) (root : RootItem) (fi
   pub files_are : files_of super.generation (items_of_root Files super image root) ≡ Some files
   pub space : space_failure (sizes_of super) (extent_set (present_extents (state_in super image))) ≡ None
   pub agrees : Agrees (layout_of (state_in super image)) (extent_parts super image)
+  pub dated : IsTrue (list_all (λ part. are_by super.generation (extent_part_stamps part)) (extent_parts super image))
   pub home : homeless (layout_of (state_in super image)) ≡ None
 
 -- What is made of it: the tree at its root, for the generation to come; no node fresh; the slots of its nodes, which

@@ -6,4 +6,6 @@ mod laws;
 mod slots;
 
 pub use committing::committed;
-pub use laws::{commit_leaves_it, opening_makes_it};
+pub use laws::{
+    commit_leaves_it, its_book_knows, opening_makes_it, reading_leaves_it, superblocks_keep_slots,
+};

@@ -57,3 +57,5 @@ pub mod RejoinedTold
 pub mod Levels
 pub mod Clean
 pub mod Owners
+pub mod Naming
+pub mod Unfit

@@ -112,6 +112,16 @@ module _ (tree : Tree) (root : Root) (land new : Ground) (history later : Option
     | inr front ↦ inr (subst (λ (a : ℕ). IsThinAt new a) (sym front.2) child_thin)
   ])
 
+  -- both are of the level
+  pub pair-levels : (a b : Node) → fresh_at new.blocks.draft pair.left ≡ Some a → fresh_at new.blocks.draft pair.right ≡ Some b
+      → ((header_of a).level ≡ level) × ((header_of b).level ≡ level)
+  pair-levels a b here there =
+      let first : Some a ≡ Some pair-left.node = sym here ∙ pair-left.here in
+      let second : Some b ≡ Some pair-right.node = sym there ∙ pair-right.here in
+      let one : a ≡ pair-left.node = cc in
+      let other : b ≡ pair-right.node = cc in
+      (ap (λ (n : Node). (header_of n).level) one ∙ pair-left.levelled, ap (λ (n : Node). (header_of n).level) other ∙ pair-right.levelled)
+
   -- the two pointers stand in the node
   pub pair-inside : place < length pointers → pair.front + 2 ≤ length pointers
   pair-inside low =

@@ -6,6 +6,7 @@ use Rattle.std.specs.Ordering.{nat_cmp}
 use Rattle.std.specs.BTreeMap.{is_at}
 use Rattle.std.specs.Map.{set_value}
 use Rattle.qg_num.specs.declared.fault.BlockFault.{BlockFault}
+use Rattle.qg_num.specs.declared.fault.BlockFault.TheVariants.{NoMemory, Disk, Image}
 use Rattle.qg_node.specs.declared.node.Node.{Node}
 use Rattle.qg_node.specs.Nodes.{header_of}
 use Rattle.qg_node.specs.NodeText.{IsNode, IsNodeSize}
@@ -15,12 +16,14 @@ use Rattle.qg_shape.specs.Filled.{HasShortBodies, IsThin}
 use Rattle.qg_shape.specs.Outcomes.{IsJoined}
 use Rattle.qg_blocks.specs.Told.{BreaksNone, fresh_at}
 use Rattle.qg_blocks.proofs.Telling.{is_at-other, same_by}
+use Rattle.qg_edit.specs.Answering.{AnswersBy, CanMerge, IsBrokenByMerge}
 use Rattle.qg_edit.specs.Outcome.{AreNodesAfter, IsInFront, IsNodeFor, cleared}
 use Rattle.qg_edit.proofs.Leaves.{IsNodeFor-cleared, IsNodeFor-itself}
 use Rattle.qg_ground.specs.declared.ground.Ground.{Ground}
 use Rattle.qg_ground.proofs.Lands.{IsSome-is, fresh_at-told}
 use Rattle.qg_ground.proofs.Editing.{edited, edited-here, edited-others}
 use Rattle.qg_tree_edits.specs.Editing.{ArePair, AreRewritten, IsJoinedAs, IsJoinedThere}
+use Rattle.qg_tree_edits.specs.Failing.{ArentJoined, NamesOnly}
 use Rattle.qg_tree_edits.proofs.Rewritten.{same_node}
 
 -- ---- a fresh node is written to twice, and another one in between
@@ -238,3 +241,25 @@ pub BreaksNone-joined : (land taken : Ground) (left right nodesize : ℕ) (a b :
 BreaksNone-joined land taken left right nodesize a b result pair sound c d here there =
     subst (λ (x : Node). IsInFront x d → HasShortBodies x → HasShortBodies d → BreaksNone result) (same_node (fresh_at land.blocks.draft left) a c pair.left_here here)
     (subst (λ (y : Node). IsInFront a y → HasShortBodies a → HasShortBodies y → BreaksNone result) (same_node (fresh_at land.blocks.draft right) b d pair.right_here there) sound)
+
+-- a rule that is named is broken by the two, which lie there as they did
+pub names-joined : (land taken : Ground) (left right nodesize : ℕ) (a b l r : Node) (result : Result Joined BlockFault)
+    → AreTaken land taken left right nodesize a b → AnswersBy (CanMerge a b) (IsBrokenByMerge a b) result
+    → OnErr result (l ≡ a) → OnErr result (r ≡ b)
+    → (c d : Node) → fresh_at land.blocks.draft left ≡ Some c → fresh_at land.blocks.draft right ≡ Some d
+    → NamesOnly (ArentJoined (edited (edited taken left l) right r) left right c d) result
+names-joined land taken left right nodesize a b l r (Ok joined) pair answers left_same right_same c d here there = tt
+names-joined land taken left right nodesize a b l r (Err Disk) pair answers left_same right_same c d here there = tt
+names-joined land taken left right nodesize a b l r (Err NoMemory) pair answers left_same right_same c d here there = tt
+names-joined land taken left right nodesize a b l r (Err (Image rule at)) pair answers left_same right_same c d here there =
+    let mid : Ground = edited taken left l in
+    let gone = there_right land taken left right nodesize a b l pair in
+    let first : a ≡ c = same_node (fresh_at land.blocks.draft left) a c pair.left_here here in
+    let second : b ≡ d = same_node (fresh_at land.blocks.draft right) b d pair.right_here there in
+    let lies = fresh_here taken left l a (there_left land taken left right nodesize a b pair) in
+    record {
+      left_here = fresh_other mid right r (cleared b) left gone pair.differ ∙ lies ∙ ap Some (left_same ∙ first);
+      right_here = fresh_here mid right r (cleared b) gone ∙ ap Some (right_same ∙ second);
+      broken = subst (λ (x : Node). IsBrokenByMerge x d rule at) first
+          (subst (λ (y : Node). IsBrokenByMerge a y rule at) second answers);
+    }

@@ -29,8 +29,8 @@ unbroken-other A B NoMemory none = tt
 unbroken-other A B (Image rule at) none = none
 
 -- fresh nodes of two levels have two addresses
-fresh_apart : (land : Ground) (high low at q : ℕ) (node : Node) → fresh_at land.blocks.draft at ≡ Some node → (header_of node).level ≡ high → IsFreshOn land low q → low < high → at ≢ q
-fresh_apart land high low at q node here levelled other below same =
+pub fresh-apart : (land : Ground) (high low at q : ℕ) (node : Node) → fresh_at land.blocks.draft at ≡ Some node → (header_of node).level ≡ high → IsFreshOn land low q → low < high → at ≢ q
+fresh-apart land high low at q node here levelled other below same =
     let there : Some node ≡ Some other.node = sym here ∙ ap (λ (a : ℕ). fresh_at land.blocks.draft a) same ∙ other.here in
     let one : node ≡ other.node = cc in
     let equal : high ≡ low = sym levelled ∙ ap (λ (n : Node). (header_of n).level) one ∙ other.levelled in
@@ -54,7 +54,7 @@ module _ (tree : Tree) (root : Root) (land mid new : Ground) (history later last
       let there = is.owned.keeps at node here in
       let told_same = united-told mid new pair.left pair.right instead differ
       (are-pair tree root land mid history later pointers to level place child pair is rests fresh thin) united None at
-      (fresh_apart mid (header_of node).level level at pair.left node there refl left high) (fresh_apart mid (header_of node).level level at pair.right node there refl right high) in
+      (fresh-apart mid (header_of node).level level at pair.left node there refl left high) (fresh-apart mid (header_of node).level level at pair.right node there refl right high) in
       fresh_at-told mid.blocks.draft new.blocks.draft at told_same ∙ there
 
   pub rejoined-stands : StandsInstead new level instead

@@ -3,3 +3,4 @@ pub mod Editing
 pub mod Uniting
 pub mod Rooting
 pub mod Counting
+pub mod Failing

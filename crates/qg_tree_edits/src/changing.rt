@@ -8,6 +8,7 @@ ghost use Rattle.qg_ground.specs.Changes.{IsOwnedBy};
 ghost use Rattle.qg_ground.specs.Tellings.{Telling};
 ghost use Rattle.qg_edit.specs.Edits.{CanEdit, IsShort, growth_of, has_key, with_item, without_key};
 ghost use Rattle.qg_tree_edits.specs.Counting.{IsTreeTold};
+ghost use Rattle.qg_tree_edits.specs.Failing.{IsUnfit, NamesOnly};
 ghost use Rattle.qg_tree_edits.specs.First.{first_leaf, least, leaves, leaves_behind};
 ghost use Rattle.qg_tree_edits.specs.Rooting.{Grows, IsEdited, IsReady, IsReplaced, IsRooted, LeavesBe};
 ghost use Rattle.qg_edit.specs.declared.edit.Change.TheVariants as edit_change;
@@ -34,8 +35,9 @@ const LEAST: Key = Key {
 /// Puts an item in its place. Its key must not be there; the body has at most 1024 bytes.
 ///
 /// Nodes that are fresh are edited where they lie, others are copied to free slots, from the root down, and the book is told. It takes
-/// at most 2·height + 3 slots, and asks for 3·(height + 2) free ones. `P` says which tree it is. `Image` comes where a node is not what
-/// leads to it expects, or with `refs` where the key is there; after an `Err` nodes, space and book are of no more use.
+/// at most 2·height + 3 slots, and asks for 3·(height + 2) free ones. `P` says which tree it is. Over a disk that tells, `Image` names a rule
+/// and an address only where what stands there is not what leads to it expects, or not what the edit relies on, as with `refs` where the
+/// key is there. After an `Err` nodes, space and book are of no more use.
 pub fn insert<P: TreePart, D: Disk, L: Ledger, B: Book<D, L>>(
     tree: &mut Tree,
     alloc: Global,
@@ -56,6 +58,8 @@ pub fn insert<P: TreePart, D: Disk, L: Ledger, B: Book<D, L>>(
         × IsTreeTold tree.old tree.new land.old land.new (D.history disk.old) tellings) }
     ensures sound { (events : List Event) → D.history disk.old ≡ Some events → (items : List ItemValue)
         → IsRooted P.tree tree.old land.old (D.history disk.old) items → IsTrue (not (has_key key items)) → BreaksNone result }
+    ensures broken { (events : List Event) → D.history disk.old ≡ Some events
+        → NamesOnly (IsUnfit P.tree tree.old (record { key = key; change = edit_change.Insert body }) land.old land.new events) result }
     ensures tree { MatchResult result (λ done. Grows 1 tree.old tree.new land.old land.new) (λ fault. tree.new ≡ tree.old) }
     ensures rests { LeavesBe land.old land.new (D.history disk.old) (D.history disk.new) (D.size disk.old) (D.size disk.new) tree.old.next }
     ensures stands { OnOk result (B.stands book.new land.new disk.new) }
@@ -93,6 +97,8 @@ pub fn replace<P: TreePart, D: Disk, L: Ledger, B: Book<D, L>>(
         × IsTreeTold tree.old tree.new land.old land.new (D.history disk.old) tellings) }
     ensures sound { (events : List Event) → D.history disk.old ≡ Some events → (items : List ItemValue)
         → IsRooted P.tree tree.old land.old (D.history disk.old) items → IsTrue (has_key key items) → BreaksNone result }
+    ensures broken { (events : List Event) → D.history disk.old ≡ Some events
+        → NamesOnly (IsUnfit P.tree tree.old (record { key = key; change = edit_change.Replace body }) land.old land.new events) result }
     ensures tree { MatchResult result (λ done. Grows 1 tree.old tree.new land.old land.new) (λ fault. tree.new ≡ tree.old) }
     ensures rests { LeavesBe land.old land.new (D.history disk.old) (D.history disk.new) (D.size disk.old) (D.size disk.new) tree.old.next }
     ensures stands { OnOk result (B.stands book.new land.new disk.new) }
@@ -129,6 +135,8 @@ pub fn remove<P: TreePart, D: Disk, L: Ledger, B: Book<D, L>>(
         × IsTreeTold tree.old tree.new land.old land.new (D.history disk.old) tellings) }
     ensures sound { (events : List Event) → D.history disk.old ≡ Some events → (items : List ItemValue)
         → IsRooted P.tree tree.old land.old (D.history disk.old) items → IsTrue (has_key key items) → BreaksNone result }
+    ensures broken { (events : List Event) → D.history disk.old ≡ Some events
+        → NamesOnly (IsUnfit P.tree tree.old (record { key = key; change = edit_change.Remove }) land.old land.new events) result }
     ensures tree { MatchResult result (λ done. Grows 0 tree.old tree.new land.old land.new) (λ fault. tree.new ≡ tree.old) }
     ensures rests { LeavesBe land.old land.new (D.history disk.old) (D.history disk.new) (D.size disk.old) (D.size disk.new) tree.old.next }
     ensures stands { OnOk result (B.stands book.new land.new disk.new) }
@@ -169,6 +177,8 @@ pub fn drop_first_leaf<P: TreePart, D: Disk, L: Ledger, B: Book<D, L>>(
         ≡ leaves_behind (leaves (told land.old.blocks.draft (D.history disk.old)) tree.old.height tree.old.address)) }
     ensures sound { (events : List Event) → D.history disk.old ≡ Some events → (items : List ItemValue)
         → IsRooted P.tree tree.old land.old (D.history disk.old) items → BreaksNone result }
+    ensures broken { (events : List Event) → D.history disk.old ≡ Some events
+        → NamesOnly (IsUnfit P.tree tree.old (record { key = least; change = edit_change.Clear }) land.old land.new events) result }
     ensures tree { MatchResult result (λ done. Grows 0 tree.old tree.new land.old land.new) (λ fault. tree.new ≡ tree.old) }
     ensures rests { LeavesBe land.old land.new (D.history disk.old) (D.history disk.new) (D.size disk.old) (D.size disk.new) tree.old.next }
     ensures stands { OnOk result (B.stands book.new land.new disk.new) }
@@ -209,6 +219,8 @@ fn edit_tree<P: TreePart, D: Disk, L: Ledger, B: Book<D, L>>(
         ≡ leaves_behind (leaves (told land.old.blocks.draft (D.history disk.old)) tree.old.height tree.old.address)) }
     ensures sound { (events : List Event) → D.history disk.old ≡ Some events → (items : List ItemValue)
         → IsRooted P.tree tree.old land.old (D.history disk.old) items → CanEdit edit items → BreaksNone result }
+    ensures broken { (events : List Event) → D.history disk.old ≡ Some events
+        → NamesOnly (IsUnfit P.tree tree.old edit land.old land.new events) result }
     ensures tree { MatchResult result (λ done. Grows (growth_of edit.change) tree.old tree.new land.old land.new) (λ fault. tree.new ≡ tree.old) }
     ensures rests { LeavesBe land.old land.new (D.history disk.old) (D.history disk.new) (D.size disk.old) (D.size disk.new) tree.old.next }
     ensures stands { OnOk result (B.stands book.new land.new disk.new) }

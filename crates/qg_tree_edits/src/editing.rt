@@ -13,6 +13,7 @@ ghost use Rattle.qg_edit.specs.Edits.{IsShort, growth_of};
 ghost use Rattle.qg_tree_edits.specs.First.{least, leaves, leaves_behind};
 ghost use Rattle.qg_tree_edits.specs.Editing.{CanMake, IsEditable, IsPartEdited, IsPartFit, Moves, StandsInstead};
 ghost use Rattle.qg_tree_edits.specs.Counting.{IsPartTold};
+ghost use Rattle.qg_tree_edits.specs.Failing.{FailsUnder, NamesOnly, StandsFor};
 
 use crate::child::{place_for, way_at};
 use crate::instead::Instead;
@@ -58,6 +59,9 @@ pub(crate) fn edit_under<P: TreePart, D: Disk, L: Ledger, B: Book<D, L>>(
         ≡ leaves_behind (leaves (told land.old.blocks.draft (D.history disk.old)) level way.address)) }
     ensures sound { (events : List Event) → D.history disk.old ≡ Some events → (items : List ItemValue)
         → IsPartFit P.tree tree.now land.old (D.history disk.old) level way.expected way.address edit items → BreaksNone result }
+    ensures broken { (events : List Event) → D.history disk.old ≡ Some events
+        → NamesOnly (FailsUnder P.tree tree.now edit events level way.expected way.address land.old land.new) result }
+    ensures there { IfOk result (λ instead. StandsFor land.old way.address instead.now) }
     ensures rests { Rests land.old land.new (D.history disk.new) tree.now.next }
     ensures told { (items : List ItemValue) → IsPartFit P.tree tree.now land.old (D.history disk.old) level way.expected way.address edit items
         → (before : B) (log : List Telling) → B.follows before log book.old
@@ -126,6 +130,9 @@ fn edit_there<P: TreePart, D: Disk, L: Ledger, B: Book<D, L>>(
         → IfOk result (λ instead. IsPartEdited P.tree tree.now land.old land.new (D.history disk.old) 0 way.now.address edit items instead) }
     ensures sound { (events : List Event) → D.history disk.old ≡ Some events → (items : List ItemValue)
         → IsPartFit P.tree tree.now land.old (D.history disk.old) 0 way.now.expected way.now.address edit items → BreaksNone result }
+    ensures broken { (events : List Event) → D.history disk.old ≡ Some events
+        → NamesOnly (FailsUnder P.tree tree.now edit events 0 way.now.expected way.now.address land.old land.new) result }
+    ensures there { IfOk result (λ instead. StandsFor land.old way.now.address instead.now) }
     ensures rests { Rests land.old land.new (D.history disk.new) tree.now.next }
     ensures told { (items : List ItemValue) → IsPartFit P.tree tree.now land.old (D.history disk.old) 0 way.now.expected way.now.address edit items
         → (before : B) (log : List Telling) → B.follows before log book.old

@@ -14,6 +14,7 @@ ghost use Rattle.qg_edit.specs.Outcome.{IsInFront, cleared};
 ghost use Rattle.qg_tree_edits.specs.Editing.{ArePair, AreRewritten, IsJoinedThere};
 ghost use Rattle.qg_tree_edits.specs.Uniting.{AreUnited};
 ghost use Rattle.qg_tree_edits.specs.Counting.{TellsUnited};
+ghost use Rattle.qg_tree_edits.specs.Failing.{ArentJoined, NamesOnly};
 
 use crate::instead::Instead;
 use qg_disk::Disk;
@@ -57,6 +58,8 @@ pub(crate) fn join_nodes(
     ensures joined { IfOk result (λ joined. IsJoinedThere land.old land.new left right joined) }
     ensures sound { (a b : NodeValue) → fresh_at land.old.blocks.draft left ≡ Some a → fresh_at land.old.blocks.draft right ≡ Some b
         → IsInFront a b → HasShortBodies a → HasShortBodies b → BreaksNone result }
+    ensures broken { (a b : NodeValue) → fresh_at land.old.blocks.draft left ≡ Some a → fresh_at land.old.blocks.draft right ≡ Some b
+        → NamesOnly (ArentJoined land.new left right a b) result }
     ensures no_disk { IsErrOf result BlockFault.Disk → ⊥ }
 {
     let nodesize = land.blocks.nodesize();
@@ -86,6 +89,8 @@ pub(crate) fn unite<D: Disk, L: Ledger, B: Book<D, L>>(
     ensures united { IfOk result (λ instead. AreUnited land.old land.new left right instead) }
     ensures sound { (events : List Event) → D.history disk.old ≡ Some events → (a b : NodeValue) → fresh_at land.old.blocks.draft left ≡ Some a
         → fresh_at land.old.blocks.draft right ≡ Some b → IsInFront a b → HasShortBodies a → HasShortBodies b → BreaksNone result }
+    ensures broken { (events : List Event) → D.history disk.old ≡ Some events → (a b : NodeValue) → fresh_at land.old.blocks.draft left ≡ Some a
+        → fresh_at land.old.blocks.draft right ≡ Some b → NamesOnly (ArentJoined land.new left right a b) result }
     ensures rests { (generation : ℕ) → IsDrafted land.old generation → Rests land.old land.new (D.history disk.new) generation }
     ensures told { (generation : ℕ) → IsDrafted land.old generation → (before : B) (log : List Telling) → B.follows before log book.old
         → IfOk result (λ instead. (tellings : List Telling) × B.follows before (log ++ tellings) book.new × TellsUnited right instead tellings) }

@@ -12,6 +12,7 @@ ghost use Rattle.qg_ground.specs.Tellings.{Telling};
 ghost use Rattle.qg_descent.specs.Tree.{super_of};
 ghost use Rattle.qg_tree_edits.specs.Editing.{IsEditable, IsOwned};
 ghost use Rattle.qg_tree_edits.specs.Counting.{tellings_owned};
+ghost use Rattle.qg_tree_edits.specs.Failing.{IsRefused, NamesOnly};
 
 use qg_descent::{Tree, Way};
 use qg_disk::Disk;
@@ -45,6 +46,8 @@ pub(crate) fn own<P: TreePart, D: Disk, L: Ledger, B: Book<D, L>>(
     ensures owners { OnOk result (IsOwnedBy tree.now.owner land.old land.new) }
     ensures sound { (node : NodeValue) → told land.old.blocks.draft (D.history disk.old) way.now.address ≡ Some node
         → form_failure P.tree (super_of tree.now land.old.blocks.draft) way.now.expected way.now.address node ≡ None → BreaksNone result }
+    ensures broken { (events : List Event) → D.history disk.old ≡ Some events
+        → NamesOnly (IsRefused P.tree tree.now land.old land.new events way.now.expected way.now.address) result }
     ensures disk { (D.history disk.new ≡ D.history disk.old) × (D.size disk.new ≡ D.size disk.old) }
     ensures cause { HasCause BlockFault.Disk (D.faults disk.old) (D.faults disk.new) result }
     ensures reads { (most : ℕ) → ((book : B) (q : ℕ) → B.to_read book q ≤ most) → reads.new ≤ reads.old + (2 + most) }

@@ -14,6 +14,7 @@ ghost use Rattle.qg_ground.specs.Tellings.{Telling};
 ghost use Rattle.qg_tree_edits.specs.Editing.{IsEditable, IsFreshOn, IsUnsettled, alone};
 ghost use Rattle.qg_tree_edits.specs.Uniting.{IsPaired};
 ghost use Rattle.qg_tree_edits.specs.Counting.{tellings_owned};
+ghost use Rattle.qg_tree_edits.specs.Failing.{LacksNeighbour, NamesOnly};
 
 use crate::child::neighbour_of;
 use crate::owning::own;
@@ -57,6 +58,9 @@ pub(crate) fn own_neighbour<P: TreePart, D: Disk, L: Ledger, B: Book<D, L>>(
         → IfOk result (λ pair. IsPaired P.tree tree.now land.old land.new (D.history disk.old) (own_pointers node) to level place child pair) }
     ensures count { OnOk result (free_slots land.old.space ≤ 1 + free_slots land.new.space) }
     ensures sound { (items : List ItemValue) → IsUnsettled P.tree tree.now land.old (D.history disk.old) level at to place (alone child) items → BreaksNone result }
+    ensures broken { (node : NodeValue) → fresh_at land.old.blocks.draft at ≡ Some node → IsFreshOn land.old level child
+        → (events : List Event) → D.history disk.old ≡ Some events
+        → NamesOnly (LacksNeighbour P.tree tree.now land.new events node at to level place child) result }
     ensures rests { Rests land.old land.new (D.history disk.new) tree.now.next }
     ensures told { (items : List ItemValue) → (un : IsUnsettled P.tree tree.now land.old (D.history disk.old) level at to place (alone child) items)
         → (before : B) (log : List Telling) → B.follows before log book.old

@@ -5,6 +5,7 @@ ghost use Rattle.qg_device.specs.Cause.{HasCause};
 ghost use Rattle.qg_device.specs.History.{Event};
 ghost use Rattle.qg_num.specs.Key.{key_cmp};
 ghost use Rattle.qg_num.specs.declared.fault.BlockFault.TheVariants as block;
+ghost use Rattle.qg_num.specs.declared.rule.Rule.TheVariants as rule;
 ghost use Rattle.qg_node.specs.declared.item.Item.{Item as ItemValue};
 ghost use Rattle.qg_node.specs.declared.node.Node.{Node as NodeValue};
 ghost use Rattle.qg_node.specs.declared.node.Node.TheVariants as node;
@@ -19,6 +20,7 @@ ghost use Rattle.qg_edit.specs.Outcome.{cleared};
 ghost use Rattle.qg_tree_edits.specs.First.{leaves};
 ghost use Rattle.qg_tree_edits.specs.Editing.{CanMake, IsEditable, IsFreshOn, IsRewritten, StandsInstead, alone};
 ghost use Rattle.qg_tree_edits.specs.Counting.{IsRootTold};
+ghost use Rattle.qg_tree_edits.specs.Failing.{CantGrow, NamesOnly};
 ghost use Rattle.qg_tree_edits.specs.Rooting.{HasRoot, StandsForRoot, StaysTree, levels_for, lone_child};
 
 use crate::instead::Instead;
@@ -65,6 +67,7 @@ pub(crate) fn set_root<P: TreePart, D: Disk, L: Ledger, B: Book<D, L>>(
     ensures count { OnOk result (free_slots land.old.space ≤ 1 + free_slots land.new.space) }
     ensures sound { (events : List Event) → D.history disk.old ≡ Some events → (items : List ItemValue)
         → StandsForRoot P.tree tree.old land.old (D.history disk.old) instead items → tree.old.height < 7 → BreaksNone result }
+    ensures broken { (events : List Event) → D.history disk.old ≡ Some events → NamesOnly (CantGrow tree.old land.new) result }
     ensures rests { Rests land.old land.new (D.history disk.new) tree.old.next }
     ensures stands { OnOk result (B.stands book.new land.new disk.new) }
     ensures settled { B.settled book.old land.old disk.old → OnOk result (B.settled book.new land.new disk.new) }
@@ -111,6 +114,7 @@ fn grow<P: TreePart, D: Disk, L: Ledger, B: Book<D, L>>(
     ensures sound { (events : List Event) → D.history disk.old ≡ Some events → (items : List ItemValue)
         → StandsForRoot P.tree tree.old land.old (D.history disk.old) (record { now = now; more = Some more }) items
         → tree.old.height < 7 → BreaksNone result }
+    ensures broken { (events : List Event) → D.history disk.old ≡ Some events → NamesOnly (CantGrow tree.old land.new) result }
     ensures rests { Rests land.old land.new (D.history disk.new) tree.old.next }
     ensures stands { OnOk result (B.stands book.new land.new disk.new) }
     ensures settled { B.settled book.old land.old disk.old → OnOk result (B.settled book.new land.new disk.new) }
@@ -219,6 +223,8 @@ pub(crate) fn node_above(
     ensures above { IfOk result (λ above. above ≡ node.Inner header (pointer_to left.now ∷ pointer_to right.now ∷ [])) }
     ensures sound { (size : ℕ) → IsNodeSize size → IfOk result (IsNode size) }
     ensures none { IsTrue (is_lt (key_cmp (pointer_to left.now).key (pointer_to right.now).key)) → BreaksNone result }
+    ensures broken { NamesOnly (λ name address. (name ≡ rule.Refs) × (address ≡ (pointer_to left.now).child)
+        × (IsTrue (is_lt (key_cmp (pointer_to left.now).key (pointer_to right.now).key)) → ⊥)) result }
     ensures no_disk { IsErrOf result block.Disk → ⊥ }
 {
     let first = pointer_to(left);

@@ -19,6 +19,7 @@ ghost use Rattle.qg_ground.specs.Land.{Rests};
 ghost use Rattle.qg_ground.specs.Tellings.{Telling};
 ghost use Rattle.qg_tree_edits.specs.Editing.{CanLead, CanMake, HasLed, IsEditable, IsEmptyIfLeaf, IsFreshOn, IsNamed, IsRewritten, IsSettled, IsUnsettled, KeepsLeaves, Moves, OfEach, RestHasOwner, RestIsReady, StandsInstead, StaysCut, alone, slots_for};
 ghost use Rattle.qg_tree_edits.specs.Counting.{IsSettledTold};
+ghost use Rattle.qg_tree_edits.specs.Failing.{CantSettle, IsMisled, NamesOnly};
 
 use crate::instead::Instead;
 use crate::joining::unite;
@@ -67,6 +68,8 @@ pub(crate) fn settle<P: TreePart, D: Disk, L: Ledger, B: Book<D, L>>(
         → OnOk result (KeepsLeaves land.old land.new (D.history disk.old) level at child.now un.pointers) }
     ensures sound { (events : List Event) → D.history disk.old ≡ Some events → (items : List ItemValue)
         → IsUnsettled P.tree tree.now land.old (D.history disk.old) level at to place child items → BreaksNone result }
+    ensures broken { (node : NodeValue) → fresh_at land.old.blocks.draft at ≡ Some node → (events : List Event) → D.history disk.old ≡ Some events
+        → NamesOnly (CantSettle P.tree tree.now land.new events node at to level place child.now) result }
     ensures rests { Rests land.old land.new (D.history disk.new) tree.now.next }
     ensures told { (items : List ItemValue) → (un : IsUnsettled P.tree tree.now land.old (D.history disk.old) level at to place child items)
         → (before : B) (log : List Telling) → B.follows before log book.old
@@ -120,6 +123,8 @@ fn join_child<P: TreePart, D: Disk, L: Ledger, B: Book<D, L>>(
         → OnOk result (KeepsLeaves land.old land.new (D.history disk.old) level at child un.pointers) }
     ensures sound { (events : List Event) → D.history disk.old ≡ Some events → (items : List ItemValue)
         → IsUnsettled P.tree tree.now land.old (D.history disk.old) level at to place (alone child) items → BreaksNone result }
+    ensures broken { (node : NodeValue) → fresh_at land.old.blocks.draft at ≡ Some node → (events : List Event) → D.history disk.old ≡ Some events
+        → NamesOnly (CantSettle P.tree tree.now land.new events node at to level place child) result }
     ensures rests { Rests land.old land.new (D.history disk.new) tree.now.next }
     ensures told { (items : List ItemValue) → (un : IsUnsettled P.tree tree.now land.old (D.history disk.old) level at to place (alone child) items)
         → (before : B) (log : List Telling) → B.follows before log book.old
@@ -175,6 +180,7 @@ fn lead_to(
         → IfOk result (λ rest. HasLed tree super land.old land.new history level at from to instead pointers header items rest) }
     ensures sound { (tree : TreeValue) (super : SuperValue) (history : Option (List Event)) (level : ℕ) (pointers : List PointerValue) (header : HeaderValue) (items : List ItemValue)
         → CanLead tree super land.old history level at from to instead pointers header items → BreaksNone result }
+    ensures broken { (node : NodeValue) → fresh_at land.old.blocks.draft at ≡ Some node → NamesOnly (IsMisled land.old node from to instead) result }
     ensures fits { to ≡ from + 2 → IfOk result (λ rest. rest ≡ None) }
     ensures whole { instead.more ≡ None → IfOk result (λ rest. rest ≡ None) }
     ensures no_disk { IsErrOf result BlockFault.Disk → ⊥ }

@@ -2,7 +2,6 @@ use Rattle.std.proofs.Common.{◌+◌, ◌≤◌, [], ◌∷◌, sym, subst}
 use Rattle.std.specs.List.{All}
 use Rattle.qg_num.specs.declared.piece.Piece.{Piece}
 use Rattle.qg_image.specs.FilesOf.{piece_end}
-use Rattle.qg_machine.specs.FileChange.{new_piece}
 use Rattle.qg_files.specs.Apart.{AreApartFrom}
 use Rattle.qg_file_edits.proofs.Given.{one-apart, one-ends, written-so}
 use Rattle.qg_file_edits.proofs.changes.write_change.Goals as goal

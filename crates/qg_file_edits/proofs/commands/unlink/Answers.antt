@@ -17,7 +17,8 @@ returns-clause-unlinked g c files file holds there found =
     done-files _ c.args.fs.now c.make_exchange.new.fs c.args.ino c.unlink_change-change.result
     (g.D.Disk.history c.args.disk.now) files _ c.args.reads.now c.make_exchange.new.reads c.make_exchange.result holds
     told
-    c.make_exchange.ensures.told
+    c.make_exchange.ensures.told (g.D.Disk.size c.args.disk.now) c.requires.subvolume
+    c.make_exchange.ensures.table
 
 pub returns-clause-sound : goal.returns-clause-sound
 returns-clause-sound g c events known files file holds there found room =

@@ -14,10 +14,10 @@ returns-in-Remove-clause-told g c items names stands can =
     let old = c.args.fs.now in
     let new = c.take_out.new.fs in
     let before = g.D.Disk.history c.args.disk.now in
-    subst (λ (e : InodeEdit). CanEditInode c.args.ino e items → AreMade 1 old new before (after_inode c.args.ino e
+    subst (λ (e : InodeEdit). CanEditInode c.args.ino e items → AreMade 1 0 old new before (after_inode c.args.ino e
     items)
     names c.args.reads.now c.take_out.new.reads c.take_out.result) (sym c.in-Remove.is)
-    (subst (λ (k : Key). IsTrue (has_key k items) → AreMade 1 old new before (without_key k items) names
+    (subst (λ (k : Key). IsTrue (has_key k items) → AreMade 1 0 old new before (without_key k items) names
     c.args.reads.now
     c.take_out.new.reads c.take_out.result) c.inode_key-key.ensures (c.take_out.ensures.told items names stands)) can
 
@@ -26,11 +26,11 @@ returns-in-Insert-clause-told g c items names stands can =
     let old = c.args.fs.now in
     let new = c.put_new.new.fs in
     let before = g.D.Disk.history c.args.disk.now in
-    subst (λ (e : InodeEdit). CanEditInode c.args.ino e items → AreMade 1 old new before (after_inode c.args.ino e
+    subst (λ (e : InodeEdit). CanEditInode c.args.ino e items → AreMade 1 0 old new before (after_inode c.args.ino e
     items)
     names c.args.reads.now c.put_new.new.reads c.put_new.result) (sym c.in-Insert.is)
     (put-as (λ (k : Key). IsTrue (not (has_key k items)))
-    (λ (item : Item). AreMade 1 old new before (with_item item items) names c.args.reads.now c.put_new.new.reads
+    (λ (item : Item). AreMade 1 0 old new before (with_item item items) names c.args.reads.now c.put_new.new.reads
     c.put_new.result)
     c.inode_key-key.result (inode_key c.args.ino) c.inode_bytes-bytes.result (inode_text c.in-Insert.inode)
     c.inode_key-key.ensures c.inode_bytes-bytes.ensures
@@ -41,11 +41,11 @@ returns-in-Replace-clause-told g c items names stands can =
     let old = c.args.fs.now in
     let new = c.put_again.new.fs in
     let before = g.D.Disk.history c.args.disk.now in
-    subst (λ (e : InodeEdit). CanEditInode c.args.ino e items → AreMade 1 old new before (after_inode c.args.ino e
+    subst (λ (e : InodeEdit). CanEditInode c.args.ino e items → AreMade 1 0 old new before (after_inode c.args.ino e
     items)
     names c.args.reads.now c.put_again.new.reads c.put_again.result) (sym c.in-Replace.is)
     (put-as (λ (k : Key). IsTrue (has_key k items))
-    (λ (item : Item). AreMade 1 old new before (with_item item items) names c.args.reads.now c.put_again.new.reads
+    (λ (item : Item). AreMade 1 0 old new before (with_item item items) names c.args.reads.now c.put_again.new.reads
     c.put_again.result)
     c.inode_key-key.result (inode_key c.args.ino) c.inode_bytes-text.result (inode_text c.in-Replace.inode)
     c.inode_key-key.ensures c.inode_bytes-text.ensures

@@ -14,9 +14,9 @@ returns-in_err-body-clause-told g c items names stands can =
     let fs = c.args.fs.now in
     let before = g.D.Disk.history c.args.disk.now in
     let put = with_item (record { key = c.args.key; body = c.args.bytes.now }) items in
-    made-handed 1 fs fs before put names c.args.reads.now c.args.reads.now c.from_residual.result NoMemory
+    made-handed 1 0 fs fs before put names c.args.reads.now c.args.reads.now c.from_residual.result NoMemory
     (handed c.from_residual.result NoMemory c.from_residual.ensures.1)
-    (made-not 1 fs fs before put names c.args.reads.now NoMemory tt)
+    (made-not 1 0 fs fs before put names c.args.reads.now NoMemory tt)
 
 pub returns-in_err-body-clause-leaves : goal.returns-in_err-body-clause-leaves
 returns-in_err-body-clause-leaves g c =

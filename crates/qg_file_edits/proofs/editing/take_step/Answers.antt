@@ -16,9 +16,9 @@ returns-in-Remove-clause-told g c items names stands can =
     let old = c.args.fs.now in
     let new = c.take_out.new.fs in
     let before = g.D.Disk.history c.args.disk.now in
-    subst (λ (s : Step). CanApply c.args.ino s items → AreMade 1 old new before (after_step c.args.ino s items) names
+    subst (λ (s : Step). CanApply c.args.ino s items → AreMade 1 0 old new before (after_step c.args.ino s items) names
     c.args.reads.now c.take_out.new.reads c.take_out.result) (sym c.in-Remove.is)
-    (subst (λ (k : Key). IsTrue (has_key k items) → AreMade 1 old new before (without_key k items) names
+    (subst (λ (k : Key). IsTrue (has_key k items) → AreMade 1 0 old new before (without_key k items) names
     c.args.reads.now
     c.take_out.new.reads c.take_out.result) c.piece_key.ensures (c.take_out.ensures.told items names stands)) can
 
@@ -28,10 +28,10 @@ returns-in-Insert-clause-told g c items names stands can =
     let new = c.put_new.new.fs in
     let before = g.D.Disk.history c.args.disk.now in
     let piece = c.in-Insert.piece in
-    subst (λ (s : Step). CanApply c.args.ino s items → AreMade 1 old new before (after_step c.args.ino s items) names
+    subst (λ (s : Step). CanApply c.args.ino s items → AreMade 1 0 old new before (after_step c.args.ino s items) names
     c.args.reads.now c.put_new.new.reads c.put_new.result) (sym c.in-Insert.is)
     (put-as (λ (k : Key). IsTrue (not (has_key k items)))
-    (λ (item : Item). AreMade 1 old new before (with_item item items) names c.args.reads.now c.put_new.new.reads
+    (λ (item : Item). AreMade 1 0 old new before (with_item item items) names c.args.reads.now c.put_new.new.reads
     c.put_new.result)
     c.piece_key-key.result (key_at c.args.ino piece.position) c.piece_bytes-bytes.result
     (extent_data_text (extent_data_of piece)) c.piece_key-key.ensures c.piece_bytes-bytes.ensures
@@ -43,10 +43,10 @@ returns-in-Replace-clause-told g c items names stands can =
     let new = c.put_again.new.fs in
     let before = g.D.Disk.history c.args.disk.now in
     let piece = c.in-Replace.piece in
-    subst (λ (s : Step). CanApply c.args.ino s items → AreMade 1 old new before (after_step c.args.ino s items) names
+    subst (λ (s : Step). CanApply c.args.ino s items → AreMade 1 0 old new before (after_step c.args.ino s items) names
     c.args.reads.now c.put_again.new.reads c.put_again.result) (sym c.in-Replace.is)
     (put-as (λ (k : Key). IsTrue (has_key k items))
-    (λ (item : Item). AreMade 1 old new before (with_item item items) names c.args.reads.now c.put_again.new.reads
+    (λ (item : Item). AreMade 1 0 old new before (with_item item items) names c.args.reads.now c.put_again.new.reads
     c.put_again.result)
     c.piece_key-there.result (key_at c.args.ino piece.position) c.piece_bytes-text.result
     (extent_data_text (extent_data_of piece)) c.piece_key-there.ensures c.piece_bytes-text.ensures

@@ -35,7 +35,7 @@ returns-in_err-take_step-clause-told g c items names stands applies =
     let steps = c.args.steps.now in
     let at = is-at steps i step c.loop-step-test.true c.step-item.is in
     let before = g.D.Disk.history c.args.disk.now in
-    made-handed (length steps) c.args.fs.now c.take_step.new.fs before (after_steps c.args.ino steps items) names
+    made-handed (length steps) 0 c.args.fs.now c.take_step.new.fs before (after_steps c.args.ino steps items) names
     c.args.reads.now c.take_step.new.reads c.from_residual.result _
     (handed c.from_residual.result _ c.from_residual.ensures.1)
     (steps-failed c.args.ino steps i step at c.args.fs.now c.loop-step.fs before (g.D.Disk.history c.loop-step.disk)

@@ -17,9 +17,9 @@ returns-in_err-steps-clause-told g c edits items names stands can =
     let fs = c.args.fs.now in
     let before = g.D.Disk.history c.args.disk.now in
     let left = after_exchange c.args.ino c.args.change.now items in
-    made-handed edits fs fs before left names c.args.reads.now c.args.reads.now c.from_residual.result NoMemory
+    made-handed edits 0 fs fs before left names c.args.reads.now c.args.reads.now c.from_residual.result NoMemory
     (handed c.from_residual.result NoMemory c.from_residual.ensures.1)
-    (made-not edits fs fs before left names c.args.reads.now NoMemory tt)
+    (made-not edits 0 fs fs before left names c.args.reads.now NoMemory tt)
 
 pub returns-in_err-steps-clause-leaves : goal.returns-in_err-steps-clause-leaves
 returns-in_err-steps-clause-leaves g c =
@@ -32,7 +32,7 @@ returns-in_err-take_steps-clause-told g c edits items names stands can =
     let steps = c.as_slice.result.now in
     let are = subst (λ (xs : List Step). AreSteps change.gone change.put xs) (sym c.as_slice.ensures.value)
     c.in_ok-steps.ensures.value in
-    made-handed edits c.args.fs.now c.take_steps.new.fs before (after_exchange c.args.ino change items) names
+    made-handed edits 0 c.args.fs.now c.take_steps.new.fs before (after_exchange c.args.ino change items) names
     c.args.reads.now c.take_steps.new.reads c.from_residual-in_err-take_steps.result _
     (handed c.from_residual-in_err-take_steps.result _ c.from_residual-in_err-take_steps.ensures.1)
     (items-failed edits c.args.ino change steps c.args.fs.now c.take_steps.new.fs before c.args.reads.now

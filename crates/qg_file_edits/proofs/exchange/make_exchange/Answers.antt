@@ -1,9 +1,12 @@
-use Rattle.std.proofs.Common.{◌++◌, ℕ, List, arith, sym, subst, ◌∙◌}
+use Rattle.std.proofs.Common.{◌++◌, ℕ, List, arith, length, sym, subst, ◌∙◌}
+use Rattle.std.specs.Option.{option_to_list}
 use Rattle.std.specs.List.{filter_map, flat_map}
 use Rattle.qg_num.specs.declared.piece.Piece.{Piece}
 use Rattle.qg_node.specs.declared.item.Item.{Item}
 use Rattle.qg_contents.specs.Written.{items_of_file}
 use Rattle.qg_edit.proofs.Leaves.{ok-known}
+use Rattle.qg_refs.specs.declared.kept.Kept.{Kept}
+use Rattle.qg_extents.specs.Table.{IsTable}
 use Rattle.qg_exchange.specs.Named.{named, names_of}
 use Rattle.qg_fs_tree.specs.Standing.{Stands, name_told}
 use Rattle.qg_file_edits.specs.Naming.{AreCovered, AreNamed}
@@ -27,6 +30,20 @@ edit_items-requires-clause-gone g c = c.requires.ready.gone
 pub edit_items-requires-clause-put : goal.edit_items-requires-clause-put
 edit_items-requires-clause-put g c = c.requires.ready.put
 
+-- ---- the book ascends, whatever is answered
+
+pub returns-in_err-name_those_put-clause-table : goal.returns-in_err-name_those_put-clause-table
+returns-in_err-name_those_put-clause-table g c =
+    subst (λ (refs : List (ℕ × Kept)). IsTable refs) c.refs.ensures c.len-ascending.ensures.table
+
+pub returns-in_err-edit_items-clause-table : goal.returns-in_err-edit_items-clause-table
+returns-in_err-edit_items-clause-table g c =
+    subst (λ (refs : List (ℕ × Kept)). IsTable refs) c.refs.ensures c.len-ascending.ensures.table
+
+pub returns-clause-table : goal.returns-clause-table
+returns-clause-table g c =
+    subst (λ (refs : List (ℕ × Kept)). IsTable refs) c.refs.ensures c.len-ascending.ensures.table
+
 -- ---- pieces that cannot be named
 
 pub returns-in_err-name_those_put-clause-told : goal.returns-in_err-name_those_put-clause-told
@@ -41,9 +58,11 @@ returns-in_err-name_those_put-clause-told g c edits files files_new stands makes
     stands makes _
     (λ some names here known few.
     c.in_err-name_those_put.ensures.named before bytes some names c.requires.subvolume here known few) in
-    made-handed edits old new before items (named files_new) c.args.reads.now c.args.reads.now c.from_residual.result _
+    made-handed edits (length (c.args.change.now.named ++ option_to_list c.args.change.now.new))
+    old new before items (named files_new) c.args.reads.now c.args.reads.now c.from_residual.result _
     (handed c.from_residual.result _ c.from_residual.ensures.1)
-    (made-not edits old new before items (named files_new) c.args.reads.now _ failed.sound)
+    (made-not edits (length (c.args.change.now.named ++ option_to_list c.args.change.now.new))
+    old new before items (named files_new) c.args.reads.now _ failed.sound)
 
 pub returns-in_err-name_those_put-clause-leaves : goal.returns-in_err-name_those_put-clause-leaves
 returns-in_err-name_those_put-clause-leaves g c =
@@ -75,12 +94,13 @@ returns-in_err-edit_items-clause-told g c edits files files_new stands makes =
     let nodes = c.in_ok-name_those_put.ensures.nodes in
     let edited = then-edited edits ino change files files_new old mid before bytes c.requires.subvolume stands makes
     nodes
-    begun.done new c.args.reads.now c.edit_items.new.reads _ (c.in_err-edit_items.ensures.told edits) in
-    made-handed edits old new before items (named files_new) c.args.reads.now c.edit_items.new.reads
+    begun.done c.in_ok-name_those_put.ensures.heavier new c.args.reads.now c.edit_items.new.reads _ (c.in_err-edit_items.ensures.told edits) in
+    made-handed edits (length (c.args.change.now.named ++ option_to_list c.args.change.now.new))
+    old new before items (named files_new) c.args.reads.now c.edit_items.new.reads
     c.from_residual-in_err-edit_items.result _
     (handed c.from_residual-in_err-edit_items.result _ c.from_residual-in_err-edit_items.ensures.1)
     (edit-failed edits ino change files files_new old mid before bytes c.requires.subvolume stands makes nodes
-    begun.done
+    begun.done c.in_ok-name_those_put.ensures.heavier
     new c.args.reads.now c.edit_items.new.reads _ edited)
 
 pub returns-in_err-edit_items-clause-leaves : goal.returns-in_err-edit_items-clause-leaves
@@ -112,16 +132,16 @@ returns-clause-told g c edits files files_new stands makes =
     c.in_ok-name_those_put.ensures.named before bytes some names c.requires.subvolume here known few) in
     let nodes = c.in_ok-name_those_put.ensures.nodes in
     let made = then-edited edits ino change files files_new old mid before bytes c.requires.subvolume stands makes nodes
-    begun.done edited c.args.reads.now c.edit_items.new.reads _ (c.in_ok-edit_items.ensures.told edits) in
+    begun.done c.in_ok-name_those_put.ensures.heavier edited c.args.reads.now c.edit_items.new.reads _ (c.in_ok-edit_items.ensures.told edits) in
     let unnamed = subst (λ (xs : List Piece). (some : List Item) (names : List (ℕ × Piece))
     → Stands edited after some (names_of ino xs ++ names)
     → AreCovered edited.tree.owner (filter_map name_told some) names
     → AreNamed edited new after some names c.unname_each.result) c.as_slice.ensures
     (λ some names. c.unname_each.ensures.unnamed after left some names leaves.subvolume) in
     last-unnamed edits ino change files files_new old mid before bytes c.requires.subvolume stands makes nodes
-    begun.done
+    begun.done c.in_ok-name_those_put.ensures.heavier
     edited new after left c.args.reads.now c.edit_items.new.reads c.unname_each.result leaves.history leaves.subvolume
-    c.unname_each.ensures.nodes made unnamed
+    c.unname_each.ensures.nodes c.unname_each.ensures.heavier made unnamed
 
 pub returns-clause-leaves : goal.returns-clause-leaves
 returns-clause-leaves g c =

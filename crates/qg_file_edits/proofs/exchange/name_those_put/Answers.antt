@@ -1,6 +1,9 @@
+use Rattle.std.specs.Option.{option_to_list}
+use Rattle.std.proofs.lemmas.Result.{on_ok_weaker}
 use Rattle.qg_file_edits.proofs.Handed.{handed, named-failed}
 use Rattle.qg_file_edits.proofs.Kept.{nodes-then}
 use Rattle.qg_file_edits.proofs.Besides.{named-later}
+use Rattle.qg_file_edits.proofs.Named.{heavier-named_both}
 use Rattle.qg_file_edits.proofs.exchange.name_those_put.Goals as goal
 
 pub name_new-requires : goal.name_new-requires
@@ -21,6 +24,14 @@ returns-clause-named c history bytes items names subvolume stands known few =
     (c.in_ok-name_new.ensures.nodes.subvolume history bytes subvolume)
     (c.in_ok-name_new.ensures.named history bytes items names subvolume stands).done
     (λ others. c.name_each.ensures.named history bytes items others)
+
+pub returns-clause-heavier : goal.returns-clause-heavier
+returns-clause-heavier c =
+    let change = c.args.change.now in
+    on_ok_weaker c.name_each.result
+    (λ later. heavier-named_both c.args.fs.now.refs c.name_new.new.fs.refs c.name_each.new.fs.refs c.as_slice.result.now
+    change.named (option_to_list change.new) c.as_slice.ensures c.in_ok-name_new.ensures.heavier later)
+    c.name_each.ensures.heavier
 
 pub returns-clause-nodes : goal.returns-clause-nodes
 returns-clause-nodes c =

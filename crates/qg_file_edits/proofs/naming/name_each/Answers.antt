@@ -1,6 +1,7 @@
-use Rattle.std.proofs.Common.{◌++◌, List, take, subst}
+use Rattle.std.proofs.Common.{◌++◌, ◌*◌, List, length, take, subst}
 use Rattle.std.proofs.lemmas.List.{take_all}
 use Rattle.qg_num.specs.declared.piece.Piece.{Piece}
+use Rattle.qg_heavier.specs.Heavier.{BookGetsHeavier, name_bytes}
 use Rattle.qg_exchange.specs.Named.{names_of}
 use Rattle.qg_file_edits.specs.Naming.{StandsMoved}
 use Rattle.qg_file_edits.proofs.Handed.{handed, misfit-other, named-failed}
@@ -20,7 +21,7 @@ loop-piece-preserved c =
     names-more c.args.fs.now c.loop-piece.fs c.args.ino c.args.pieces.now i piece at c.name.new.self
     c.loop-piece.invariant
     (record { tree = c.name.ensures.tree; subvolume = c.name.ensures.subvolume; slots = c.name.ensures.slots })
-    c.in_ok-name.ensures.marks
+    c.in_ok-name.ensures.marks c.in_ok-name.ensures.heavier
     (λ history bytes items names can.
     c.in_ok-name.ensures.named history bytes items names can.subvolume can.stands can.among can.few)
 
@@ -51,6 +52,11 @@ returns-clause-named c history bytes items names subvolume stands among few =
           (names_of c.args.ino xs ++ names)) all done;
       sound = tt;
     }
+
+pub returns-clause-heavier : goal.returns-clause-heavier
+returns-clause-heavier c =
+    subst (λ (xs : List Piece). BookGetsHeavier c.args.fs.now.refs c.loop-piece.fs.refs (length xs * name_bytes))
+    (take_all c.loop-piece.piece-index c.args.pieces.now c.loop-piece-test.false) c.loop-piece.invariant.heavier
 
 pub returns-clause-nodes : goal.returns-clause-nodes
 returns-clause-nodes c = c.loop-piece.invariant.nodes

@@ -1,8 +1,10 @@
-use Rattle.std.proofs.Common.{◌++◌, Ok, sym, subst}
-use Rattle.std.specs.Prelude.{⊤, IsTrue, MatchOption, Option}
+use Rattle.std.proofs.Common.{◌++◌, ◌*◌, Ok, length, sym, subst}
+use Rattle.std.specs.Prelude.{⊤, IsTrue, MatchOption, OnOk, Option}
 use Rattle.std.specs.Option.{option_to_list}
 use Rattle.qg_num.specs.declared.piece.Piece.{Piece}
 use Rattle.qg_space.specs.Holding.{is_free_run}
+use Rattle.qg_heavier.specs.Heavier.{BookGetsHeavier, name_new_bytes}
+use Rattle.qg_heavier.proofs.Sums.{BookGetsHeavier-same}
 use Rattle.qg_exchange.specs.Named.{names_of}
 use Rattle.qg_fs_layout.proofs.Moved.{moves-itself}
 use Rattle.qg_file_edits.specs.Naming.{AreNamed}
@@ -48,6 +50,16 @@ returns-in-None-clause-named c history bytes items names subvolume stands =
     subst (λ (o : Option Piece). AreNamed c.args.fs.now c.args.fs.now history items
     (names_of c.args.ino (option_to_list o) ++ names) (Ok tt)) (sym c.in-None.is)
     (record { done = record { stands = stands; moved = moves-itself c.args.fs.now history }; sound = tt })
+
+pub returns-in-Some-clause-heavier : goal.returns-in-Some-clause-heavier
+returns-in-Some-clause-heavier c =
+    subst (λ (o : Option Piece). OnOk c.name_new.result (BookGetsHeavier c.args.fs.now.refs c.name_new.new.self.refs
+    (length (option_to_list o) * name_new_bytes))) (sym c.in-Some.is) c.name_new.ensures.heavier
+
+pub returns-in-None-clause-heavier : goal.returns-in-None-clause-heavier
+returns-in-None-clause-heavier c =
+    subst (λ (o : Option Piece). BookGetsHeavier c.args.fs.now.refs c.args.fs.now.refs
+    (length (option_to_list o) * name_new_bytes)) (sym c.in-None.is) (BookGetsHeavier-same c.args.fs.now.refs)
 
 pub returns-in-None-clause-nodes : goal.returns-in-None-clause-nodes
 returns-in-None-clause-nodes c = nodes-itself c.args.fs.now

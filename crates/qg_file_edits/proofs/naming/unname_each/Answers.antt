@@ -20,7 +20,7 @@ loop-piece-preserved c =
     unnames-more c.args.fs.now c.loop-piece.fs c.args.ino c.args.pieces.now i piece at c.unname.new.self
     c.loop-piece.invariant
     (record { tree = c.unname.ensures.tree; subvolume = c.unname.ensures.subvolume; slots = c.unname.ensures.slots })
-    c.in_ok-unname.ensures.marks
+    c.in_ok-unname.ensures.marks c.in_ok-unname.ensures.heavier
     (λ history bytes items names can.
     c.in_ok-unname.ensures.unnamed history bytes items names can.subvolume can.stands can.covered)
 
@@ -50,6 +50,9 @@ returns-clause-unnamed c history bytes items names subvolume stands covered =
           (names_of c.args.ino xs ++ names)) all done;
       sound = tt;
     }
+
+pub returns-clause-heavier : goal.returns-clause-heavier
+returns-clause-heavier c = c.loop-piece.invariant.heavier
 
 pub returns-clause-nodes : goal.returns-clause-nodes
 returns-clause-nodes c = c.loop-piece.invariant.nodes

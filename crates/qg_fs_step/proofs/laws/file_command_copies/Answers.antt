@@ -7,6 +7,6 @@ returns-clause-whole c = λ fs history bytes state mine files kept keeps.
     (whole fs history bytes state mine files kept keeps, counts fs history bytes state mine files kept keeps)
 
 pub returns-clause-copies : goal.returns-clause-copies
-returns-clause-copies c = λ old new history bytes left copies before mine files files_new last
-    kept keeps kept_new leaves read runs few.
-    follows old new history bytes left copies before mine files files_new last kept keeps kept_new leaves read runs few
+returns-clause-copies c = λ old new history bytes left pieces before mine files files_new last
+    kept keeps kept_new leaves runs.
+    follows old new history bytes left pieces before mine files files_new last kept keeps kept_new leaves runs

@@ -1,4 +1,4 @@
-use Rattle.std.proofs.Common.{◌≡◌, ◌+◌, ◌*◌, ◌++◌, ℕ, suc, append_assoc, arith, sym, ap, subst, ◌∙◌}
+use Rattle.std.proofs.Common.{◌≡◌, ◌+◌, ◌*◌, ◌++◌, ℕ, suc, append_assoc, arith, sym, ap, subst, ◌∙◌, inr}
 use Rattle.std.proofs.Math.Nat.{mul-suc}
 use Rattle.std.proofs.lemmas.Result.{on_ok_weaker}
 use Rattle.std.specs.Prelude.{List, None, Option}
@@ -13,6 +13,11 @@ use Rattle.qg_tree_edits.specs.Counting.{IsPartTold, IsRootTold}
 use Rattle.qg_tree_edits.specs.Rooting.{HasRoot, StandsForRoot}
 use Rattle.qg_tree_edits.proofs.Replaced.{done-both, edited-root, fit-root, low-root, stands-root, told-root}
 use Rattle.qg_ground.proofs.Owners.{IsOwnedBy-after}
+use Rattle.qg_tree_edits.proofs.Naming.{names-other, names-weaker}
+use Rattle.qg_tree_edits.proofs.Unfit.{unfit-under}
+use Rattle.qg_tree_edits.specs.Failing.{CantGrow, FailsUnder, IsUnfit}
+use Rattle.qg_tree_edits.specs.declared.instead.Instead.{Instead}
+use Rattle.std.proofs.lemmas.Result.{err_from_is_err_and}
 use Rattle.qg_tree_edits.proofs.changing.edit_tree.Goals as goal
 
 pub returns-in_err-instead-clause-reads : goal.returns-in_err-instead-clause-reads
@@ -124,3 +129,29 @@ returns-clause-owners g c =
     on_ok_weaker c.set_root.result
     (λ last. IsOwnedBy-after c.args.tree.now.owner c.args.land.now c.edit_under.new.land c.set_root.new.land c.in_ok-instead.ensures.owners last)
     c.set_root.ensures.owners
+
+-- ---- where a rule is named
+
+pub returns-in_err-instead-clause-broken : goal.returns-in_err-instead-clause-broken
+returns-in_err-instead-clause-broken g c events told_is =
+    let p = err_from_is_err_and c.from_residual.result c.from_residual.ensures.1 in
+    let tree = g.P.TreePart.tree in
+    let root = c.args.tree.now in
+    let edit = c.args.edit in
+    let land = c.args.land.now in
+    let new = c.edit_under.new.land in
+    let way = c.way-way.result in
+    let level = c.height-level.result in
+    rw (p.1, p.2) (names-other Instead (Unit {0}) c.in_err-instead.field-0.0
+    (FailsUnder tree root edit events level way.expected way.address land new) (IsUnfit tree root edit land new events)
+    (λ rule address bad. unfit-under tree root edit events level way.expected way.address land new rule address
+    c.height-level.ensures c.way-way.ensures.expected c.way-way.ensures.address bad)
+    (c.in_err-instead.ensures.broken events told_is))
+
+pub returns-clause-broken : goal.returns-clause-broken
+returns-clause-broken g c events told_is =
+    let new = c.set_root.new.land in
+    names-weaker c.set_root.result (CantGrow c.args.tree.now new)
+    (IsUnfit g.P.TreePart.tree c.args.tree.now c.args.edit c.args.land.now new events)
+    (λ rule address bad. record { is = inr bad })
+    (c.set_root.ensures.broken events (c.edit_under.ensures.disk.0 ∙ told_is))

@@ -31,6 +31,9 @@ use Rattle.qg_tree_edits.proofs.Served.{node-drafted, slots-most}
 use Rattle.qg_tree_edits.proofs.Turning.{four-in-row}
 use Rattle.qg_ground.proofs.Owners.{IsOwnedBy-after}
 use Rattle.qg_tree_edits.proofs.Owners.{placed-owners}
+use Rattle.qg_tree_edits.proofs.Naming.{names-none, names-other}
+use Rattle.qg_tree_edits.proofs.Unfit.{fails-above, fails-below, fails-read, leads-down, owned-stands, placed-stands}
+use Rattle.qg_tree_edits.specs.Failing.{CantSettle, FailsUnder, IsRefused, NamesOnly}
 use Rattle.qg_tree_edits.proofs.editing.+edit_under.Goals as goal
 
 pub returns-in_err-now-clause-sound : goal.returns-in_err-now-clause-sound
@@ -362,4 +365,97 @@ returns-clause-owners g t c =
     (λ instead placed. IsOwnedBy-after owner land mid end c.in_ok-now.ensures.owners
     (IsOwnedBy-after owner mid low end c.in_ok-child.ensures.owners
     (placed-owners owner low set end c.in_ok-now.now c.in_ok-rest.rest instead settled.0 settled.1 placed)))
+    c.place_rest.ensures.placed
+
+-- ---- where a rule is named
+
+pub returns-then-level-eq0-clause-broken : goal.returns-then-level-eq0-clause-broken
+returns-then-level-eq0-clause-broken g t c events told_is =
+    subst (λ (n : ℕ). NamesOnly (FailsUnder g.P.TreePart.tree c.args.tree.now c.args.edit events n c.args.way.expected c.args.way.address c.args.land.now c.edit_there.new.land) c.edit_there.result)
+    (sym c.if-level-eq0.true) (c.edit_there.ensures.broken events told_is)
+
+pub returns-in_err-now-clause-broken : goal.returns-in_err-now-clause-broken
+returns-in_err-now-clause-broken g t c events told_is =
+    let p = err_from_is_err_and c.from_residual.result c.from_residual.ensures.1 in
+    let tree = g.P.TreePart.tree in
+    let root = c.args.tree.now in
+    let land = c.args.land.now in
+    let new = c.own.new.land in
+    let expected = c.args.way.expected in
+    let at = c.args.way.address in
+    rw (p.1, p.2) (names-other ℕ Instead c.in_err-now.field-0.0 (IsRefused tree root land new events expected at)
+    (FailsUnder tree root c.args.edit events c.args.level expected at land new)
+    (λ rule address bad. fails-read tree root c.args.edit events expected at land new rule address c.args.level bad.0)
+    (c.in_err-now.ensures.broken events told_is))
+
+pub returns-in_err-child-clause-broken : goal.returns-in_err-child-clause-broken
+returns-in_err-child-clause-broken g t c events told_is =
+    let p = err_from_is_err_and c.from_residual-in_err-child.result c.from_residual-in_err-child.ensures.1 in
+    let tree = g.P.TreePart.tree in
+    let root = c.args.tree.now in
+    let edit = c.args.edit in
+    let land = c.args.land.now in
+    let mid = c.own.new.land in
+    let new = c.edit_under.new.land in
+    let expected = c.args.way.expected in
+    let at = c.args.way.address in
+    let now = c.in_ok-now.now in
+    let low = c.args.level - 1 in
+    let up : c.args.level ≡ suc low = omega arith in
+    let below = c.way_at-below.result in
+    let owned = c.in_ok-now.ensures.owned in
+    let leads = leads-down mid now owned.mine c.peek.result.now c.peek-2.result.now expected.to low edit c.place_for-place.result below
+    owned.here c.peek.ensures c.peek-2.ensures c.place_for-place.ensures c.way_at-below.ensures in
+    rw (p.1, p.2) (names-other Instead Instead c.in_err-child.field-0.0
+    (FailsUnder tree root edit events low below.expected below.address mid new)
+    (FailsUnder tree root edit events c.args.level expected at land new)
+    (λ rule address bad. subst (λ (n : ℕ). FailsUnder tree root edit events n expected at land new rule address) (sym up)
+    (fails-below tree root edit events expected at land new rule address mid now (g.D.Disk.history c.args.disk.now) told_is
+    low c.place_for-place.result below owned leads bad))
+    (c.in_err-child.ensures.broken events (c.own.ensures.disk.0 ∙ told_is)))
+
+pub returns-in_err-rest-clause-broken : goal.returns-in_err-rest-clause-broken
+returns-in_err-rest-clause-broken g t c events told_is =
+    let p = err_from_is_err_and c.from_residual-in_err-rest.result c.from_residual-in_err-rest.ensures.1 in
+    let tree = g.P.TreePart.tree in
+    let root = c.args.tree.now in
+    let edit = c.args.edit in
+    let land = c.args.land.now in
+    let mid = c.own.new.land in
+    let new = c.settle.new.land in
+    let expected = c.args.way.expected in
+    let at = c.args.way.address in
+    let now = c.in_ok-now.now in
+    let low = c.args.level - 1 in
+    let up : c.args.level ≡ suc low = omega arith in
+    let below = c.way_at-below.result in
+    let place = c.place_for-place.result in
+    let child = c.in_ok-child.child.now in
+    let owned = c.in_ok-now.ensures.owned in
+    let levelled = owned-levelled tree root land mid (g.D.Disk.history c.args.disk.now) expected at now owned c.args.level c.requires.levelled in
+    let above = c.in_ok-child.ensures.moves.above now owned.mine owned.here (omega (arith, levelled)) in
+    let leads = leads-down mid now owned.mine c.peek.result.now c.peek-2.result.now expected.to low edit place below
+    owned.here c.peek.ensures c.peek-2.ensures c.place_for-place.ensures c.way_at-below.ensures in
+    rw (p.1, p.2) (names-other (Option Node) Instead c.in_err-rest.field-0.0
+    (CantSettle tree root new events owned.mine now expected.to low place child)
+    (FailsUnder tree root edit events c.args.level expected at land new)
+    (λ rule address bad. subst (λ (n : ℕ). FailsUnder tree root edit events n expected at land new rule address) (sym up)
+    (fails-above tree root edit events expected at land new rule address mid now (g.D.Disk.history c.args.disk.now) told_is
+    low place below child owned leads c.in_ok-child.ensures.there bad))
+    (c.in_err-rest.ensures.broken owned.mine above events (c.edit_under.ensures.disk.0 ∙ c.own.ensures.disk.0 ∙ told_is)))
+
+pub returns-clause-broken : goal.returns-clause-broken
+returns-clause-broken g t c events told_is =
+    names-none c.place_rest.result
+    (FailsUnder g.P.TreePart.tree c.args.tree.now c.args.edit events c.args.level c.args.way.expected c.args.way.address c.args.land.now c.place_rest.new.land)
+    (c.place_rest.ensures.sound events (c.settle.ensures.disk.0 ∙ c.edit_under.ensures.disk.0 ∙ c.own.ensures.disk.0 ∙ told_is))
+
+pub returns-clause-there : goal.returns-clause-there
+returns-clause-there g t c =
+    let land = c.args.land.now in
+    let way = c.args.way in
+    let now = c.in_ok-now.now in
+    let stands = owned-stands g.P.TreePart.tree c.args.tree.now land c.own.new.land (g.D.Disk.history c.args.disk.now) way.expected way.address now c.in_ok-now.ensures.owned in
+    IfOk-weaker c.place_rest.result _ _
+    (λ instead placed. placed-stands land c.settle.new.land c.place_rest.new.land way.address now c.in_ok-rest.rest instead stands placed)
     c.place_rest.ensures.placed

@@ -25,6 +25,10 @@ use Rattle.qg_tree_edits.proofs.Served.{fresh-leaf, size-drafted, slots-most}
 use Rattle.qg_descent.proofs.Under.{under-leaf}
 use Rattle.qg_ground.proofs.Owners.{IsOwnedBy-after}
 use Rattle.qg_tree_edits.proofs.Owners.{placed-owners, rest-owner, rewritten-owners}
+use Rattle.qg_tree_edits.proofs.Naming.{names-none, names-other}
+use Rattle.qg_tree_edits.proofs.Unfit.{fails-leaf, fails-read, owned-stands, placed-stands}
+use Rattle.qg_tree_edits.specs.Failing.{FailsUnder, IsRefused}
+use Rattle.qg_edit.specs.Answering.{IsBrokenByChange}
 use Rattle.qg_tree_edits.proofs.editing.edit_there.Goals as goal
 
 pub returns-in_err-now-clause-sound : goal.returns-in_err-now-clause-sound
@@ -196,4 +200,55 @@ returns-clause-owners g c =
     let own = rest-owner owner mid now owned.mine rest owned.here stays.owned in
     IfOk-weaker c.place_rest.result _ _
     (λ instead placed. IsOwnedBy-after owner c.args.land.now mid end c.in_ok-now.ensures.owners (placed-owners owner mid set end now rest instead edited own placed))
+    c.place_rest.ensures.placed
+
+-- ---- where a rule is named
+
+pub returns-in_err-now-clause-broken : goal.returns-in_err-now-clause-broken
+returns-in_err-now-clause-broken g c events told_is =
+    let p = err_from_is_err_and c.from_residual.result c.from_residual.ensures.1 in
+    let tree = g.P.TreePart.tree in
+    let root = c.args.tree.now in
+    let land = c.args.land.now in
+    let new = c.own.new.land in
+    let expected = c.args.way.now.expected in
+    let at = c.args.way.now.address in
+    rw (p.1, p.2) (names-other ℕ Instead c.in_err-now.field-0.0 (IsRefused tree root land new events expected at)
+    (FailsUnder tree root c.args.edit events 0 expected at land new)
+    (λ rule address bad. fails-read tree root c.args.edit events expected at land new rule address 0 bad.0)
+    (c.in_err-now.ensures.broken events told_is))
+
+pub returns-in_err-rest-clause-broken : goal.returns-in_err-rest-clause-broken
+returns-in_err-rest-clause-broken g c events told_is =
+    let p = err_from_is_err_and c.from_residual-in_err-rest.result c.from_residual-in_err-rest.ensures.1 in
+    let tree = g.P.TreePart.tree in
+    let root = c.args.tree.now in
+    let edit = c.args.edit in
+    let land = c.args.land.now in
+    let mid = c.own.new.land in
+    let new = c.rewrite_leaf.new.land in
+    let expected = c.args.way.now.expected in
+    let at = c.args.way.now.address in
+    let owned = c.in_ok-now.ensures.owned in
+    rw (p.1, p.2) (names-other (Option Node) Instead c.in_err-rest.field-0.0
+    (IsBrokenByChange mid.space.sizes.nodesize edit.key edit.change owned.mine)
+    (FailsUnder tree root edit events 0 expected at land new)
+    (λ rule address bad. fails-leaf tree root edit events expected at land new rule address mid c.in_ok-now.now
+    (g.D.Disk.history c.args.disk.now) told_is owned bad)
+    (c.in_err-rest.ensures.broken owned.mine owned.here))
+
+pub returns-clause-broken : goal.returns-clause-broken
+returns-clause-broken g c events told_is =
+    names-none c.place_rest.result
+    (FailsUnder g.P.TreePart.tree c.args.tree.now c.args.edit events 0 c.args.way.now.expected c.args.way.now.address c.args.land.now c.place_rest.new.land)
+    (c.place_rest.ensures.sound events (c.own.ensures.disk.0 ∙ told_is))
+
+pub returns-clause-there : goal.returns-clause-there
+returns-clause-there g c =
+    let land = c.args.land.now in
+    let way = c.args.way.now in
+    let now = c.in_ok-now.now in
+    let stands = owned-stands g.P.TreePart.tree c.args.tree.now land c.own.new.land (g.D.Disk.history c.args.disk.now) way.expected way.address now c.in_ok-now.ensures.owned in
+    IfOk-weaker c.place_rest.result _ _
+    (λ instead placed. placed-stands land c.rewrite_leaf.new.land c.place_rest.new.land way.address now c.in_ok-rest.rest instead stands placed)
     c.place_rest.ensures.placed

@@ -3,6 +3,7 @@ use Rattle.std.specs.Prelude.{Ok}
 use Rattle.qg_shape.specs.declared.joining.Joined.TheVariants.{Whole, Parted}
 use Rattle.qg_tree_edits.proofs.Pairs.{AreRewritten-err, AreRewritten-parted, AreRewritten-whole, AreTaken-pair, BreaksNone-joined, IsJoinedThere-err, IsJoinedThere-parted, IsJoinedThere-whole, taken-left, taken-right}
 use Rattle.qg_tree_edits.proofs.joining.join_nodes.Goals.{in_default-via-in-Ok+in_default, in_default-via-in_default}
+use Rattle.qg_tree_edits.proofs.Pairs.{names-joined}
 use Rattle.qg_tree_edits.proofs.joining.join_nodes.Goals as goal
 
 pub get_mut-requires : goal.get_mut-requires
@@ -78,3 +79,12 @@ returns-in_default-clause-sound c =
     let taken = AreTaken-pair c.args.land.now c.take_node-other.new.land c.args.left c.args.right c.nodesize-nodesize.result c.get_mut.result.now c.take_node-other.result
     c.requires.apart c.requires.pair c.nodesize-nodesize.ensures c.take_node-other.ensures.taken c.take_node-other.ensures.left c.get_mut.ensures.value in
     BreaksNone-joined c.args.land.now c.take_node-other.new.land c.args.left c.args.right c.nodesize-nodesize.result c.get_mut.result.now c.take_node-other.result c.merge-joined.result taken c.merge-joined.ensures.sound
+
+-- ---- where a rule is named
+
+pub returns-in_default-clause-broken : goal.returns-in_default-clause-broken
+returns-in_default-clause-broken c =
+    let taken = AreTaken-pair c.args.land.now c.take_node-other.new.land c.args.left c.args.right c.nodesize-nodesize.result c.get_mut.result.now c.take_node-other.result
+    c.requires.apart c.requires.pair c.nodesize-nodesize.ensures c.take_node-other.ensures.taken c.take_node-other.ensures.left c.get_mut.ensures.value in
+    names-joined c.args.land.now c.take_node-other.new.land c.args.left c.args.right c.nodesize-nodesize.result c.get_mut.result.now c.take_node-other.result c.merge-joined.new.left c.merge-joined.new.right
+    c.merge-joined.result taken c.merge-joined.ensures.answers c.merge-joined.ensures.left_err c.merge-joined.ensures.right_err

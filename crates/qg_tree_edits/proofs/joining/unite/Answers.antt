@@ -7,6 +7,9 @@ use Rattle.qg_tree_edits.specs.declared.instead.Instead.{Instead}
 use Rattle.qg_tree_edits.proofs.Levels.{both-space, joined-empties, joined-levels}
 use Rattle.qg_tree_edits.proofs.ToldUnited.{left-cleared}
 use Rattle.qg_tree_edits.proofs.United.{between-backed, both-backed, both-rests, first-spares, fresh-unbroken, later-spares}
+use Rattle.qg_tree_edits.proofs.Naming.{names-none_other, names-other}
+use Rattle.qg_tree_edits.specs.Failing.{ArentJoined}
+use Rattle.qg_shape.specs.declared.joining.Joined.{Joined}
 use Rattle.qg_tree_edits.proofs.joining.unite.Goals as goal
 
 pub returns-in_err-join_nodes-clause-rests : goal.returns-in_err-join_nodes-clause-rests
@@ -92,3 +95,21 @@ returns-in_ok-leave_node-in-Whole-clause-settled g c generation drafted settled 
     c.in_ok-leave_node-in-Whole.ensures.settled old
     (joined-empties old new c.args.left c.args.right c.requires.apart c.requires.pair are c.in_ok-join_nodes.field-0 joined c.in-Whole.is
     (one.drafted.each c.args.right joined.b joined.right_there).kept.placed) settled
+
+-- ---- where a rule is named
+
+pub returns-in_err-join_nodes-clause-broken : goal.returns-in_err-join_nodes-clause-broken
+returns-in_err-join_nodes-clause-broken g c events is a b here there =
+    let p = err_from_is_err_and c.from_residual.result c.from_residual.ensures.1 in
+    let unjoined = ArentJoined c.join_nodes.new.land c.args.left c.args.right a b in
+    rw (p.1, p.2) (names-other Joined Instead c.in_err-join_nodes.field-0.0 unjoined unjoined (λ rule address bad. bad)
+    (c.in_err-join_nodes.ensures.broken a b here there))
+
+pub returns-in_err-leave_node-in-Whole-clause-broken : goal.returns-in_err-leave_node-in-Whole-clause-broken
+returns-in_err-leave_node-in-Whole-clause-broken g c events is a b here there =
+    let p = err_from_is_err_and c.from_residual-in_err-leave_node-in-Whole.result c.from_residual-in_err-leave_node-in-Whole.ensures.1 in
+    let joined = c.in_ok-join_nodes.ensures.joined in
+    rw (p.1, p.2) (names-none_other Instead Instead c.in_err-leave_node-in-Whole.field-0.0
+    (ArentJoined c.leave_node.new.land c.args.left c.args.right a b)
+    (fresh-unbroken (Unit {0}) Instead c.in_err-leave_node-in-Whole.field-0.0 c.join_nodes.new.land.blocks.draft (content events) c.args.right joined.b joined.right_there
+    (c.in_err-leave_node-in-Whole.ensures.answers events is)))

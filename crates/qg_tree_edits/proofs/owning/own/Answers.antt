@@ -1,5 +1,5 @@
-use Rattle.std.proofs.Common.{◌≡◌, List, refl, sym, ap, subst, ◌∙◌, Option, Some}
-use Rattle.std.proofs.lemmas.Result.{IfOk-weaker}
+use Rattle.std.proofs.Common.{◌≡◌, ℕ, List, refl, sym, ap, subst, ◌∙◌, Option, Some}
+use Rattle.std.proofs.lemmas.Result.{IfOk-weaker, err_from_is_err_and}
 use Rattle.qg_device.specs.History.{Event}
 use Rattle.qg_blocks.specs.Held.{Draft}
 use Rattle.qg_blocks.specs.Told.{fresh_at, told}
@@ -10,6 +10,8 @@ use Rattle.qg_ground.proofs.Settling.{KeepsLevels-draft}
 use Rattle.qg_tree_edits.proofs.Owned.{IsOwned-visited, owned-unbroken}
 use Rattle.qg_tree_edits.proofs.ToldOwned.{tells-owned}
 use Rattle.qg_ground.proofs.Owners.{IsOwnedBy-after, IsOwnedBy-draft, IsOwnedBy-owned}
+use Rattle.qg_tree_edits.proofs.Naming.{names-none, names-refused}
+use Rattle.qg_tree_edits.specs.Failing.{IsRefused}
 use Rattle.qg_tree_edits.proofs.owning.own.Goals as goal
 
 pub visit-requires : goal.visit-requires
@@ -73,3 +75,22 @@ returns-clause-owners g c =
     (λ now owned. IsOwnedBy-after owner c.args.land.now mid c.own_node.new.land first
     (IsOwnedBy-owned mid c.own_node.new.land (g.D.Disk.history c.visit.new.disk) c.args.way.now.address now owner c.args.tree.now.next owned))
     (rw (c.owner.ensures, c.next.ensures) at c.own_node.ensures.owned)
+
+-- ---- where a rule is named
+
+pub returns-in_err-visit-clause-broken : goal.returns-in_err-visit-clause-broken
+returns-in_err-visit-clause-broken g c events told_is =
+    let p = err_from_is_err_and c.from_residual.result c.from_residual.ensures.1 in
+    let land = c.args.land.now in
+    let mid : Ground = record land { blocks = c.visit.new.blocks } in
+    rw (p.1, p.2) (names-refused (Unit {0}) ℕ g.P.TreePart.tree c.args.tree.now land mid events c.args.way.now.expected
+    c.args.way.now.address c.in_err-visit.field-0.0 c.visit.ensures.read.draft (c.in_err-visit.ensures.broken events told_is))
+
+pub returns-clause-broken : goal.returns-clause-broken
+returns-clause-broken g c events told_is =
+    let visited = c.in_ok-visit.ensures.visited in
+    names-none c.own_node.result
+    (IsRefused g.P.TreePart.tree c.args.tree.now c.args.land.now c.own_node.new.land events c.args.way.now.expected
+    c.args.way.now.address)
+    (owned-unbroken c.own_node.result c.visit.new.blocks.draft c.args.land.now.blocks.draft (g.D.Disk.history c.visit.new.disk) (g.D.Disk.history c.args.disk.now) c.args.way.now.address visited.node
+    c.visit.ensures.read.draft c.visit.ensures.read.history (λ some. (c.own_node.ensures.same some).0) c.own_node.ensures.answers (visited.tells events told_is))

@@ -1,10 +1,16 @@
-use Rattle.std.proofs.Common.{◌∙◌}
+use Rattle.std.proofs.Common.{◌∙◌, ◌≡◌, subst}
 use Rattle.qg_node.specs.declared.node.Node.{Node}
 use Rattle.qg_node.specs.Nodes.{own_pointers}
 use Rattle.qg_shape.specs.Parts.{with_pointers}
 use Rattle.qg_edit.specs.Outcome.{spliced}
 use Rattle.qg_tree_edits.proofs.Fitting.{none-cut}
 use Rattle.qg_tree_edits.proofs.Rewritten.{IsCutThere-edited}
+use Rattle.qg_tree_edits.proofs.Naming.{names-answers}
+use Rattle.qg_tree_edits.specs.Failing.{NamesOnly}
+use Rattle.qg_edit.specs.Answering.{CanSplice, IsBrokenUnless}
+use Rattle.qg_num.specs.declared.rule.Rule.TheVariants.{Refs}
+use Rattle.qg_tree_edits.proofs.Rewritten.{same_node}
+use Rattle.qg_blocks.specs.Told.{fresh_at}
 use Rattle.qg_tree_edits.proofs.rewriting.rewrite_pointers.Goals as goal
 
 pub splice-requires-clause-within : goal.splice-requires-clause-within
@@ -21,3 +27,13 @@ returns-clause-fits c few =
     let within = c.requires.within node c.get_mut.ensures.value in
     none-cut c.nodesize-nodesize.result c.args.land.now.space.sizes.nodesize c.args.from c.args.to node c.args.new.now c.splice.result (c.requires.inner node c.get_mut.ensures.value)
     (c.requires.sound node c.get_mut.ensures.value) (c.nodesize-nodesize.ensures ∙ c.requires.nodesize) within.0 within.1 few c.splice.ensures.overfull
+
+-- ---- where a rule is named
+
+pub returns-clause-broken : goal.returns-clause-broken
+returns-clause-broken c node is =
+    let was = c.get_mut.result.now in
+    let same : was ≡ node = same_node (fresh_at c.args.land.now.blocks.draft c.args.at) was node c.get_mut.ensures.value is in
+    subst (λ (n : Node). NamesOnly (IsBrokenUnless Refs n (CanSplice c.args.from c.args.to c.args.new.now n)) c.splice.result) same
+    (names-answers c.splice.result (CanSplice c.args.from c.args.to c.args.new.now was)
+    (IsBrokenUnless Refs was (CanSplice c.args.from c.args.to c.args.new.now was)) c.splice.ensures.answers)

@@ -1,4 +1,4 @@
-use Rattle.std.proofs.Common.{◌≡◌, ◌+◌, ℕ, [], ◌∷◌, add-one, refl, sym, ap, subst, ◌∙◌, inl}
+use Rattle.std.proofs.Common.{◌≡◌, ◌+◌, ℕ, [], ◌∷◌, add-one, refl, sym, ap, subst, ◌∙◌, inl, arith}
 use Rattle.std.proofs.lemmas.Result.{err_from_is_err_and}
 use Rattle.qg_node.specs.declared.node.Node.{Node}
 use Rattle.qg_node.specs.Nodes.{header_of}
@@ -16,6 +16,9 @@ use Rattle.qg_tree_edits.proofs.Grown.{above-ascends, grown-above, told-above, t
 use Rattle.qg_tree_edits.proofs.Rejoined.{unbroken-other}
 use Rattle.qg_tree_edits.proofs.Served.{size-drafted}
 use Rattle.qg_ground.proofs.Owners.{IsOwnedBy-draft, IsOwnedBy-made}
+use Rattle.qg_tree_edits.proofs.Naming.{names-none_other, names-other}
+use Rattle.qg_tree_edits.proofs.Unfit.{cant-grow}
+use Rattle.qg_tree_edits.specs.Failing.{CantGrow}
 use Rattle.qg_tree_edits.proofs.rooting.grow.Goals as goal
 
 pub returns-in_err-node-clause-sound : goal.returns-in_err-node-clause-sound
@@ -74,3 +77,29 @@ returns-clause-owners g c =
     let land = c.args.land.now in
     let own : (header_of c.in_ok-node.node).owner ≡ owner = ap (λ (n : Node). (header_of n).owner) c.in_ok-node.ensures.above ∙ c.owner.ensures in
     IsOwnedBy-made owner land land c.make_node.new.land c.in_ok-root.root c.in_ok-node.node (IsOwnedBy-draft owner land land refl) c.in_ok-root.ensures.made (inl own)
+
+-- ---- where a rule is named
+
+pub returns-then-height-ge-HIGHEST-clause-broken : goal.returns-then-height-ge-HIGHEST-clause-broken
+returns-then-height-ge-HIGHEST-clause-broken g c events told_is =
+    let high = c.height.ensures in
+    let enough = c.if-height-ge-HIGHEST.true in
+    record { more = c.args.more; first = c.requires.first; second = c.requires.second; refs = refl; high = inl (omega (arith, high, enough)) }
+
+pub returns-in_err-node-clause-broken : goal.returns-in_err-node-clause-broken
+returns-in_err-node-clause-broken g c events told_is =
+    let p = err_from_is_err_and c.from_residual.result c.from_residual.ensures.1 in
+    let root = c.args.tree.now in
+    let land = c.args.land.now in
+    let first = fresh-held land.blocks c.args.now c.requires.first.node c.peek.result.now c.requires.first.here c.peek.ensures in
+    let second = fresh-held land.blocks c.args.more c.requires.second.node c.peek-2.result.now c.requires.second.here c.peek-2.ensures in
+    rw (p.1, p.2) (names-other Node (Unit {0}) c.in_err-node.field-0.0 _ (CantGrow root land)
+    (λ rule address bad. cant-grow root land c.args.now c.args.more c.peek.result.now c.peek-2.result.now rule address
+    c.requires.editable.drafted c.requires.first c.requires.second first second bad.0 bad.1 bad.2)
+    c.in_err-node.ensures.broken)
+
+pub returns-in_err-root-clause-broken : goal.returns-in_err-root-clause-broken
+returns-in_err-root-clause-broken g c events told_is =
+    let p = err_from_is_err_and c.from_residual-in_err-root.result c.from_residual-in_err-root.ensures.1 in
+    rw (p.1, p.2) (names-none_other ℕ (Unit {0}) c.in_err-root.field-0.0 (CantGrow c.args.tree.now c.make_node.new.land)
+    (c.in_err-root.ensures.no_image events told_is))

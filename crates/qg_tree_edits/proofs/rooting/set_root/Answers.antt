@@ -5,6 +5,8 @@ use Rattle.qg_ground.specs.Tellings.{Telling}
 use Rattle.qg_tree_edits.specs.declared.instead.Instead.{Instead}
 use Rattle.qg_tree_edits.specs.Counting.{IsRootTold}
 use Rattle.qg_tree_edits.specs.Rooting.{StandsForRoot}
+use Rattle.qg_tree_edits.proofs.Naming.{names-none}
+use Rattle.qg_tree_edits.specs.Failing.{CantGrow}
 use Rattle.qg_tree_edits.proofs.rooting.set_root.Goals as goal
 
 -- what stands behind is known
@@ -34,3 +36,9 @@ returns-in-None-clause-told g c =
     → OnOk c.shrink.result ((tellings : List Telling) × g.B.Book.follows before (log ++ tellings) c.shrink.new.book
     × IsRootTold root c.shrink.new.tree land c.shrink.new.land history i tellings))
     (sym (instead_is c.args.instead None c.in-None.is)) c.shrink.ensures.told
+
+-- ---- where a rule is named
+
+pub returns-in-None-clause-broken : goal.returns-in-None-clause-broken
+returns-in-None-clause-broken g c events told_is =
+    names-none c.shrink.result (CantGrow c.args.tree.now c.shrink.new.land) (c.shrink.ensures.sound events told_is)

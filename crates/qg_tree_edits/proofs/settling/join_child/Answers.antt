@@ -1,4 +1,4 @@
-use Rattle.std.proofs.Common.{ℕ, ◌+◌, List, ◌++◌, append_assoc, arith, refl, ap, subst, ◌∙◌}
+use Rattle.std.proofs.Common.{ℕ, ◌+◌, List, ◌++◌, append_assoc, arith, refl, ap, subst, ◌∙◌, inl, inr}
 use Rattle.std.specs.Prelude.{Option}
 use Rattle.std.proofs.lemmas.Result.{IfOk-weaker, err_from_is_err_and}
 use Rattle.qg_node.specs.declared.node.Node.{Node}
@@ -15,7 +15,7 @@ use Rattle.qg_edit.proofs.Leaves.{ok-known}
 use Rattle.qg_tree_edits.proofs.Cutting.{ready-same, rewritten-moves, rewritten-rests, rewritten-spares}
 use Rattle.qg_tree_edits.proofs.Levels.{rewritten-levels, rewritten-space}
 use Rattle.qg_tree_edits.proofs.LeavesSettled.{ok-both, rejoined-leaves}
-use Rattle.qg_tree_edits.proofs.Paired.{are-pair, pair-differ, pair-inside}
+use Rattle.qg_tree_edits.proofs.Paired.{are-pair, pair-differ, pair-inside, pair-levels}
 use Rattle.qg_tree_edits.proofs.PairedHolds.{pair-front}
 use Rattle.qg_tree_edits.proofs.PlacedTold.{ok-both as known-both}
 use Rattle.qg_tree_edits.proofs.Rejoined.{rejoined-above, rejoined-count, rejoined-stands, unbroken-other}
@@ -25,6 +25,11 @@ use Rattle.qg_tree_edits.proofs.RejoinedTold.{rejoined-told}
 use Rattle.qg_tree_edits.proofs.Served.{fresh-inner, instead-named, node-drafted, places-few, size-drafted, slots-none}
 use Rattle.qg_ground.proofs.Owners.{IsOwnedBy-after}
 use Rattle.qg_tree_edits.proofs.Owners.{rest-owner, rest-owner-after, rewritten-owners, united-owners}
+use Rattle.qg_tree_edits.proofs.Naming.{names-other, names-weaker}
+use Rattle.qg_tree_edits.proofs.Unfit.{misled-then, paired-one, paired-over}
+use Rattle.qg_tree_edits.specs.Failing.{ArentJoined, CantSettle, IsMisled, LacksNeighbour, NamesOnly}
+use Rattle.qg_tree_edits.proofs.Rewritten.{same_node}
+use Rattle.qg_blocks.specs.Told.{fresh_at}
 use Rattle.qg_tree_edits.proofs.settling.join_child.Goals as goal
 
 pub returns-in_err-pair-clause-sound : goal.returns-in_err-pair-clause-sound
@@ -293,3 +298,76 @@ returns-clause-owners g c =
     IfOk-weaker c.lead_to.result _ _
     (λ rest cut. (IsOwnedBy-after owner land both new before edited, rest-owner-after owner land both rest before (rest-owner owner both c.args.at node rest here cut.owned)))
     (c.lead_to.ensures.rest node here)
+
+-- ---- where a rule is named
+
+pub returns-in_err-pair-clause-broken : goal.returns-in_err-pair-clause-broken
+returns-in_err-pair-clause-broken g c node here events told_is =
+    let p = err_from_is_err_and c.from_residual.result c.from_residual.ensures.1 in
+    let tree = g.P.TreePart.tree in
+    let root = c.args.tree.now in
+    let new = c.own_neighbour.new.land in
+    rw (p.1, p.2) (names-other Pair (Option Node) c.in_err-pair.field-0.0
+    (LacksNeighbour tree root new events node c.args.at c.args.to c.args.level c.args.place c.args.child)
+    (CantSettle tree root new events node c.args.at c.args.to c.args.level c.args.place c.args.child)
+    (λ rule address bad. inl bad) (c.in_err-pair.ensures.broken node here c.requires.child events told_is))
+
+pub returns-in_err-instead-clause-broken : goal.returns-in_err-instead-clause-broken
+returns-in_err-instead-clause-broken g c node here events told_is =
+    let p = err_from_is_err_and c.from_residual-in_err-instead.result c.from_residual-in_err-instead.ensures.1 in
+    let tree = g.P.TreePart.tree in
+    let root = c.args.tree.now in
+    let land = c.args.land.now in
+    let mid = c.own_neighbour.new.land in
+    let pair = c.in_ok-pair.pair in
+    let paired = c.in_ok-pair.ensures.paired node here in
+    let both = are-pair tree root land mid (g.D.Disk.history c.args.disk.now) (g.D.Disk.history c.own_neighbour.new.disk) (own_pointers node) c.args.to c.args.level
+    c.args.place c.args.child pair paired c.own_neighbour.ensures.rests c.requires.child c.requires.thin in
+    let levels = pair-levels tree root land mid (g.D.Disk.history c.args.disk.now) (g.D.Disk.history c.own_neighbour.new.disk) (own_pointers node) c.args.to c.args.level
+    c.args.place c.args.child pair paired c.own_neighbour.ensures.rests c.requires.child c.requires.thin in
+    rw (p.1, p.2) (names-other Instead (Option Node) c.in_err-instead.field-0.0
+    (ArentJoined c.unite.new.land pair.left pair.right both.a both.b)
+    (CantSettle tree root c.unite.new.land events node c.args.at c.args.to c.args.level c.args.place c.args.child)
+    (λ rule address bad. inr (inl (record {
+      left = pair.left;
+      right = pair.right;
+      one = paired-one tree root land mid (g.D.Disk.history c.args.disk.now) (own_pointers node) c.args.to c.args.level c.args.place c.args.child pair paired;
+      a = both.a;
+      b = both.b;
+      levels = levels both.a both.b both.left_here both.right_here;
+      arent = bad;
+    })))
+    (c.in_err-instead.ensures.broken events (c.own_neighbour.ensures.disk.0 ∙ told_is) both.a both.b both.left_here both.right_here))
+
+pub returns-clause-broken : goal.returns-clause-broken
+returns-clause-broken g c node here events told_is =
+    let tree = g.P.TreePart.tree in
+    let root = c.args.tree.now in
+    let land = c.args.land.now in
+    let mid = c.own_neighbour.new.land in
+    let both = c.unite.new.land in
+    let new = c.lead_to.new.land in
+    let history = g.D.Disk.history c.args.disk.now in
+    let later = g.D.Disk.history c.own_neighbour.new.disk in
+    let last = g.D.Disk.history c.unite.new.disk in
+    let mine = c.requires.parent.node in
+    let at_first = c.requires.parent.here in
+    let pair = c.in_ok-pair.pair in
+    let instead = c.in_ok-instead.instead in
+    let rests = c.own_neighbour.ensures.rests in
+    let after = c.unite.ensures.rests root.next rests.drafted in
+    let high = c.requires.parent.levelled in
+    let paired = c.in_ok-pair.ensures.paired mine at_first in
+    let there = rejoined-above tree root land mid both history later last (own_pointers mine) c.args.to c.args.level c.args.place c.args.child pair instead paired
+    rests c.requires.child c.requires.thin c.in_ok-instead.ensures.united after c.args.at mine at_first (omega (arith, high)) in
+    let stands = rejoined-stands tree root land mid both history later last (own_pointers mine) c.args.to c.args.level c.args.place c.args.child pair instead paired
+    rests c.requires.child c.requires.thin c.in_ok-instead.ensures.united after in
+    let over = paired-over tree root land mid history (own_pointers mine) c.args.to c.args.level c.args.place c.args.child pair paired in
+    let rewritten = c.lead_to.ensures.rewritten mine there in
+    let names = names-weaker c.lead_to.result (IsMisled both mine pair.front (pair.front + 2) instead)
+    (CantSettle tree root new events mine c.args.at c.args.to c.args.level c.args.place c.args.child)
+    (λ rule address bad. inr (inr (misled-then both new c.args.at c.args.level mine there high rewritten
+    pair.front (pair.front + 2) c.args.place instead rule address over.0 over.1 stands bad)))
+    (c.lead_to.ensures.broken mine there) in
+    subst (λ (n : Node). NamesOnly (CantSettle tree root new events n c.args.at c.args.to c.args.level c.args.place c.args.child) c.lead_to.result)
+    (same_node (fresh_at land.blocks.draft c.args.at) mine node at_first here) names

@@ -12,6 +12,11 @@ use Rattle.qg_tree_edits.proofs.Cutting.{inner-here, stays-cut_ok}
 use Rattle.qg_descent.proofs.Split.{keys_to}
 use Rattle.qg_tree_edits.specs.Editing.{IsCutThere, IsNamed}
 use Rattle.qg_tree_edits.proofs.Leading.{led-one, led-two, one-ascends, two-ascend}
+use Rattle.qg_tree_edits.proofs.Naming.{names-weaker}
+use Rattle.qg_tree_edits.proofs.Unfit.{misled-one, misled-two}
+use Rattle.qg_tree_edits.specs.Failing.{IsMisled}
+use Rattle.qg_edit.specs.Answering.{CanSplice, IsBrokenUnless}
+use Rattle.qg_num.specs.declared.rule.Rule.TheVariants.{Refs}
 use Rattle.qg_tree_edits.proofs.settling.lead_to.Goals as goal
 
 pub returns-in-None-clause-led : goal.returns-in-None-clause-led
@@ -61,3 +66,27 @@ returns-in-Some-clause-rest c = λ node here.
     stays-cut_ok c.args.land.now.space.sizes.nodesize node (with_pointers node (spliced c.args.from c.args.to (c.pointer_to-now.result ∷ c.pointer_to-behind.result ∷ []) (own_pointers node)))
     c.rewrite_pointers-in-Some.new.land c.args.at c.rewrite_pointers-in-Some.result
     (header-pointers node _ (inner-here c.args.land.now c.args.at node c.requires.parent.0 here c.requires.parent.1 c.requires.parent.2)) (c.rewrite_pointers-in-Some.ensures.cut node here)
+
+-- ---- where a rule is named
+
+pub returns-in-None-clause-broken : goal.returns-in-None-clause-broken
+returns-in-None-clause-broken c node here =
+    let land = c.args.land.now in
+    let new = c.pointer_to-now.result ∷ [] in
+    names-weaker c.rewrite_pointers.result (IsBrokenUnless Refs node (CanSplice c.args.from c.args.to new node))
+    (IsMisled land node c.args.from c.args.to c.args.instead)
+    (λ rule address bad. misled-one land node c.args.from c.args.to c.args.instead c.peek.result.now c.pointer_to-now.result
+    rule address c.requires.fresh.0 c.peek.ensures c.in-None.is c.pointer_to-now.ensures.pointer bad)
+    (c.rewrite_pointers.ensures.broken node here)
+
+pub returns-in-Some-clause-broken : goal.returns-in-Some-clause-broken
+returns-in-Some-clause-broken c node here =
+    let land = c.args.land.now in
+    let new = c.pointer_to-now.result ∷ c.pointer_to-behind.result ∷ [] in
+    let named = MatchOption-at_some _ (IsNamed land) c.in-Some.more c.in-Some.is c.requires.fresh.1 in
+    names-weaker c.rewrite_pointers-in-Some.result (IsBrokenUnless Refs node (CanSplice c.args.from c.args.to new node))
+    (IsMisled land node c.args.from c.args.to c.args.instead)
+    (λ rule address bad. misled-two land node c.args.from c.args.to c.args.instead c.in-Some.more c.peek.result.now
+    c.peek-in-Some.result.now c.pointer_to-now.result c.pointer_to-behind.result rule address c.requires.fresh.0 named
+    c.peek.ensures c.peek-in-Some.ensures c.in-Some.is c.pointer_to-now.ensures.pointer c.pointer_to-behind.ensures.pointer bad)
+    (c.rewrite_pointers-in-Some.ensures.broken node here)

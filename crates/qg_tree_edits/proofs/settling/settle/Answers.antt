@@ -1,4 +1,4 @@
-use Rattle.std.proofs.Common.{◌≡◌, ◌+◌, [], ◌++◌, ◌∙◌, append-nil, arith, refl, subst, sym}
+use Rattle.std.proofs.Common.{◌≡◌, ◌+◌, [], ◌++◌, ◌∙◌, append-nil, arith, refl, subst, sym, inr}
 use Rattle.std.specs.Prelude.{IfOk, List, OnOk, Some}
 use Rattle.std.proofs.lemmas.Result.{IfOk-weaker}
 use Rattle.qg_device.specs.History.{Event}
@@ -17,6 +17,12 @@ use Rattle.qg_tree_edits.proofs.Served.{fresh-inner, instead-named, node-drafted
 use Rattle.qg_tree_edits.proofs.Settled.{settled, settled-told}
 use Rattle.qg_tree_edits.proofs.Unjoined.{can-lead}
 use Rattle.qg_tree_edits.proofs.Owners.{rest-owner, rewritten-owners}
+use Rattle.qg_tree_edits.proofs.Naming.{names-weaker}
+use Rattle.qg_tree_edits.proofs.Unfit.{misled-then}
+use Rattle.qg_tree_edits.specs.Failing.{CantSettle, IsMisled, NamesOnly}
+use Rattle.qg_tree_edits.proofs.Rewritten.{same_node}
+use Rattle.qg_blocks.specs.Told.{fresh_at}
+use Rattle.qg_node.specs.declared.node.Node.{Node}
 use Rattle.qg_tree_edits.proofs.settling.settle.Goals as goal
 
 pub is_too_thin-requires-clause-size : goal.is_too_thin-requires-clause-size
@@ -182,3 +188,23 @@ returns-clause-owners g c =
     let here = c.requires.parent.here in
     let edited = rewritten-owners owner land c.lead_to.new.land c.args.at node here (c.lead_to.ensures.rewritten node here) in
     IfOk-weaker c.lead_to.result _ _ (λ rest cut. (edited, rest-owner owner land c.args.at node rest here cut.owned)) (c.lead_to.ensures.rest node here)
+
+-- ---- where a rule is named
+
+pub returns-clause-broken : goal.returns-clause-broken
+returns-clause-broken g c node here events told_is =
+    let tree = g.P.TreePart.tree in
+    let root = c.args.tree.now in
+    let land = c.args.land.now in
+    let new = c.lead_to.new.land in
+    let place = c.args.place in
+    let mine = c.requires.parent.node in
+    let there = c.requires.parent.here in
+    let rewritten = c.lead_to.ensures.rewritten mine there in
+    let names = names-weaker c.lead_to.result (IsMisled land mine place (place + 1) c.args.child)
+    (CantSettle tree root new events mine c.args.at c.args.to c.args.level place c.args.child.now)
+    (λ rule address bad. inr (inr (misled-then land new c.args.at c.args.level mine there c.requires.parent.levelled rewritten
+    place (place + 1) place c.args.child rule address (omega arith) (omega arith) c.requires.child bad)))
+    (c.lead_to.ensures.broken mine there) in
+    subst (λ (n : Node). NamesOnly (CantSettle tree root new events n c.args.at c.args.to c.args.level place c.args.child.now) c.lead_to.result)
+    (same_node (fresh_at land.blocks.draft c.args.at) mine node there here) names

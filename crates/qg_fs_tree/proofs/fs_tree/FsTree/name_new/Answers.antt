@@ -86,7 +86,7 @@ returns-clause-named c history bytes items names subvolume stands =
           (c.in_ok-take_run.ensures.ok ∙ ap (λ (rs : List Element). record fs.land.space { runs = rs })
           (sym (ap (λ (h : Holding). h.runs) c.in_ok-take_run.ensures.ok)));
       refs = c.name.ensures.others;
-    }) what adds fs.refs.next refl
+    }) what adds fs.refs.next refl (omega (arith, stands.book.next))
     (unknown-new fs history items drafted c.args.ino piece names stands c.requires.free table) runs
 
 pub returns-clause-subvolume : goal.returns-clause-subvolume

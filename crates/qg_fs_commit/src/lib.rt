@@ -1,0 +1,7 @@
+//! Laws: that a commit of a subvolume's tree leaves a sound image, and a tree that is kept of its state. It has no
+//! code.
+#![tactic(auto)]
+
+mod committing;
+
+pub use committing::{extents_stay_short, tree_commit_is_kept, tree_commit_is_sound};

@@ -1,0 +1,14 @@
+use Rattle.qg_fs_open.proofs.OpenedKept.{opened-kept}
+use Rattle.qg_fs_open.proofs.OpenedNames.{opened-names}
+use Rattle.qg_fs_open.proofs.OpenedRecords.{opened-recorded}
+use Rattle.qg_fs_open.proofs.opening.opened_is_kept.Goals as goal
+
+pub returns-clause-kept : goal.returns-clause-kept
+returns-clause-kept c = opened-kept
+
+pub returns-clause-recorded : goal.returns-clause-recorded
+returns-clause-recorded c = λ fs super image root files counters stamp table sound opened commit holds.
+    opened-recorded super image counters stamp holds fs root files table sound opened commit
+
+pub returns-clause-names : goal.returns-clause-names
+returns-clause-names c = opened-names

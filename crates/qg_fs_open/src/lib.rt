@@ -1,0 +1,6 @@
+//! Laws: that the tree which is made of a sound image is kept of the state that the image stands for. It has no code.
+#![tactic(auto)]
+
+mod opening;
+
+pub use opening::{opened_is_kept, sound_image_is_known};

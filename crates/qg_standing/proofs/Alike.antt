@@ -1,0 +1,237 @@
+-- A tree that stands does so where the same is told.
+use Rattle.std.proofs.Common.{◌≡◌, ℕ, ◌+◌, ◌≤◌, List, [], ◌∷◌, length, Option, Some, None, arith, refl, sym, ap, subst, ◌∙◌, inl, inr}
+use Rattle.std.specs.Prelude.{◌⊎◌, ⊤, IsTrue, nat_lt, if◌then◌else◌}
+use Rattle.std.specs.List.{filter_map}
+use Rattle.std.specs.Option.{option_map}
+use Rattle.qg_device.specs.History.{Event, Synced, Wrote, content}
+use Rattle.qg_num.specs.declared.piece.Piece.{Piece}
+use Rattle.qg_node.specs.declared.item.Item.{Item}
+use Rattle.qg_node.specs.declared.node.Node.{Node}
+use Rattle.qg_items.specs.declared.extent.Reference.{Reference}
+use Rattle.qg_super.specs.declared.sizes.Sizes.{Sizes}
+use Rattle.qg_super.specs.declared.superblock.Super.{Super}
+use Rattle.qg_super.specs.Places.{first_place, is_served, is_slot, second_place, slots_begin, total_bytes}
+use Rattle.qg_super.specs.SuperText.{super_text}
+use Rattle.qg_super.proofs.SuperTexts.{length-super_text}
+use Rattle.qg_state.specs.Owed.{owed_count}
+use Rattle.qg_state.specs.State.{Layout, Placed}
+use Rattle.qg_verdict.specs.declared.tree.Tree.TheVariants.{Files}
+use Rattle.qg_blocks.specs.Standing.{has_slot, standing}
+use Rattle.qg_blocks.specs.Told.{IsBacked, fresh_at}
+use Rattle.qg_blocks.specs.Writing.{Keeps}
+use Rattle.qg_blocks.proofs.Written.{Keeps-fewer, Keeps-synced, Keeps-then, Keeps-wrote, told-keeps}
+use Rattle.qg_refs.specs.Book.{full_in}
+use Rattle.qg_extents.specs.Table.{book_of}
+use Rattle.qg_descent.specs.Tree.{IsTree, Reaches, super_of}
+use Rattle.qg_tree_edits.specs.Counting.{ways}
+use Rattle.qg_fs_tree.specs.declared.fs_tree.FsTree.{FsTree}
+use Rattle.qg_fs_tree.specs.Standing.{IsReached, IsSubvolume, Stands, every_slot, layout_in, names_times, nodes_of}
+use Rattle.qg_standing.specs.Committing.{StandsStill}
+use Rattle.qg_standing.specs.Knowing.{IsSameButClean}
+
+-- ---- words
+
+-- a slot's entry in a layout, and the layout, by what is told
+abbrev entry_over : FsTree → (ℕ → Option Node) → ℕ → Option (ℕ × Placed)
+entry_over fs nodes at =
+    if nat_lt 0 (ways nodes fs.tree.height fs.tree.address at)
+    then option_map (λ node. (at, record { node = node; full = full_in (book_of fs.refs.refs at) })) (nodes at)
+    else None
+
+abbrev layout_over : FsTree → (ℕ → Option Node) → Layout
+layout_over fs nodes = record {
+  nodesize = fs.land.space.sizes.nodesize;
+  roots = (fs.tree.owner, fs.tree.address) ∷ [];
+  nodes = filter_map (entry_over fs nodes) (every_slot fs.land.space.sizes);
+}
+
+-- a tree, with other clean nodes in memory
+abbrev with_clean : FsTree → List (ℕ × Node) → FsTree
+with_clean fs clean = record fs { land = record fs.land { blocks = record fs.land.blocks { clean = clean } } }
+
+-- ---- where the same is told
+
+module _ (fs : FsTree) (clean : List (ℕ × Node)) (before after : Option (List Event)) (items : List Item)
+    (names : List (ℕ × Piece)) (alike : (q : ℕ) → nodes_of fs after q ≡ nodes_of fs before q)
+    (stands : Stands fs before items names) where
+  maps_alike : nodes_of fs after ≡ nodes_of fs before
+  maps_alike = λ i q. alike q i
+
+  reach_then : (q : ℕ) → IsReached fs before q → IsReached fs after q
+  reach_then q = subst (λ (nodes : ℕ → Option Node). Reaches nodes fs.tree.height fs.tree.address q) (sym maps_alike)
+
+  reach_before : (q : ℕ) → IsReached fs after q → IsReached fs before q
+  reach_before q = subst (λ (nodes : ℕ → Option Node). Reaches nodes fs.tree.height fs.tree.address q) maps_alike
+
+  layout_alike : layout_in (with_clean fs clean) after ≡ layout_in fs before
+  unfolding layout_in
+  layout_alike = ap (layout_over fs) maps_alike
+
+  tells_alike : IsTree Files (super_of fs.tree fs.land.blocks.draft) (nodes_of fs after) fs.tree.height fs.tree.address
+      items
+  tells_alike = subst
+      (λ (nodes : ℕ → Option Node). IsTree Files (super_of fs.tree fs.land.blocks.draft) nodes fs.tree.height
+      fs.tree.address items) (sym maps_alike) stands.rooted.tells
+
+  counts_alike : (at : ℕ) (reference : Reference)
+      → owed_count (layout_in fs before) at reference + names_times fs.tree.owner names at reference
+      ≡ owed_count (layout_in (with_clean fs clean) after) at reference + names_times fs.tree.owner names at reference
+  counts_alike at reference =
+      ap (λ (layout : Layout). owed_count layout at reference + names_times fs.tree.owner names at reference)
+      (sym layout_alike)
+
+  stands_alike : Stands (with_clean fs clean) after items names
+  stands_alike = record {
+    book = record { owner = stands.book.owner; next = stands.book.next; nodesize = stands.book.nodesize };
+    rooted = record {
+      tells = tells_alike;
+      apart = λ q free reached. stands.rooted.apart q free (reach_before q reached);
+      short = stands.rooted.short;
+    };
+    placed = λ q reached. stands.placed q (reach_before q reached);
+    alone = λ q reached. stands.alone q (reach_before q reached);
+    home = λ q node reached there bare. stands.home q node (reach_before q reached) (sym (alike q) ∙ there) bare;
+    young = λ q reached some. stands.young q (reach_before q reached) some;
+    fits = stands.fits;
+    counts = λ at reference. stands.counts at reference ∙ counts_alike at reference;
+    few = stands.few;
+    settled = record {
+      slots = stands.settled.slots;
+      written = stands.settled.written;
+      fresh = stands.settled.fresh;
+      newer = stands.settled.newer;
+      clean = λ at node none there some. stands.settled.clean at node none (sym (alike at) ∙ there) some;
+    };
+    known = stands.known;
+    runs = stands.runs;
+  }
+
+  stands_over : StandsStill fs (with_clean fs clean) before after items names
+  stands_over = record {
+    stands = stands_alike;
+    reach = λ q. (reach_before q, reach_then q);
+    nodes = λ q reached. alike q;
+    marks = λ q. refl;
+    layout = layout_alike;
+  }
+
+pub stands-alike : (old new : FsTree) (before after : Option (List Event)) (items : List Item)
+    (names : List (ℕ × Piece)) → IsSameButClean old new
+    → ((q : ℕ) → nodes_of new after q ≡ nodes_of old before q)
+    → Stands old before items names → StandsStill old new before after items names
+stands-alike old new before after items names same alike stands =
+    subst (λ (fs : FsTree). StandsStill old fs before after items names) (sym same)
+    (stands_over old new.land.blocks.clean before after items names
+    (λ q. subst (λ (fs : FsTree). nodes_of fs after q ≡ nodes_of old before q) same (alike q)) stands)
+
+-- ---- over any disk
+
+pub subvolume-alike : (old new : FsTree) (before after : Option (List Event)) (bytes left : ℕ)
+    → IsSubvolume old before bytes → IsSameButClean old new → IsBacked new.land.blocks after → bytes ≤ left
+    → IsSubvolume new after left
+subvolume-alike old new before after bytes left subvolume same =
+    subst (λ (fs : FsTree). IsBacked fs.land.blocks after → bytes ≤ left → IsSubvolume fs after left) (sym same)
+    (λ backed long. record {
+      editable = record {
+        backed = backed;
+        drafted = record {
+          sizes = record {
+            served = subvolume.editable.drafted.sizes.served;
+            nodesize = subvolume.editable.drafted.sizes.nodesize;
+            slots = subvolume.editable.drafted.sizes.slots;
+          };
+          each = subvolume.editable.drafted.each;
+        };
+        room = let room = subvolume.editable.room in omega (arith, room, long);
+      };
+      makes = subvolume.makes;
+    })
+
+-- ---- slots that stay
+
+pub told-alike : (old new : FsTree) (before : Option (List Event)) (later : List Event) → IsSameButClean old new
+    → Keeps old.land.blocks.draft.sizes before (Some later) (λ at. ⊤)
+    → (q : ℕ) → nodes_of new (Some later) q ≡ nodes_of old before q
+told-alike old new before later same keeps q =
+    ap (λ (fs : FsTree). nodes_of fs (Some later) q) same
+    ∙ told-keeps old.land.blocks.draft before later q
+    (Keeps-fewer old.land.blocks.draft.sizes before (Some later) (λ at. ⊤)
+    (λ at. fresh_at old.land.blocks.draft at ≡ None) (λ at none. tt) keeps)
+
+pub syncs-keep : (sizes : Sizes) (events : List Event) → Keeps sizes (Some events) (Some (Synced ∷ events)) (λ at. ⊤)
+syncs-keep sizes events = Keeps-synced sizes (Some events) (Some (Synced ∷ events)) refl
+
+-- a superblock's place is in front of the slots, or behind them
+place_apart : (place : ℕ) → (place ≡ first_place) ⊎ (place ≡ second_place)
+    → (place + 4096 ≤ slots_begin) ⊎ (second_place ≤ place)
+place_apart place (inl first) = inl (omega (arith, first))
+place_apart place (inr second) = inr (omega (arith, second))
+
+place_inside : (place : ℕ) → (place ≡ first_place) ⊎ (place ≡ second_place) → place ≤ second_place
+place_inside place (inl first) = omega (arith, first)
+place_inside place (inr second) = omega (arith, second)
+
+long_enough : (sizes : Sizes) (place bytes : ℕ) → place ≤ second_place → total_bytes sizes ≤ bytes
+    → place + 4096 ≤ bytes
+long_enough sizes place bytes low long = omega (arith, low, long)
+
+module _ (sizes : Sizes) (super : Super) (place : ℕ) (events : List Event) (served : IsTrue (is_served sizes))
+    (long : total_bytes sizes ≤ length (content events))
+    (either : (place ≡ first_place) ⊎ (place ≡ second_place)) where
+  abbrev written : Option (List Event)
+  written = Some (Wrote place (super_text place super) ∷ events)
+
+  text_long : length (super_text place super) ≡ 4096
+  text_long = length-super_text place super
+
+  text_inside : place + length (super_text place super) ≤ length (content events)
+  text_inside = subst (λ (n : ℕ). place + n ≤ length (content events)) (sym text_long)
+      (long_enough sizes place (length (content events)) (place_inside place either) long)
+
+  text_apart : (place + length (super_text place super) ≤ slots_begin) ⊎ (second_place ≤ place)
+  text_apart = subst (λ (n : ℕ). (place + n ≤ slots_begin) ⊎ (second_place ≤ place)) (sym text_long)
+      (place_apart place either)
+
+  text_keeps : Keeps sizes (Some events) written (λ at. ⊤)
+  text_keeps = Keeps-wrote sizes (length (content events)) place (super_text place super) (Some events) written served
+      refl (λ others told. ap (λ (es : List Event). length (content es)) (same_events others told)) text_inside
+      text_apart where
+        same_events : (others : List Event) → Some events ≡ Some others → events ≡ others
+        same_events others told = cc
+
+  written_keep : Keeps sizes (Some events) (Some (Synced ∷ Wrote place (super_text place super) ∷ events)) (λ at. ⊤)
+  written_keep = Keeps-then sizes (Some events) written
+      (Some (Synced ∷ Wrote place (super_text place super) ∷ events)) (λ at. ⊤) text_keeps
+      (syncs-keep sizes (Wrote place (super_text place super) ∷ events))
+
+-- what stands depends on nodes and slots alone
+sectors_free : (nodesize slots a b : ℕ) (image : List ℕ) (at : ℕ)
+    → standing (record { nodesize = nodesize; slots = slots; sectors = a }) image at
+    ≡ standing (record { nodesize = nodesize; slots = slots; sectors = b }) image at
+unfolding standing has_slot is_slot
+sectors_free nodesize slots a b image at = refl
+
+standing_alike : (a b : Sizes) (image : List ℕ) (at : ℕ) → a.nodesize ≡ b.nodesize → a.slots ≡ b.slots
+    → standing a image at ≡ standing b image at
+standing_alike a b image at size slots =
+    ap (λ (n : ℕ). standing (record { nodesize = n; slots = a.slots; sectors = a.sectors }) image at) size
+    ∙ ap (λ (n : ℕ). standing (record { nodesize = b.nodesize; slots = n; sectors = a.sectors }) image at) slots
+    ∙ sectors_free b.nodesize b.slots a.sectors b.sectors image at
+
+keeps_alike : (a b : Sizes) (before after : Option (List Event)) → a.nodesize ≡ b.nodesize → a.slots ≡ b.slots
+    → Keeps b before after (λ at. ⊤) → Keeps a before after (λ at. ⊤)
+keeps_alike a b before after size slots keeps later told =
+    let was = keeps later told in (
+      was.0,
+      was.1,
+      λ at any. standing_alike a b (content later) at size slots ∙ was.2 at any
+          ∙ sym (standing_alike a b (content was.0) at size slots),
+    )
+
+pub superblocks-keep : (sizes whole : Sizes) (super : Super) (place : ℕ) (events : List Event)
+    → IsTrue (is_served whole) → sizes.nodesize ≡ whole.nodesize → sizes.slots ≡ whole.slots
+    → total_bytes whole ≤ length (content events) → (place ≡ first_place) ⊎ (place ≡ second_place)
+    → Keeps sizes (Some events) (Some (Synced ∷ Wrote place (super_text place super) ∷ events)) (λ at. ⊤)
+superblocks-keep sizes whole super place events served size slots long either =
+    keeps_alike sizes whole (Some events) (Some (Synced ∷ Wrote place (super_text place super) ∷ events)) size slots
+    (written_keep whole super place events served long either)
