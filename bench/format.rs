@@ -1,6 +1,7 @@
 //! Nodes, items and superblocks of an image with one subvolume, in plain Rust. It shares no code with the program.
 #![allow(dead_code)]
 use checksum::crc32c;
+use std::collections::BTreeMap;
 use std::fs::File;
 use std::io;
 use std::os::unix::fs::FileExt;
@@ -29,6 +30,10 @@ pub const OTHER_ITEMS: usize = 3 * (25 + 439) + (25 + 32) + 2 * (25 + 40);
 /// What a file takes without its pieces, and what a piece takes.
 pub const INODE: usize = 25 + 160;
 pub const PIECE: usize = 25 + 53;
+
+/// What the extent tree's items take for a node, and for an extent that one piece names.
+pub const NODE_RECORD: usize = 25 + 24 + 25;
+pub const EXTENT_RECORD: usize = 25 + 24 + 25 + 28;
 
 /// Slots and sectors of an image.
 #[derive(Clone, Copy)]
@@ -203,6 +208,60 @@ pub fn piece_item(ino: u64, piece: &Piece) -> Part {
     item(ino, 108, piece.position, bytes)
 }
 
+fn u64_at(bytes: &[u8], at: usize) -> u64 {
+    u64::from_le_bytes(bytes[at..at + 8].try_into().unwrap())
+}
+
+/// A record of an extent or a node.
+fn record(address: u64, kind: u8, offset: u64, refs: u64, generation: u64, flags: u64) -> Part {
+    let numbers = [(0, refs), (8, generation), (16, flags)];
+    item(address, kind, offset, body(24, &numbers))
+}
+
+/// How often each file names an extent, and where the extent would begin in it; its length and its generation.
+struct Named {
+    bytes: u64,
+    generation: u64,
+    counts: BTreeMap<(u64, u64), u32>,
+}
+
+/// The extents that these items of files name, by address.
+fn named(items: &[Part]) -> BTreeMap<u64, Named> {
+    let mut extents = BTreeMap::new();
+    for part in items.iter().filter(|part| part.key.kind == 108) {
+        let number = |at| u64_at(&part.body, at);
+        let extent = extents.entry(number(21)).or_insert(Named {
+            bytes: number(29),
+            generation: number(0),
+            counts: BTreeMap::new(),
+        });
+        let begin = part.key.offset.wrapping_sub(number(37));
+        *extent.counts.entry((part.key.objectid, begin)).or_insert(0) += 1;
+    }
+    extents
+}
+
+/// The extent tree's items for the nodes of the subvolume's tree, and for the extents that its items name.
+fn records(nodes: &Nodes, items: &[Part]) -> Vec<Part> {
+    let mut levels: Vec<(u64, u8)> = nodes.written.iter().map(|(at, node)| (*at, node[100])).collect();
+    levels.sort_unstable();
+    let mut parts = Vec::new();
+    for (address, level) in levels {
+        parts.push(record(address, 169, u64::from(level), 1, nodes.generation, 2));
+        parts.push(item(address, 176, 5, Vec::new()));
+    }
+    for (address, extent) in named(items) {
+        let refs = extent.counts.values().map(|count| u64::from(*count)).sum();
+        parts.push(record(address, 168, extent.bytes, refs, extent.generation, 1));
+        for (number, ((ino, begin), count)) in extent.counts.into_iter().enumerate() {
+            let mut bytes = body(28, &[(0, 5), (8, ino), (16, begin)]);
+            put(&mut bytes, 24, &count.to_le_bytes());
+            parts.push(item(address, 178, number as u64, bytes));
+        }
+    }
+    parts
+}
+
 fn root_item(tree: u64, root: Root, generation: u64) -> Part {
     let mut root_body = body(439, &[(160, generation), (176, root.address), (216, 1)]);
     root_body[238] = root.level;
@@ -251,7 +310,8 @@ pub fn commit(
     };
     let files = nodes.put_tree(5, 0, items);
     let counted = (NODE * nodes.written.len()) as u64 + extent_bytes;
-    let extents = nodes.put_tree(2, 0, &[]);
+    let records = records(&nodes, items);
+    let extents = nodes.put_tree(2, 0, &records);
     let counts = [(0, generation), (8, counted), (16, counted), (24, counted), (32, counted)];
     let quota_items = [
         item(0, 240, 0, body(32, &[(0, 1), (8, generation), (16, 1)])),

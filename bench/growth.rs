@@ -58,7 +58,7 @@ const WORKS: [Work; 8] = [
     work("opening, scattered", 3, 0),
     work("writes, ascending", 5, 0),
     work("writes, scattered", 6, 0),
-    Work { share: 2, ..work("clones", 7, 4) },
+    Work { share: 3, ..work("clones", 7, 4) },
     work("commit", 8, 5),
     Work { clock: Clock::Wall, ..work("commit, by the clock", 8, 5) },
 ];
@@ -115,15 +115,16 @@ fn clones(count: u64) -> String {
         .collect()
 }
 
-/// Lines of all kinds, some of which are refused.
+/// Lines of all kinds, some of which are refused. The files are so few and so small that they lie in one leaf, however a tree is cut, and
+/// that no line wants slots.
 fn mixed() -> String {
     let mut draws = Draws(1);
     let mut lines = String::new();
     for i in 1..=MIXED {
         let kind = draws.below(16);
-        let [ino, to_ino] = [(); 2].map(|_| 257 + draws.below(8));
-        let [off, to_off] = [(); 2].map(|_| SECTOR * draws.below(64));
-        let len = SECTOR * (1 + draws.below(16));
+        let [ino, to_ino] = [(); 2].map(|_| 257 + draws.below(2));
+        let [off, to_off] = [(); 2].map(|_| SECTOR * draws.below(32));
+        let len = SECTOR * (1 + draws.below(8));
         lines += &match kind {
             0..7 => format!("write 5 {ino} {off} {len}\n"),
             7..11 => format!("clone 5 {ino} {off} {len} 5 {to_ino} {to_off}\n"),
@@ -142,7 +143,7 @@ fn mixed() -> String {
 
 /// Lines that show all that an image of the mixed script holds.
 fn shown() -> String {
-    let files = (257..265).map(|ino| format!("ls 5 {ino}\n"));
+    let files = (257..259).map(|ino| format!("ls 5 {ino}\n"));
     files.chain(["show\n".to_string()]).collect()
 }
 
@@ -199,7 +200,7 @@ fn column(rounds: u64, program: &str, plain: &str, pieces: u64) -> io::Result<Co
     let ascending = writes(0..pieces);
     fs::write("empty.txt", "")?;
     fs::write("shuffled.txt", writes(shuffled(pieces).into_iter()))?;
-    fs::write("clones.txt", clones(pieces / 2))?;
+    fs::write("clones.txt", clones(pieces / 3))?;
     fs::write("committed.txt", format!("{ascending}commit\n"))?;
     fs::write("ascending.txt", ascending)?;
     let mut column = Column {

@@ -5,7 +5,7 @@
 //! file, as full as `write` can leave an image. Nodes are as full as they can be, and data sectors aren't written. The image is sound; in the form `broken` it is
 //! the ordered one, but for the checksum of its last leaf of files.
 use draws::shuffled;
-use format::{DATA_BEGIN, INODE, NODE, OTHER_ITEMS, PIECE, Part, Piece, ROOM, SECTOR, Sizes};
+use format::{DATA_BEGIN, EXTENT_RECORD, INODE, NODE, NODE_RECORD, OTHER_ITEMS, PIECE, Part, Piece, ROOM, SECTOR, Sizes};
 use format::{commit, inode_item, piece_item, slot_at};
 use std::fs::{File, OpenOptions};
 use std::io;
@@ -26,9 +26,23 @@ const GENERATION: u64 = 2;
 /// The first file.
 const INO: u64 = 257;
 
-/// As many pieces as the need of slots lets the last write have, in whose commit only four slots are held before:
-/// 8·ceil(U/ROOM) + 40 is at most the slots less 4, U being what all items take.
-const MOST_PIECES: u64 = (((SIZES.slots as usize - 4 - 40) / 8 * ROOM - OTHER_ITEMS - INODE) / PIECE) as u64;
+/// Whether one more write behind each other finds its slots, in whose commit only four slots are held before: the tree has two levels,
+/// and its nodes, full, have taken slots; 270 + 8·ceil(W/ROOM) + 40 is at most what is free, W being what the items of the other
+/// trees take that the last commit has or one now would have.
+const fn is_served(pieces: usize) -> bool {
+    let nodes = (INODE + PIECE * pieces).div_ceil(ROOM) + 1;
+    let weight = OTHER_ITEMS + NODE_RECORD * (nodes + 1) + EXTENT_RECORD * pieces;
+    310 + 8 * weight.div_ceil(ROOM) + nodes + 4 <= SIZES.slots as usize
+}
+
+/// As many pieces as the need of slots lets writes make that follow each other.
+const MOST_PIECES: u64 = {
+    let mut pieces = 0;
+    while is_served(pieces) {
+        pieces += 1;
+    }
+    pieces as u64
+};
 
 /// The items of a file, whose pieces are these sectors of data.
 fn file_items(ino: u64, sectors: &[u64]) -> Vec<Part> {

@@ -1,12 +1,17 @@
 //! Parts of a file's pieces. Positions and lengths are in bytes.
 use crate::format::Piece;
+use std::collections::BTreeMap;
 use std::ops::Range;
 
-/// The indices of the pieces that meet a range.
-pub fn meeting(pieces: &[Piece], range: &Range<u64>) -> Range<usize> {
-    let from = pieces.partition_point(|piece| piece.end() <= range.start);
-    let to = pieces.partition_point(|piece| piece.position < range.end);
-    from..to
+/// The pieces that meet a range, of a file's by position.
+pub fn meeting(pieces: &BTreeMap<u64, Piece>, range: &Range<u64>) -> Vec<Piece> {
+    let before = pieces.range(..range.start).next_back().map(|(_, piece)| *piece);
+    let within = pieces.range(range.clone()).map(|(_, piece)| *piece);
+    before
+        .into_iter()
+        .filter(|piece| range.start < piece.end())
+        .chain(within)
+        .collect()
 }
 
 /// The part of a piece in a range that it meets.
@@ -21,11 +26,9 @@ fn part(piece: &Piece, range: &Range<u64>) -> Piece {
 }
 
 /// What pieces have in a range.
-pub fn within(pieces: &[Piece], range: &Range<u64>) -> Vec<Piece> {
-    pieces[meeting(pieces, range)]
-        .iter()
-        .map(|piece| part(piece, range))
-        .collect()
+pub fn within(pieces: &BTreeMap<u64, Piece>, range: &Range<u64>) -> Vec<Piece> {
+    let met = meeting(pieces, range);
+    met.iter().map(|piece| part(piece, range)).collect()
 }
 
 /// What rests in front of a range, and behind it, of the pieces that meet it.

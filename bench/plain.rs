@@ -1,9 +1,10 @@
 //! Runs a script over an image, in plain Rust: `plain IMAGE run <SCRIPT`. Build it by `rustc -O`.
 //!
 //! It is the baseline of `bench/run` and `bench/growth`, and answers as the program does the lines `write`, `clone`, `truncate`, `unlink`,
-//! `commit`, `show` and `ls`. It keeps files as lists of pieces, takes the free run with the least address, and builds all trees anew
-//! at each commit. Of an image's rules it looks at checksums alone. Lines must be in the grammar.
-use format::{Commit, DATA_BEGIN, INODE, OTHER_ITEMS, PIECE, Piece, ROOM, SECTOR, Sizes};
+//! `commit`, `show` and `ls`. It keeps the pieces of each file in a map by position, takes the free run with the least address, and builds
+//! all trees anew at each commit, the extent tree's records among them. Of an image's rules it looks at checksums alone, and it asks for no
+//! slots, so that no script may come to `no nodes`. Lines must be in the grammar.
+use format::{Commit, DATA_BEGIN, Piece, SECTOR, Sizes};
 use format::{commit, inode_item, piece_item, slot_at};
 use pieces::{meeting, rests, within};
 use reading::{Content, Stop, read_image};
@@ -40,8 +41,6 @@ struct Store {
     slots: BTreeSet<u64>,
     /// The free runs, each as long as can be, by address, and their lengths.
     free: BTreeMap<u64, u64>,
-    /// What the items of files take of nodes, in bytes.
-    weight: usize,
     pending: u64,
 }
 
@@ -77,10 +76,8 @@ impl Store {
     fn open(file: File) -> Result<Store, Stop> {
         let image = read_image(&file)?;
         let mut named = BTreeMap::new();
-        let mut weight = 0;
         for content in image.files.values() {
-            weight += INODE + PIECE * content.pieces.len();
-            for piece in &content.pieces {
+            for piece in content.pieces.values() {
                 named.entry(piece.extent).or_insert((0, piece.extent_bytes)).0 += 1;
             }
         }
@@ -95,7 +92,6 @@ impl Store {
             free: free_runs(image.sizes.sectors, &held),
             held,
             slots: image.slots,
-            weight,
             pending: 0,
         })
     }
@@ -150,46 +146,36 @@ impl Store {
         }
     }
 
-    /// Refuses a command after which items of files would take so much that a commit might want slots.
-    fn check_slots(&self, weight: usize) -> Result<(), String> {
-        let free = self.sizes.slots as usize - self.slots.len();
-        let need = 8 * (weight + OTHER_ITEMS).div_ceil(ROOM) + 40;
-        refuse(free < need, &format!("no nodes {free} {need}"))
-    }
-
     fn file(&self, ino: u64) -> Result<&Content, String> {
         self.files.get(&ino).ok_or("no file".to_string())
     }
 
     /// Puts pieces in the place of what a file has in a range, and sets its size.
-    fn edit(&mut self, ino: u64, range: Range<u64>, given: &[Piece], size: u64) -> Result<(), String> {
-        let pieces = self.files.get(&ino).map_or(&[][..], |content| &content.pieces);
-        let gone = meeting(pieces, &range);
-        let [front, rest] = rests(&pieces[gone.clone()], &range);
-        let put: Vec<Piece> = front.into_iter().chain(given.iter().copied()).chain(rest).collect();
-        let made = if self.files.contains_key(&ino) { 0 } else { INODE };
-        let weight = self.weight + made + PIECE * put.len() - PIECE * gone.len();
-        self.check_slots(weight)?;
-        // No piece that goes is the last one to name what is put.
-        for piece in &put {
-            self.add_name(piece);
-        }
+    fn edit(&mut self, ino: u64, range: Range<u64>, given: &[Piece], size: u64) {
         let next = self.generation + 1;
         let content = self.files.entry(ino).or_insert(Content {
             size,
             made: next,
             changed: next,
-            pieces: Vec::new(),
+            pieces: BTreeMap::new(),
         });
         content.size = size;
         content.changed = next;
-        let gone: Vec<Piece> = content.pieces.splice(gone, put).collect();
-        for piece in gone {
+        let gone = meeting(&content.pieces, &range);
+        let [front, rest] = rests(&gone, &range);
+        let put: Vec<Piece> = front.into_iter().chain(given.iter().copied()).chain(rest).collect();
+        for piece in &gone {
+            content.pieces.remove(&piece.position);
+        }
+        content.pieces.extend(put.iter().map(|piece| (piece.position, *piece)));
+        // No piece that goes is the last one to name what is put.
+        for piece in &put {
+            self.add_name(piece);
+        }
+        for piece in &gone {
             self.drop_name(piece.extent);
         }
-        self.weight = weight;
         self.pending += 1;
-        Ok(())
     }
 
     fn size_or_none(&self, ino: u64) -> u64 {
@@ -210,7 +196,7 @@ impl Store {
             extent_bytes: len,
         };
         let size = self.size_or_none(ino).max(off + len);
-        self.edit(ino, off..off + len, &[piece], size)?;
+        self.edit(ino, off..off + len, &[piece], size);
         self.take(run, len);
         Ok(format!("ok extent {run}"))
     }
@@ -227,7 +213,7 @@ impl Store {
             piece.position = piece.position - off + to_off;
         }
         let size = self.size_or_none(to_ino).max(to_off + len);
-        self.edit(to_ino, to_off..to_off + len, &taken, size)?;
+        self.edit(to_ino, to_off..to_off + len, &taken, size);
         Ok("ok".to_string())
     }
 
@@ -236,18 +222,16 @@ impl Store {
         refuse(size % SECTOR != 0, "no align")?;
         refuse(size > LARGEST_SIZE, "no far")?;
         refuse(self.pending >= MOST_PENDING, "no many")?;
-        self.edit(ino, size..u64::MAX, &[], size)?;
+        self.edit(ino, size..u64::MAX, &[], size);
         Ok("ok".to_string())
     }
 
     fn unlink(&mut self, ino: u64) -> Reply {
-        let weight = self.weight - INODE - PIECE * self.file(ino)?.pieces.len();
+        self.file(ino)?;
         refuse(self.pending >= MOST_PENDING, "no many")?;
-        self.check_slots(weight)?;
-        for piece in self.files.remove(&ino).unwrap().pieces {
+        for piece in self.files.remove(&ino).unwrap().pieces.values() {
             self.drop_name(piece.extent);
         }
-        self.weight = weight;
         self.pending += 1;
         Ok("ok".to_string())
     }
@@ -255,7 +239,7 @@ impl Store {
     fn ls(&self, ino: u64) -> Reply {
         let content = self.file(ino)?;
         let mut reply = String::new();
-        for piece in &content.pieces {
+        for piece in content.pieces.values() {
             let Piece { position, len, extent, offset, .. } = piece;
             writeln!(reply, "{position} {len} {extent} {offset}").unwrap();
         }
@@ -265,9 +249,9 @@ impl Store {
     fn commit(&mut self) -> io::Result<()> {
         let mut items = Vec::new();
         for (ino, content) in &self.files {
-            let bytes = content.pieces.iter().map(|piece| piece.len).sum();
+            let bytes = content.pieces.values().map(|piece| piece.len).sum();
             items.push(inode_item(*ino, content.made, content.changed, content.size, bytes));
-            items.extend(content.pieces.iter().map(|piece| piece_item(*ino, piece)));
+            items.extend(content.pieces.values().map(|piece| piece_item(*ino, piece)));
         }
         let free: Vec<u64> = (0..self.sizes.slots)
             .map(slot_at)

@@ -10,7 +10,8 @@ pub struct Content {
     pub size: u64,
     pub made: u64,
     pub changed: u64,
-    pub pieces: Vec<Piece>,
+    /// By position.
+    pub pieces: BTreeMap<u64, Piece>,
 }
 
 pub struct Image {
@@ -118,19 +119,20 @@ fn put_file_item(files: &mut BTreeMap<u64, Content>, item: Item) {
             size: u64_at(body, 16),
             made: u64_at(body, 0),
             changed: u64_at(body, 8),
-            pieces: Vec::new(),
+            pieces: BTreeMap::new(),
         };
         files.insert(item.objectid, content);
     } else {
         let content = files.get_mut(&item.objectid).expect("a piece's file");
-        content.pieces.push(Piece {
+        let piece = Piece {
             position: item.offset,
             len: u64_at(body, 45),
             extent: u64_at(body, 21),
             offset: u64_at(body, 37),
             stamp: u64_at(body, 0),
             extent_bytes: u64_at(body, 29),
-        });
+        };
+        content.pieces.insert(piece.position, piece);
     }
 }
 

@@ -3,7 +3,7 @@
 
 use anyhow::{Context, Result, anyhow};
 use qg_cases::{Case, Cases, Program, Report, case_names, case_text, judge_case, read_case};
-use qg_disk::MemDisk;
+use qg_disk::Disk;
 use qg_edge::{MemSink, MemSource};
 use qg_program::run_program;
 use std::alloc::Global;
@@ -17,10 +17,10 @@ struct Whole {
 }
 
 impl Program for Whole {
-    fn call(
+    fn call<D: Disk>(
         &self,
         words: &Vec<String>,
-        disk: &mut MemDisk,
+        disk: &mut D,
         source: &mut MemSource,
         sink: &mut MemSink,
     ) -> u8 {

@@ -1,7 +1,7 @@
 -- Clean nodes are what stands on the disk.
 use Rattle.std.proofs.Common.{◌≡◌, ℕ, nat_eq, true, false, ◌≢◌, ◌⊎◌, List, [], ◌∷◌, Contains, refl, sym, ap, subst, ◌∙◌, inl, inr}
 use Rattle.std.specs.Prelude.{Option, Some, None, IsSome, Bool, cond}
-use Rattle.std.proofs.lemmas.Bool.{eqb-true}
+use Rattle.std.proofs.lemmas.Bool.{cases_Bool, cond-false, cond-true, eqb-true}
 use Rattle.std.specs.Cmp.{nat_eq_equiv}
 use Rattle.lru.specs.LruCache.{lru_cache, promoted, put_entries}
 use Rattle.lru.proofs.CallerLemmas.{Contains-lookup, Contains-promoted, Contains-put_entries, Contains-remove_entry}
@@ -103,6 +103,24 @@ lookup_gone address es (Some node) distinct is =
 
 pub clean-gone : (address : ℕ) (es : List (ℕ × Node)) → IsDistinct nat_eq (keys_of es) → lookup (nat_eq address) (remove_entry (nat_eq address) es) ≡ None
 clean-gone address es distinct = lookup_gone address es (lookup (nat_eq address) (remove_entry (nat_eq address) es)) distinct refl
+
+-- and none comes
+pub clean-none : (address at : ℕ) (es : List (ℕ × Node)) → lookup (nat_eq at) es ≡ None
+    → lookup (nat_eq at) (remove_entry (nat_eq address) es) ≡ None
+clean-none address at [] none = refl
+clean-none address at (e ∷ es) none = elim (cases_Bool (nat_eq at e.0)) [
+  | inl here ↦
+      let there : Some e.1 ≡ None = sym (cond-true (nat_eq at e.0) (Some e.1) (lookup (nat_eq at) es) here) ∙ none in cc
+  | inr other ↦
+      let later : lookup (nat_eq at) es ≡ None = sym (cond-false (nat_eq at e.0) (Some e.1) (lookup (nat_eq at) es) other) ∙ none in
+      let rest = remove_entry (nat_eq address) es in
+      elim (cases_Bool (nat_eq address e.0)) [
+        | inl gone ↦ ap (λ (b : Bool). lookup (nat_eq at) (cond b es (e ∷ rest))) gone ∙ later
+        | inr kept ↦
+            ap (λ (b : Bool). lookup (nat_eq at) (cond b es (e ∷ rest))) kept
+            ∙ ap (λ (b : Bool). cond b (Some e.1) (lookup (nat_eq at) rest)) other ∙ clean-none address at es later
+      ]
+]
 
 -- one that becomes fresh is clean no more
 pub IsBacked-fresh : (old new : Held) (history : Option (List Event)) (address : ℕ) (node : Node) → new.draft.sizes ≡ old.draft.sizes → ((q : ℕ) → fresh_at new.draft q ≡ cond (is_at (nat_cmp address) q) (Some node) (fresh_at old.draft q))

@@ -326,6 +326,7 @@ impl Blocks {
         ensures gone { held_at self.new address ≡ None }
         ensures told { (history : Option (List Event)) (at : ℕ) → at ≢ address
             → told self.new.draft history at ≡ told self.old.draft history at }
+        ensures others { (at : ℕ) → clean_at self.old at ≡ None → clean_at self.new at ≡ None }
         ensures backed { (history : Option (List Event)) → IsBacked self.old history → IsBacked self.new history }
         ensures bound { self.new.bound ≡ self.old.bound }
     {

@@ -10,6 +10,17 @@ pub enum Number {
     Each,
 }
 
+/// Bytes of a disk that are read as others from one call of a run on (this project's own).
+#[derive(Debug, Drop)]
+pub struct Flip {
+    /// The first of these calls.
+    pub call: Number,
+    /// Where the bytes lie.
+    pub at: u64,
+    /// What is read there.
+    pub bytes: Vec<u8>,
+}
+
 /// Which calls of a run are to fail (this project's own). The first call that the run makes of an object has the number 1.
 #[derive(Debug, Drop)]
 pub struct Plan {
@@ -21,6 +32,8 @@ pub struct Plan {
     pub sink: Vec<Number>,
     /// The last call of the disk that does not fail.
     pub last: Option<Number>,
+    /// The bytes of the disk that change.
+    pub flip: Option<Flip>,
 }
 
 /// What is wanted of a run (this project's own).
@@ -98,6 +111,7 @@ impl Plan {
             source: Vec::new(alloc),
             sink: Vec::new(alloc),
             last: None,
+            flip: None,
         }
     }
 }

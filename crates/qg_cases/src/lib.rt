@@ -9,6 +9,7 @@ mod case;
 mod change;
 mod fault;
 mod files;
+mod flip;
 mod judge;
 mod lines;
 mod numbers;
@@ -19,7 +20,7 @@ mod run;
 mod steps;
 mod text;
 
-pub use case::{Case, Number, Part, Plan, Run, Step, Wanted};
+pub use case::{Case, Flip, Number, Part, Plan, Run, Step, Wanted};
 pub use fault::{CaseFault, Complaint, NoMemory};
 pub use files::{case_names, case_text};
 pub use judge::{Cases, judge_case};

@@ -1,7 +1,7 @@
 // What the lines of a run add to it.
-use crate::numbers::{choice_of, choices_of, small_number_of};
-use crate::text::{escaped_of, first_word, line_of};
-use crate::{Complaint, Run};
+use crate::numbers::{choice_of, choices_of, number_of, small_number_of};
+use crate::text::{escaped_of, first_word, hex_of, line_of};
+use crate::{Complaint, Flip, Run};
 use std::alloc::Global;
 
 /// The bytes that a line of input or of output stands for: `<` and `>` a line, `<<` and `>>` bytes without a newline.
@@ -59,6 +59,17 @@ fn add_failing(alloc: Global, run: &mut Run, text: &str) -> Result<(), Complaint
     Ok(())
 }
 
+// The bytes of the disk that change, and from which call on.
+fn flip_of(alloc: Global, text: &str) -> Result<Flip, Complaint> {
+    let (call, rest) = first_word(text);
+    let (at, bytes) = first_word(rest);
+    Ok(Flip {
+        call: choice_of(call)?,
+        at: number_of(at)?,
+        bytes: hex_of(alloc, bytes)?,
+    })
+}
+
 /// Adds what another line of a run says.
 pub(crate) fn add_to_run(
     alloc: Global,
@@ -69,6 +80,7 @@ pub(crate) fn add_to_run(
     match word {
         "fail" => add_failing(alloc, run, text)?,
         "stop" => run.plan.last = Some(choice_of(text)?),
+        "flip" => run.plan.flip = Some(flip_of(alloc, text)?),
         "status" => run.wanted.status = small_number_of(text)?,
         "calls" => run.wanted.count = Some(choice_of(text)?),
         "@" => add_call(alloc, run, text)?,

@@ -77,7 +77,7 @@ impl Part {
                 self.add_step(number, Step::Run(run))?;
             }
             "no-words" => self.add_step(number, Step::Run(Run::new(alloc, Vec::new(alloc))))?,
-            "fail" | "stop" | "status" | "calls" | "@" => {
+            "fail" | "stop" | "flip" | "status" | "calls" | "@" => {
                 let run = self.last_run()?;
                 add_to_run(alloc, run, word, text)?;
             }

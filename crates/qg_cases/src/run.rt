@@ -1,9 +1,11 @@
 // One call of the program, and whether what came of it was wanted.
 use crate::calls::{call_texts, is_read};
-use crate::{NoMemory, Number, Plan, Report, Run, Wanted};
-use qg_disk::MemDisk;
+use crate::flip::FlipDisk;
+use crate::{Flip, NoMemory, Number, Plan, Report, Run, Wanted};
+use qg_disk::{Disk, MemDisk};
 use qg_edge::{MemSink, MemSource};
 use std::alloc::Global;
+use std::mem;
 
 /// What is printed in place of a line that is no text.
 const NO_TEXT: &str = "bytes that are no text";
@@ -11,10 +13,10 @@ const NO_TEXT: &str = "bytes that are no text";
 /// The program that the cases are of (this project's own).
 pub trait Program {
     /// Does what the words say, and answers the number of its status.
-    fn call(
+    fn call<D: Disk>(
         &self,
         words: &Vec<String>,
-        disk: &mut MemDisk,
+        disk: &mut D,
         source: &mut MemSource,
         sink: &mut MemSink,
     ) -> u8;
@@ -132,6 +134,46 @@ fn judge_calls(
     Ok(())
 }
 
+// Calls the program over a disk of which some bytes change from the call of a number on. Afterwards they are as they
+// were.
+fn call_flipped<P: Program>(
+    alloc: Global,
+    program: &P,
+    run: &Run,
+    flip: &Flip,
+    first: u64,
+    disk: &mut MemDisk,
+    source: &mut MemSource,
+    sink: &mut MemSink,
+) -> Result<u8, NoMemory> {
+    let bytes = flip.bytes.clone()?;
+    let held = mem::replace(disk, MemDisk::new(alloc));
+    let mut flipped = FlipDisk::new(held, first, flip.at, bytes);
+    let status = program.call(&run.words, &mut flipped, source, sink);
+    *disk = flipped.into_disk();
+    Ok(status)
+}
+
+// Calls the program over a disk that made so many calls before.
+fn call_planned<P: Program>(
+    alloc: Global,
+    program: &P,
+    run: &Run,
+    each: u64,
+    made: u64,
+    disk: &mut MemDisk,
+    source: &mut MemSource,
+    sink: &mut MemSink,
+) -> Result<u8, NoMemory> {
+    match &run.plan.flip {
+        None => Ok(program.call(&run.words, disk, source, sink)),
+        Some(flip) => {
+            let first = call_number(flip.call, each, made);
+            call_flipped(alloc, program, run, flip, first, disk, source, sink)
+        }
+    }
+}
+
 /// Calls the program over a disk, for the number `each`, and judges what came.
 pub(crate) fn judge_run<P: Program>(
     alloc: Global,
@@ -147,7 +189,16 @@ pub(crate) fn judge_run<P: Program>(
     source.fail_at(call_numbers(alloc, &run.plan.source, each, 0)?);
     let mut sink = MemSink::new(alloc);
     sink.fail_at(call_numbers(alloc, &run.plan.sink, each, 0)?);
-    let status = program.call(&run.words, disk, &mut source, &mut sink);
+    let status = call_planned(
+        alloc,
+        program,
+        run,
+        each,
+        made as u64,
+        disk,
+        &mut source,
+        &mut sink,
+    )?;
     clear_plan(alloc, disk);
     let wanted = run.wanted.status.to_string(alloc)?;
     let came = status.to_string(alloc)?;

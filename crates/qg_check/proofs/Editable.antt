@@ -1,32 +1,27 @@
 -- An image of the trees that were read may be edited, whatever the disk tells.
-use Rattle.std.proofs.Common.{◌≡◌, ℕ, ◌≤◌, Bool, true, List, ◌++◌, refl, sym, ap, ◌∙◌, subst}
+use Rattle.std.proofs.Common.{◌≡◌, ℕ, Bool, true, List, ◌++◌, refl, sym, ◌∙◌, subst}
 use Rattle.std.specs.Prelude.{Err, IfOk, Ok, Option, Result}
 use Rattle.std.specs.List.{list_all}
 use Rattle.std.proofs.lemmas.List.Folds.{list_all-append}
-use Rattle.std.proofs.lemmas.List.Sums.{list_all-from_AllPass}
 use Rattle.qg_super.specs.declared.superblock.Super.{Super}
 use Rattle.qg_super.specs.Places.{is_slot}
 use Rattle.qg_super.specs.SuperText.{is_super, sizes_of}
-use Rattle.qg_super.proofs.Served.{SuperFits-is_super}
-use Rattle.qg_verdict.specs.Verdict.{space_failure}
 use Rattle.qg_walk.specs.declared.fault.OpenFault.{OpenFault}
 use Rattle.qg_check.specs.declared.image.Image.{Image}
 use Rattle.qg_check.specs.declared.judge.Read.{Read}
-use Rattle.qg_check.specs.IsImage.{IsEditable, Keeps, extents_in}
-use Rattle.qg_check.specs.Trees.{AreFitFiles, HasOneGroup}
-use Rattle.qg_check.proofs.FitFiles.{files_writable}
-use Rattle.qg_check.proofs.SlotsOf.{same_slots}
+use Rattle.qg_check.specs.IsImage.{IsEditable, Keeps}
+use Rattle.qg_check.specs.Trees.{AreFitParts, HasOneGroup, IsRootFit}
+use Rattle.qg_check.proofs.Recorded.{known_by}
 
 -- what was read is fit, tree by tree
 pub record IsFit (super : Super) (read : Read) : Type 0 where
   pub superblock : is_super super ≡ true
-  pub copied : read.trees.files.last_snapshot ≤ super.generation
+  pub root : IsRootFit super.generation read.trees.files
   pub roots : list_all (is_slot (sizes_of super)) read.trees.nodes ≡ true
-  pub extents : list_all (is_slot (sizes_of super)) read.extent_nodes ≡ true
+  pub extents : list_all (is_slot (sizes_of super)) read.extents.nodes ≡ true
+  pub parts : AreFitParts super.generation read.extents.parts
   pub quotas : list_all (is_slot (sizes_of super)) read.quotas.nodes ≡ true
   pub group : HasOneGroup super.generation read.quotas.quota
-  pub slots : list_all (is_slot (sizes_of super)) read.subvolume.nodes ≡ true
-  pub files : AreFitFiles super.generation read.subvolume.files
 
 pass_three : (test : ℕ → Bool) (a b c : List ℕ) → list_all test a ≡ true → list_all test b ≡ true → list_all test c ≡ true → list_all test (a ++ b ++ c) ≡ true
 pass_three test a b c first second third = rw (list_all-append, list_all-append, first, second, third) refl
@@ -35,23 +30,19 @@ pass_three test a b c first second third = rw (list_all-append, list_all-append,
 kept_editable : (read : Read) (image : Image) → Keeps image.superblock read image → IsFit image.superblock read → IsEditable image
 kept_editable read image keeps fit =
     let super = image.superblock in
-    let served = (SuperFits-is_super super fit.superblock).served in
-    let space = ap (space_failure (sizes_of super)) (sym keeps.extents) ∙ keeps.space in
     let one = fit.group in
     record {
       superblock = fit.superblock;
-      copied = rw keeps.root fit.copied;
-      files = rw keeps.files (files_writable (sizes_of super) super.generation read.subvolume.files served space fit.files);
-      by = rw keeps.files (λ k d below. (fit.files.each k d below).by);
-      extents = keeps.extents ∙ ap extents_in (sym keeps.files);
+      root = rw keeps.root fit.root;
       space = keeps.space;
       group = one.group;
       counted = keeps.quota ∙ one.counted;
       no_max_rfer = one.no_max_rfer;
       no_max_excl = one.no_max_excl;
       stamp = one.stamp;
-      nodes = list_all-from_AllPass (is_slot (sizes_of super)) image.nodes (same_slots (sizes_of super) image.nodes read.subvolume.nodes keeps.nodes fit.slots);
-      others = rw keeps.others (pass_three (is_slot (sizes_of super)) read.trees.nodes read.extent_nodes read.quotas.nodes fit.roots fit.extents fit.quotas);
+      nodes = keeps.nodes;
+      others = rw keeps.others (pass_three (is_slot (sizes_of super)) read.trees.nodes read.extents.nodes read.quotas.nodes fit.roots fit.extents fit.quotas);
+      known = known_by super.generation super.nodesize read.extents.parts image.book fit.parts.by keeps.book keeps.table;
     }
 
 read_editable : (super : Super) (read : Read) (image : Image) → image.superblock ≡ super → Keeps super read image → IsFit super read → IsEditable image
@@ -68,10 +59,7 @@ answer_editable super read (Err fault) same keeps fit = tt
 pub stale_editable : (image : Image) (stale : Option ℕ) → IsEditable image → IsEditable (record image { stale = stale })
 stale_editable image stale is = record {
   superblock = is.superblock;
-  copied = is.copied;
-  files = is.files;
-  by = is.by;
-  extents = is.extents;
+  root = is.root;
   space = is.space;
   group = is.group;
   counted = is.counted;
@@ -80,4 +68,5 @@ stale_editable image stale is = record {
   stamp = is.stamp;
   nodes = is.nodes;
   others = is.others;
+  known = is.known;
 }

@@ -12,6 +12,10 @@ pub mod StateRead
 pub mod SlotsOf
 pub mod Verdicts
 pub mod Passing
-pub mod FitFiles
 pub mod OneGroup
 pub mod Editable
+pub mod Parents
+pub mod Owing
+pub mod Agreed
+pub mod Recorded
+pub mod Judging

@@ -1,20 +1,23 @@
 -- What holds of all that a tree's items say, where the tree may hold each.
-use Rattle.std.proofs.Common.{◌≡◌, ◌≤◌, ℕ, Bool, true, List, [], ◌∷◌, map, refl, subst, arith}
-use Rattle.std.specs.Prelude.{All, Option, Some, ◌&&◌, nat_le}
-use Rattle.std.specs.List.{list_all}
-use Rattle.std.proofs.lemmas.Bool.{and_parts, and_from, leb-true}
-use Rattle.std.proofs.lemmas.List.Elements.{All-filter}
+use Rattle.std.proofs.Common.{◌≡◌, ℕ, Bool, true, false, List, [], ◌∷◌, map, refl, sym, ap, ◌∙◌, subst, arith}
+use Rattle.std.specs.Prelude.{All, Option, Some, ◌&&◌, ◌==◌, nat_le}
+use Rattle.std.specs.Bool.{then_some}
+use Rattle.std.specs.List.{AllByRecursion, list_all}
+use Rattle.std.proofs.lemmas.Bool.{and_parts, and_from, eqb-true, leb-true}
+use Rattle.std.proofs.lemmas.List.Elements.{All-filter, All-from_recursion}
+use Rattle.std.proofs.lemmas.Option.{same_Some, option_and_then_some}
 use Rattle.std.proofs.lemmas.List.Sums.{AllPass-from_list_all}
 use Rattle.qg_node.specs.declared.item.Item.{Item}
 use Rattle.qg_items.specs.declared.root.RootItem.{RootItem}
-use Rattle.qg_image.specs.declared.part.FilePart.{FilePart}
+use Rattle.qg_image.specs.declared.part.ExtentPart.{ExtentPart}
 use Rattle.qg_image.specs.declared.part.QuotaPart.{QuotaPart}
-use Rattle.qg_image.specs.FilesOf.{is_file_item}
-use Rattle.qg_image.specs.ItemMeaning.{is_subvolume_number, some_passes, root_part, root_part_stamps, quota_part, quota_part_stamps, file_part, file_part_stamps}
-use Rattle.qg_verdict.specs.declared.tree.Tree.TheVariants.{Roots, Quotas, Files}
+use Rattle.qg_items.specs.ItemReading.{root_read}
+use Rattle.qg_image.specs.ItemMeaning.{when, is_subvolume_number, some_passes, root_part, root_part_stamps, extent_part, extent_part_stamps, quota_part, quota_part_stamps}
+use Rattle.qg_verdict.specs.declared.tree.Tree.TheVariants.{Roots, Extents, Quotas}
 use Rattle.qg_verdict.specs.ImageState.{subvolume_roots}
 use Rattle.qg_verdict.specs.Walk.{are_by, is_item_of, tells_generation}
 use Rattle.qg_walk.specs.Held.{AreHeld}
+use Rattle.qg_check.specs.Trees.{IsRootFit}
 
 -- what is said passes a test, where all that the items may say does
 said_passes : {P : Type 0} (meaning : Item → Option P) (test : P → Bool) (items : List Item) (parts : List P)
@@ -41,18 +44,55 @@ unfolding is_item_of
 quotas_by generation parts are =
     said_passes quota_part (λ (part : QuotaPart). are_by generation (quota_part_stamps part) && tells_generation generation part) are.items parts are.held are.said
 
--- no item of a subvolume
-pub files_by : (generation : ℕ) (parts : List FilePart) → AreHeld Files file_part generation parts → list_all (λ part. are_by generation (file_part_stamps part)) parts ≡ true
-unfolding is_item_of is_file_item
-files_by generation parts are = said_passes file_part (λ (part : FilePart). are_by generation (file_part_stamps part)) are.items parts are.held are.said
+-- no item of the extent tree
+pub extents_by : (generation : ℕ) (parts : List ExtentPart) → AreHeld Extents extent_part generation parts → list_all (λ part. are_by generation (extent_part_stamps part)) parts ≡ true
+unfolding is_item_of
+extents_by generation parts are = said_passes extent_part (λ (part : ExtentPart). are_by generation (extent_part_stamps part)) are.items parts are.held are.said
 
--- so no snapshot of the only subvolume is of a generation to come
-pub copied_by : (generation : ℕ) (roots : List (ℕ × RootItem)) (top : RootItem) → AreHeld Roots root_part generation roots → subvolume_roots roots ≡ (5, top) ∷ [] → top.last_snapshot ≤ generation
-copied_by generation roots top are only =
+-- ---- the only subvolume
+
+when_some : {A : Type 0} (test : Bool) (given : Option A) (x : A) → when test given ≡ Some x → given ≡ Some x
+when_some true given x is = is
+when_some false given x is = absurd cc
+
+told_once : (same : Bool) (n : ℕ) (root : RootItem) (part : ℕ × RootItem) → (root.refs == 1) ≡ same → then_some same (n, root) ≡ Some part → part.1.refs ≡ 1
+told_once true n root part is told =
+    let one : (n, root) ≡ part = same_Some (n, root) part told in
+    ap (λ (p : ℕ × RootItem). p.1.refs) (sym one) ∙ eqb-true root.refs 1 is
+told_once false n root part is told = absurd cc
+
+-- a ROOT_ITEM has one reference
+root_once : (item : Item) (part : ℕ × RootItem) → root_part item ≡ Some part → part.1.refs ≡ 1
+unfolding root_part
+root_once item part is =
+    option_and_then_some (λ (root : RootItem). then_some (root.refs == 1) (item.key.objectid, root)) (root_read item.body) part (when_some _ _ part is)
+    (λ root read told. told_once (root.refs == 1) item.key.objectid root part refl told)
+
+roots_once : (items : List Item) (roots : List (ℕ × RootItem)) → map root_part items ≡ map (λ part. Some part) roots → AllByRecursion (λ (part : ℕ × RootItem). part.1.refs ≡ 1) roots
+roots_once [] [] said = tt
+roots_once [] (part ∷ roots) said = absurd cc
+roots_once (item ∷ items) [] said = absurd cc
+roots_once (item ∷ items) (part ∷ roots) said =
+    let first : root_part item ≡ Some part = cc in
+    let later : map root_part items ≡ map (λ part. Some part) roots = cc in
+    (root_once item part first, roots_once items roots later)
+
+-- so that of the only subvolume has one, and no generation that it tells is one to come
+pub root_fit : (generation : ℕ) (roots : List (ℕ × RootItem)) (top : RootItem) → AreHeld Roots root_part generation roots → subvolume_roots roots ≡ (5, top) ∷ []
+    → IsRootFit generation top
+root_fit generation roots top are only =
     let IsBy : ℕ × RootItem → Type 0 = λ part. are_by generation (root_part_stamps part) ≡ true in
+    let HasOne : ℕ × RootItem → Type 0 = λ part. part.1.refs ≡ 1 in
+    let test : ℕ × RootItem → Bool = λ entry. is_subvolume_number entry.0 in
     let all : All IsBy (subvolume_roots roots) =
-    All-filter (λ (entry : ℕ × RootItem). is_subvolume_number entry.0) IsBy roots (AllPass-from_list_all (λ (part : ℕ × RootItem). are_by generation (root_part_stamps part)) roots (roots_by generation roots are)) in
-    let one : All IsBy ((5, top) ∷ []) = subst (All IsBy) only all in
-    let own : are_by generation (top.generation ∷ top.last_snapshot ∷ []) ≡ true = one 0 (5, top) (omega arith) in
+    All-filter test IsBy roots (AllPass-from_list_all (λ (part : ℕ × RootItem). are_by generation (root_part_stamps part)) roots (roots_by generation roots are)) in
+    let each : All HasOne (subvolume_roots roots) = All-filter test HasOne roots (All-from_recursion HasOne roots (roots_once are.items roots are.said)) in
+    let by : All IsBy ((5, top) ∷ []) = subst (All IsBy) only all in
+    let once : All HasOne ((5, top) ∷ []) = subst (All HasOne) only each in
+    let own : are_by generation (top.generation ∷ top.last_snapshot ∷ []) ≡ true = by 0 (5, top) (omega arith) in
     let stamps = and_parts (nat_le top.generation generation) (nat_le top.last_snapshot generation && true) own in
-    leb-true top.last_snapshot generation (and_parts (nat_le top.last_snapshot generation) true stamps.1).0
+    record {
+      made = leb-true top.generation generation stamps.0;
+      copied = leb-true top.last_snapshot generation (and_parts (nat_le top.last_snapshot generation) true stamps.1).0;
+      once = once 0 (5, top) (omega arith);
+    }

@@ -38,7 +38,7 @@ given_later : {Y : Type 0} (first : Option Y) (ys : List Y) (y : Y) → Contains
 given_later None ys y has = has
 given_later (Some z) ys y has = contains_later z ys y has
 
-contains_given : {X Y : Type 0} (h : X → Option Y) (xs : List X) (x : X) (y : Y) → Contains xs x → h x ≡ Some y → Contains (filter_map h xs) y
+pub contains_given : {X Y : Type 0} (h : X → Option Y) (xs : List X) (x : X) (y : Y) → Contains xs x → h x ≡ Some y → Contains (filter_map h xs) y
 contains_given h [] x y has is = absurd (none_contained x has)
 contains_given h (z ∷ zs) x y has is = elim (contains_cases z zs x has) [
   | inl same ↦ subst (λ first. Contains (cons_option first (filter_map h zs)) y) (sym (ap h same ∙ is)) (contains_here y (filter_map h zs))
@@ -53,7 +53,7 @@ given_cases h z zs (Some first) ys y is behind has = elim (contains_cases first 
   | inr later ↦ let given = behind later in (given.0, contains_later z zs given.0 given.1, given.2)
 ]
 
-one_given : {X Y : Type 0} (h : X → Option Y) (xs : List X) (y : Y) → Contains (filter_map h xs) y → IsGiven h xs y
+pub one_given : {X Y : Type 0} (h : X → Option Y) (xs : List X) (y : Y) → Contains (filter_map h xs) y → IsGiven h xs y
 one_given h [] y has = absurd (none_contained y has)
 one_given h (z ∷ zs) y has = given_cases h z zs (h z) (filter_map h zs) y refl (one_given h zs y) has
 

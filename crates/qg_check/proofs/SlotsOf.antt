@@ -9,7 +9,10 @@ use Rattle.qg_super.specs.declared.sizes.Sizes.{Sizes}
 use Rattle.qg_super.specs.Places.{is_slot}
 use Rattle.qg_state.proofs.Contained.{none_contained, contains_cases}
 use Rattle.qg_reach.specs.Sets.{HaveSame}
+use Rattle.qg_node.specs.declared.node.Node.{Node}
 use Rattle.qg_walk.specs.Held.{AreAddressesOf, AreInSlots}
+use Rattle.qg_gathered.specs.declared.nodes.NodesRead.{NodesRead}
+use Rattle.qg_gathered.specs.Told.{AreOfNodes}
 
 -- what all pass, each passes
 passes : {A : Type 0} (p : A → Bool) (xs : List A) (x : A) → list_all p xs ≡ true → Contains xs x → p x ≡ true
@@ -27,3 +30,9 @@ same_slots sizes slots given same all = λ k d below. passes (is_slot sizes) giv
 -- where nodes lie that lie in slots
 pub slots_of_addresses : (sizes : Sizes) (addresses : List ℕ) → AreInSlots sizes AreAddressesOf addresses → list_all (is_slot sizes) addresses ≡ true
 slots_of_addresses sizes addresses in_slots = rw (in_slots.kept, list_all-map) in_slots.slots
+
+-- so they do where this was gathered of nodes that lie in slots, and these are their addresses
+pub slots_of_gathered : (sizes : Sizes) (read : NodesRead) (addresses : List ℕ) → AreInSlots sizes AreOfNodes read
+    → ((nodes : List Node) → AreOfNodes read nodes → AreAddressesOf addresses nodes) → list_all (is_slot sizes) addresses ≡ true
+slots_of_gathered sizes read addresses in_slots are =
+    slots_of_addresses sizes addresses (record { nodes = in_slots.nodes; kept = are in_slots.nodes in_slots.kept; slots = in_slots.slots })

@@ -1,11 +1,11 @@
-use qg_image::FileList;
+use qg_extents::Extents;
 use qg_items::RootItem;
 use qg_num::{Address, Sequence};
 use qg_state::{Element, Quota};
 use qg_super::Super;
 
 /// What a sound image stands for, but for how its nodes are cut (this project's own). Addresses are in bytes.
-#[derive(Debug, Drop)]
+#[derive(Drop)]
 pub struct Image {
     /// The superblock that counts.
     pub superblock: Super,
@@ -13,8 +13,6 @@ pub struct Image {
     pub stale: Option<u64>,
     /// The ROOT_ITEM of the top-level subvolume.
     pub root: RootItem,
-    /// Its files, ascending by number.
-    pub files: FileList,
     /// The quota groups.
     pub quota: Quota,
     /// Where the nodes of the root, extent and quota trees lie, in the order of the walk.
@@ -23,4 +21,6 @@ pub struct Image {
     pub nodes: Sequence<Address>,
     /// The data extents that files name, ascending.
     pub extents: Sequence<Element>,
+    /// The references that are recorded, which are those that are owed.
+    pub book: Extents,
 }

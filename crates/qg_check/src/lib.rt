@@ -6,6 +6,7 @@ mod image;
 mod judge;
 mod places;
 mod read;
+mod references;
 mod trees;
 
 pub use image::Image;

@@ -8,7 +8,7 @@ ghost use Rattle.qg_super.specs.SuperText.{is_super, sizes_of};
 ghost use Rattle.qg_verdict.specs.Verdict.{verdict, places_failure};
 ghost use Rattle.qg_walk.specs.Fault.{FailsAs};
 ghost use Rattle.qg_check.specs.Stages.{trees_failure};
-ghost use Rattle.qg_check.specs.Trees.{AreTrees};
+ghost use Rattle.qg_check.specs.Trees.{AreTrees, IsRootFit};
 ghost use Rattle.qg_check.specs.IsImage.{IsEditable, IsImage, StandsFor};
 
 use crate::Image;
@@ -86,12 +86,12 @@ fn read_trees<D: Disk>(
         → IfOk result (λ image. StandsFor superblock (content events) image) }
     ensures superblock { IfOk result (λ image. image.superblock ≡ superblock) }
     ensures editable { IsTrue (is_super superblock) → IsTrue (list_all (is_slot (sizes_of superblock)) trees.nodes)
-        → trees.files.last_snapshot ≤ superblock.generation → IfOk result (λ image. IsEditable image) }
+        → IsRootFit superblock.generation trees.files → IfOk result (λ image. IsEditable image) }
     ensures history { D.history disk.new ≡ D.history disk.old }
     ensures size { D.size disk.new ≡ D.size disk.old }
     ensures cause { HasCause OpenFault.Disk (D.faults disk.old) (D.faults disk.new) result }
 {
-    let extent_nodes = read_extents(alloc, disk, &superblock, &trees.extents)?;
+    let extents = read_extents(alloc, disk, &superblock, &trees.extents)?;
     let quotas = read_quotas(alloc, disk, &superblock, &trees.quotas, &trees.files)?;
     let subvolume = read_subvolume(alloc, disk, &superblock, &trees.files)?;
     judge_trees(
@@ -99,7 +99,7 @@ fn read_trees<D: Disk>(
         superblock,
         Read {
             trees,
-            extent_nodes,
+            extents,
             quotas,
             subvolume,
         },

@@ -7,15 +7,18 @@ ghost use Rattle.qg_super.specs.Places.{is_served, is_slot, total_bytes};
 ghost use Rattle.qg_super.specs.SuperText.{sizes_of};
 ghost use Rattle.qg_node.specs.Nodes.{is_ascending};
 ghost use Rattle.qg_parts.specs.Keys.{root_key};
-ghost use Rattle.qg_verdict.specs.declared.tree.Tree.TheVariants.{Extents};
 ghost use Rattle.qg_verdict.specs.Walk.{root_told};
-ghost use Rattle.qg_verdict.specs.ImageState.{nodes_of_root, roots_in, addresses_of};
+ghost use Rattle.qg_verdict.specs.ImageState.{roots_in};
 ghost use Rattle.qg_verdict.specs.Verdict.{are_roots, quota_failure, subvolume_failure, roots_failure};
 ghost use Rattle.qg_walk.specs.Fault.{FailsAs};
+ghost use Rattle.qg_walk.specs.Held.{AreInSlots};
+ghost use Rattle.qg_gathered.specs.Told.{AreOfNodes};
 ghost use Rattle.qg_check.specs.Stages.{extents_failure};
-ghost use Rattle.qg_check.specs.Trees.{AreFitFiles, AreNamed, AreTrees, HasOneGroup, IsQuotaTree, IsFileTree};
+ghost use Rattle.qg_check.specs.Trees.{AreFitParts, AreNamed, AreTrees, HasOneGroup, IsExtentTree, IsFileTree, IsQuotaTree, IsRootFit};
 
+use crate::references::look_at_counts;
 use qg_disk::Disk;
+use qg_gathered::NodesRead;
 use qg_image::{ExtentPart, FileList, FilePart, QuotaPart, RootPart};
 use qg_items::RootItem;
 use qg_items::tree::{EXTENT_TREE, QUOTA_TREE, TOP_LEVEL};
@@ -37,6 +40,14 @@ pub struct Trees {
     pub nodes: Sequence<Address>,
 }
 
+/// What the extent tree says.
+#[derive(Debug, Drop)]
+pub struct ExtentTree {
+    pub parts: Sequence<ExtentPart>,
+    /// Where its nodes lie, in bytes.
+    pub nodes: Sequence<Address>,
+}
+
 /// What the quota tree says.
 #[derive(Debug, Drop)]
 pub struct QuotaTree {
@@ -49,8 +60,8 @@ pub struct QuotaTree {
 #[derive(Debug, Drop)]
 pub struct FileTree {
     pub files: FileList,
-    /// Where its nodes lie, in bytes.
-    pub nodes: Sequence<Address>,
+    /// What was gathered of its nodes.
+    pub nodes: NodesRead,
 }
 
 // What is expected of a root by its ROOT_ITEM.
@@ -77,7 +88,7 @@ pub(crate) fn read_roots<D: Disk>(
         → FailsAs result (roots_failure superblock.now (content events)) }
     ensures trees { (events : List Event) → D.history disk.old ≡ Some events
         → IfOk result (λ trees. AreTrees superblock.now (content events) trees) }
-    ensures copied { IfOk result (λ trees. trees.files.last_snapshot ≤ superblock.now.generation) }
+    ensures root { IfOk result (λ trees. IsRootFit superblock.now.generation trees.files) }
     ensures slots { IfOk result (λ trees. IsTrue (list_all (is_slot (sizes_of superblock.now)) trees.nodes)) }
     ensures history { D.history disk.new ≡ D.history disk.old }
     ensures size { D.size disk.new ≡ D.size disk.old }
@@ -135,20 +146,21 @@ fn name_trees(roots: &[RootPart]) -> Option<Named>
     })
 }
 
-/// Reads the extent tree, of which nothing is kept but where its nodes lie.
+/// Reads the extent tree. What it says is judged together with the other trees.
 pub(crate) fn read_extents<D: Disk>(
     alloc: Global,
     disk: &mut D,
     superblock: &Super,
     root: &RootItem,
-) -> Result<Sequence<Address>, OpenFault>
+) -> Result<ExtentTree, OpenFault>
     requires served { IsTrue (is_served (sizes_of superblock.now)) }
     requires inside { total_bytes (sizes_of superblock.now) ≤ D.size disk.old }
     ensures failure { (events : List Event) → D.history disk.old ≡ Some events
         → FailsAs result (extents_failure superblock.now (content events) root.now) }
-    ensures nodes { (events : List Event) → D.history disk.old ≡ Some events
-        → IfOk result (λ nodes. nodes ≡ addresses_of (nodes_of_root Extents superblock.now (content events) root.now)) }
-    ensures slots { IfOk result (λ nodes. IsTrue (list_all (is_slot (sizes_of superblock.now)) nodes)) }
+    ensures tree { (events : List Event) → D.history disk.old ≡ Some events
+        → IfOk result (λ tree. IsExtentTree superblock.now (content events) root.now tree) }
+    ensures parts { IfOk result (λ tree. AreFitParts superblock.now.generation tree.parts) }
+    ensures slots { IfOk result (λ tree. IsTrue (list_all (is_slot (sizes_of superblock.now)) tree.nodes)) }
     ensures history { D.history disk.new ≡ D.history disk.old }
     ensures size { D.size disk.new ≡ D.size disk.old }
     ensures cause { HasCause OpenFault.Disk (D.faults disk.old) (D.faults disk.new) result }
@@ -161,7 +173,11 @@ pub(crate) fn read_extents<D: Disk>(
         root.bytenr,
         Sequence::new(alloc),
     )?;
-    Ok(walked.nodes)
+    look_at_counts(walked.parts.as_slice());
+    Ok(ExtentTree {
+        parts: walked.parts,
+        nodes: walked.nodes,
+    })
 }
 
 /// Reads the quota tree and judges what it says. `files` is the ROOT_ITEM of the only subvolume.
@@ -220,19 +236,18 @@ pub(crate) fn read_subvolume<D: Disk>(
         → FailsAs result (subvolume_failure superblock.now (content events) root.now) }
     ensures tree { (events : List Event) → D.history disk.old ≡ Some events
         → IfOk result (λ tree. IsFileTree superblock.now (content events) root.now tree) }
-    ensures files { IfOk result (λ tree. AreFitFiles superblock.now.generation tree.files) }
-    ensures slots { IfOk result (λ tree. IsTrue (list_all (is_slot (sizes_of superblock.now)) tree.nodes)) }
+    ensures slots { IfOk result (λ tree. AreInSlots (sizes_of superblock.now) AreOfNodes tree.nodes) }
     ensures history { D.history disk.new ≡ D.history disk.old }
     ensures size { D.size disk.new ≡ D.size disk.old }
     ensures cause { HasCause OpenFault.Disk (D.faults disk.old) (D.faults disk.new) result }
 {
-    let walked = walk_tree::<FilePart, FileParts, Sequence<Address>, D>(
+    let walked = walk_tree::<FilePart, FileParts, NodesRead, D>(
         alloc,
         disk,
         superblock,
         &root_told(root),
         root.bytenr,
-        Sequence::new(alloc),
+        NodesRead::new(alloc),
     )?;
     let Some(files) = read_files(alloc, walked.parts)? else {
         return Err(OpenFault::Broken {

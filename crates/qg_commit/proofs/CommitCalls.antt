@@ -1,9 +1,7 @@
 -- The calls that a commit makes, one after the other.
 use Rattle.std.proofs.Common.{◌≡◌, ℕ, List, [], ◌∷◌, ◌++◌, Option, Some, None, refl, sym, ap, ◌∙◌}
-use Rattle.std.specs.Prelude.{All}
 use Rattle.std.specs.List.{AllByRecursion}
 use Rattle.std.specs.Option.{option_map}
-use Rattle.std.proofs.lemmas.List.Elements.{All-append}
 use Rattle.qg_device.specs.History.{Event, Wrote, with_event}
 use Rattle.qg_node.specs.declared.node.Node.{Node}
 use Rattle.qg_node.specs.Nodes.{header_of}
@@ -77,7 +75,3 @@ of_each {A} P a b c d all =
     let three = all_front P (a ++ b ++ c) d all in
     let two = all_front P (a ++ b) c three in
     record { first = all_front P a b two; second = all_back P a b two; third = all_back P (a ++ b) c three; fourth = all_back P (a ++ b ++ c) d all }
-
--- and back
-pub all_four : {A : Type 0} (P : A → Type 0) (a b c d : List A) → All P a → All P b → All P c → All P d → All P (a ++ b ++ c ++ d)
-all_four P a b c d in_a in_b in_c in_d = All-append P (a ++ b ++ c) d (All-append P (a ++ b) c (All-append P a b in_a in_b) in_c) in_d

@@ -1,37 +1,39 @@
--- The trees of a fresh image are four leaves, in the first four slots.
-use Rattle.std.proofs.Common.{◌≡◌, ℕ, suc, ◌+◌, ◌*◌, ◌≤◌, ◌<◌, inl, inr, true, false, List, [], ◌∷◌, ◌++◌, map, length, take, drop, get_or, refl, ap, subst, ◌∙◌, arith, lit<}
-use Rattle.std.specs.Prelude.{◌==◌, IsTrue, All}
+-- The other trees of a fresh image are three leaves, in the first, the second and the fourth slot.
+use Rattle.std.proofs.Common.{◌≡◌, ℕ, suc, ◌+◌, ◌*◌, ◌≤◌, ◌<◌, inl, inr, true, false, List, [], ◌∷◌, ◌++◌, map, length, take, drop, get_or, refl, ap, subst, ◌∙◌, arith}
+use Rattle.std.specs.Prelude.{◌==◌}
 use Rattle.std.specs.List.{AllByRecursion, IsDistinct}
 use Rattle.std.proofs.Math.Nat.{mul-le-mul_left}
 use Rattle.std.proofs.lemmas.Bool.{cases_order, eqb-false, ne_eqb}
 use Rattle.std.proofs.lemmas.Cmp.{nat_eq_equiv}
-use Rattle.std.proofs.lemmas.List.Elements.{All-from_recursion}
-use Rattle.std.proofs.lemmas.List.Sums.{sum_by-cons}
 use Rattle.std.proofs.lemmas.Map.Made.{IsDistinct-from_count}
-use Rattle.qg_num.specs.declared.counters.Counters.{Counters}
 use Rattle.qg_node.specs.declared.item.Item.{Item}
 use Rattle.qg_node.specs.declared.node.Node.{Node}
-use Rattle.qg_node.specs.Nodes.{header_of, item_bytes, items_bytes}
+use Rattle.qg_node.specs.Nodes.{header_of, items_bytes}
 use Rattle.qg_items.specs.declared.root.RootItem.{RootItem}
+use Rattle.qg_items.proofs.ExtentBodies.{length-extent_text}
 use Rattle.qg_items.proofs.QuotaBodies.{length-info_text, length-limit_text, length-status_text}
 use Rattle.qg_items.proofs.RootBody.{length-root_text}
+use Rattle.qg_node.specs.NodeText.{IsNodeSize}
 use Rattle.qg_super.specs.declared.sizes.Sizes.{Sizes}
 use Rattle.qg_super.specs.Places.{capacity, is_served, is_slot, slot_at}
 use Rattle.qg_super.proofs.Served.{SizesFit-is_served}
 use Rattle.qg_super.proofs.Slots.{is_slot-slot_at}
+use Rattle.qg_state.specs.Need.{nodes_filled}
 use Rattle.qg_verdict.specs.IsFresh.{fresh_leaf}
-use Rattle.qg_contents.specs.Written.{info_of, items_of_quota, items_of_roots, status_at}
+use Rattle.qg_contents.specs.Written.{items_of_roots}
 use Rattle.qg_tree.specs.Build.{IsBuilt}
-use Rattle.qg_laid.specs.declared.laying.Laid.{Laid}
-use Rattle.qg_laid.specs.Anew.{all_exclusive, stamp_after}
-use Rattle.qg_laid.specs.Trees.{root_item_laid}
-use Rattle.qg_commit.specs.Fresh.{AreFreshTrees, fresh_nodes, fresh_root, fresh_slots, fresh_super, quota_items, root_items}
+use Rattle.qg_tree.specs.declared.building.Built.{Built}
+use Rattle.qg_extents.specs.Fresh.{fresh_table}
+use Rattle.qg_extents.specs.Written.{items_of_book}
+use Rattle.qg_other_trees.specs.declared.laying.OtherTrees.{OtherTrees}
+use Rattle.qg_other_trees.specs.Trees.{root_item_laid}
+use Rattle.qg_commit.specs.Fresh.{AreFreshTrees, extent_items, fresh_nodes, fresh_root, fresh_slots, fresh_super, own_leaf, quota_items, root_items}
 use Rattle.qg_commit.proofs.Slots.{node_size_bounds}
 
 -- ---- the slots
 
 abbrev slot_numbers : List ℕ
-slot_numbers = 2 ∷ 1 ∷ 3 ∷ 0 ∷ 4 ∷ 5 ∷ 6 ∷ 7 ∷ 8 ∷ 9 ∷ 10 ∷ 11 ∷ 12 ∷ 13 ∷ []
+slot_numbers = 1 ∷ 3 ∷ 0 ∷ 4 ∷ 5 ∷ 6 ∷ 7 ∷ 8 ∷ 9 ∷ 10 ∷ 11 ∷ 12 ∷ 13 ∷ 14 ∷ 15 ∷ 16 ∷ 17 ∷ 18 ∷ []
 
 -- slots with different numbers lie at different addresses
 slot_differs : (sizes : Sizes) (k j : ℕ) → 1 ≤ sizes.nodesize → (k == j) ≡ false → (slot_at sizes k == slot_at sizes j) ≡ false
@@ -71,15 +73,6 @@ first_slots-IsDistinct sizes served =
 pub low_slot-is_slot : (sizes : Sizes) (k : ℕ) → is_served sizes ≡ true → k < 64 → is_slot sizes (slot_at sizes k) ≡ true
 low_slot-is_slot sizes k served below = is_slot-slot_at sizes k (some_bytes sizes served) (omega (arith, below, (SizesFit-is_served sizes served).some_slots))
 
-are_slots : (sizes : Sizes) (ks : List ℕ) → is_served sizes ≡ true → AllByRecursion (λ k. k < 64) ks → AllByRecursion (λ slot. IsTrue (is_slot sizes slot)) (map (slot_at sizes) ks)
-are_slots sizes [] served low = tt
-are_slots sizes (k ∷ ks) served low = (low_slot-is_slot sizes k served low.0, are_slots sizes ks served low.1)
-
-pub fresh_slots-are_slots : (sizes : Sizes) → is_served sizes ≡ true → All (λ slot. IsTrue (is_slot sizes slot)) (fresh_slots sizes)
-fresh_slots-are_slots sizes served = All-from_recursion (λ slot. IsTrue (is_slot sizes slot)) (fresh_slots sizes) (are_slots sizes slot_numbers served low) where
-  low : AllByRecursion (λ (k : ℕ). k < 64) slot_numbers
-  low = (lit< tt, (lit< tt, (lit< tt, (lit< tt, (lit< tt, (lit< tt, (lit< tt, (lit< tt, (lit< tt, (lit< tt, (lit< tt, (lit< tt, (lit< tt, (lit< tt, tt))))))))))))))
-
 -- ---- a tree of one leaf
 
 -- the leaf lies in this slot
@@ -100,115 +93,110 @@ leaf-IsLeafAt nodesize owner items slot rest nodes root level built light =
       flat = one.flat;
     }
 
--- items that weigh nothing are none
-weightless : (items : List Item) → items_bytes items ≡ 0 → items ≡ []
-weightless [] none = refl
-weightless (item ∷ items) none = absurd (omega (arith, none, sum_by-cons item_bytes item items))
-
--- what the items of the root and quota trees weigh, in bytes
+-- what the items of each weigh, in bytes
 root_items-bytes : (extents files quotas : ℕ) → items_bytes (root_items extents files quotas) ≡ 1392
 root_items-bytes extents files quotas = simp length-root_text refl
 
 quota_items-bytes : (nodesize : ℕ) → items_bytes (quota_items nodesize) ≡ 187
 quota_items-bytes nodesize = simp (length-status_text, length-info_text, length-limit_text) refl
 
--- ---- the four trees
+extent_items-bytes : (root : ℕ) → items_bytes (extent_items root) ≡ 74
+extent_items-bytes root = simp length-extent_text refl
 
-module _ (sizes : Sizes) (laid : Laid) (served : is_served sizes ≡ true) (trees : AreFreshTrees sizes laid) where
+-- the items of the book of one reference
+book_items : (nodesize root : ℕ) → items_of_book (fresh_table nodesize root) ≡ extent_items root
+book_items nodesize root = refl
+
+one_filled : (nodesize : ℕ) → IsNodeSize nodesize → nodes_filled nodesize 74 ≡ 1
+one_filled nodesize (inl is) = rw is refl
+one_filled nodesize (inr is) = rw is refl
+
+-- there are slots enough for the three
+pub fresh-enough : (sizes : Sizes) → is_served sizes ≡ true
+    → 5 * nodes_filled sizes.nodesize (items_bytes (items_of_book (fresh_table sizes.nodesize (slot_at sizes 2)))) + 13
+    ≤ length (fresh_slots sizes)
+fresh-enough sizes served =
+    let size = (SizesFit-is_served sizes served).node_size in
+    let weighs = extent_items-bytes (slot_at sizes 2) in
+    let filled : nodes_filled sizes.nodesize (items_bytes (extent_items (slot_at sizes 2))) ≡ 1 =
+    ap (nodes_filled sizes.nodesize) weighs ∙ one_filled sizes.nodesize size in
+    omega (arith, filled)
+
+-- ---- the three trees
+
+module _ (sizes : Sizes) (trees : OtherTrees) (served : is_served sizes ≡ true) (are : AreFreshTrees sizes trees) where
   wide : 3995 ≤ capacity sizes.nodesize
   wide = omega (arith, (node_size_bounds sizes.nodesize (SizesFit-is_served sizes served).node_size).0)
 
-  nothing_light : items_bytes [] ≤ capacity sizes.nodesize
-  nothing_light = let none : items_bytes [] ≡ 0 = refl in omega (arith, none, wide)
+  abbrev BuiltOf : ℕ → List Item → List ℕ → Built → Type 0
+  BuiltOf owner items slots built = IsBuilt sizes.nodesize owner 1 items slots built.nodes built.root built.level
 
-  no_files : trees.file_tree.items ≡ []
-  no_files = weightless trees.file_tree.items trees.file_tree.told.weighs
+  abbrev LeafAt : ℕ → List Item → ℕ → Built → Type 0
+  LeafAt owner items slot built = IsLeafAt owner items slot built.nodes built.root built.level
 
-  pub files_leaf : IsLeafAt 5 [] (slot_at sizes 2) laid.files.nodes laid.files.root laid.files.level
-  files_leaf =
-      let built = subst (λ (items : List Item). IsBuilt sizes.nodesize 5 1 items (fresh_slots sizes) laid.files.nodes laid.files.root laid.files.level) no_files trees.file_tree.stands in
-      leaf-IsLeafAt sizes.nodesize 5 [] (slot_at sizes 2) (drop 1 (fresh_slots sizes)) laid.files.nodes laid.files.root laid.files.level built nothing_light
+  extents_light : items_bytes (extent_items (slot_at sizes 2)) ≤ capacity sizes.nodesize
+  extents_light = omega (arith, wide, extent_items-bytes (slot_at sizes 2))
 
-  pub one_file : length laid.files.nodes ≡ 1
-  one_file = ap length files_leaf.nodes_are
-
-  pub extents_leaf : IsLeafAt 2 [] (slot_at sizes 1) laid.extents.nodes laid.extents.root laid.extents.level
+  pub extents_leaf : LeafAt 2 (extent_items (slot_at sizes 2)) (slot_at sizes 1) trees.extents
   extents_leaf =
-      let built = subst (λ (n : ℕ). IsBuilt sizes.nodesize 2 1 trees.extent_tree.items (drop n (fresh_slots sizes)) laid.extents.nodes laid.extents.root laid.extents.level) one_file trees.extent_tree.stands in
-      let built' = subst (λ (items : List Item). IsBuilt sizes.nodesize 2 1 items (drop 1 (fresh_slots sizes)) laid.extents.nodes laid.extents.root laid.extents.level) trees.extent_tree.told built in
-      leaf-IsLeafAt sizes.nodesize 2 [] (slot_at sizes 1) (drop 2 (fresh_slots sizes)) laid.extents.nodes laid.extents.root laid.extents.level built' nothing_light
+      let built = subst (λ (items : List Item). BuiltOf 2 items (fresh_slots sizes) trees.extents)
+      are.extent_tree.told.written are.extent_tree.stands in
+      leaf-IsLeafAt sizes.nodesize 2 (extent_items (slot_at sizes 2)) (slot_at sizes 1) (drop 1 (fresh_slots sizes))
+      trees.extents.nodes trees.extents.root trees.extents.level built extents_light
 
-  one_extent : length laid.extents.nodes ≡ 1
+  one_extent : length trees.extents.nodes ≡ 1
   one_extent = ap length extents_leaf.nodes_are
-
-  -- the subvolume reaches its root node alone
-  pub counters_are : laid.counters ≡ record { rfer = sizes.nodesize; excl = sizes.nodesize }
-  counters_are =
-      let bytes : sizes.nodesize * length laid.files.nodes + 0 ≡ sizes.nodesize = rw one_file (omega arith) in
-      trees.counted ∙ ap all_exclusive bytes
-
-  pub stamp_is : laid.stamp ≡ 1
-  stamp_is = trees.stamped ∙ ap (λ (counters : Counters). stamp_after (record { rfer = 0; excl = 0 }) counters 0 1) counters_are ∙ changed where
-    changed : stamp_after (record { rfer = 0; excl = 0 }) (record { rfer = sizes.nodesize; excl = sizes.nodesize }) 0 1 ≡ 1
-    changed = rw (ne_eqb 0 sizes.nodesize (λ same. omega (arith, same, (node_size_bounds sizes.nodesize (SizesFit-is_served sizes served).node_size).0))) refl
-
-  quotas_written : trees.quota_tree.items ≡ quota_items sizes.nodesize
-  quotas_written =
-      trees.quota_tree.told.written ∙ ap (λ (stamp : ℕ). items_of_quota (status_at 1) 5 (info_of stamp laid.counters)) stamp_is
-      ∙ ap (λ (counters : Counters). items_of_quota (status_at 1) 5 (info_of 1 counters)) counters_are
 
   quotas_light : items_bytes (quota_items sizes.nodesize) ≤ capacity sizes.nodesize
   quotas_light = omega (arith, wide, quota_items-bytes sizes.nodesize)
 
-  pub quotas_leaf : IsLeafAt 8 (quota_items sizes.nodesize) (slot_at sizes 3) laid.quotas.nodes laid.quotas.root laid.quotas.level
+  pub quotas_leaf : LeafAt 8 (quota_items sizes.nodesize) (slot_at sizes 3) trees.quotas
   quotas_leaf =
-      let first = subst (λ (n : ℕ). IsBuilt sizes.nodesize 8 1 trees.quota_tree.items (drop (length laid.extents.nodes) (drop n (fresh_slots sizes))) laid.quotas.nodes laid.quotas.root laid.quotas.level) one_file trees.quota_tree.stands in
-      let second = subst (λ (n : ℕ). IsBuilt sizes.nodesize 8 1 trees.quota_tree.items (drop n (drop 1 (fresh_slots sizes))) laid.quotas.nodes laid.quotas.root laid.quotas.level) one_extent first in
-      let built = subst (λ (items : List Item). IsBuilt sizes.nodesize 8 1 items (drop 2 (fresh_slots sizes)) laid.quotas.nodes laid.quotas.root laid.quotas.level) quotas_written second in
-      leaf-IsLeafAt sizes.nodesize 8 (quota_items sizes.nodesize) (slot_at sizes 3) (drop 3 (fresh_slots sizes)) laid.quotas.nodes laid.quotas.root laid.quotas.level built quotas_light
+      let first = subst (λ (n : ℕ). BuiltOf 8 are.quota_tree.items (drop n (fresh_slots sizes)) trees.quotas) one_extent
+      are.quota_tree.stands in
+      let built = subst (λ (items : List Item). BuiltOf 8 items (drop 1 (fresh_slots sizes)) trees.quotas)
+      are.quota_tree.told.written first in
+      leaf-IsLeafAt sizes.nodesize 8 (quota_items sizes.nodesize) (slot_at sizes 3) (drop 2 (fresh_slots sizes))
+      trees.quotas.nodes trees.quotas.root trees.quotas.level built quotas_light
 
-  one_quota : length laid.quotas.nodes ≡ 1
+  one_quota : length trees.quotas.nodes ≡ 1
   one_quota = ap length quotas_leaf.nodes_are
 
   -- the ROOT_ITEMs are those of leaves in these slots
-  extents_root : root_item_laid laid.extents 1 0 ≡ fresh_root (slot_at sizes 1)
+  extents_root : root_item_laid trees.extents 1 ≡ fresh_root (slot_at sizes 1)
   extents_root = rw (extents_leaf.root_is, extents_leaf.flat) refl
 
-  pub own_item : root_item_laid laid.files 1 0 ≡ fresh_root (slot_at sizes 2)
-  own_item = rw (files_leaf.root_is, files_leaf.flat) refl
-
-  files_root : laid.root ≡ fresh_root (slot_at sizes 2)
-  files_root = trees.own_root ∙ own_item
-
-  quotas_root : root_item_laid laid.quotas 1 0 ≡ fresh_root (slot_at sizes 3)
+  quotas_root : root_item_laid trees.quotas 1 ≡ fresh_root (slot_at sizes 3)
   quotas_root = rw (quotas_leaf.root_is, quotas_leaf.flat) refl
 
-  abbrev own_items : List Item
-  own_items = root_items (slot_at sizes 1) (slot_at sizes 2) (slot_at sizes 3)
+  abbrev named_items : List Item
+  named_items = root_items (slot_at sizes 1) (slot_at sizes 2) (slot_at sizes 3)
 
-  roots_written : trees.root_tree.items ≡ own_items
+  roots_written : are.root_tree.items ≡ named_items
   roots_written =
-      trees.root_tree.told.written
-      ∙ ap (λ (root : RootItem). items_of_roots root laid.root (root_item_laid laid.quotas 1 0)) extents_root
-      ∙ ap (λ (root : RootItem). items_of_roots (fresh_root (slot_at sizes 1)) root (root_item_laid laid.quotas 1 0)) files_root
+      are.root_tree.told.written
+      ∙ ap (λ (root : RootItem). items_of_roots root (fresh_root (slot_at sizes 2)) (root_item_laid trees.quotas 1)) extents_root
       ∙ ap (λ (root : RootItem). items_of_roots (fresh_root (slot_at sizes 1)) (fresh_root (slot_at sizes 2)) root) quotas_root
 
-  roots_light : items_bytes own_items ≤ capacity sizes.nodesize
+  roots_light : items_bytes named_items ≤ capacity sizes.nodesize
   roots_light = omega (arith, wide, root_items-bytes (slot_at sizes 1) (slot_at sizes 2) (slot_at sizes 3))
 
-  pub roots_leaf : IsLeafAt 1 own_items (slot_at sizes 0) laid.roots.nodes laid.roots.root laid.roots.level
+  pub roots_leaf : LeafAt 1 named_items (slot_at sizes 0) trees.roots
   roots_leaf =
-      let At = λ (items : List Item) (slots : List ℕ). IsBuilt sizes.nodesize 1 1 items slots laid.roots.nodes laid.roots.root laid.roots.level in
-      let first = subst (λ (n : ℕ). At trees.root_tree.items (drop (length laid.quotas.nodes) (drop (length laid.extents.nodes) (drop n (fresh_slots sizes))))) one_file trees.root_tree.stands in
-      let second = subst (λ (n : ℕ). At trees.root_tree.items (drop (length laid.quotas.nodes) (drop n (drop 1 (fresh_slots sizes))))) one_extent first in
-      let third = subst (λ (n : ℕ). At trees.root_tree.items (drop n (drop 2 (fresh_slots sizes)))) one_quota second in
-      let built = subst (λ (items : List Item). At items (drop 3 (fresh_slots sizes))) roots_written third in
-      leaf-IsLeafAt sizes.nodesize 1 own_items (slot_at sizes 0) (drop 4 (fresh_slots sizes)) laid.roots.nodes laid.roots.root laid.roots.level built roots_light
+      let first = subst
+      (λ (n : ℕ). BuiltOf 1 are.root_tree.items (drop (length trees.quotas.nodes) (drop n (fresh_slots sizes))) trees.roots)
+      one_extent are.root_tree.stands in
+      let second = subst (λ (n : ℕ). BuiltOf 1 are.root_tree.items (drop n (drop 1 (fresh_slots sizes))) trees.roots) one_quota
+      first in
+      let built = subst (λ (items : List Item). BuiltOf 1 items (drop 2 (fresh_slots sizes)) trees.roots) roots_written
+      second in
+      leaf-IsLeafAt sizes.nodesize 1 named_items (slot_at sizes 0) (drop 3 (fresh_slots sizes)) trees.roots.nodes
+      trees.roots.root trees.roots.level built roots_light
 
   -- ---- what mkfs says of them
 
-  pub superblock_is : laid.superblock ≡ fresh_super sizes (slot_at sizes 0)
-  superblock_is = trees.leads ∙ ap (fresh_super sizes) roots_leaf.root_is
+  pub superblock_is : trees.superblock ≡ fresh_super sizes (slot_at sizes 0)
+  superblock_is = are.leads ∙ ap (fresh_super sizes) roots_leaf.root_is
 
-  pub nodes_are : laid.roots.nodes ++ laid.extents.nodes ++ laid.files.nodes ++ laid.quotas.nodes ≡ fresh_nodes sizes
-  nodes_are = rw (roots_leaf.nodes_are, extents_leaf.nodes_are, files_leaf.nodes_are, quotas_leaf.nodes_are) refl
+  pub nodes_are : trees.roots.nodes ++ trees.extents.nodes ++ (own_leaf sizes ∷ []) ++ trees.quotas.nodes ≡ fresh_nodes sizes
+  nodes_are = rw (roots_leaf.nodes_are, extents_leaf.nodes_are, quotas_leaf.nodes_are) refl

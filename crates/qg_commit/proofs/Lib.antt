@@ -4,10 +4,10 @@ pub mod Written
 pub mod Moments
 pub mod Placed
 pub mod Fronts
-pub mod LaidNodes
 pub mod CommitCalls
 pub mod ReadBack
 pub mod FreshTrees
+pub mod FreshState
 pub mod FreshImage
 pub mod MakingCalls
 pub mod Touched

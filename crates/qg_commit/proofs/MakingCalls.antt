@@ -1,5 +1,5 @@
 -- The calls that make an image, one after the other.
-use Rattle.std.proofs.Common.{◌≡◌, ℕ, ◌-◌, List, ◌∷◌, Option, Some, None, refl, ap, ◌∙◌}
+use Rattle.std.proofs.Common.{◌≡◌, ℕ, ◌-◌, List, ◌∷◌, ◌++◌, Option, Some, None, refl, ap, ◌∙◌}
 use Rattle.std.specs.Option.{option_map}
 use Rattle.qg_bytes.specs.Fields.{zeros}
 use Rattle.qg_device.specs.History.{Event, Wrote, Cut, with_event}
@@ -8,7 +8,8 @@ use Rattle.qg_super.specs.declared.sizes.Sizes.{Sizes}
 use Rattle.qg_super.specs.declared.superblock.Super.{Super}
 use Rattle.qg_super.specs.Places.{slot_at, total_bytes}
 use Rattle.qg_commit.specs.Fresh.{fresh_nodes, fresh_super}
-use Rattle.qg_commit.specs.Calls.{with_commit, with_image}
+use Rattle.qg_commit.specs.Calls.{with_commit, with_image, with_nodes, with_superblocks}
+use Rattle.qg_commit.proofs.CommitCalls.{last_calls, two_calls}
 
 -- a cut, the last sector and a commit, of a history that is told or not
 calls_one_by_one : (super : Super) (nodes : List Node) (at : ℕ) (old : Option (List Event))
@@ -16,6 +17,17 @@ calls_one_by_one : (super : Super) (nodes : List Node) (at : ℕ) (old : Option 
     ≡ option_map (λ events. with_commit super nodes (Wrote at (zeros 4096) ∷ Cut 0 ∷ events)) old
 calls_one_by_one super nodes at None = refl
 calls_one_by_one super nodes at (Some events) = refl
+
+-- nodes of four lists are written, one list behind the other, and then the superblocks
+pub four_lists : (super : Super) (a b c d : List Node) (old one two three four new : Option (List Event))
+    → one ≡ option_map (with_nodes super.nodesize a) old → two ≡ option_map (with_nodes super.nodesize b) one
+    → three ≡ option_map (with_nodes super.nodesize c) two → four ≡ option_map (with_nodes super.nodesize d) three
+    → new ≡ option_map (with_superblocks super) four → new ≡ option_map (with_commit super (a ++ b ++ c ++ d)) old
+four_lists super a b c d old one two three four new first second third fourth last =
+    let to_two = two_calls super super.nodesize a b b old one two refl refl first second in
+    let to_three = two_calls super super.nodesize (a ++ b) c c old two three refl refl to_two third in
+    let to_four = two_calls super super.nodesize (a ++ b ++ c) d d old three four refl refl to_three fourth in
+    last_calls super (a ++ b ++ c ++ d) old four new to_four last
 
 -- they are the calls that make an image of these sizes
 pub image_calls : (sizes : Sizes) (super : Super) (nodes : List Node) (total : ℕ) → super ≡ fresh_super sizes (slot_at sizes 0)

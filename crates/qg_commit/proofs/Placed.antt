@@ -1,14 +1,8 @@
--- Nodes of trees that were built one after the other, each in the first of the slots that those before it left: a commit may write them.
-use Rattle.std.proofs.Common.{◌≡◌, ℕ, zero, suc, Bool, true, false, List, [], ◌∷◌, ◌++◌, map, length, get_or, take, drop, sym, ap, subst, ◌∙◌, arith, length-append}
+-- Nodes in slots of their own: a commit may write them.
+use Rattle.std.proofs.Common.{◌≡◌, ℕ, zero, suc, Bool, true, false, List, [], ◌∷◌, map, length, get_or, take, sym, subst, arith}
 use Rattle.std.specs.Prelude.{◌==◌, IsTrue, All}
 use Rattle.std.specs.List.{IsDistinct}
-use Rattle.std.proofs.Math.Seq.{take-add}
-use Rattle.std.proofs.lemmas.List.{map-append}
-use Rattle.std.proofs.lemmas.Bool.Decides.{nat_tests}
-use Rattle.std.proofs.lemmas.List.Elements.{All-contains, All-nil, All-cons, All-head, All-tail, All-take, All-from_recursion, Contains-get_or, recursion_from_All}
-use Rattle.std.proofs.lemmas.List.Sorted.{Contains-permutation, IsPermutation-map, IsPermutation-sym}
-use Rattle.std.proofs.lemmas.Map.Keys.{IsDistinct-IsPermutation}
-use Rattle.std.specs.List.Sorted.{IsPermutation}
+use Rattle.std.proofs.lemmas.List.Elements.{All-nil, All-cons, All-head, All-tail, All-take, All-from_recursion, recursion_from_All}
 use Rattle.qg_node.specs.declared.node.Node.{Node}
 use Rattle.qg_node.specs.Nodes.{header_of}
 use Rattle.qg_node.specs.NodeText.{IsNode}
@@ -20,18 +14,7 @@ use Rattle.qg_commit.specs.Calls.{IsWritable}
 use Rattle.qg_commit.proofs.Slots.{is_slot-IsBetween}
 use Rattle.qg_commit.proofs.Written.{address_of, AreCommittable}
 
--- ---- where the nodes lie
-
--- the nodes of one tree after those of another lie in the first of the slots too
-pub placed-append : (slots : List ℕ) (front back : List Node) → map (λ node. (header_of node).address) front ≡ take (length front) slots
-    → map (λ node. (header_of node).address) back ≡ take (length back) (drop (length front) slots)
-    → map (λ node. (header_of node).address) (front ++ back) ≡ take (length (front ++ back)) slots
-placed-append slots front back first second =
-    map-append address_of front back
-    ∙ ap (λ (addresses : List ℕ). addresses ++ map address_of back) first
-    ∙ ap (λ (addresses : List ℕ). take (length front) slots ++ addresses) second
-    ∙ sym (take-add (length front) (length back) slots)
-    ∙ ap (λ (n : ℕ). take n slots) (sym (length-append front back))
+-- ---- lists
 
 -- the first of some elements are distinct where all are
 IsDistinct-take : {A : Type 0} (same : A → A → Bool) (n : ℕ) (xs : List A) → IsDistinct same xs → IsDistinct same (take n xs)
@@ -73,22 +56,4 @@ placed-AreCommittable super slots nodes is are_slots distinct placed are =
           (λ k d below. slot-IsWritable super (get_or nodes k d) served (are k d below) (in_slots k d below));
       in_slots = in_slots;
       apart = subst (IsDistinct (λ a b. a == b)) (sym placed) apart;
-    }
-
--- ---- in another order
-
-flips : (a b : ℕ) → (a == b) ≡ (b == a)
-flips a b = grind (arith, nat_tests)
-
-pub all_moved : {A : Type 0} (P : A → Type 0) (xs ys : List A) → IsPermutation ys xs → All P xs → All P ys
-all_moved P xs ys moved all = λ k d below. All-contains P xs (get_or ys k d) all (Contains-permutation ys xs (get_or ys k d) moved (Contains-get_or ys k d below))
-
-pub moved-AreCommittable : (super : Super) (nodes moved : List Node) → IsPermutation moved nodes → AreCommittable super nodes → AreCommittable super moved
-moved-AreCommittable super nodes moved same are =
-    let Writes = IsWritable super.nodesize in
-    let back = IsPermutation-map address_of nodes moved (IsPermutation-sym moved nodes same) in
-    record {
-      writable = recursion_from_All Writes moved (all_moved Writes nodes moved same (All-from_recursion Writes nodes are.writable));
-      in_slots = all_moved (λ node. IsTrue (is_slot (sizes_of super) (header_of node).address)) nodes moved same are.in_slots;
-      apart = IsDistinct-IsPermutation (λ a b. a == b) flips (map address_of nodes) (map address_of moved) back are.apart;
     }

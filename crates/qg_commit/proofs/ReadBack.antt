@@ -1,6 +1,5 @@
 -- Nodes that were written are read from their texts.
 use Rattle.std.proofs.Common.{◌≡◌, ℕ, ◌+◌, ◌<◌, inl, inr, List, length, get_or, Ok, sym, ap, subst, ◌∙◌, arith}
-use Rattle.std.specs.Prelude.{All}
 use Rattle.std.proofs.lemmas.Bool.{cases_eq}
 use Rattle.std.proofs.lemmas.List.{get_or_default}
 use Rattle.qg_node.specs.declared.node.Node.{Node}
@@ -20,7 +19,3 @@ more-IsReadBack nodesize nodes i node within is read before k d below = elim (ca
   | inl same ↦ subst (λ (n : ℕ). IsReadBack nodesize (get_or nodes n d)) (sym same) (subst (IsReadBack nodesize) (is ∙ get_or_default nodes i node d within) read)
   | inr other ↦ before k d (omega arith)
 ]
-
--- over a buffer of the same size, for the same nodes
-pub same-IsReadBack : (n m : ℕ) (given nodes : List Node) → n ≡ m → given ≡ nodes → All (IsReadBack n) given → All (IsReadBack m) nodes
-same-IsReadBack n m given nodes size same all = subst (λ (list : List Node). All (IsReadBack m) list) same (subst (λ (k : ℕ). All (IsReadBack k) given) size all)

@@ -20,7 +20,7 @@ use Rattle.qg_super.proofs.Served.{SizesFit, SizesFit-is_served, SuperFits-is_su
 use Rattle.qg_verdict.specs.Walk.{node_found}
 use Rattle.qg_verdict.specs.ImageState.{super_in}
 use Rattle.qg_commit.specs.Calls.{IsReadBack, IsWritable, with_nodes, with_commit}
-use Rattle.qg_laid.specs.Holds.{HasCommit}
+use Rattle.qg_other_trees.specs.Holds.{HasCommit}
 use Rattle.qg_commit.proofs.Slots.{is_slot-IsBetween, slots-apart}
 use Rattle.qg_commit.proofs.Ranges.{HasRange, written-HasRange, kept-HasRange, range-slice_range}
 

@@ -9,7 +9,6 @@ use Rattle.qg_node.specs.Reading.{node_read}
 use Rattle.qg_super.specs.declared.superblock.Super.{Super}
 use Rattle.qg_super.specs.Places.{first_place, second_place, sector, total_bytes}
 use Rattle.qg_super.specs.SuperText.{super_text, sizes_of}
-use Rattle.qg_commit.specs.declared.write.FourTrees.{FourTrees}
 
 -- ---- calls, and how far they came
 
@@ -67,10 +66,6 @@ superblock_calls super =
 -- a commit: the new nodes, a sync, the first superblock, a sync, the second superblock, a sync
 abbrev pub commit_calls : Super → List Node → List Call
 commit_calls super nodes = node_calls super.nodesize nodes ++ superblock_calls super
-
--- the nodes of four trees, in the order in which they are written
-abbrev pub nodes_of : FourTrees → List Node
-nodes_of trees = trees.first.now ++ trees.second.now ++ trees.third.now ++ trees.fourth.now
 
 -- what was done once they were made
 abbrev pub with_nodes : ℕ → List Node → List Event → List Event

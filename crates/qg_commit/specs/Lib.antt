@@ -1,7 +1,7 @@
 pub mod Fresh
 pub mod Calls
-pub mod Laying
 pub mod Mkfs
 pub mod Fault
 pub mod Opening
 pub mod Opened
+pub mod Examples

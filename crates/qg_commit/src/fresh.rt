@@ -1,11 +1,17 @@
 // The trees of an image that is just made.
-ghost use Rattle.std.specs.Prelude.{◌≡◌, ◌<◌, ◌++◌, IfOk, IsTrue};
+ghost use Rattle.std.specs.Prelude.{◌≡◌, ◌<◌, [], ◌∷◌, ◌++◌, IfOk, OnOk, IsTrue};
 ghost use Rattle.qg_super.specs.Places.{is_served, slot_at};
 ghost use Rattle.qg_super.specs.SuperText.{is_super};
-ghost use Rattle.qg_commit.specs.Fresh.{AreFreshTrees, fresh_nodes, fresh_slots, fresh_super};
+ghost use Rattle.qg_extents.specs.Fresh.{fresh_table};
+ghost use Rattle.qg_extents.specs.Table.{IsTable};
+ghost use Rattle.qg_commit.specs.Fresh.{AreFreshTrees, fresh_nodes, fresh_slots, fresh_super, own_leaf};
 
-use qg_laid::{Contents, Laid, lay_trees};
-use qg_num::{Address, Counters, Generation, NoMemory};
+use qg_extents::fresh_records;
+use qg_items::RootItem;
+use qg_items::tree::TOP_LEVEL;
+use qg_node::{Header, Items, Node};
+use qg_num::{Address, Counters, Generation, NoMemory, RootId};
+use qg_other_trees::{OtherTrees, Told, lay_other_trees};
 use qg_super::{SLOTS_BEGIN, Sizes};
 use std::alloc::Global;
 
@@ -19,13 +25,12 @@ fn slot(sizes: Sizes, number: u64) -> Address
     Address::new(SLOTS_BEGIN + number * sizes.nodesize)
 }
 
-// The slots of the top-level subvolume, the extent tree, the quota tree and the root tree; a layout asks for 14.
-fn slots(sizes: Sizes) -> [Address; 14]
+// The slots of the extent tree, the quota tree and the root tree; a layout asks for 18.
+fn slots(sizes: Sizes) -> [Address; 18]
     requires { IsTrue (is_served sizes) }
     ensures { result ≡ fresh_slots sizes }
 {
     [
-        slot(sizes, 2),
         slot(sizes, 1),
         slot(sizes, 3),
         slot(sizes, 0),
@@ -39,27 +44,62 @@ fn slots(sizes: Sizes) -> [Address; 14]
         slot(sizes, 11),
         slot(sizes, 12),
         slot(sizes, 13),
+        slot(sizes, 14),
+        slot(sizes, 15),
+        slot(sizes, 16),
+        slot(sizes, 17),
+        slot(sizes, 18),
     ]
 }
 
-/// The trees of a fresh image: the root tree, the extent tree, the top-level subvolume and the quota tree, a leaf each,
-/// in the first slots, in this order (this project's own).
-pub fn lay_fresh(alloc: Global, sizes: Sizes) -> Result<Laid, NoMemory>
+/// The top-level subvolume's leaf in a fresh image, in the third slot: it is empty (this project's own).
+pub fn lay_own_leaf(alloc: Global, sizes: Sizes) -> Node
     requires { IsTrue (is_served sizes) }
-    ensures trees { IfOk result (λ laid. AreFreshTrees sizes laid) }
-    ensures fits { IfOk result (λ laid. IsTrue (is_super laid.superblock)) }
-    ensures superblock { IfOk result (λ laid. laid.superblock ≡ fresh_super sizes (slot_at sizes 0)) }
-    ensures nodes { IfOk result (λ laid. laid.roots.nodes ++ laid.extents.nodes ++ laid.files.nodes ++ laid.quotas.nodes
-        ≡ fresh_nodes sizes) }
+    ensures { result ≡ own_leaf sizes }
 {
-    let nothing = Counters { rfer: 0, excl: 0 };
-    let contents = Contents {
-        last_snapshot: Generation::new(0),
-        files: &[],
-        extents: &[],
-        counters: &nothing,
-        stamp: Generation::new(0),
+    let header = Header {
+        address: slot(sizes, 2),
+        generation: Generation::new(1),
+        owner: RootId::new(TOP_LEVEL),
+        level: 0,
     };
-    let laid = lay_trees(alloc, sizes, Generation::new(1), &contents, &slots(sizes))?;
-    Ok(laid)
+    Node::Leaf {
+        header,
+        items: Items::new(alloc),
+    }
+}
+
+/// The other trees of a fresh image: the root tree, the extent tree, with the record of the subvolume's leaf, and the
+/// quota tree, a leaf each, in the first, the second and the fourth slot (this project's own).
+pub fn lay_fresh(alloc: Global, sizes: Sizes) -> Result<OtherTrees, NoMemory>
+    requires { IsTrue (is_served sizes) }
+    ensures trees { IfOk result (λ trees. AreFreshTrees sizes trees) }
+    ensures table { OnOk result (IsTable (fresh_table sizes.nodesize (slot_at sizes 2))) }
+    ensures fits { IfOk result (λ trees. IsTrue (is_super trees.superblock)) }
+    ensures superblock { IfOk result (λ trees. trees.superblock ≡ fresh_super sizes (slot_at sizes 0)) }
+    ensures nodes { IfOk result (λ trees.
+        trees.roots.nodes ++ trees.extents.nodes ++ (own_leaf sizes ∷ []) ++ trees.quotas.nodes ≡ fresh_nodes sizes) }
+{
+    let book = fresh_records(alloc, sizes, slot(sizes, 2))?;
+    // A proof knows that a book is a table once its length is read.
+    let _len = book.len();
+    let root = RootItem {
+        generation: Generation::new(1),
+        bytenr: slot(sizes, 2),
+        last_snapshot: Generation::new(0),
+        refs: 1,
+        level: 0,
+    };
+    let counters = Counters {
+        rfer: sizes.nodesize,
+        excl: sizes.nodesize,
+    };
+    let told = Told {
+        root: &root,
+        book: &book,
+        counters: &counters,
+        stamp: Generation::new(1),
+    };
+    let trees = lay_other_trees(alloc, sizes, Generation::new(1), &told, &slots(sizes))?;
+    Ok(trees)
 }

@@ -1,14 +1,14 @@
-//! Making an image, opening one, and committing to one.
+//! Making an image, opening one, and the calls that write a commit.
 #![tactic(auto)]
 
-mod committing;
 mod fault;
 mod fresh;
 mod making;
 mod opening;
+#[cfg(test)]
+mod tests;
 mod write;
 
-pub use committing::commit;
 pub use fault::MkfsFault;
 pub use making::mkfs;
 pub use opening::open;

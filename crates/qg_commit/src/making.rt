@@ -9,8 +9,8 @@ ghost use Rattle.qg_commit.specs.Calls.{with_image};
 ghost use Rattle.qg_commit.specs.Mkfs.{HoldsFreshImage};
 
 use crate::MkfsFault;
-use crate::fresh::lay_fresh;
-use crate::write::{FourTrees, write_trees};
+use crate::fresh::{lay_fresh, lay_own_leaf};
+use crate::write::{write_nodes, write_superblocks};
 use qg_disk::Disk;
 use qg_super::{SECTOR, Sizes};
 use std::alloc::Global;
@@ -33,16 +33,16 @@ pub fn mkfs<D: Disk>(alloc: Global, disk: &mut D, sizes: Sizes) -> Result<(), Mk
     if !sizes.is_served() {
         return Err(MkfsFault::Size);
     }
-    let laid = lay_fresh(alloc, sizes)?;
-    let mut buffer = vec![in alloc; 0; sizes.nodesize as usize]?;
-    let trees = FourTrees {
-        first: laid.roots.nodes.as_slice(),
-        second: laid.extents.nodes.as_slice(),
-        third: laid.files.nodes.as_slice(),
-        fourth: laid.quotas.nodes.as_slice(),
-    };
+    let trees = lay_fresh(alloc, sizes)?;
+    let own = [lay_own_leaf(alloc, sizes)];
+    let mut memory = vec![in alloc; 0; sizes.nodesize as usize]?;
+    let buffer = memory.as_mut_slice();
     disk.cut(0)?;
     disk.write_at(sizes.total_bytes() - SECTOR, &[0; SECTOR as usize])?;
-    write_trees(disk, &laid.superblock, &trees, &mut buffer)?;
+    write_nodes(disk, trees.roots.nodes.as_slice(), buffer)?;
+    write_nodes(disk, trees.extents.nodes.as_slice(), buffer)?;
+    write_nodes(disk, &own, buffer)?;
+    write_nodes(disk, trees.quotas.nodes.as_slice(), buffer)?;
+    write_superblocks(disk, &trees.superblock)?;
     Ok(())
 }

@@ -9,11 +9,8 @@ ghost use Rattle.qg_super.specs.SuperText.{is_super};
 ghost use Rattle.qg_commit.specs.Calls.{
   IsWritable,
   MadeFront,
-  commit_calls,
   node_calls,
-  nodes_of,
   superblock_calls,
-  with_commit,
   with_nodes,
   with_superblocks,
 };
@@ -63,45 +60,5 @@ pub fn write_superblocks<D: Disk>(disk: &mut D, superblock: &Super) -> Result<()
     write_super(superblock, SECOND_PLACE, &mut text);
     disk.write_at(SECOND_PLACE, &text)?;
     disk.sync()?;
-    Ok(())
-}
-
-/// The nodes of four trees, in the order in which they are written.
-#[derive(Clone, Copy)]
-pub struct FourTrees<'a> {
-    /// Those that are written first.
-    pub first: &'a [Node],
-    /// Those behind them.
-    pub second: &'a [Node],
-    /// Those behind these.
-    pub third: &'a [Node],
-    /// The last ones.
-    pub fourth: &'a [Node],
-}
-
-/// Writes the nodes of four trees, over a buffer of a node's size in bytes; then the first superblock, then the second,
-/// each once what was before is made sure of (this project's own).
-pub fn write_trees<D: Disk>(
-    disk: &mut D,
-    superblock: &Super,
-    trees: &FourTrees<'_>,
-    buffer: &mut [u8],
-) -> Result<(), DiskFault>
-    requires superblock { IsTrue (is_super superblock.now) }
-    requires size { length buffer.old ≡ superblock.now.nodesize }
-    requires node_size { IsNodeSize (length buffer.old) }
-    requires nodes { AllByRecursion (IsWritable (length buffer.old)) (nodes_of trees.now) }
-    ensures calls { OnOk result (D.history disk.new
-        ≡ option_map (with_commit superblock.now (nodes_of trees.now)) (D.history disk.old)) }
-    ensures front { (events : List Event) → D.history disk.old ≡ Some events
-        → MadeFront (commit_calls superblock.now (nodes_of trees.now)) events (D.history disk.new) }
-    ensures no_less { D.size disk.old ≤ D.size disk.new }
-    ensures cause { HasCause DiskFault.Failed (D.faults disk.old) (D.faults disk.new) result }
-{
-    write_nodes(disk, trees.first, buffer)?;
-    write_nodes(disk, trees.second, buffer)?;
-    write_nodes(disk, trees.third, buffer)?;
-    write_nodes(disk, trees.fourth, buffer)?;
-    write_superblocks(disk, superblock)?;
     Ok(())
 }

@@ -18,7 +18,7 @@ use Rattle.qg_state.specs.Owed.{Owing}
 use Rattle.qg_state.specs.Record.{same_reference}
 use Rattle.qg_parts.proofs.Parts.{and-false}
 use Rattle.qg_rules.specs.Writable.{AreWritableFiles, IsWritableFile}
-use Rattle.qg_subvol.proofs.Ascending.{Ascends, Ascends-increasing, all_past}
+use Rattle.qg_files.proofs.Ascending.{Ascends, Ascends-increasing, all_past}
 use Rattle.qg_tree_refs.specs.Exchange.{times}
 use Rattle.qg_tree_refs.proofs.Owings.{times-cons, times-few}
 use Rattle.qg_tree_refs.proofs.Times.{one_of, times-append, times-nil}

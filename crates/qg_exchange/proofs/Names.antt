@@ -24,7 +24,7 @@ use Rattle.qg_machine.specs.FileChange.{pieces_or_none}
 use Rattle.qg_rules.specs.Writable.{AreWritableFiles, IsFileBy, IsPlaced, IsWritableFile}
 use Rattle.qg_contents.specs.Written.{extent_data_of, inode_of, item_of_inode, item_of_piece, items_of_file}
 use Rattle.qg_file_items.proofs.Pieces.{range-order}
-use Rattle.qg_subvol.proofs.Ascending.{Ascends, Ascends-increasing, all_past}
+use Rattle.qg_files.proofs.Ascending.{Ascends, Ascends-increasing, all_past}
 use Rattle.qg_fs_tree.specs.Standing.{name_told, piece_in}
 use Rattle.qg_exchange.specs.Exchange.{IsExchange}
 use Rattle.qg_exchange.specs.Named.{AreNamesExchanged, named, names_by, names_of}

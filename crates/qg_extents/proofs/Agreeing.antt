@@ -1,6 +1,6 @@
 -- Parts that agree with what is owed are the records of a book.
 use Rattle.std.proofs.Common.{◌≡◌, ◌≢◌, ℕ, ◌≤◌, ◌<◌, Bool, true, false, List, [], ◌∷◌, length, refl, sym, ap, subst, ◌∙◌, arith, ◌⊎◌, inl, inr}
-use Rattle.std.specs.Prelude.{◌&&◌, ◌||◌, not, ◌==◌, if◌then◌else◌, nat_lt, nat_le, cond}
+use Rattle.std.specs.Prelude.{None, ◌&&◌, ◌||◌, not, ◌==◌, if◌then◌else◌, nat_lt, nat_le, cond}
 use Rattle.std.specs.List.{count_by, filter, list_all, list_any}
 use Rattle.std.proofs.lemmas.Bool.{cases_Bool, cond-true, cond-false, true≢false, eq-eqb, lt-ltb}
 use Rattle.std.proofs.lemmas.Bool.Decides.{nat_tests}
@@ -17,7 +17,7 @@ use Rattle.qg_state.specs.Owed.What.{Nothing, Data, Block}
 use Rattle.qg_refs.specs.Book.{AgreesWithOwed, Book}
 use Rattle.qg_refs.specs.Counts.{greatest_count}
 use Rattle.qg_refs.proofs.RankOrder.{same_reference_is}
-use Rattle.qg_extents.specs.Told.{IsTold, are_counted, is_count, is_entry, is_sound_record, parts_at, refs_told, the_only, told_count, told_in, told_sum}
+use Rattle.qg_extents.specs.Told.{IsTold, are_counted, is_count, is_entry, is_sound_record, parts_at, records_failure, refs_told, the_only, told_count, told_in, told_sum}
 use Rattle.qg_extents.specs.Laws.{AreFew, IsOwedBook, IsOwing}
 use Rattle.qg_extents.proofs.Records.{HasEntry, HaveEntries, records_failure-none}
 use Rattle.qg_extents.proofs.Telling.{Told, both_of}
@@ -227,12 +227,13 @@ recorded what refs (part ∷ other ∷ records) once some low = absurd (true≢f
 
 -- ---- all addresses
 
-record AgreesHere (layout : Layout) (parts : List ExtentPart) (at : ℕ) : Type 0 where
-  once : is_recorded_once (what_at layout at) (told_sum (told_in (parts_at parts at)))
+-- what stands at an address is recorded once, with the references that are owed
+pub record AgreesHere (layout : Layout) (parts : List ExtentPart) (at : ℕ) : Type 0 where
+  pub once : is_recorded_once (what_at layout at) (told_sum (told_in (parts_at parts at)))
       (filter is_record (parts_at parts at)) ≡ true
-  are : are_references (told_in (parts_at parts at)) (owed_to layout at) ≡ true
+  pub are : are_references (told_in (parts_at parts at)) (owed_to layout at) ≡ true
 
-agrees_here : (layout : Layout) (parts : List ExtentPart) (at : ℕ) → agrees_at layout parts at ≡ true
+pub agrees_here : (layout : Layout) (parts : List ExtentPart) (at : ℕ) → agrees_at layout parts at ≡ true
     → AgreesHere layout parts at
 unfolding agrees_at
 agrees_here layout parts at agrees = let split = both_of _ _ agrees in record { once = split.0; are = split.1 }
@@ -317,10 +318,16 @@ book_agrees nodesize layout parts book agrees told at x =
     told.count at x ∙ told-owed (told_in (parts_at parts at)) (owed_to layout at) x
     (agrees_here layout parts at (agrees at)).are
 
+-- parts that agree fail nowhere
+pub owed-sound : (layout : Layout) (parts : List ExtentPart) → Agrees layout parts → IsOwing layout → AreFew parts
+    → records_failure parts ≡ None
+owed-sound layout parts agrees owing few =
+    records_failure-none parts (all_entries layout parts parts agrees owing few (λ part among. among))
+
 pub owed-read : (nodesize : ℕ) (layout : Layout) (parts : List ExtentPart) (book : Book) → Agrees layout parts
     → IsOwing layout → AreFew parts → IsTold nodesize parts book
     → IsOwedBook nodesize layout parts book
 owed-read nodesize layout parts book agrees owing few told = record {
-  sound = records_failure-none parts (all_entries layout parts parts agrees owing few (λ part among. among));
+  sound = owed-sound layout parts agrees owing few;
   agrees = book_agrees nodesize layout parts book agrees told;
 }

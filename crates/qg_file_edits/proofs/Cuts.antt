@@ -46,55 +46,6 @@ use Rattle.qg_file_edits.proofs.Inodes.{inode-has}
 use Rattle.qg_file_edits.proofs.Parts.{all-before}
 use Rattle.qg_file_edits.proofs.Ranges.{both-lists, none-besides}
 
--- ---- pieces of a file end by the largest size
-
--- a piece of it begins in front of that
-low_piece : (from whole : ℕ) (piece : Piece) (pieces : List Piece) → whole ≤ largest_size
-    → are_pieces from whole (piece ∷ pieces) ≡ true → nat_lt piece.position largest_size ≡ true
-low_piece from whole piece pieces most are =
-    let first = FirstPiece-are_pieces from whole piece pieces are in
-    let some = (WholePiece-is_piece piece first.is).some in
-    let ends : piece.position + piece.len ≤ whole = range-order (piece_end piece) whole pieces first.rest in
-    lt-ltb piece.position largest_size (omega (arith, some, ends, most))
-
-some_piece : (from whole : ℕ) (piece : Piece) (pieces : List Piece) → are_pieces from whole (piece ∷ pieces) ≡ true
-    → nat_lt 0 (piece_end piece) ≡ true
-some_piece from whole piece pieces are =
-    let first = FirstPiece-are_pieces from whole piece pieces are in
-    let some = (WholePiece-is_piece piece first.is).some in
-    lt-ltb 0 (piece_end piece) (omega (arith, some))
-
-met_cut : (size from whole : ℕ) (pieces : List Piece) → whole ≤ largest_size → are_pieces from whole pieces ≡ true
-    → pieces_met size largest_size pieces ≡ pieces_cut size pieces
-met_cut size from whole [] most are = refl
-met_cut size from whole (piece ∷ pieces) most are =
-    let first = FirstPiece-are_pieces from whole piece pieces are in
-    let past = nat_lt size (piece_end piece) in
-    let met = pieces_met size largest_size pieces in
-    ap (λ (b : Bool). if b && past then piece ∷ met else met) (low_piece from whole piece pieces most are)
-    ∙ ap (λ (rest : List Piece). if past then piece ∷ rest else rest)
-    (met_cut size (piece_end piece) whole pieces most first.rest)
-
-cut_all : (from whole : ℕ) (pieces : List Piece) → are_pieces from whole pieces ≡ true → pieces_cut 0 pieces ≡ pieces
-cut_all from whole [] are = refl
-cut_all from whole (piece ∷ pieces) are =
-    let first = FirstPiece-are_pieces from whole piece pieces are in
-    let cut = pieces_cut 0 pieces in
-    ap (λ (b : Bool). if b then piece ∷ cut else cut) (some_piece from whole piece pieces are)
-    ∙ ap (λ (rest : List Piece). piece ∷ rest) (cut_all (piece_end piece) whole pieces first.rest)
-
--- those that meet the range from a size on end past the size
-pub met-past : (ino size : ℕ) (file : File) → IsWritableFile (ino, file)
-    → pieces_met size largest_size file.pieces ≡ pieces_cut size file.pieces
-met-past ino size file is =
-    let whole = WholeFile-is_file file is.sound in met_cut size 0 file.size file.pieces whole.least whole.pieces
-
--- all of them meet the range of all
-pub met-all : (ino : ℕ) (file : File) → IsWritableFile (ino, file) → pieces_met 0 largest_size file.pieces ≡ file.pieces
-met-all ino file is =
-    let whole = WholeFile-is_file file is.sound in
-    met-past ino 0 file is ∙ cut_all 0 file.size file.pieces whole.pieces
-
 -- ---- a size
 
 module _ (generation ino size : ℕ) (file : File) (files : List (ℕ × File)) (there : value_at ino files ≡ Some file)

@@ -10,9 +10,8 @@ use Rattle.qg_image.specs.FilesOf.{are_pieces, inodes_end, is_aligned, largest_s
 use Rattle.qg_image.specs.Table.{value_at, with_value, without_key}
 use Rattle.qg_machine.specs.FileChange.{file_or_new, with_pieces, with_size}
 use Rattle.qg_rules.specs.Writable.{AreWritableFiles, IsFileBy, IsPlaced, IsWritableFile}
-use Rattle.qg_files.proofs.Kept.{is_file-with_pieces, is_file-with_size}
-use Rattle.qg_subvol.proofs.Ascending.{all-with_value}
-use Rattle.qg_subvol.proofs.Editable.{new_editable}
+use Rattle.qg_files.proofs.Kept.{is_file-with_pieces, is_file-with_size, new_is_file}
+use Rattle.qg_files.proofs.Ascending.{all-with_value}
 use Rattle.qg_file_edits.proofs.Parts.{Lasts, all-before, all-with_range}
 
 -- what is said of all files is said of one that is there
@@ -60,7 +59,7 @@ module _ (generation ino from to : ℕ) (given : List Piece) (files : List (ℕ 
   old_writable = found_or_new IsWritableFile generation ino files are.each (record {
     least = least;
     below = below;
-    sound = (new_editable generation).sound;
+    sound = new_is_file generation;
     placed = All-nil IsPlaced;
   })
 

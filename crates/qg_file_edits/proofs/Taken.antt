@@ -14,11 +14,11 @@ use Rattle.qg_image.proofs.Pieces.{WholeFile-is_file}
 use Rattle.qg_machine.specs.FileChange.{after, before, moved, part_after, part_before, pieces_meeting, pieces_or_none, within}
 use Rattle.qg_rules.specs.Writable.{AreWritableFiles, IsFileBy, IsPlaced, IsWritableFile}
 use Rattle.qg_files.specs.Apart.{AreApart, AreApartFrom}
-use Rattle.qg_files.proofs.Kept.{are_pieces-moved, are_pieces-within}
+use Rattle.qg_files.proofs.Kept.{are_pieces-moved, are_pieces-within, no_pieces}
 use Rattle.qg_files.proofs.KeptApart.{apart-within_from, ends-within}
 use Rattle.qg_files.proofs.Order.{all_begin_from}
 use Rattle.qg_file_items.specs.Pieces.{pieces_met}
-use Rattle.qg_subvol.proofs.Editable.{aligned-add, no_pieces}
+use Rattle.qg_files.proofs.Sectors.{aligned-add}
 use Rattle.qg_exchange.specs.Named.{names_by}
 use Rattle.qg_file_edits.specs.Files.{pieces_of}
 use Rattle.qg_file_edits.proofs.Extents.{IsOfNamed, pieces-named}

@@ -21,7 +21,8 @@ use Rattle.qg_space.specs.Holding.{Holding, is_free_run}
 use Rattle.qg_files.specs.Apart.{AreApart, AreApartFrom}
 use Rattle.qg_files.proofs.Kept.{are_pieces-new_piece}
 use Rattle.qg_file_items.specs.Pieces.{pieces_cut, pieces_met}
-use Rattle.qg_subvol.proofs.Editable.{aligned-add}
+use Rattle.qg_file_items.proofs.Counted.{met-all, met-past}
+use Rattle.qg_files.proofs.Sectors.{aligned-add}
 use Rattle.qg_exchange.specs.Named.{named, names_of}
 use Rattle.qg_fs_tree.specs.declared.fs_tree.FsTree.{FsTree}
 use Rattle.qg_file_edits.specs.declared.exchange.Exchange.{Exchange}
@@ -31,7 +32,7 @@ use Rattle.qg_file_edits.specs.Exchanging.{IsReadyFor, MakesFiles}
 use Rattle.qg_file_edits.specs.Files.{Finds, HoldsFiles, IsFileRange, pieces_of}
 use Rattle.qg_file_edits.specs.Naming.{AreOfNamed}
 use Rattle.qg_file_edits.proofs.Few.{cut-names, no-names, range-names}
-use Rattle.qg_file_edits.proofs.Cuts.{cut-files, cut-files_by, cut-makes, met-all, met-past}
+use Rattle.qg_file_edits.proofs.Cuts.{cut-files, cut-files_by, cut-makes}
 use Rattle.qg_file_edits.proofs.Files.{file-found}
 use Rattle.qg_file_edits.proofs.Ranges.{none-besides, one-between, range-files, range-files_by, range-makes, range-put_named, range-rests_named}
 use Rattle.qg_file_edits.proofs.Removals.{left-files, left-files_by, removal-makes}

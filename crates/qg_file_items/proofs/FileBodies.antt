@@ -14,7 +14,7 @@ use Rattle.qg_image.specs.ItemMeaning.{◌orelse◌}
 use Rattle.qg_image.specs.Table.{keys_of}
 use Rattle.qg_parts.proofs.Parts.{and-false, orelse-none}
 use Rattle.qg_contents.specs.Written.{item_of_piece, items_of_file}
-use Rattle.qg_subvol.proofs.Ascending.{Ascends, Ascends-increasing, all_past}
+use Rattle.qg_files.proofs.Ascending.{Ascends, Ascends-increasing, all_past}
 use Rattle.qg_descent.specs.Reading.{body_at}
 use Rattle.qg_file_items.specs.Bodies.{body_in_file, body_in_files, piece_at, piece_body}
 

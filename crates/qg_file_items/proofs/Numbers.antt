@@ -21,7 +21,7 @@ use Rattle.qg_parts.specs.Keys.{key_with}
 use Rattle.qg_rules.specs.Writable.{AreWritableFiles, IsWritableFile}
 use Rattle.qg_contents.specs.Written.{item_of_inode, item_of_piece, items_of_file}
 use Rattle.qg_shape.proofs.Ascending.{less_trans, not_itself}
-use Rattle.qg_subvol.proofs.Ascending.{Ascends, Ascends-increasing, increasing-Ascends}
+use Rattle.qg_files.proofs.Ascending.{Ascends, Ascends-increasing, increasing-Ascends}
 use Rattle.qg_edit.proofs.Lists.{keys_of as keys_of_items}
 use Rattle.qg_file_items.specs.Bodies.{Ascend}
 use Rattle.qg_file_items.proofs.Told.{AreGreater, first_least, greater-first, greater-later, later_ascend}

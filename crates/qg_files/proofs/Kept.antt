@@ -1,5 +1,5 @@
 -- Pieces of whole sectors stay such pieces, for the crates above. Positions, lengths and sizes are in bytes.
-use Rattle.std.proofs.Common.{◌≡◌, ℕ, ◌+◌, ◌-◌, ◌%◌, ◌^◌, ◌<◌, ◌≤◌, Bool, true, false, min, max, List, [], ◌∷◌, ◌++◌, map, refl, subst, arith}
+use Rattle.std.proofs.Common.{◌≡◌, ℕ, ◌+◌, ◌-◌, ◌%◌, ◌^◌, ◌<◌, ◌≤◌, Bool, true, false, min, max, List, [], ◌∷◌, ◌++◌, map, None, refl, subst, arith}
 use Rattle.std.specs.Prelude.{nat_lt}
 use Rattle.std.specs.Bool.{then_some}
 use Rattle.std.specs.List.{All, AllByRecursion, cons_option}
@@ -10,7 +10,7 @@ use Rattle.qg_super.specs.Places.{sector}
 use Rattle.qg_image.specs.declared.file.File.{File}
 use Rattle.qg_image.specs.FilesOf.{piece_end, largest_size, is_aligned, are_pieces, is_file}
 use Rattle.qg_image.proofs.Pieces.{WholePiece, WholePiece-is_piece, is_piece-WholePiece, FirstPiece-are_pieces, are_pieces-FirstPiece, WholeFile-is_file, is_file-WholeFile}
-use Rattle.qg_machine.specs.FileChange.{part_before, part_after, before, after, within, with_range, moved, new_piece, with_pieces, with_size}
+use Rattle.qg_machine.specs.FileChange.{file_or_new, part_before, part_after, before, after, within, with_range, moved, new_piece, with_pieces, with_size}
 use Rattle.qg_files.specs.Apart.{AreApartFrom, AreApart}
 use Rattle.qg_files.proofs.KeptApart.{ends-before}
 use Rattle.qg_files.proofs.Sectors.{sectors-add, sectors-sub, sectors-min, sectors-max}
@@ -246,3 +246,13 @@ pub is_file-with_size : (generation size : ℕ) (file : File) → is_aligned siz
 is_file-with_size generation size file aligned least is =
     let whole = WholeFile-is_file file is in
     is_file-WholeFile (with_size generation size file) (record { size = aligned; least = least; pieces = are_pieces-before file.size size file.pieces aligned whole.pieces })
+
+-- ---- with no pieces
+
+pub no_pieces : (from to : ℕ) → from ≤ to → are_pieces from to [] ≡ true
+unfolding are_pieces
+no_pieces from to order = le-leb from to order
+
+pub new_is_file : (generation : ℕ) → is_file (file_or_new generation None) ≡ true
+unfolding is_file are_pieces
+new_is_file generation = refl

@@ -10,3 +10,4 @@ pub mod Sectors
 pub mod Kept
 pub mod Puts
 pub mod Splits
+pub mod Ascending

@@ -16,7 +16,7 @@ use Rattle.qg_owed.proofs.Things.{kind_of_extent}
 use Rattle.qg_gathered.specs.Marked.{extent_thing}
 
 -- the extent that begins at an address
-abbrev at : ℕ → List Element → Option Element
+abbrev pub at : ℕ → List Element → Option Element
 at address extents = find (λ extent. extent.address == address) extents
 
 told_at : (extents : List Element) (a : ℕ) → kind_at (map extent_thing extents) a ≡ kind_of_extent (at a extents)
@@ -34,7 +34,7 @@ told_at (extent ∷ extents) a = elim (cases_Bool (extent.address == a)) [
 ]
 
 -- an extent that is found is one of them, and begins there
-at_is : (extents : List Element) (a : ℕ) (extent : Element) → at a extents ≡ Some extent
+pub at_is : (extents : List Element) (a : ℕ) (extent : Element) → at a extents ≡ Some extent
     → Contains extents extent × (extent.address ≡ a)
 at_is [] a extent is = absurd (none-some extent is)
 at_is (first ∷ extents) a extent is = elim (cases_Bool (first.address == a)) [
@@ -51,7 +51,7 @@ at_is (first ∷ extents) a extent is = elim (cases_Bool (first.address == a)) [
 ]
 
 -- where none is found none of them begins there
-at_none : (extents : List Element) (a : ℕ) (extent : Element) → at a extents ≡ None → Contains extents extent
+pub at_none : (extents : List Element) (a : ℕ) (extent : Element) → at a extents ≡ None → Contains extents extent
     → extent.address ≡ a → ⊥
 at_none [] a extent none has same = none_contained extent has
 at_none (first ∷ extents) a extent none has same = elim (cases_Bool (first.address == a)) [

@@ -76,11 +76,11 @@ named_in : (parts : List ExtentPart) (nodes : List Node) → flat_map (λ entry.
 named_in parts [] = refl
 named_in parts (node ∷ nodes) = ap (λ rest. named_by node ++ rest) (named_in parts nodes)
 
-extents_of_layout : (layout : Layout) → layout_extents layout ≡ flat_map (λ entry. named_by entry.1.node) layout.nodes
+pub extents_of_layout : (layout : Layout) → layout_extents layout ≡ flat_map (λ entry. named_by entry.1.node) layout.nodes
 unfolding layout_extents
 extents_of_layout layout = refl
 
-owed_of_layout : (layout : Layout) → owed layout ≡ map (λ entry. record
+pub owed_of_layout : (layout : Layout) → owed layout ≡ map (λ entry. record
     { address = entry.1; reference = KeyedBlock entry.0 }) layout.roots ++ flat_map (λ entry. owed_by_node entry.1)
     layout.nodes
 unfolding owed
@@ -105,7 +105,7 @@ module _ (super : Super) (image : List ℕ) (root : RootItem) (read : NodesRead)
   abbrev layout : Layout
   layout = layout_of (state_in super image)
 
-  branch : IsBranch Files super image None None (level_in super image root.bytenr) root.bytenr
+  pub branch : IsBranch Files super image None None (level_in super image root.bytenr) root.bytenr
       (nodes_of_root Files super image root)
   branch = tree_branch Files super image (root_told root) root.bytenr (nodes_of_root Files super image root) are.sound
       are.reached
@@ -125,20 +125,20 @@ module _ (super : Super) (image : List ℕ) (root : RootItem) (read : NodesRead)
   layout_is = layout_in-nodes super image ∙ (rw are.only (ap (layout_by (extent_parts super image))
       (append-nil (nodes_of_root Files super image root))))
 
-  roots_are : (layout_of (state_in super image)).roots ≡ (5, root.bytenr) ∷ []
+  pub roots_are : (layout_of (state_in super image)).roots ≡ (5, root.bytenr) ∷ []
   unfolding state_in subvolumes_in
   roots_are = rw are.only refl
 
-  by_address : IsLaid (extent_parts super image) (nodes_of_root Files super image root)
+  pub by_address : IsLaid (extent_parts super image) (nodes_of_root Files super image root)
       (layout_by (extent_parts super image) (nodes_of_root Files super image root))
   by_address = laid (extent_parts super image) (nodes_of_root Files super image root) alike
 
-  listed : (layout_of (state_in super image)).nodes ≡ map (entry_of (extent_parts super image)) by_address.sorted
+  pub listed : (layout_of (state_in super image)).nodes ≡ map (entry_of (extent_parts super image)) by_address.sorted
   listed = layout_is ∙ by_address.are
 
   -- ---- extents
 
-  named_there : HaveSame extents (layout_extents (layout_of (state_in super image)))
+  pub named_there : HaveSame extents (layout_extents (layout_of (state_in super image)))
   named_there =
       let sorted = by_address.sorted in
       let all : layout_extents (layout_of (state_in super image)) ≡ flat_map named_by sorted
@@ -150,10 +150,10 @@ module _ (super : Super) (image : List ℕ) (root : RootItem) (read : NodesRead)
       (same_flat named_by sorted nodes by_address.same)) in
       subst (HaveSame extents) (sym all) same
 
-  extents_apart : AreApart extents
+  pub extents_apart : AreApart extents
   extents_apart = AreApart-space (sizes_of super) extents are.space
 
-  no_extent : (node : Node) → Contains (nodes_of_root Files super image root) node
+  pub no_extent : (node : Node) → Contains (nodes_of_root Files super image root) node
       → is_among (address_of node) (layout_extents (layout_of (state_in super image))) ≡ false
   no_extent node has =
       let lies = (branch.reached.each node has).lies in

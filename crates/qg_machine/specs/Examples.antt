@@ -74,10 +74,22 @@ no_such_run : refusal fresh (Write 5 257 0 (1025 * 4096)) ≡ Some why.NoRun
 unfolding refusal first_run least is_free_run is_run present_extents over file_change free_slots is_free_slot is_slot whole_weight present_records first_over bytes_reserved members is_below leads
 no_such_run = refl
 
--- as long as each commit builds all trees anew; by copy on write 228 slots are needed, and it would be `NoNodes 60 228`
-write_is_accepted : refusal fresh (Write 5 257 0 4096) ≡ None
-unfolding refusal first_run least is_free_run is_run present_extents over file_change free_slots is_free_slot is_slot whole_weight present_records first_over bytes_reserved members is_below leads before after
-write_is_accepted = refl
+-- 60 slots are free, and a write needs 228
+too_few_slots_for_a_write : refusal fresh (Write 5 257 0 4096) ≡ Some (why.NoNodes 60 228)
+unfolding refusal first_run least is_free_run is_run present_extents over file_change free_slots is_free_slot is_slot first_over bytes_reserved members is_below leads before after
+too_few_slots_for_a_write = rw fresh-weight refl
+
+-- the same of 256 slots
+abbrev pub roomy : State
+roomy = record fresh { sizes = record fresh.sizes { slots = 256 } }
+
+roomy-weight : weight roomy ≡ 1653
+unfolding weight present_records
+roomy-weight = fresh-weight
+
+write_is_accepted : refusal roomy (Write 5 257 0 4096) ≡ None
+unfolding refusal first_run least is_free_run is_run present_extents over file_change free_slots is_free_slot is_slot first_over bytes_reserved members is_below leads before after
+write_is_accepted = rw roomy-weight refl
 
 -- 60 slots are free, and a structural command needs 276
 too_few_slots : refusal fresh SubCreate ≡ Some (why.NoNodes 60 276)

@@ -530,3 +530,9 @@ module _ (sizes : Sizes) (root : RootItem) (book : List (ℕ × Kept)) (counters
       stands = sym state_same;
     };
   }
+
+  -- these are the nodes of its other trees, each tree's in the order of its walk
+  pub committed_others : is_committed.others
+      ≡ are.root_tree.stands.reached.those ++ are.extent_tree.stands.reached.those ++ are.quota_tree.stands.reached.those
+  unfolding is_committed
+  committed_others = refl

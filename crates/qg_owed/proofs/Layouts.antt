@@ -87,7 +87,7 @@ times_of_list address reference (o ∷ os) =
 
 -- ---- what is found
 
-some_or_none : {A : Type 0} (given : Option A) → (given ≡ None) ⊎ ((x : A) × (given ≡ Some x))
+pub some_or_none : {A : Type 0} (given : Option A) → (given ≡ None) ⊎ ((x : A) × (given ≡ Some x))
 some_or_none None = inl refl
 some_or_none (Some x) = inr (x, refl)
 
@@ -146,7 +146,7 @@ module _ (layout : Layout) (n : ℕ) where
   nothing_there : value_at n layout.nodes ≡ None → find (λ extent. extent.address == n) (layout_extents layout) ≡ None → is_nothing (what_at layout n) ≡ true
   nothing_there none none' = rw none (rw none' refl)
 
-  something_if : Contains (keys_of layout.nodes) n ⊎ Contains (map address_of_extent (layout_extents layout)) n → is_nothing (what_at layout n) ≡ false
+  pub something_if : Contains (keys_of layout.nodes) n ⊎ Contains (map address_of_extent (layout_extents layout)) n → is_nothing (what_at layout n) ≡ false
   something_if has = elim (some_or_none (value_at n layout.nodes)) [
     | inr found ↦ node_there found.0 found.1
     | inl none ↦ elim has [
@@ -158,7 +158,7 @@ module _ (layout : Layout) (n : ℕ) where
     ]
   ]
 
-  if_something : is_nothing (what_at layout n) ≡ false → Contains (keys_of layout.nodes) n ⊎ Contains (map address_of_extent (layout_extents layout)) n
+  pub if_something : is_nothing (what_at layout n) ≡ false → Contains (keys_of layout.nodes) n ⊎ Contains (map address_of_extent (layout_extents layout)) n
   if_something some = elim (some_or_none (value_at n layout.nodes)) [
     | inr found ↦ inl (if_value n layout.nodes (ap is_some found.1))
     | inl none ↦ elim (some_or_none (find (λ extent. extent.address == n) (layout_extents layout))) [

@@ -46,7 +46,7 @@ pub record HasAnswered (state : State) (input : List ℕ) (opened : List Event) 
   pub put : new ≡ append_known old (concat replies)
   pub ahead : script_lines input ≡ lines ++ script_lines left
   pub limit : IsFront input lines left ⊎ (left ≡ [])
-  pub stands : IsStoreOf store present
+  pub stands : IsStoreOf store present history
   pub events : List Event
   pub known : history ≡ Some events
   pub made : Makes state.held commits opened events
@@ -54,7 +54,7 @@ pub record HasAnswered (state : State) (input : List ℕ) (opened : List Event) 
 
 -- at the beginning
 pub answered-none : (state : State) (input : List ℕ) (opened : List Event) (pend : Option (List ℕ)) (store : Stored) (history : Option (List Event)) (old : Option (List ℕ))
-    → pend ≡ Some input → IsStoreOf store state → history ≡ Some opened → HasAnswered state input opened pend store history old old
+    → pend ≡ Some input → IsStoreOf store state history → history ≡ Some opened → HasAnswered state input opened pend store history old old
 answered-none state input opened pend store history old told stands known = record {
   left = input;
   told = told;

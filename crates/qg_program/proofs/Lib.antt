@@ -3,3 +3,4 @@ pub mod Steps
 pub mod Answered
 pub mod Turned
 pub mod Judged
+pub mod Replied

@@ -11,7 +11,7 @@ pub append_known-nil : (told : Option (List ℕ)) → told ≡ append_known told
 append_known-nil None = refl
 append_known-nil (Some bytes) = ap Some (sym (append-nil bytes))
 
-append_known-more : (told : Option (List ℕ)) (bytes more : List ℕ) → append_known (append_known told bytes) more ≡ append_known told (bytes ++ more)
+pub append_known-more : (told : Option (List ℕ)) (bytes more : List ℕ) → append_known (append_known told bytes) more ≡ append_known told (bytes ++ more)
 append_known-more None bytes more = refl
 append_known-more (Some old) bytes more = ap Some (append_assoc old bytes more)
 

@@ -1,5 +1,6 @@
 -- A line is answered.
-use Rattle.std.proofs.Common.{◌≡◌, ◌⊎◌, true, ℕ, List, [], Option, Some, None, refl, sym, subst, inl, inr}
+use Rattle.std.proofs.Common.{◌≡◌, ◌≢◌, ◌⊎◌, true, ℕ, List, [], Option, Some, None, refl, sym, subst, inl, inr, IsTrue}
+use Rattle.std.specs.Prelude.{Bool, Result, Err, IfErr}
 use Rattle.std.specs.Io.KnownBytes.{append_known}
 use Rattle.qg_device.specs.History.{Event}
 use Rattle.qg_num.specs.declared.answer.Answer.{Answer}
@@ -14,6 +15,7 @@ use Rattle.qg_store.specs.Answering.{AnswersOn, IsDoneSoFar}
 use Rattle.qg_store.specs.Stored.{Stored, IsStoreOf}
 use Rattle.qg_program.specs.declared.status.Status.{Status}
 use Rattle.qg_program.specs.declared.status.Status.TheVariants as status
+use Rattle.qg_program.specs.Ends.{is_stop}
 use Rattle.qg_program.specs.Following.{StopsBefore}
 use Rattle.qg_program.specs.Putting.{FailsToPut}
 use Rattle.qg_program.specs.Turning.{FailsToTurn, IsLineSoFar, IsReply, IsTurn}
@@ -38,7 +40,7 @@ reply-command old events line reply store history command answer asked does runn
 
 -- the line is no command's
 pub reply-no_line : (old : State) (events : List Event) (line reply : List ℕ) (store : Stored) (history : Option (List Event))
-    → ((command : Command) → IsServedLineOf line command → ⊥) → IsStoreOf store old → history ≡ Some events → reply ≡ no_line
+    → ((command : Command) → IsServedLineOf line command → ⊥) → IsStoreOf store old history → history ≡ Some events → reply ≡ no_line
     → IsReply old events line reply store history
 reply-no_line old events line reply store history none stands known told = record {
   new = old;
@@ -69,12 +71,28 @@ stops-before old events before rest line history loses (inr starts) =
 -- where it was not answered
 pub fails-answer : (end : Status) (old : State) (events : List Event) (before : List ℕ) (taken after : Option (List ℕ)) (line : List ℕ) (store : Stored)
     (history : Option (List Event)) (held : Option (List ℕ)) → TakesLine (Some before) taken line → IsLineSoFar old line events history
-    → (end ≡ status.Disk) ⊎ (end ≡ status.NoMemory) → FailsToTurn end old events before after store history held held
-fails-answer end old events before None after line store history held takes so_far ends = absurd takes
-fails-answer end old events before (Some rest) after line store history held takes so_far (inl is) =
-    subst (λ (end : Status). FailsToTurn end old events before after store history held held) (sym is) (stops-before old events before rest line history takes so_far, refl)
-fails-answer end old events before (Some rest) after line store history held takes so_far (inr is) =
-    subst (λ (end : Status). FailsToTurn end old events before after store history held held) (sym is) (stops-before old events before rest line history takes so_far, refl)
+    → IsTrue (is_stop end) → end ≢ status.Image → FailsToTurn end old events before after store history held held
+fails-answer end old events before None after line store history held takes so_far stops sound = absurd takes
+fails-answer status.NoMemory old events before (Some rest) after line store history held takes so_far stops sound =
+    (stops-before old events before rest line history takes so_far, refl)
+fails-answer status.Disk old events before (Some rest) after line store history held takes so_far stops sound =
+    (stops-before old events before rest line history takes so_far, refl)
+fails-answer status.Image old events before (Some rest) after line store history held takes so_far stops sound = absurd (sound refl)
+fails-answer status.Done old events before (Some rest) after line store history held takes so_far stops sound = absurd cc
+fails-answer status.Words old events before (Some rest) after line store history held takes so_far stops sound = absurd cc
+fails-answer status.Source old events before (Some rest) after line store history held takes so_far stops sound = absurd cc
+fails-answer status.Sink old events before (Some rest) after line store history held takes so_far stops sound = absurd cc
+fails-answer status.Sizes old events before (Some rest) after line store history held takes so_far stops sound = absurd cc
+fails-answer status.TooLong old events before (Some rest) after line store history held takes so_far stops sound = absurd cc
+
+-- and that was handed on
+pub fails-handed : (end : Status) (result : Result Bool Status) (old : State) (events : List Event) (before : List ℕ)
+    (after : Option (List ℕ)) (store : Stored) (history : Option (List Event)) (held now : Option (List ℕ))
+    → result ≡ Err end → now ≡ held → FailsToTurn end old events before after store history held held
+    → IfErr result (λ status. FailsToTurn status old events before after store history held now)
+fails-handed end result old events before after store history held now handed same fails =
+    subst (λ (r : Result Bool Status). IfErr r (λ status. FailsToTurn status old events before after store history held now)) (sym handed)
+    (subst (λ (told : Option (List ℕ)). FailsToTurn end old events before after store history held told) (sym same) fails)
 
 -- where the reply was put
 pub turns-reply : (old : State) (events : List Event) (before : List ℕ) (taken : Option (List ℕ)) (line reply : List ℕ) (store : Stored)

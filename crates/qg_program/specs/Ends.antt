@@ -58,10 +58,18 @@ is_refusers Sink = true
 is_refusers Disk = true
 is_refusers _ = false
 
+-- the ends of a line that is not answered
+abbrev pub is_stop : Status → Bool
+is_stop NoMemory = true
+is_stop Image = true
+is_stop Disk = true
+is_stop _ = false
+
 -- the ends of a run that answers lines
 abbrev pub is_answerers : Status → Bool
 is_answerers Done = true
 is_answerers NoMemory = true
+is_answerers Image = true
 is_answerers Source = true
 is_answerers Sink = true
 is_answerers Disk = true

@@ -1,10 +1,12 @@
 -- What a call puts (this project's own): what is put where a line could not be put whole, and what one says that puts one line alone.
-use Rattle.std.specs.Prelude.{◌≡◌, ℕ, List, ◌∷◌, Option, Some, IsTrue, codes}
+use Rattle.std.specs.Prelude.{◌≡◌, ◌⊎◌, ℕ, All, List, ◌∷◌, Option, Some, IsTrue, codes}
+use Rattle.std.specs.List.{concat}
 use Rattle.std.specs.Option.{option_map}
 use Rattle.std.specs.Io.KnownBytes.{append_known}
 use Rattle.qg_device.specs.History.{Event, Synced}
 use Rattle.qg_edge.specs.Appended.{AppendsFront}
-use Rattle.qg_grammar.specs.ReplyText.{line}
+use Rattle.qg_num.specs.declared.answer.Answer.{Answer}
+use Rattle.qg_grammar.specs.ReplyText.{line, no_line, reply_text}
 use Rattle.qg_grammar.specs.FailureText.{broken_text, differs_text}
 use Rattle.qg_verdict.specs.declared.failure.Failure.{Failure}
 use Rattle.qg_verdict.specs.declared.failure.Failure.TheVariants.{Broken, Differs}
@@ -48,10 +50,27 @@ Refuses NoMemory text old new = new ≡ old
 Refuses Disk text old new = new ≡ old
 Refuses _ text old new = ⊥
 
--- the line of some failure was put
-pub record PutsFailure (old new : Option (List ℕ)) : Type 0 where
+-- these bytes are the reply to some line: they tell an answer, or say that the line is no command's
+abbrev pub IsReplyText : List ℕ → Type 0
+IsReplyText bytes = ((answer : Answer) × (bytes ≡ reply_text answer)) ⊎ (bytes ≡ no_line)
+
+-- some replies were put, one after the other, and nothing else
+pub record PutsReplies (old new : Option (List ℕ)) : Type 0 where
+  pub replies : List (List ℕ)
+  pub told : All IsReplyText replies
+  pub put : new ≡ append_known old (concat replies)
+
+-- these bytes are the line of some failure
+pub record TellsFailure (bytes : List ℕ) : Type 0 where
   pub failure : Failure
-  pub put : new ≡ append_known old (failure_text failure)
+  pub told : bytes ≡ failure_text failure
+
+-- some replies were put, none where the image was not opened, and behind them the line of some failure
+pub record PutsFailure (old new : Option (List ℕ)) : Type 0 where
+  pub mid : Option (List ℕ)
+  pub replied : PutsReplies old mid
+  pub failure : Failure
+  pub put : new ≡ append_known mid (failure_text failure)
 
 -- A run refuses an image by its first failure: it says so, and at most a sync was asked of the disk, just one where the line was to be put.
 pub record RefusesImage (status : Status) (failure : Failure) (events : List Event) (history : Option (List Event)) (old new : Option (List ℕ)) : Type 0 where

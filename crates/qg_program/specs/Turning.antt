@@ -10,22 +10,30 @@ use Rattle.qg_script.specs.Lines.{LosesLine}
 use Rattle.qg_state.specs.State.{State}
 use Rattle.qg_machine.specs.Run.{Asks, Turn}
 use Rattle.qg_store.specs.Making.{MadeCommits, StartsCommit}
-use Rattle.qg_store.specs.Stored.{Stored, IsStoreOf, sizes_stored}
+use Rattle.qg_store.specs.Stored.{Stored, IsStoreOf, IsStoreOver, sizes_stored}
 use Rattle.qg_program.specs.declared.status.Status.{Status}
 use Rattle.qg_program.specs.declared.status.Status.TheVariants.{NoMemory, Source, Sink, Disk, TooLong}
 use Rattle.qg_program.specs.Following.{StopsBefore}
 
--- a store has not stopped, and its disk of so many bytes has all of its image
-pub record IsReady (store : Stored) (size : ℕ) : Type 0 where
+-- a store has not stopped, its disk, where that tells, is as the store left it, and its disk of so many bytes has all of its image
+pub record IsReady (store : Stored) (history : Option (List Event)) (size : ℕ) : Type 0 where
   pub running : store.stopped ≡ None
+  pub backed : IsStoreOver store history
   pub long : total_bytes (sizes_stored store) ≤ size
+
+-- a store stands for some state over a disk that tells
+pub record StandsOver (store : Stored) (history : Option (List Event)) : Type 0 where
+  pub state : State
+  pub events : List Event
+  pub told : history ≡ Some events
+  pub stands : IsStoreOf store state history
 
 -- the machine answers a line by this reply; the store stands for the state that it comes to, and the disk was made to hold what it commits
 pub record IsReply (old : State) (events : List Event) (line reply : List ℕ) (store : Stored) (history : Option (List Event)) : Type 0 where
   pub new : State
   pub commits : List State
   pub turn : Turn old line reply commits new
-  pub stands : IsStoreOf store new
+  pub stands : IsStoreOf store new history
   pub made : MadeCommits old.held commits events history
 
 -- the first line of what was pending has this reply

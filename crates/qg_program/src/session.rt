@@ -1,17 +1,23 @@
 // An open store with the counts of its steps.
-ghost use Rattle.std.specs.Prelude.{◌≡◌, ◌⊎◌, List, Some, IfOk, IfErr, OnOk, IsTrue};
+ghost use Rattle.std.specs.Prelude.{◌≡◌, ◌≢◌, ◌⊎◌, ◌++◌, [], false, List, Some, IfOk, IfErr, OnOk, IsTrue};
 ghost use Rattle.qg_device.specs.Cause.{HasCause};
 ghost use Rattle.qg_device.specs.History.{Event};
+ghost use Rattle.qg_num.specs.declared.fault.BlockFault.{BlockFault};
+ghost use Rattle.qg_num.specs.declared.fault.Stop.TheVariants.{Aborted};
+ghost use Rattle.qg_grammar.specs.FailureText.{broken_text};
 ghost use Rattle.qg_grammar.specs.ScriptText.{is_in_grammar};
 ghost use Rattle.qg_grammar.specs.Served.{is_served_command};
 ghost use Rattle.qg_state.specs.State.{State};
 ghost use Rattle.qg_store.specs.Answering.{AnswersOn, IsDoneSoFar};
-ghost use Rattle.qg_store.specs.Stored.{IsStoreOf};
+ghost use Rattle.qg_store.specs.Stored.{IsStoreOf, is_of_image};
+ghost use Rattle.qg_program.specs.Ends.{is_stop};
+ghost use Rattle.qg_program.specs.Putting.{TellsFailure};
 ghost use Rattle.qg_program.specs.Turning.{IsReady};
 
 use crate::Status;
 use qg_disk::Disk;
-use qg_num::{Answer, Command, Steps, Stop};
+use qg_num::{Address, Answer, Command, NoMemory, Rule, Steps, Stop};
+use qg_script::{Text, write_broken};
 use qg_store::Store;
 use std::sync::ledger::Ledger;
 
@@ -24,24 +30,32 @@ pub(crate) struct Session<L: Ledger, M: Ledger> {
 }
 
 impl<L: Ledger, M: Ledger> Session<L, M> {
-    /// Does a command or refuses it; `Err` says how the program ends.
+    /// Does a command or refuses it; `Err` says how the program ends. Where a rule of the image is found broken, which
+    /// doesn't come over a disk that tells, the text gets the line that says so; else it stays as it is.
     pub(crate) fn apply<D: Disk>(
         &mut self,
         disk: &mut D,
         command: &Command,
+        text: &mut Text,
     ) -> Result<Answer, Status>
-        requires ready { IsReady self.old.store (D.size disk.old) }
+        requires ready { IsReady self.old.store (D.history disk.old) (D.size disk.old) }
         requires numbers { IsTrue (is_in_grammar command.now) }
         requires served { IsTrue (is_served_command command.now) }
-        ensures step { (state : State) (events : List Event) → IsStoreOf self.old.store state
+        requires blank { text.old ≡ [] }
+        ensures step { (state : State) (events : List Event) → IsStoreOf self.old.store state (D.history disk.old)
             → D.history disk.old ≡ Some events
             → IfOk result (λ answer. AnswersOn state command.now answer self.new.store.kept events (D.history
             disk.new)) }
-        ensures so_far { (state : State) (events : List Event) → IsStoreOf self.old.store state
+        ensures so_far { (state : State) (events : List Event) → IsStoreOf self.old.store state (D.history disk.old)
             → D.history disk.old ≡ Some events
             → IsDoneSoFar state command.now events (D.history disk.new) }
-        ensures ready { OnOk result (IsReady self.new.store (D.size disk.new)) }
-        ensures ends { IfErr result (λ status. (status ≡ Status.Disk) ⊎ (status ≡ Status.NoMemory)) }
+        ensures sound { (state : State) (events : List Event) → IsStoreOf self.old.store state (D.history disk.old)
+            → D.history disk.old ≡ Some events
+            → IfErr result (λ status. status ≢ Status.Image) }
+        ensures ready { OnOk result (IsReady self.new.store (D.history disk.new) (D.size disk.new)) }
+        ensures ends { IfErr result (λ status. IsTrue (is_stop status)) }
+        ensures told { IfErr result (λ status. status ≡ Status.Image → TellsFailure text.new) }
+        ensures blank { OnOk result (text.new ≡ []) }
         ensures cause { HasCause Status.Disk (D.faults disk.old) (D.faults disk.new) result }
     {
         match self
@@ -49,9 +63,35 @@ impl<L: Ledger, M: Ledger> Session<L, M> {
             .apply(disk, command, &mut self.looks, &mut self.reads)
         {
             Ok(answer) => Ok(answer),
-            Err(Stop::NoMemory) => Err(Status::NoMemory),
-            Err(Stop::Disk) => Err(Status::Disk),
-            Err(Stop::Image { .. }) | Err(Stop::Aborted(_)) => unreachable!(),
+            Err(stop) => Err(end_of(&stop, text)),
         }
+    }
+}
+
+// How the program ends for a stop; one for a rule that is broken adds the line that says so to a text.
+fn end_of(stop: &Stop, text: &mut Text) -> Status
+    requires running { (cause : BlockFault) → stop.now ≡ Aborted cause → ⊥ }
+    requires blank { text.old ≡ [] }
+    ensures ends { IsTrue (is_stop result) }
+    ensures disk { result ≡ Status.Disk → stop.now ≡ Stop.Disk }
+    ensures sound { is_of_image stop.now ≡ false → result ≢ Status.Image }
+    ensures told { result ≡ Status.Image → TellsFailure text.new }
+{
+    match stop {
+        Stop::NoMemory => Status::NoMemory,
+        Stop::Disk => Status::Disk,
+        Stop::Image { rule, address } => end_of_image(*rule, *address, text),
+        Stop::Aborted(_) => unreachable!(),
+    }
+}
+
+// Adds the line that says that a rule is broken at an address; says how the program ends.
+fn end_of_image(rule: Rule, address: Address, text: &mut Text) -> Status
+    ensures ends { (result ≡ Status.Image) ⊎ (result ≡ Status.NoMemory) }
+    ensures told { result ≡ Status.Image → text.new ≡ text.old ++ broken_text rule address }
+{
+    match write_broken(rule, address, text) {
+        Ok(()) => Status::Image,
+        Err(NoMemory) => Status::NoMemory,
     }
 }

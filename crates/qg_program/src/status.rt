@@ -15,7 +15,7 @@ pub enum Status {
     NoMemory,
     /// The words are those of no form.
     Words,
-    /// The image is not sound, and the line that says so was put.
+    /// The image is not sound, or was found broken behind its opening, and the line that says so was put.
     Image,
     /// The source failed.
     Source,

@@ -37,20 +37,22 @@ free_at sizes runs slots n d fit all short =
 
 -- ---- how many
 
-count_alike : (p : ℕ → Bool) (sizes : Sizes) (k : ℕ) (slots : List Slot) → ((i n : ℕ) (d : Slot) → n ≡ k + i → i < length slots → p (slot_at sizes n) ≡ is_unused (get_or slots i d))
-    → count_by p (map (slot_at sizes) (range_with_len k (length slots))) ≡ count_by is_unused slots
-count_alike p sizes k [] alike = refl
-count_alike p sizes k (slot ∷ slots) alike =
+-- as many addresses of slots pass one test as slots pass another
+pub count_alike : (p : ℕ → Bool) (test : Slot → Bool) (sizes : Sizes) (k : ℕ) (slots : List Slot)
+    → ((i n : ℕ) (d : Slot) → n ≡ k + i → i < length slots → p (slot_at sizes n) ≡ test (get_or slots i d))
+    → count_by p (map (slot_at sizes) (range_with_len k (length slots))) ≡ count_by test slots
+count_alike p test sizes k [] alike = refl
+count_alike p test sizes k (slot ∷ slots) alike =
     sum_by-cons (λ n. cond (p n) 1 0) (slot_at sizes k) (map (slot_at sizes) (range_with_len (k + 1) (length slots)))
     ∙ ap (λ b. cond b 1 0 + count_by p (map (slot_at sizes) (range_with_len (k + 1) (length slots)))) (alike 0 k slot (omega arith) (omega arith))
-    ∙ ap (λ n. cond (is_unused slot) 1 0 + n) (count_alike p sizes (k + 1) slots (λ i n d is short. alike (suc i) n d (omega (arith, is)) (omega (arith, short))))
-    ∙ sym (sum_by-cons (λ slot. cond (is_unused slot) 1 0) slot slots)
+    ∙ ap (λ n. cond (test slot) 1 0 + n) (count_alike p test sizes (k + 1) slots (λ i n d is short. alike (suc i) n d (omega (arith, is)) (omega (arith, short))))
+    ∙ sym (sum_by-cons (λ slot. cond (test slot) 1 0) slot slots)
 
 pub free_counted : (sizes : Sizes) (runs : List Run) (slots : List Slot) → SlotsFit sizes → length slots ≡ sizes.slots → free_slots (holding_of sizes runs slots) ≡ count_by is_unused slots
 unfolding free_slots
 free_counted sizes runs slots fit all =
     ap (λ n. count_by (is_free_slot (holding_of sizes runs slots)) (map (slot_at sizes) (range_with_len 0 n))) (sym all)
-    ∙ count_alike (is_free_slot (holding_of sizes runs slots)) sizes 0 slots
+    ∙ count_alike (is_free_slot (holding_of sizes runs slots)) is_unused sizes 0 slots
     (λ i n d is short. free_at sizes runs slots n d fit all (omega (arith, is, short, all)) ∙ ap (λ m. is_unused (get_or slots m d)) (omega (arith, is)))
 
 -- ---- the first

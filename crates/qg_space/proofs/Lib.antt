@@ -15,3 +15,4 @@ pub mod Counted
 pub mod Listed
 pub mod Both
 pub mod Given
+pub mod Taken

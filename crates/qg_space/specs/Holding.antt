@@ -90,6 +90,10 @@ free_slots holding = count_by (is_free_slot holding) (map (slot_at holding.sizes
 abbrev pub has_slot : Holding → ℕ → Bool
 has_slot holding address = list_any (λ slot. slot == address) holding.slots
 
+-- how many slots the present state has
+unfoldable pub taken_slots : Holding → ℕ
+taken_slots holding = count_by (has_slot holding) (map (slot_at holding.sizes) (range_with_len 0 holding.sizes.slots))
+
 -- slots, without this one
 abbrev pub without_slot : ℕ → List ℕ → List ℕ
 without_slot address slots = filter (λ slot. not (slot == address)) slots

@@ -5,6 +5,7 @@ ghost use Rattle.std.specs.List.Sorted.{IsNonDecreasingBy};
 ghost use Rattle.qg_super.specs.declared.sizes.Sizes.{Sizes};
 ghost use Rattle.qg_super.specs.Places.{is_served, data_begin, sector};
 ghost use Rattle.qg_state.specs.declared.element.Element.{Element};
+ghost use Rattle.qg_state.specs.Counts.{bytes_of};
 ghost use Rattle.qg_space.specs.Run.{Run};
 ghost use Rattle.qg_space.specs.Holding.{AscendApart, is_clear, first_clear, is_that_run, with_run, without_run, without_runs};
 ghost use Rattle.qg_space.specs.Lying.{LieApart, extents_of, present_of, held_of, given_back, is_used, with_held, run_of_both, end_of_last, IsFront, SameBefore};
@@ -226,6 +227,22 @@ fn is_present(run: &Run, at: Address, bytes: u64) -> bool
 {
     let extent = run.extent();
     extent.address == at && extent.bytes == bytes && run.is_present()
+}
+
+/// How many bytes the runs have that the present state holds.
+pub(crate) fn present_bytes(sizes: &Sizes, runs: &[Run]) -> u64
+    requires served { IsTrue (is_served sizes.now) }
+    requires apart { LieApart sizes.now data_begin runs.now }
+    ensures bytes { result ≡ bytes_of (present_of runs.now) }
+    ensures most { result ≤ sizes.now.sectors * sector }
+{
+    let mut bytes = 0;
+    for run in runs {
+        if run.is_present() {
+            bytes += run.extent().bytes;
+        }
+    }
+    bytes
 }
 
 /// Drops the runs that the present state doesn't hold, and has the last commit hold the others.

@@ -105,6 +105,13 @@ pub(crate) fn count_unused(slots: &[Slot]) -> usize
     slots.iter().filter(|slot| is_unused(slot)).count()
 }
 
+/// How many slots the present state holds.
+pub(crate) fn count_present(slots: &[Slot]) -> usize
+    ensures { result ≡ count_by (λ slot. slot.present) slots.now }
+{
+    slots.iter().filter(|slot| slot.present).count()
+}
+
 /// The last commit holds a slot where the present state does.
 fn committed_slot(slot: &Slot) -> Slot
     ensures { result ≡ committed_slot slot.now }

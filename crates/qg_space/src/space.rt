@@ -1,18 +1,19 @@
 // What is free of an image.
-ghost use Rattle.std.specs.Prelude.{◌≡◌, ◌*◌, ◌<◌, ◌==◌, min, take, length, IfOk, IfSome, IfNone, IsOk, OnOk, OnErr, IsTrue};
+ghost use Rattle.std.specs.Prelude.{◌≡◌, ◌*◌, ◌<◌, ◌≤◌, ◌==◌, ℕ, min, take, length, IfOk, IfSome, IfNone, IsOk, OnOk, OnErr, IsTrue};
 ghost use Rattle.std.specs.List.{All, Contains, IsDistinct, list_all};
-ghost use Rattle.qg_super.specs.Places.{data_begin, is_served, sector, slot_at};
+ghost use Rattle.qg_super.specs.Places.{data_begin, is_served, is_slot, sector, slot_at};
 ghost use Rattle.qg_image.specs.Table.{with_number};
-ghost use Rattle.qg_space.specs.Holding.{nothing_held, AscendApart, is_free_run, first_run, has_run, with_run, without_run, without_runs, is_free_slot, first_slot, free_list, free_slots, has_slot, without_slot};
+ghost use Rattle.qg_state.specs.Counts.{bytes_of};
+ghost use Rattle.qg_space.specs.Holding.{nothing_held, AscendApart, is_free_run, first_run, has_run, with_run, without_run, without_runs, is_free_slot, first_slot, free_list, free_slots, has_slot, taken_slots, without_slot};
 
 use crate::run::Run;
 use crate::runs::{
-    commit_runs, first_gap, has_run, packed_runs, put_run, runs_of_both, take_out_run,
-    take_out_runs,
+    commit_runs, first_gap, has_run, packed_runs, present_bytes, put_run, runs_of_both,
+    take_out_run, take_out_runs,
 };
 use crate::slots::{
-    Slot, address_of, commit_slots, count_unused, first_unused, first_unused_slots, number_of,
-    unused_slots,
+    Slot, address_of, commit_slots, count_present, count_unused, first_unused, first_unused_slots,
+    number_of, unused_slots,
 };
 use qg_num::{Address, NoMemory, Sequence};
 use qg_state::Element;
@@ -199,6 +200,24 @@ impl Space {
         ensures { result ≡ free_slots self.now }
     {
         self.unused
+    }
+
+    /// How many slots the present state has. Each is a slot of the image.
+    pub fn taken_slots(&self) -> u64
+        ensures count { result ≡ taken_slots self.now }
+        ensures most { result ≤ self.now.sizes.slots }
+        ensures each { (slot : ℕ) → Contains self.now.slots slot → IsTrue (is_slot self.now.sizes slot) }
+    {
+        count_present(&self.slots) as u64
+    }
+
+    /// How many bytes the runs have that the present state has. They lie apart.
+    pub fn taken_bytes(&self) -> u64
+        ensures bytes { result ≡ bytes_of self.now.runs }
+        ensures most { result ≤ self.now.sizes.sectors * sector }
+        ensures apart { AscendApart self.now.sizes data_begin self.now.runs }
+    {
+        present_bytes(&self.sizes, &self.runs)
     }
 
     /// The first so many free slots, ascending; fewer exactly where there are not so many.

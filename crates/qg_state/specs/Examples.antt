@@ -22,7 +22,7 @@ use Rattle.qg_state.specs.Members.{Hierarchy, leads, is_below, members, next_sub
 use Rattle.qg_state.specs.Counts.{reach_of_group, is_reached_outside, referenced, exclusive}
 use Rattle.qg_state.specs.Limits.{bytes_reserved, first_over, over}
 use Rattle.qg_state.specs.Space.{present_extents, is_free_run, is_free_slot, free_slots, least, first_run}
-use Rattle.qg_state.specs.Owed.{owed_by_node, owed, owed_count}
+use Rattle.qg_state.specs.Owed.{owed_by_node, owed, owed_count, layout_extents}
 use Rattle.qg_state.specs.Record.{RootOf, NodeOf, ReferenceTo, Status, InfoOf, LimitOf, record_named}
 use Rattle.qg_state.specs.Need.{present_records, held_records, weight, file_copies, file_need, structural_need}
 
@@ -253,7 +253,7 @@ unfolding held_records record_named root_part extent_part quota_part is_subvolum
 fresh-records = refl
 
 pub fresh-weight : weight fresh ≡ 1653
-unfolding weight present_records
+unfolding weight present_records owed owed_by_node layout_extents pieces_of
 fresh-weight = rw fresh-records refl
 
 fresh-free_slots : free_slots fresh ≡ 60

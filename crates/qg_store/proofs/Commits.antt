@@ -3,11 +3,9 @@ use Rattle.std.proofs.Common.{◌≡◌, ℕ, ◌<◌, ◌≤◌, Bool, true, fa
 use Rattle.std.specs.Prelude.{MatchBool, MatchOption, if◌then◌else◌, nat_lt}
 use Rattle.std.specs.Bool.{then_some}
 use Rattle.std.proofs.lemmas.Bool.{lt-ltb, le-ltb}
-use Rattle.qg_device.specs.History.{Event, Wrote, content}
-use Rattle.qg_disk.proofs.Sizes.{length-overlay}
+use Rattle.qg_device.specs.History.{Event}
 use Rattle.qg_num.specs.declared.answer.Answer.{Answer}
 use Rattle.qg_num.specs.declared.answer.Answer.TheVariants as answer
-use Rattle.qg_num.specs.declared.command.Command.{Command}
 use Rattle.qg_num.specs.declared.command.Command.TheVariants as command
 use Rattle.qg_num.specs.declared.refusal.Refusal.{Refusal}
 use Rattle.qg_num.specs.declared.refusal.Refusal.TheVariants as why
@@ -16,8 +14,8 @@ use Rattle.qg_machine.specs.Refusals.{is_pending, last_generation, no_generation
 use Rattle.qg_machine.specs.Step.{Commits, Step}
 use Rattle.qg_machine.specs.Step as machine
 use Rattle.qg_store.specs.declared.kept.Kept.{Kept}
-use Rattle.qg_store.specs.Answering.{Answered, Answers, AnswersOn}
-use Rattle.qg_store.specs.Keeping.{IsKeptOf}
+use Rattle.qg_store.specs.Answering.{Answered}
+use Rattle.qg_store.specs.Keeping.{IsFitted, IsKeptOf}
 
 -- ---- what is refused
 
@@ -68,34 +66,27 @@ commit_step old new reply some early commits is =
 
 -- ---- what is kept then
 
--- nothing is committed, and the disk is left as it is
-pub on_disk : {old : State} {command : Command} {reply : Answer} {kept : Kept} {events : List Event} {history : Option (List Event)}
-    → Answered old command reply [] kept → history ≡ Some events → AnswersOn old command reply kept events history
-on_disk does told = ([], does, record { after = _; told = told; made = refl })
+-- the generation is that of the last commit
+pub generation-kept : (kept : Kept) (state : State) (history : Option (List Event)) → IsFitted kept
+    → IsKeptOf kept state history → state.generation ≡ kept.superblock.generation
+generation-kept kept state history fits keeps = omega (arith, keeps.keeps.laid.laid.generation, fits.next)
 
-pub does_idle : (kept : Kept) (state : State) (events : List Event) (history : Option (List Event)) → IsKeptOf kept state → history ≡ Some events → kept.pending ≡ 0
-    → AnswersOn state command.Commit (answer.Commit kept.superblock.generation) kept events history
-does_idle kept state events history keeps told idle = on_disk (record {
+pub does_idle : (kept : Kept) (state : State) (history : Option (List Event)) → IsFitted kept
+    → IsKeptOf kept state history → kept.pending ≡ 0
+    → Answered state command.Commit (answer.Commit kept.superblock.generation) [] kept history
+does_idle kept state history fits keeps idle = record {
   new = state;
-  step = idle_step state (answer.Commit kept.superblock.generation) (keeps.pending ∙ idle) (ap (λ generation. answer.Commit generation) keeps.generation);
+  step = idle_step state (answer.Commit kept.superblock.generation) (keeps.pending ∙ idle)
+      (ap (λ (generation : ℕ). answer.Commit generation) (sym (generation-kept kept state history fits keeps)));
   keeps = keeps;
-}) told
+}
 
-pub does_refuse : (kept : Kept) (state : State) (events : List Event) (history : Option (List Event)) → IsKeptOf kept state → history ≡ Some events → 0 < kept.pending
-    → last_generation < kept.superblock.generation → AnswersOn state command.Commit (answer.Refused why.NoGeneration) kept events history
-does_refuse kept state events history keeps told some late = on_disk (record {
+pub does_refuse : (kept : Kept) (state : State) (history : Option (List Event)) → IsFitted kept
+    → IsKeptOf kept state history → 0 < kept.pending → last_generation < kept.superblock.generation
+    → Answered state command.Commit (answer.Refused why.NoGeneration) [] kept history
+does_refuse kept state history fits keeps some late = record {
   new = state;
-  step = refused_step state (omega (arith, keeps.pending, some)) (omega (arith, keeps.generation, late));
+  step = refused_step state (omega (arith, keeps.pending, some))
+      (omega (arith, generation-kept kept state history fits keeps, late));
   keeps = keeps;
-}) told
-
--- ---- over any disk
-
--- what is answered over a disk that tells is answered over any
-pub answered : {old : State} {command : Command} {reply : Answer} {kept : Kept} {before : List Event} {history : Option (List Event)}
-    → AnswersOn old command reply kept before history → Answers old command reply kept
-answered does = (does.0, does.1)
-
--- there is a disk of any length
-pub so_long : (size : ℕ) → (events : List Event) × (size ≤ length (content events))
-so_long size = (Wrote size (0 ∷ []) ∷ [], omega (arith, length-overlay size (0 ∷ []) []))
+}

@@ -1,110 +1,156 @@
--- Why a write is refused, told by its parts. Positions and lengths are in bytes.
-use Rattle.std.proofs.Common.{◌≡◌, ℕ, ◌+◌, ◌<◌, ◌≤◌, List, [], ◌∷◌, ◌++◌, None, Some, Option, refl, sym, ap, ◌∙◌}
-use Rattle.std.specs.Prelude.{is_none, nat_lt}
-use Rattle.std.proofs.lemmas.Bool.{lt-ltb, le-ltb}
+-- The last reason for which a command that edits files may be refused is that too few slots are free. Positions and
+-- lengths are in bytes.
+use Rattle.std.proofs.Common.{◌≡◌, ℕ, ◌+◌, List, [], ◌∷◌, ◌++◌, None, Some, Option, refl, sym, ap, ◌∙◌}
+use Rattle.std.specs.Prelude.{◌==◌, ◌&&◌, is_none, nat_lt, not}
 use Rattle.std.proofs.lemmas.Option.{none-some}
-use Rattle.std.specs.Option.{option_map}
-use Rattle.qg_num.specs.declared.command.Command.TheVariants.{Write}
+use Rattle.qg_num.specs.declared.command.Command.TheVariants.{Clone, Truncate, Unlink, Write}
 use Rattle.qg_num.specs.declared.refusal.Refusal.{Refusal}
 use Rattle.qg_num.specs.declared.refusal.Refusal.TheVariants as why
+use Rattle.qg_image.specs.FilesOf.{is_aligned}
 use Rattle.qg_image.specs.ItemMeaning.{first_some}
 use Rattle.qg_state.specs.State.{State}
-use Rattle.qg_state.specs.Space.{first_run, free_slots}
+use Rattle.qg_state.specs.Space.{first_run}
 use Rattle.qg_verdict.specs.Verdict.{longest_extent}
-use Rattle.qg_machine.specs.FileChange.{FileChange, file_change, write_change}
-use Rattle.qg_machine.specs.Refusals.{change_need, no_align, no_far, no_nodes_for, no_sub, over_limit, refusal, refuse, too_many_pending}
-use Rattle.qg_store.specs.Writing.{range_refusal}
+use Rattle.qg_machine.specs.FileChange.{file_change}
+use Rattle.qg_machine.specs.Refusals.{no_align, no_far, no_file, no_nodes_for, no_source, no_sub, over_limit, refusal, refuse}
+use Rattle.qg_machine.specs.Refusals.{share_a_byte, too_many_pending}
+use Rattle.qg_store.specs.Editing.{clone_refusal, range_refusal, size_refusal, unlink_refusal}
 
 -- ---- the first of several
 
-pub first_early : {A : Type 0} (x : A) (front back : List (Option A)) → first_some front ≡ Some x → first_some (front ++ back) ≡ Some x
+pub first_early : {A : Type 0} (x : A) (front back : List (Option A)) → first_some front ≡ Some x
+    → first_some (front ++ back) ≡ Some x
 first_early x [] back is = absurd (none-some x is)
 first_early x (None ∷ front) back is = first_early x front back is
 first_early x (Some y ∷ front) back is = is
 
-pub first_late : {A : Type 0} (front back : List (Option A)) → first_some front ≡ None → first_some (front ++ back) ≡ first_some back
+pub first_late : {A : Type 0} (front back : List (Option A)) → first_some front ≡ None
+    → first_some (front ++ back) ≡ first_some back
 first_late [] back none = refl
 first_late (None ∷ front) back none = first_late front back none
 first_late (Some y ∷ front) back none = absurd (none-some y (sym none))
 
--- ---- slots
-
--- too few are free for the change that a command makes
-pub lacking : (state : State) (found : Option FileChange) (change : FileChange) (free need : ℕ) → found ≡ Some change → free_slots state ≡ free → change_need state change ≡ need
-    → free < need → first_some (no_nodes_for state found ∷ []) ≡ Some (why.NoNodes free need)
-lacking state found change free need is free_is need_is few =
-    ap (λ change. first_some (no_nodes_for state change ∷ [])) is
-    ∙ ap (λ slots. first_some (refuse (nat_lt slots (change_need state change)) (why.NoNodes slots (change_need state change)) ∷ [])) free_is
-    ∙ ap (λ slots. first_some (refuse (nat_lt free slots) (why.NoNodes free slots) ∷ [])) need_is
-    ∙ ap (λ test. first_some (refuse test (why.NoNodes free need) ∷ [])) (lt-ltb free need few)
-
--- enough are
-pub sufficing : (state : State) (found : Option FileChange) (change : FileChange) (free need : ℕ) → found ≡ Some change → free_slots state ≡ free → change_need state change ≡ need
-    → need ≤ free → first_some (no_nodes_for state found ∷ []) ≡ None
-sufficing state found change free need is free_is need_is enough =
-    ap (λ change. first_some (no_nodes_for state change ∷ [])) is
-    ∙ ap (λ slots. first_some (refuse (nat_lt slots (change_need state change)) (why.NoNodes slots (change_need state change)) ∷ [])) free_is
-    ∙ ap (λ slots. first_some (refuse (nat_lt free slots) (why.NoNodes free slots) ∷ [])) need_is
-    ∙ ap (λ test. first_some (refuse test (why.NoNodes free need) ∷ [])) (le-ltb free need enough)
+pub first_one : {A : Type 0} (x : Option A) → first_some (x ∷ []) ≡ x
+first_one None = refl
+first_one (Some y) = refl
 
 -- ---- a write
 
--- what is looked for once the range may be written
-abbrev later_refusals : State → ℕ → ℕ → ℕ → ℕ → List (Option Refusal)
-later_refusals state sub ino off len =
-    over_limit state sub (len + state.sizes.nodesize) ∷ refuse (is_none (first_run state len)) why.NoRun ∷ no_nodes_for state (file_change state (Write sub ino off len)) ∷ []
+abbrev write_parts : State → ℕ → ℕ → ℕ → List (Option Refusal)
+write_parts state sub off len =
+    no_sub state sub ∷ no_align (off ∷ []) len ∷ no_far ((off + len) ∷ []) ∷ refuse (nat_lt longest_extent len) why.Far
+    ∷ too_many_pending state ∷ []
 
-range_parts : State → ℕ → ℕ → ℕ → List (Option Refusal)
-range_parts state sub off len =
-    no_sub state sub ∷ no_align (off ∷ []) len ∷ no_far ((off + len) ∷ []) ∷ refuse (nat_lt longest_extent len) why.Far ∷ too_many_pending state ∷ []
+abbrev write_later : State → ℕ → ℕ → ℕ → ℕ → List (Option Refusal)
+write_later state sub ino off len =
+    over_limit state sub (len + state.sizes.nodesize) ∷ refuse (is_none (first_run state len)) why.NoRun
+    ∷ no_nodes_for state (file_change state (Write sub ino off len)) ∷ []
 
--- the range is refused
-pub refused_range : (state : State) (sub ino off len : ℕ) (refused : Refusal) → range_refusal state sub off len ≡ Some refused → refusal state (Write sub ino off len) ≡ Some refused
-unfolding refusal range_parts
-refused_range state sub ino off len refused is = first_early refused (range_parts state sub off len) (later_refusals state sub ino off len) is
+pub early-write : (state : State) (sub ino off len : ℕ) (reason : Refusal)
+    → range_refusal state sub off len ≡ Some reason → refusal state (Write sub ino off len) ≡ Some reason
+unfolding refusal
+early-write state sub ino off len reason is =
+    first_early reason (write_parts state sub off len) (write_later state sub ino off len) is
 
--- the range may be written, and no limit is passed
-pub record MayGoOn (state : State) (sub off len : ℕ) : Type 0 where
-  pub range : range_refusal state sub off len ≡ None
-  pub limits : over_limit state sub (len + state.sizes.nodesize) ≡ None
+-- no limit is passed
+abbrev Unlimited : State → ℕ → ℕ → Type 0
+Unlimited state sub len = over_limit state sub (len + state.sizes.nodesize) ≡ None
 
-late : (state : State) (sub ino off len : ℕ) → MayGoOn state sub off len
-    → refusal state (Write sub ino off len) ≡ first_some (refuse (is_none (first_run state len)) why.NoRun ∷ no_nodes_for state (file_change state (Write sub ino off len)) ∷ [])
-unfolding refusal range_parts
-late state sub ino off len may =
-    first_late (range_parts state sub off len) (later_refusals state sub ino off len) may.range
-    ∙ ap (λ limits. first_some (limits ∷ refuse (is_none (first_run state len)) why.NoRun ∷ no_nodes_for state (file_change state (Write sub ino off len)) ∷ [])) may.limits
+run-write : (state : State) (sub ino off len : ℕ) → range_refusal state sub off len ≡ None → Unlimited state sub len
+    → refusal state (Write sub ino off len)
+    ≡ first_some (refuse (is_none (first_run state len)) why.NoRun
+    ∷ no_nodes_for state (file_change state (Write sub ino off len)) ∷ [])
+unfolding refusal
+run-write state sub ino off len range limits =
+    first_late (write_parts state sub off len) (write_later state sub ino off len) range
+    ∙ ap (λ (limit : Option Refusal). first_some (limit ∷ refuse (is_none (first_run state len)) why.NoRun
+    ∷ no_nodes_for state (file_change state (Write sub ino off len)) ∷ [])) limits
 
 -- no run is free
-pub refused_run : (state : State) (sub ino off len : ℕ) → MayGoOn state sub off len → first_run state len ≡ None → refusal state (Write sub ino off len) ≡ Some why.NoRun
-refused_run state sub ino off len may none =
-    late state sub ino off len may
-    ∙ ap (λ run. first_some (refuse (is_none run) why.NoRun ∷ no_nodes_for state (file_change state (Write sub ino off len)) ∷ [])) none
+pub runless-write : (state : State) (sub ino off len : ℕ) → range_refusal state sub off len ≡ None
+    → Unlimited state sub len → first_run state len ≡ None → refusal state (Write sub ino off len) ≡ Some why.NoRun
+runless-write state sub ino off len range limits none =
+    run-write state sub ino off len range limits
+    ∙ ap (λ (run : Option ℕ). first_some (refuse (is_none run) why.NoRun
+    ∷ no_nodes_for state (file_change state (Write sub ino off len)) ∷ [])) none
 
 -- a run is free
-pub file_change-found : (state : State) (sub ino off len run : ℕ) → first_run state len ≡ Some run
-    → file_change state (Write sub ino off len) ≡ Some (write_change state sub ino off len run)
-unfolding file_change
-file_change-found state sub ino off len run found = ap (option_map (write_change state sub ino off len)) found
+pub late-write : (state : State) (sub ino off len run : ℕ) → range_refusal state sub off len ≡ None
+    → Unlimited state sub len → first_run state len ≡ Some run
+    → refusal state (Write sub ino off len) ≡ no_nodes_for state (file_change state (Write sub ino off len))
+late-write state sub ino off len run range limits found =
+    run-write state sub ino off len range limits
+    ∙ ap (λ (run : Option ℕ). first_some (refuse (is_none run) why.NoRun
+    ∷ no_nodes_for state (file_change state (Write sub ino off len)) ∷ [])) found
+    ∙ first_one (no_nodes_for state (file_change state (Write sub ino off len)))
 
-late_found : (state : State) (sub ino off len run : ℕ) → MayGoOn state sub off len → first_run state len ≡ Some run
-    → refusal state (Write sub ino off len) ≡ first_some (no_nodes_for state (file_change state (Write sub ino off len)) ∷ [])
-late_found state sub ino off len run may found =
-    late state sub ino off len may
-    ∙ ap (λ run. first_some (refuse (is_none run) why.NoRun ∷ no_nodes_for state (file_change state (Write sub ino off len)) ∷ [])) found
+-- ---- a clone
 
--- too few slots are free
-pub refused_nodes : (state : State) (sub ino off len run free need : ℕ) → MayGoOn state sub off len → first_run state len ≡ Some run
-    → free_slots state ≡ free → change_need state (write_change state sub ino off len run) ≡ need → free < need
-    → refusal state (Write sub ino off len) ≡ Some (why.NoNodes free need)
-refused_nodes state sub ino off len run free need may found free_is need_is few =
-    late_found state sub ino off len run may found
-    ∙ lacking state (file_change state (Write sub ino off len)) (write_change state sub ino off len run) free need (file_change-found state sub ino off len run found) free_is need_is few
+module _ (state : State) (sub ino off len to_sub to_ino to_off : ℕ) where
+  abbrev clone_parts : List (Option Refusal)
+  clone_parts =
+      no_sub state sub ∷ no_sub state to_sub ∷ no_file state sub ino ∷ no_align (off ∷ to_off ∷ []) len
+      ∷ no_far ((off + len) ∷ (to_off + len) ∷ []) ∷ no_source state sub ino (off + len)
+      ∷ refuse ((sub == to_sub) && (ino == to_ino) && share_a_byte off to_off len) why.Overlap ∷ too_many_pending state
+      ∷ []
 
--- enough are
-pub refused_nothing : (state : State) (sub ino off len run free need : ℕ) → MayGoOn state sub off len → first_run state len ≡ Some run
-    → free_slots state ≡ free → change_need state (write_change state sub ino off len run) ≡ need → need ≤ free
-    → refusal state (Write sub ino off len) ≡ None
-refused_nothing state sub ino off len run free need may found free_is need_is enough =
-    late_found state sub ino off len run may found
-    ∙ sufficing state (file_change state (Write sub ino off len)) (write_change state sub ino off len run) free need (file_change-found state sub ino off len run found) free_is need_is enough
+  abbrev clone_later : List (Option Refusal)
+  clone_later =
+      over_limit state to_sub state.sizes.nodesize
+      ∷ no_nodes_for state (file_change state (Clone sub ino off len to_sub to_ino to_off)) ∷ []
+
+  pub early-clone : (reason : Refusal) → clone_refusal state sub ino off len to_sub to_ino to_off ≡ Some reason
+      → refusal state (Clone sub ino off len to_sub to_ino to_off) ≡ Some reason
+  unfolding refusal
+  early-clone reason is = first_early reason clone_parts clone_later is
+
+  pub late-clone : clone_refusal state sub ino off len to_sub to_ino to_off ≡ None
+      → over_limit state to_sub state.sizes.nodesize ≡ None
+      → refusal state (Clone sub ino off len to_sub to_ino to_off)
+      ≡ no_nodes_for state (file_change state (Clone sub ino off len to_sub to_ino to_off))
+  unfolding refusal
+  late-clone passes limits =
+      first_late clone_parts clone_later passes
+      ∙ ap (λ (limit : Option Refusal). first_some (limit
+      ∷ no_nodes_for state (file_change state (Clone sub ino off len to_sub to_ino to_off)) ∷ [])) limits
+      ∙ first_one (no_nodes_for state (file_change state (Clone sub ino off len to_sub to_ino to_off)))
+
+-- ---- a size
+
+module _ (state : State) (sub ino size : ℕ) where
+  abbrev size_parts : List (Option Refusal)
+  size_parts =
+      no_sub state sub ∷ no_file state sub ino ∷ refuse (not (is_aligned size)) why.Align ∷ no_far (size ∷ [])
+      ∷ too_many_pending state ∷ []
+
+  pub early-size : (reason : Refusal) → size_refusal state sub ino size ≡ Some reason
+      → refusal state (Truncate sub ino size) ≡ Some reason
+  unfolding refusal
+  early-size reason is =
+      first_early reason size_parts (no_nodes_for state (file_change state (Truncate sub ino size)) ∷ []) is
+
+  pub late-size : size_refusal state sub ino size ≡ None
+      → refusal state (Truncate sub ino size) ≡ no_nodes_for state (file_change state (Truncate sub ino size))
+  unfolding refusal
+  late-size passes =
+      first_late size_parts (no_nodes_for state (file_change state (Truncate sub ino size)) ∷ []) passes
+      ∙ first_one (no_nodes_for state (file_change state (Truncate sub ino size)))
+
+-- ---- a file that goes
+
+module _ (state : State) (sub ino : ℕ) where
+  abbrev unlink_parts : List (Option Refusal)
+  unlink_parts = no_sub state sub ∷ no_file state sub ino ∷ too_many_pending state ∷ []
+
+  pub early-unlink : (reason : Refusal) → unlink_refusal state sub ino ≡ Some reason
+      → refusal state (Unlink sub ino) ≡ Some reason
+  unfolding refusal
+  early-unlink reason is =
+      first_early reason unlink_parts (no_nodes_for state (file_change state (Unlink sub ino)) ∷ []) is
+
+  pub late-unlink : unlink_refusal state sub ino ≡ None
+      → refusal state (Unlink sub ino) ≡ no_nodes_for state (file_change state (Unlink sub ino))
+  unfolding refusal
+  late-unlink passes =
+      first_late unlink_parts (no_nodes_for state (file_change state (Unlink sub ino)) ∷ []) passes
+      ∙ first_one (no_nodes_for state (file_change state (Unlink sub ino)))

@@ -1,133 +1,208 @@
--- What the machine does where files are edited, told by what is kept. Positions and lengths are in bytes.
-use Rattle.std.proofs.Common.{◌≡◌, ℕ, List, [], ◌∷◌, None, Some, refl, sym, ap, subst, ◌∙◌, arith}
-use Rattle.std.specs.Prelude.{◌↔◌, MatchOption}
-use Rattle.std.specs.List.{Contains}
-use Rattle.std.specs.Option.{option_map}
-use Rattle.std.proofs.lemmas.List.{append-nil}
+-- What the machine does where nothing changes, and where files are edited, by what is kept. Weights are in bytes.
+use Rattle.std.proofs.Common.{◌≡◌, ℕ, ◌+◌, ◌*◌, ◌≤◌, ◌++◌, List, [], ◌∷◌, None, Some, Option, refl, sym, ap, subst, ◌∙◌}
+use Rattle.std.proofs.Common.{arith}
+use Rattle.std.specs.Prelude.{◌<◌, MatchOption, length, nat_lt}
+use Rattle.qg_device.specs.History.{Event}
 use Rattle.qg_num.specs.declared.answer.Answer.{Answer}
-use Rattle.qg_num.specs.declared.answer.Answer.TheVariants.{Extent, Refused}
+use Rattle.qg_num.specs.declared.answer.Answer.TheVariants.{Refused}
 use Rattle.qg_num.specs.declared.command.Command.{Command}
-use Rattle.qg_num.specs.declared.command.Command.TheVariants.{Write}
 use Rattle.qg_num.specs.declared.refusal.Refusal.{Refusal}
+use Rattle.qg_num.specs.declared.refusal.Refusal.TheVariants as why
 use Rattle.qg_items.specs.declared.tree.TheConstants.{TOP_LEVEL}
-use Rattle.qg_items.specs.declared.root.RootItem.{RootItem}
-use Rattle.qg_super.specs.declared.superblock.Super.{Super}
-use Rattle.qg_super.specs.SuperText.{sizes_of}
+use Rattle.qg_super.specs.declared.sizes.Sizes.{Sizes}
 use Rattle.qg_image.specs.declared.file.File.{File}
-use Rattle.qg_image.specs.Table.{keys_of}
-use Rattle.qg_state.specs.State.{State, Accepted}
-use Rattle.qg_state.specs.Space.{first_run, present_extents}
-use Rattle.qg_machine.specs.FileChange.{FileChange, file_change, write_change}
-use Rattle.qg_machine.specs.Refusals.{refusal}
-use Rattle.qg_machine.specs.Step.{ChangesFiles, Step, accepted, file_answer}
+use Rattle.qg_state.specs.Need.{file_copies, held_records, nodes_filled, weight}
+use Rattle.qg_state.specs.Record.{records_bytes}
+use Rattle.qg_state.specs.State.{Accepted, Committed, State, Subvolume}
+use Rattle.qg_state.specs.Space as present
+use Rattle.qg_machine.specs.FileChange.{FileChange, file_change}
+use Rattle.qg_machine.specs.Layout.{CopiesOnWrite}
+use Rattle.qg_machine.specs.Refusals.{change_copies, change_need, no_nodes_for, refusal, refuse, root_level}
+use Rattle.qg_machine.specs.Step.{ChangesFiles, Step, accepted, file_answer, with_tree}
 use Rattle.qg_machine.specs.Step as machine
-use Rattle.qg_space.specs.Agreement.{IsHoldingOf}
-use Rattle.qg_laid.specs.Anew.{one_group}
+use Rattle.qg_space.specs.Holding.{free_slots}
+use Rattle.qg_extents.specs.Table.{IsTable}
+use Rattle.qg_refs.specs.declared.kept.Kept.{Kept as Reference}
+use Rattle.qg_weighed.specs.Laws.{IsRecorded, is_among, whole_records}
+use Rattle.qg_weighed.specs.Weight.{records_in}
+use Rattle.qg_fs_tree.specs.declared.fs_tree.FsTree.{FsTree}
+use Rattle.qg_fs_layout.specs.Laying.{nodes_in}
+use Rattle.qg_other_trees.specs.Telling.{one_group}
+use Rattle.qg_fs_step.specs.Keeping.{FollowsCommand, NamesOthers, mine_after, other_weight, state_after}
+use Rattle.qg_fs_step.specs.Keeping as step
+use Rattle.qg_fs_step.proofs.Free.{space-told}
+use Rattle.qg_fs_step.proofs.Kept.{level-told}
+use Rattle.qg_fs_step.proofs.Others.{weight-told}
+use Rattle.qg_fs_commit.specs.Committing.{AreShort}
 use Rattle.qg_store.specs.declared.kept.Kept.{Kept}
 use Rattle.qg_store.specs.Answering.{Answered}
-use Rattle.qg_store.specs.Editing.{IsEdited}
-use Rattle.qg_store.specs.Keeping.{IsKept, IsKeptOf, extents_named}
-use Rattle.qg_store.specs.Writing.{IsWritten}
-use Rattle.qg_store.proofs.Alone.{is_told, subvolume_of, told_by}
-use Rattle.qg_store.proofs.Refused.{file_change-found}
+use Rattle.qg_store.specs.Editing.{slots_refusal}
+use Rattle.qg_store.specs.Keeping.{IsKept, IsKeptOf, book_weight, commit_need, need_of}
+use Rattle.qg_store.proofs.Flagged.{laid-copies, need-copies, weight-whole}
+use Rattle.qg_store.proofs.Known.{only}
+use Rattle.qg_store.proofs.Looked.{is-near, is-subvolume}
 
 -- ---- what is refused
 
 -- the state stays
-pub does_nothing : (kept : Kept) (state : State) (command : Command) (why : Refusal) → IsKeptOf kept state → refusal state command ≡ Some why → Answered state command (Refused why) [] kept
-does_nothing kept state command why keeps refused = record {
+pub does_nothing : (kept : Kept) (state : State) (history : Option (List Event)) (command : Command) (reason : Refusal)
+    → IsKeptOf kept state history → refusal state command ≡ Some reason
+    → Answered state command (Refused reason) [] kept history
+does_nothing kept state history command reason keeps refused = record {
   new = state;
-  step = subst (λ found. MatchOption found (machine.Does state command (Refused why) [] state) (λ why'. (Refused why ≡ Refused why') × (machine.Stays state [] state))) (sym refused) (refl, (refl, refl));
+  step = subst (λ (found : Option Refusal). MatchOption found (machine.Does state command (Refused reason) [] state)
+      (λ other. (Refused reason ≡ Refused other) × (machine.Stays state [] state))) (sym refused) (refl, (refl, refl));
   keeps = keeps;
 }
 
--- ---- what is edited
+-- ---- the slots that are needed
 
 -- the change of the files of the top-level subvolume
 abbrev pub change_to : List (ℕ × File) → ℕ → ℕ → FileChange
 change_to files amount pieces = record { sub = TOP_LEVEL; files = files; amount = amount; pieces = pieces }
 
--- the change, as it is pending
-pending_now : (kept : Kept) (state : State) (command : Command) (change : FileChange) → Accepted
-pending_now kept state command change = accepted (told_by kept state) command change 0
+-- Only too few slots may refuse a command, which changes these files so
+pub record IsLate (state : State) (command : Command) (files : List (ℕ × File)) (amount pieces : ℕ) : Type 0 where
+  pub late : refusal state command ≡ no_nodes_for state (file_change state command)
+  pub change : file_change state command ≡ Some (change_to files amount pieces)
 
--- the state with other files and one command more
-pub after_edit : (kept : Kept) (state : State) (command : Command) (change : FileChange) → State
-after_edit kept state command change = record (told_by kept state) {
-  subvolumes = (TOP_LEVEL, record (subvolume_of kept) { files = change.files }) ∷ [];
-  pending = pending_now kept state command change ∷ state.pending;
-}
+module _ (kept : Kept) (state : State) (history : Option (List Event)) (bytes : ℕ) (fits : IsKept kept history bytes)
+    (keeps : IsKeptOf kept state history) (table : IsTable kept.fs.refs.refs) where
+  pub tree-kept : step.IsKept kept.fs history bytes
+  tree-kept = record {
+    subvolume = is-subvolume kept history bytes fits;
+    table = table;
+    near = is-near kept fits.fitted;
+  }
+
+  pub free-told : present.free_slots state ≡ free_slots kept.fs.land.space
+  free-told = sym (space-told kept.fs history bytes state keeps.mine keeps.files tree-kept keeps.keeps).slots
+
+  pub level-kept : root_level state TOP_LEVEL ≡ kept.fs.tree.height
+  level-kept = level-told kept.fs history bytes state keeps.mine keeps.files tree-kept keeps.keeps
+
+  weight-kept : weight state ≡ book_weight kept + other_weight
+  weight-kept =
+      weight-whole state
+      ∙ weight-told kept.fs history bytes state keeps.mine keeps.files tree-kept keeps.keeps kept.group.counters
+      kept.group.stamp keeps.quota keeps.recorded keeps.others
+
+  nodesize-kept : state.sizes.nodesize ≡ kept.superblock.nodesize
+  nodesize-kept =
+      ap (λ (sizes : Sizes). sizes.nodesize) keeps.keeps.laid.laid.sizes
+      ∙ ap (λ (sizes : Sizes). sizes.nodesize) fits.fitted.sizes
+
+  need-kept : (files : List (ℕ × File)) (amount pieces : ℕ)
+      → change_need state (change_to files amount pieces) ≡ need_of kept pieces
+  need-kept files amount pieces =
+      need-copies state (change_to files amount pieces)
+      ∙ (λ i. 10 * file_copies (level-kept i) pieces + 8 * nodes_filled (nodesize-kept i) (weight-kept i) + 40)
+
+  -- so many pieces are touched
+  pub late-refusal : (command : Command) (files : List (ℕ × File)) (amount pieces : ℕ)
+      → IsLate state command files amount pieces → refusal state command ≡ slots_refusal kept pieces
+  late-refusal command files amount pieces is =
+      is.late ∙ ap (no_nodes_for state) is.change
+      ∙ (λ i. refuse (nat_lt (free-told i) (need-kept files amount pieces i))
+      (why.NoNodes (free-told i) (need-kept files amount pieces i)))
+
+-- ---- what is edited
 
 -- what the machine's step asks of a command that changes files, and what it says of each such command
-abbrev pub Edits : (kept : Kept) (state : State) (command : Command) (reply : Answer) (change : FileChange) → Type 0
-Edits kept state command reply change =
-    MatchOption (file_change (told_by kept state) command) ⊥ (machine.DoesChange (told_by kept state) command reply [] (after_edit kept state command change))
-    → machine.Does (told_by kept state) command reply [] (after_edit kept state command change)
+abbrev pub Edits : State → Command → Answer → State → Type 0
+Edits state command reply new =
+    MatchOption (file_change state command) ⊥ (machine.DoesChange state command reply [] new)
+    → machine.Does state command reply [] new
 
-steps : (kept : Kept) (state : State) (command : Command) (reply : Answer) (files : List (ℕ × File)) (amount pieces : ℕ) → refusal (told_by kept state) command ≡ None
-    → file_change (told_by kept state) command ≡ Some (change_to files amount pieces) → file_answer (told_by kept state) command ≡ Some reply
-    → Edits kept state command reply (change_to files amount pieces) → Step (told_by kept state) command reply [] (after_edit kept state command (change_to files amount pieces))
-unfolding after_edit pending_now
-steps kept state command reply files amount pieces passes found answers does =
-    let old = told_by kept state in
-    let change = change_to files amount pieces in
-    let new = after_edit kept state command change in
-    let changes : ChangesFiles old command change new = record { root = kept.root.bytenr; layout = state.layout; touched = 0; changed = refl; laid_out = (refl, refl) } in
-    let done = does (subst (λ change'. MatchOption change' ⊥ (machine.DoesChange old command reply [] new)) (sym found) (answers, refl, changes)) in
-    subst (λ refused. MatchOption refused (machine.Does old command reply [] new) (λ why. (reply ≡ Refused why) × machine.Stays old [] new)) (sym passes) done
+-- what is kept after a command that left the tree so
+abbrev pub edited : Kept → FsTree → Kept
+edited old fs = record old { fs = fs; pending = old.pending + 1 }
 
-extents_of_one : (kept : Kept) (state : State) (command : Command) (change : FileChange) → present_extents (after_edit kept state command change) ≡ extents_named change.files
-unfolding after_edit present_extents
-extents_of_one kept state command change = append-nil (extents_named change.files)
+-- A command changed the tree: it follows the state by copy on write, what the last commit recorded stays, and a commit
+-- finds its slots
+pub record Follows (old : Kept) (fs : FsTree) (state : State) (mine : Subvolume) (history : Option (List Event))
+    (files : List (ℕ × File)) (pieces : ℕ) : Type 0 where
+  pub copied : (last : Accepted) → FollowsCommand fs history state (state_after state files fs history last)
+      (mine_after mine files fs) files (file_copies old.fs.tree.height pieces)
+  pub short : AreShort files
+  pub held : fs.refs.held ≡ old.fs.refs.held
+  pub reserved : commit_need (edited old fs) ≤ free_slots fs.land.space
 
-holds : (old new : Kept) (state : State) (command : Command) (change : FileChange) → IsKeptOf old state → IsEdited old change.files new → IsKept new
-    → IsHoldingOf new.space (after_edit old state command change)
-unfolding after_edit
-holds old new state command change keeps edited fits = record {
-  sizes = fits.sizes ∙ ap sizes_of edited.superblock;
-  runs = λ extent. subst (λ named. Contains new.space.runs extent ↔ Contains named extent) (ap extents_named edited.files ∙ sym (extents_of_one old state command change)) (fits.runs extent);
-  held_runs = λ extent. subst (λ runs. Contains runs extent ↔ Contains state.held.extents extent) (sym edited.held_runs) (keeps.holding.held_runs extent);
-  slots = λ slot. subst (λ slots. Contains slots slot ↔ Contains (keys_of state.layout) slot) (sym edited.slots) (keeps.holding.slots slot);
-  held_slots = λ slot. subst (λ slots. Contains slots slot ↔ Contains state.held.nodes slot) (sym edited.held_slots) (keeps.holding.held_slots slot);
-}
+tree_is : (state : State) (mine : Subvolume) (files : List (ℕ × File)) (root : ℕ)
+    → state.subvolumes ≡ (TOP_LEVEL, mine) ∷ []
+    → with_tree state TOP_LEVEL files root
+    ≡ record state { subvolumes = (TOP_LEVEL, record mine { files = files; root = root }) ∷ [] }
+tree_is state mine files root alone = rw alone refl
 
-keeps_edited : (old new : Kept) (state : State) (command : Command) (change : FileChange) → IsKeptOf old state → IsEdited old change.files new → IsKept new
-    → IsKeptOf new (after_edit old state command change)
-unfolding after_edit
-keeps_edited old new state command change keeps edited fits = record {
-  sizes = ap sizes_of edited.superblock;
-  generation = ap (λ (super : Super). super.generation) edited.superblock;
-  subvolumes =
-      ap (λ files. (TOP_LEVEL, record (subvolume_of old) { files = files }) ∷ []) (sym edited.files)
-      ∙ ap (λ (root : RootItem). (TOP_LEVEL, record { files = new.files; root = root.bytenr; last_snapshot = root.last_snapshot }) ∷ []) (sym edited.root);
-  quota = ap (λ group. Some (one_group group)) (sym edited.group);
-  pending = omega (arith, keeps.pending, edited.pending);
-  holding = holds old new state command change keeps edited fits;
-}
+module _ (old : Kept) (fs : FsTree) (before after : Option (List Event)) (bytes : ℕ) (state : State)
+    (command : Command) (reply : Answer) (files : List (ℕ × File)) (amount pieces : ℕ) (fits : IsKept old before bytes)
+    (keeps : IsKeptOf old state before) (table : IsTable old.fs.refs.refs)
+    (late : IsLate state command files amount pieces) (enough : None ≡ slots_refusal old pieces)
+    (answers : file_answer state command ≡ Some reply)
+    (follows : Follows old fs state keeps.mine before files pieces) (same : after ≡ before) where
+  abbrev last : Accepted
+  last = accepted state command (change_to files amount pieces) 0
 
--- a command that changes files and is not refused
-pub does_edit : (old new : Kept) (state : State) (command : Command) (reply : Answer) (files : List (ℕ × File)) (amount pieces : ℕ) → IsKeptOf old state
-    → refusal (told_by old state) command ≡ None → file_change (told_by old state) command ≡ Some (change_to files amount pieces) → file_answer (told_by old state) command ≡ Some reply
-    → Edits old state command reply (change_to files amount pieces) → IsEdited old files new → IsKept new → Answered state command reply [] new
-does_edit old new state command reply files amount pieces keeps passes found answers does edited fits =
-    let change = change_to files amount pieces in
-    record {
-      new = after_edit old state command change;
-      step = subst (λ state'. Step state' command reply [] (after_edit old state command change)) (is_told old state keeps)
-          (steps old state command reply files amount pieces passes found answers does);
-      keeps = keeps_edited old new state command change keeps edited fits;
-    }
+  abbrev pub state_now : State
+  state_now = state_after state files fs before last
 
--- a write that is not refused
-pub does_write : (old new : Kept) (state : State) (sub ino off len run : ℕ) → IsKeptOf old state → sub ≡ TOP_LEVEL → refusal state (Write sub ino off len) ≡ None → first_run state len ≡ Some run
-    → IsWritten old ino off len run new → IsKept new → Answered state (Write sub ino off len) (Extent run) [] new
-does_write old new state sub ino off len run keeps top passes found written fits =
-    let is = is_told old state keeps in
-    let told = told_by old state in
-    let change = write_change told TOP_LEVEL ino off len run in
-    let passes' : refusal told (Write TOP_LEVEL ino off len) ≡ None = ap (λ state. refusal state (Write TOP_LEVEL ino off len)) is ∙ ap (λ sub. refusal state (Write sub ino off len)) (sym top) ∙ passes in
-    let found' : first_run told len ≡ Some run = ap (λ state. first_run state len) is ∙ found in
-    let answers : file_answer told (Write TOP_LEVEL ino off len) ≡ Some (Extent run) = ap (option_map (λ extent. Extent extent)) found' in
-    subst (λ sub. Answered state (Write sub ino off len) (Extent run) [] new) (sym top)
-    (does_edit old new state (Write TOP_LEVEL ino off len) (Extent run) change.files change.amount change.pieces keeps passes' (file_change-found told TOP_LEVEL ino off len run found') answers
-    (λ done. done) written fits)
+  tree-now : with_tree state TOP_LEVEL files fs.tree.address
+      ≡ record state { subvolumes = (TOP_LEVEL, mine_after keeps.mine files fs) ∷ [] }
+  tree-now = tree_is state keeps.mine files fs.tree.address (only old state before keeps)
+
+  held-now : state_now.held ≡ state.held
+  held-now = ap (λ (s : State). s.held) tree-now
+
+  copied-now : CopiesOnWrite state state_now TOP_LEVEL (change_copies state (change_to files amount pieces))
+  copied-now =
+      subst (λ (level : ℕ). CopiesOnWrite state state_now TOP_LEVEL (file_copies level pieces))
+      (sym (level-kept old state before bytes fits keeps table)) (follows.copied last).copied
+
+  changes : ChangesFiles state command (change_to files amount pieces) state_now
+  changes = record {
+    root = fs.tree.address;
+    layout = nodes_in fs before;
+    touched = 0;
+    changed = refl;
+    laid_out = laid-copies state state_now (change_to files amount pieces) fs.tree.address (nodes_in fs before)
+        copied-now;
+  }
+
+  steps : Edits state command reply state_now → Step state command reply [] state_now
+  steps does =
+      let done = does (subst (λ (found : Option FileChange). MatchOption found ⊥
+      (machine.DoesChange state command reply [] state_now)) (sym late.change) (answers, refl, changes)) in
+      subst (λ (refused : Option Refusal). MatchOption refused (machine.Does state command reply [] state_now)
+      (λ reason. (reply ≡ Refused reason) × machine.Stays state [] state_now))
+      (enough ∙ sym (late-refusal old state before bytes fits keeps table command files amount pieces late)) done
+
+  recorded-now : IsRecorded state_now fs.refs.held
+  recorded-now =
+      subst (λ (held : List (ℕ × Reference)). IsRecorded state_now held) (sym follows.held)
+      (let first = keeps.recorded in record {
+        kept = first.kept;
+        same = λ one is. subst (λ (held : Committed). is_among (held_records held) one
+            ≡ is_among (records_in old.fs.refs.held) one) (sym held-now) (first.same one is);
+      })
+
+  keeps-now : IsKeptOf (edited old fs) state_now before
+  keeps-now = record {
+    files = files;
+    mine = mine_after keeps.mine files fs;
+    keeps = (follows.copied last).keeps;
+    short = follows.short;
+    copied = keeps.copied;
+    quota = ap (λ (s : State). s.quota) tree-now ∙ keeps.quota;
+    pending = omega (arith, keeps.pending);
+    recorded = recorded-now;
+    others = subst NamesOthers (sym held-now) keeps.others;
+    reserved = λ some. follows.reserved;
+  }
+
+  -- a command that changes files and is not refused
+  pub does_edit : Edits state command reply state_now → Answered state command reply [] (edited old fs) after
+  does_edit does = record {
+    new = state_now;
+    step = steps does;
+    keeps = subst (λ (history : Option (List Event)). IsKeptOf (edited old fs) state_now history) (sym same) keeps-now;
+  }

@@ -5,15 +5,14 @@ use Rattle.std.specs.List.{Contains, list_all}
 use Rattle.std.proofs.Math.Seq.{take-suc}
 use Rattle.std.proofs.lemmas.Bool.{true≢false}
 use Rattle.std.proofs.lemmas.List.{take_all}
-use Rattle.std.proofs.lemmas.List.Elements.{Contains-append_left, Contains-append_right, Contains-append_cases}
+use Rattle.std.proofs.lemmas.List.Elements.{All-contains, Contains-append_left, Contains-append_right, Contains-append_cases}
+use Rattle.std.proofs.lemmas.List.Sums.{AllPass-from_list_all}
 use Rattle.qg_image.specs.Table.{with_number}
 use Rattle.qg_super.specs.Places.{is_slot}
 use Rattle.qg_state.proofs.Contained.{none_contained, contains_here, contains_cases}
 use Rattle.qg_space.specs.Holding.{Holding, has_slot, is_free_slot, without_slot}
 use Rattle.qg_space.proofs.Firsts.{is_free_slot-clear}
 use Rattle.qg_space.proofs.Members.{Contains-has_slot, Contains-with_number, Contains-without_slot}
-use Rattle.qg_laid.proofs.Commits.{each_passes}
-use Rattle.qg_laid.proofs.Rebuilt.{each_contained}
 use Rattle.qg_store.specs.Slots.{ChangesSlots}
 
 -- ---- one change after another
@@ -145,7 +144,7 @@ pub free_lacked : (old now : Holding) (slots : List ℕ) (k at : ℕ) → k < le
     → ((slot : ℕ) → Contains slots slot → Contains old.held_slots slot → ⊥) → has_slot now at ≡ false → is_free_slot now at ≡ true
 free_lacked old now slots k at short is taken all unheld lacks =
     let among : Contains slots at = (k, short, sym is) in
-    let slot = each_contained (λ (n : ℕ). is_slot old.sizes n ≡ true) slots at (each_passes (is_slot old.sizes) slots all) among in
+    let slot = All-contains (λ (n : ℕ). is_slot old.sizes n ≡ true) slots at (AllPass-from_list_all (is_slot old.sizes) slots all) among in
     is_free_slot-clear now at (subst (λ (holding : Holding). is_slot holding.sizes at ≡ true) (sym taken.rest) slot)
     (λ held. elim (Contains-append_cases now.slots now.held_slots at held) [
       | inl present ↦ true≢false (sym ((Contains-has_slot now at).1 present) ∙ lacks)

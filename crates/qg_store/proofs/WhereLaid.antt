@@ -1,98 +1,95 @@
--- Where the trees of a commit lie: in the first of the slots, and the files' tree in front. Addresses are in bytes.
-use Rattle.std.proofs.Common.{◌≡◌, ℕ, ◌+◌, ◌≤◌, List, ◌++◌, map, length, take, drop, sym, ap, subst, ◌∙◌, arith, length-append, take-append-drop}
-use Rattle.std.specs.Prelude.{◌↔◌, ◌==◌}
-use Rattle.std.specs.List.{Contains, IsDistinct}
-use Rattle.std.proofs.Math.Seq.{drop-length}
-use Rattle.std.proofs.lemmas.List.{append-nil, length-map, length-take, take-append-le}
-use Rattle.std.proofs.lemmas.List.Elements.{Contains-append_left}
-use Rattle.std.proofs.lemmas.List.Sorted.{Contains-permutation, IsPermutation-map, IsPermutation-sym}
+-- Where the root, extent and quota trees of a commit lie: in the first of the slots. Addresses are in bytes.
+use Rattle.std.proofs.Common.{◌≡◌, ℕ, ◌+◌, ◌≤◌, true, List, ◌++◌, get_or, map, length, take, drop, sym, ap, subst, ◌∙◌, arith}
+use Rattle.std.proofs.Common.{length-append, take-append-drop}
+use Rattle.std.specs.Prelude.{◌↔◌}
+use Rattle.std.specs.List.{Contains, list_all}
+use Rattle.std.specs.List.Sorted.{IsPermutation}
+use Rattle.std.proofs.lemmas.List.{append_assoc, length-map, take-append-le, take_all}
+use Rattle.std.proofs.lemmas.List.Elements.{All-contains, Contains-append_left, Contains-get_or}
+use Rattle.std.proofs.lemmas.List.Sorted.{Contains-permutation, IsPermutation-append_comm, IsPermutation-map, IsPermutation-sym}
+use Rattle.std.proofs.lemmas.List.Sums.{list_all-from_AllPass}
 use Rattle.qg_num.specs.declared.counters.Counters.{Counters}
 use Rattle.qg_node.specs.declared.node.Node.{Node}
 use Rattle.qg_items.specs.declared.root.RootItem.{RootItem}
-use Rattle.qg_super.specs.declared.superblock.Super.{Super}
-use Rattle.qg_super.specs.SuperText.{sizes_of}
-use Rattle.qg_image.specs.declared.file.File.{File}
-use Rattle.qg_state.specs.declared.element.Element.{Element}
-use Rattle.qg_space.specs.Holding.{Holding}
+use Rattle.qg_super.specs.declared.sizes.Sizes.{Sizes}
+use Rattle.qg_space.specs.Holding.{Holding, is_free_slot}
+use Rattle.qg_refs.specs.declared.kept.Kept.{Kept}
 use Rattle.qg_tree.specs.Row.{address_of}
-use Rattle.qg_tree.proofs.Frame.{IsDistinct-front}
-use Rattle.qg_laid.specs.declared.laying.Laid.{Laid}
-use Rattle.qg_laid.specs.Trees.{AreTreesLaid, nodes_laid}
-use Rattle.qg_commit.proofs.LaidNodes.{in_slots, lie, moved}
-use Rattle.qg_store.specs.Slots.{HoldsCommit}
+use Rattle.qg_other_trees.specs.declared.laying.OtherTrees.{OtherTrees}
+use Rattle.qg_other_trees.specs.Trees.{AreTrees, nodes_laid}
+use Rattle.qg_other_trees.proofs.Slots.{LieFirst, LieFirst-more, LieFirst-placed}
+use Rattle.qg_tree_commit.specs.Holds.{AreFree}
 
--- how many nodes there are, those of the files' tree told apart
-abbrev pub count_laid : Laid → ℕ
-count_laid laid = length laid.files.nodes + (length laid.extents.nodes + length laid.quotas.nodes + length laid.roots.nodes)
+-- the first of two lists that stand one behind the other
+first_of_both : (xs ys zs : List ℕ) → xs ++ ys ≡ zs → take (length xs) zs ≡ xs
+first_of_both xs ys zs is =
+    ap (take (length xs)) (sym is) ∙ take-append-le (length xs) xs ys (omega arith) ∙ take_all (length xs) xs (omega arith)
 
-module _ (committed : Super) (root : RootItem) (files : List (ℕ × File)) (extents : List Element) (counters : Counters) (stamp : ℕ) (slots : List ℕ) (laid : Laid)
-    (trees : AreTreesLaid committed root files extents counters stamp slots laid) where
-  abbrev all : List Node
-  all = in_slots (sizes_of committed) (committed.generation + 1) root.last_snapshot files extents counters stamp slots laid trees
+module _ (sizes : Sizes) (generation : ℕ) (root : RootItem) (book : List (ℕ × Kept)) (counters : Counters) (stamp : ℕ)
+    (slots : List ℕ) (trees : OtherTrees) (are : AreTrees sizes generation root book counters stamp slots trees) where
+  abbrev pub count : ℕ
+  count = length trees.extents.nodes + length trees.quotas.nodes + length trees.roots.nodes
 
-  abbrev count : ℕ
-  count = count_laid laid
+  abbrev behind_extents : List ℕ
+  behind_extents = drop (length trees.extents.nodes) slots
 
-  counted : length all ≡ count
-  counted = omega (
-    arith,
-    length-append laid.files.nodes laid.extents.nodes,
-    length-append (laid.files.nodes ++ laid.extents.nodes) laid.quotas.nodes,
-    length-append (laid.files.nodes ++ laid.extents.nodes ++ laid.quotas.nodes) laid.roots.nodes,
-  )
+  abbrev behind_quotas : List ℕ
+  behind_quotas = drop (length trees.quotas.nodes) behind_extents
 
-  all_lie : map address_of all ≡ take (length all) slots
-  all_lie = lie (sizes_of committed) (committed.generation + 1) root.last_snapshot files extents counters stamp slots laid trees
+  abbrev rest : List ℕ
+  rest = drop (length trees.roots.nodes) behind_quotas
+
+  -- the nodes in the order in which they lie
+  abbrev in_order : List Node
+  in_order = trees.extents.nodes ++ trees.quotas.nodes ++ trees.roots.nodes
+
+  turned : IsPermutation in_order (nodes_laid trees)
+  turned =
+      subst (λ (nodes : List Node). IsPermutation in_order nodes)
+      (sym (append_assoc trees.roots.nodes trees.extents.nodes trees.quotas.nodes))
+      (IsPermutation-append_comm (trees.extents.nodes ++ trees.quotas.nodes) trees.roots.nodes)
+
+  one_behind : LieFirst in_order slots rest
+  one_behind =
+      let two = LieFirst-more trees.extents.nodes trees.quotas.nodes slots behind_extents behind_quotas
+      (LieFirst-placed trees.extents.nodes slots are.extent_tree.stands.placed)
+      (LieFirst-placed trees.quotas.nodes behind_extents are.quota_tree.stands.placed) in
+      LieFirst-more (trees.extents.nodes ++ trees.quotas.nodes) trees.roots.nodes slots behind_quotas rest two
+      (LieFirst-placed trees.roots.nodes behind_quotas are.root_tree.stands.placed)
+
+  counted : length (map address_of in_order) ≡ count
+  counted =
+      let all = length-map in_order address_of in
+      let front = length-append trees.extents.nodes trees.quotas.nodes in
+      let both = length-append (trees.extents.nodes ++ trees.quotas.nodes) trees.roots.nodes in
+      omega (arith, all, front, both)
 
   pub within : count ≤ length slots
-  within = omega (arith, counted, ap length all_lie, length-map all address_of, length-take (length all) slots)
+  within =
+      let whole = ap (λ (list : List ℕ). length list) one_behind in
+      let both = length-append (map address_of in_order) rest in
+      omega (arith, counted, whole, both)
 
-  laid_front : take count slots ≡ map address_of all
-  laid_front = ap (λ n. take n slots) (sym counted) ∙ sym all_lie
+  front-is : take count slots ≡ map address_of in_order
+  front-is =
+      ap (λ (n : ℕ). take n slots) (sym counted) ∙ first_of_both (map address_of in_order) rest slots one_behind
 
   -- the first so many slots are those of the nodes
-  pub same_slots : (slot : ℕ) → Contains (take count slots) slot ↔ Contains (map address_of (nodes_laid laid)) slot
-  same_slots slot =
-      let other = moved (sizes_of committed) (committed.generation + 1) root.last_snapshot files extents counters stamp slots laid trees in
-      let into = Contains-permutation (map address_of all) (map address_of (nodes_laid laid)) slot (IsPermutation-map address_of all (nodes_laid laid) (IsPermutation-sym (nodes_laid laid) all other)) in
-      let back = Contains-permutation (map address_of (nodes_laid laid)) (map address_of all) slot (IsPermutation-map address_of (nodes_laid laid) all other) in
-      subst (λ front. Contains front slot ↔ Contains (map address_of (nodes_laid laid)) slot) (sym laid_front) (into, back)
+  pub same-slots : (slot : ℕ) → Contains (take count slots) slot ↔ Contains (map address_of (nodes_laid trees)) slot
+  same-slots slot =
+      let moved = IsPermutation-map address_of in_order (nodes_laid trees) turned in
+      let back = IsPermutation-map address_of (nodes_laid trees) in_order
+      (IsPermutation-sym in_order (nodes_laid trees) turned) in
+      subst (λ (front : List ℕ). Contains front slot ↔ Contains (map address_of (nodes_laid trees)) slot) (sym front-is) (
+        Contains-permutation (map address_of in_order) (map address_of (nodes_laid trees)) slot moved,
+        Contains-permutation (map address_of (nodes_laid trees)) (map address_of in_order) slot back,
+      )
 
-  pub own_front : take (length laid.files.nodes) slots ≡ map address_of laid.files.nodes
-  own_front = sym trees.file_tree.stands.placed
-
-  -- the files' tree lies in front of the others
-  pub own_first : take (length laid.files.nodes) (take count slots) ≡ map address_of laid.files.nodes
-  own_first =
-      sym (take-append-le (length laid.files.nodes) (take count slots) (drop count slots) (omega (arith, length-take count slots, within)))
-      ∙ ap (take (length laid.files.nodes)) (take-append-drop count slots)
-      ∙ own_front
-
--- ---- what is held by it
-
--- what is held may be named otherwise
-pub holds_so : (old new : Holding) (present held present' held' : List ℕ) → HoldsCommit old new present held → ((slot : ℕ) → Contains present slot ↔ Contains present' slot)
-    → ((slot : ℕ) → Contains held slot ↔ Contains held' slot) → HoldsCommit old new present' held'
-holds_so old new present held present' held' holds same_present same_held = record {
-  rest = holds.rest;
-  slots = λ slot. (λ has. (same_present slot).0 ((holds.slots slot).0 has), λ has. (holds.slots slot).1 ((same_present slot).1 has));
-  held_slots = λ slot. (λ has. (same_held slot).0 ((holds.held_slots slot).0 has), λ has. (holds.held_slots slot).1 ((same_held slot).1 has));
-}
-
--- the first so many slots of free ones that differ differ
-pub front_apart : (slots : List ℕ) (n : ℕ) → IsDistinct (λ a b. a == b) slots → IsDistinct (λ a b. a == b) (take n slots)
-front_apart slots n apart = IsDistinct-front (λ a b. a == b) (take n slots) (drop n slots) (subst (IsDistinct (λ a b. a == b)) (sym (take-append-drop n slots)) apart)
-
--- a list without what stands from its end on
-pub front_alone : (slots : List ℕ) (n : ℕ) → take n slots ++ drop (length slots) slots ≡ take n slots
-front_alone slots n = ap (λ (behind : List ℕ). take n slots ++ behind) (drop-length slots) ∙ append-nil (take n slots)
-
-pub contains_front : (slots : List ℕ) (n slot : ℕ) → Contains (take n slots) slot → Contains slots slot
-contains_front slots n slot has = subst (λ slots. Contains slots slot) (take-append-drop n slots) (Contains-append_left (take n slots) (drop n slots) slot has)
-
--- the slots of all nodes, told by the number of each tree's
-pub front_told : (laid : Laid) (slots given front : List ℕ) (files extents quotas roots : ℕ) → front ≡ take (files + (extents + quotas + roots)) given → given ≡ slots → files ≡ length laid.files.nodes
-    → extents ≡ length laid.extents.nodes → quotas ≡ length laid.quotas.nodes → roots ≡ length laid.roots.nodes → front ≡ take (count_laid laid) slots
-front_told laid slots given front files extents quotas roots is same of_files of_extents of_quotas of_roots =
-    let count : files + (extents + quotas + roots) ≡ count_laid laid = omega (arith, of_files, of_extents, of_quotas, of_roots) in
-    is ∙ ap (λ n. take n given) count ∙ ap (take (count_laid laid)) same
+-- the first so many of free slots are free
+pub front-free : (space : Holding) (slots : List ℕ) (n : ℕ) → AreFree space slots
+    → list_all (is_free_slot space) (take n slots) ≡ true
+front-free space slots n are =
+    list_all-from_AllPass (is_free_slot space) (take n slots) (λ k d below.
+    All-contains (λ slot. is_free_slot space slot ≡ true) slots (get_or (take n slots) k d) are.free
+    (subst (λ (list : List ℕ). Contains list (get_or (take n slots) k d)) (take-append-drop n slots)
+    (Contains-append_left (take n slots) (drop n slots) (get_or (take n slots) k d) (Contains-get_or (take n slots) k d below))))

@@ -11,22 +11,27 @@ use Rattle.qg_store.specs.declared.kept.Kept.{Kept}
 use Rattle.qg_store.specs.Keeping.{IsKeptOf}
 use Rattle.qg_store.specs.Making.{MadeCommits, StartsCommit}
 
--- the machine answers a command so with these commits, and what is kept is that of the state that it comes to
-pub record Answered (old : State) (command : Command) (answer : Answer) (commits : List State) (kept : Kept) : Type 0 where
+-- the machine answers a command so with these commits, and what is kept is that of the state that it comes to, over a
+-- disk with this history
+pub record Answered (old : State) (command : Command) (answer : Answer) (commits : List State) (kept : Kept)
+    (history : Option (List Event)) : Type 0 where
   pub new : State
   pub step : Step old command answer commits new
-  pub keeps : IsKeptOf kept new
+  pub keeps : IsKeptOf kept new history
 
 -- the machine answers a command so
-abbrev pub Answers : State → Command → Answer → Kept → Type 0
-Answers old command answer kept = (commits : List State) × Answered old command answer commits kept
+abbrev pub Answers : State → Command → Answer → Kept → Option (List Event) → Type 0
+Answers old command answer kept history =
+    (commits : List State) × Answered old command answer commits kept history
 
 -- the machine answers a command so, and the disk was made to hold what it commits
 abbrev pub AnswersOn : State → Command → Answer → Kept → List Event → Option (List Event) → Type 0
 AnswersOn old command answer kept before history =
-    (commits : List State) × Answered old command answer commits kept × MadeCommits old.held commits before history
+    (commits : List State) × Answered old command answer commits kept history
+    × MadeCommits old.held commits before history
 
--- what a command has done to the disk, whatever is answered: nothing, or the calls of a commit that the machine does, as far as they came
+-- what a command has done to the disk, whatever is answered: nothing, or the calls of a commit that the machine does,
+-- as far as they came
 abbrev pub IsDoneSoFar : State → Command → List Event → Option (List Event) → Type 0
 IsDoneSoFar old command events history = (history ≡ Some events) ⊎ ((command ≡ Commit) × StartsCommit old events history)
 

@@ -1,51 +1,64 @@
--- What a command that edits files leaves of what is kept (this project's own). Positions and sizes are in bytes.
-use Rattle.std.specs.Prelude.{◌≡◌, ℕ, ◌+◌, ◌≤◌, List, [], ◌∷◌, Option, not}
-use Rattle.std.specs.List.{All}
-use Rattle.qg_num.specs.declared.piece.Piece.{Piece}
+-- What a command that edits files reads and leaves of what is kept, and why it is refused (this project's own).
+-- Positions, lengths and sizes are in bytes.
+use Rattle.std.specs.Prelude.{◌≡◌, ℕ, ◌+◌, ◌==◌, ◌&&◌, List, [], ◌∷◌, Option, not, nat_lt}
+use Rattle.qg_device.specs.History.{Event}
 use Rattle.qg_num.specs.declared.refusal.Refusal.{Refusal}
 use Rattle.qg_num.specs.declared.refusal.Refusal.TheVariants as why
 use Rattle.qg_image.specs.declared.file.File.{File}
-use Rattle.qg_image.specs.FilesOf.{is_aligned, piece_end}
+use Rattle.qg_image.specs.FilesOf.{is_aligned}
 use Rattle.qg_image.specs.ItemMeaning.{first_some}
-use Rattle.qg_image.specs.Table.{value_at, with_value}
 use Rattle.qg_state.specs.State.{State}
-use Rattle.qg_machine.specs.FileChange.{file_or_new, with_pieces, with_size}
-use Rattle.qg_machine.specs.Refusals.{no_far, no_file, no_sub, refuse, too_many_pending}
-use Rattle.qg_files.specs.Split.{IsSplit}
+use Rattle.qg_verdict.specs.Verdict.{longest_extent}
+use Rattle.qg_machine.specs.Refusals.{no_align, no_far, no_file, no_source, no_sub, refuse, share_a_byte, too_many_pending}
+use Rattle.qg_space.specs.Holding.{free_slots}
+use Rattle.qg_file_edits.specs.Files.{LeavesFiles}
 use Rattle.qg_store.specs.declared.kept.Kept.{Kept}
+use Rattle.qg_store.specs.Keeping.{SameButClean, need_of}
 
--- the files are these now, what they hold of the image follows, one command more is pending, and all else stays
-pub record IsEdited (old : Kept) (edited : List (ℕ × File)) (new : Kept) : Type 0 where
-  pub superblock : new.superblock ≡ old.superblock
-  pub root : new.root ≡ old.root
-  pub group : new.group ≡ old.group
-  pub nodes : new.nodes ≡ old.nodes
-  pub files : new.files ≡ edited
-  pub pending : new.pending ≡ old.pending + 1
-  pub sizes : new.space.sizes ≡ old.space.sizes
-  pub held_runs : new.space.held_runs ≡ old.space.held_runs
-  pub slots : new.space.slots ≡ old.space.slots
-  pub held_slots : new.space.held_slots ≡ old.space.held_slots
+-- ---- what is read
 
--- files after pieces were put in a range of one of them, which may not be there yet, in a generation
-abbrev pub files_with : ℕ → ℕ → ℕ → ℕ → List Piece → List (ℕ × File) → List (ℕ × File)
-files_with generation ino from to given files = with_value ino (with_pieces generation from to given (file_or_new generation (value_at ino files))) files
+-- what is kept was only read by: clean nodes alone may be others, and the disk was not written
+pub record HasLooked (old new : Kept) (before after : Option (List Event)) (bytes left : ℕ) : Type 0 where
+  pub same : SameButClean old new
+  pub history : after ≡ before
+  pub size : left ≡ bytes
 
--- why a file may not be unlinked, before the free slots are counted: the first that holds
+-- ---- what is left
+
+-- the tree has these files now, of slots it took at most so many more than it gave back, one command more is pending,
+-- and all else stays
+pub record IsEdited (old new : Kept) (history : Option (List Event)) (files : List (ℕ × File)) (copies : ℕ) : Type 0
+  where
+    pub rest : new ≡ record old { fs = new.fs; pending = old.pending + 1 }
+    pub leaves : LeavesFiles old.fs new.fs history files copies
+
+-- ---- why a command is refused, before the free slots are counted: the first that holds
+
+-- a write, before its run is looked for
+abbrev pub range_refusal : State → ℕ → ℕ → ℕ → Option Refusal
+range_refusal state sub off len = first_some
+    (no_sub state sub ∷ no_align (off ∷ []) len ∷ no_far ((off + len) ∷ []) ∷ refuse (nat_lt longest_extent len) why.Far
+    ∷ too_many_pending state ∷ [])
+
+abbrev pub clone_refusal : State → ℕ → ℕ → ℕ → ℕ → ℕ → ℕ → ℕ → Option Refusal
+clone_refusal state sub ino off len to_sub to_ino to_off = first_some
+    (no_sub state sub ∷ no_sub state to_sub ∷ no_file state sub ino ∷ no_align (off ∷ to_off ∷ []) len
+    ∷ no_far ((off + len) ∷ (to_off + len) ∷ []) ∷ no_source state sub ino (off + len)
+    ∷ refuse ((sub == to_sub) && (ino == to_ino) && share_a_byte off to_off len) why.Overlap ∷ too_many_pending state
+    ∷ [])
+
+abbrev pub size_refusal : State → ℕ → ℕ → ℕ → Option Refusal
+size_refusal state sub ino size = first_some
+    (no_sub state sub ∷ no_file state sub ino ∷ refuse (not (is_aligned size)) why.Align ∷ no_far (size ∷ [])
+    ∷ too_many_pending state ∷ [])
+
 abbrev pub unlink_refusal : State → ℕ → ℕ → Option Refusal
 unlink_refusal state sub ino = first_some (no_sub state sub ∷ no_file state sub ino ∷ too_many_pending state ∷ [])
 
--- why a file may not get a size, before the free slots are counted: the first that holds
-abbrev pub size_refusal : State → ℕ → ℕ → ℕ → Option Refusal
-size_refusal state sub ino size = first_some
-    (no_sub state sub ∷ no_file state sub ino ∷ refuse (not (is_aligned size)) why.Align ∷ no_far (size ∷ []) ∷ too_many_pending state ∷ [])
+-- ---- slots
 
--- files after one that is there got a size in a generation
-abbrev pub files_cut : ℕ → ℕ → ℕ → List (ℕ × File) → List (ℕ × File)
-files_cut generation ino size files = with_value ino (with_size generation size (file_or_new generation (value_at ino files))) files
-
--- what a size takes out of a file's pieces: all that a range does which begins there and ends by no piece's end too early
-pub record IsCutAt (size : ℕ) (pieces gone rests : List Piece) : Type 0 where
-  pub top : ℕ
-  pub ends : All (λ piece. piece_end piece ≤ top) pieces
-  pub split : IsSplit size top pieces gone rests
+-- a command that touches so many pieces is refused for want of slots
+abbrev pub slots_refusal : Kept → ℕ → Option Refusal
+slots_refusal kept pieces =
+    refuse (nat_lt (free_slots kept.fs.land.space) (need_of kept pieces))
+    (why.NoNodes (free_slots kept.fs.land.space) (need_of kept pieces))

@@ -3,8 +3,6 @@ pub mod Stored
 pub mod Making
 pub mod Answering
 pub mod Editing
-pub mod Writing
+pub mod Ranges
 pub mod Slots
-pub mod Held
 pub mod Committing
-pub mod Cloning

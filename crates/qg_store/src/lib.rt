@@ -3,18 +3,19 @@
 
 mod cloning;
 mod committing;
-mod cutting;
+mod finding;
 mod holding;
 mod kept;
 mod listing;
+mod need;
 mod opening;
-mod putting;
+mod planning;
+mod ranges;
 mod resizing;
 mod showing;
 mod slots;
 mod store;
 mod unlinking;
-mod weight;
 mod writing;
 
 pub use store::Store;

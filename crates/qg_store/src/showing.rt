@@ -1,8 +1,8 @@
 // The stored counters are shown.
-ghost use Rattle.std.specs.Prelude.{◌≡◌, Some, IfOk};
+ghost use Rattle.std.specs.Prelude.{◌≡◌, None, Some, IfOk};
 ghost use Rattle.qg_num.specs.declared.answer.Answer.TheVariants.{Shown};
-ghost use Rattle.qg_laid.specs.Anew.{one_group};
 ghost use Rattle.qg_machine.specs.Step.{rows_of};
+ghost use Rattle.qg_other_trees.specs.Telling.{one_group};
 
 use qg_items::tree::TOP_LEVEL;
 use qg_num::{Answer, GroupId, NoMemory, Row, Rows};
@@ -11,7 +11,9 @@ use std::alloc::Global;
 
 /// The stored counters and limits of the top-level subvolume's group.
 pub(crate) fn show(alloc: Global, group: &Group) -> Result<Answer, NoMemory>
-    ensures { IfOk result (λ answer. answer ≡ Shown (rows_of (Some (one_group group.now)))) }
+    requires no_max_rfer { group.now.max_rfer ≡ None }
+    requires no_max_excl { group.now.max_excl ≡ None }
+    ensures { IfOk result (λ answer. answer ≡ Shown (rows_of (Some (one_group group.now.counters group.now.stamp)))) }
 {
     let mut rows = Rows::new(alloc);
     rows.push(Row {

@@ -11,12 +11,14 @@ ghost use Rattle.qg_grammar.specs.Served.{is_served_command};
 ghost use Rattle.qg_state.specs.State.{State};
 ghost use Rattle.qg_verdict.specs.StateOf.{StateOf};
 ghost use Rattle.qg_verdict.specs.Verdict.{verdict};
+ghost use Rattle.qg_blocks.specs.Told.{BreaksNone};
 ghost use Rattle.qg_walk.specs.Fault.{TellsFailure};
 ghost use Rattle.qg_commit.specs.Opened.{IsOpened, IsOpening};
 ghost use Rattle.qg_commit.specs.Opening.{IsUntouched};
 ghost use Rattle.qg_store.specs.Answering.{Answers, AnswersOn, IsDoneSoFar, comes_to_disk, is_unchanging};
+ghost use Rattle.qg_store.specs.Editing.{HasLooked};
 ghost use Rattle.qg_store.specs.Keeping.{IsKept, IsKeptOf};
-ghost use Rattle.qg_store.specs.Stored.{ComesToDisk, IsStoreOf, Stops, sizes_stored};
+ghost use Rattle.qg_store.specs.Stored.{ComesToDisk, IsStoreOf, IsStoreOver, IsUnchanged, Stops, is_of_image, sizes_stored};
 
 use crate::cloning::clone;
 use crate::committing::commit;
@@ -61,7 +63,7 @@ impl Store {
             → IfOk result (λ store. verdict (content events) ≡ None) }
         ensures opened { (events : List Event) (state : State) → D.history disk.old ≡ Some events
             → StateOf (content events) state
-            → IfOk result (λ store. IsStoreOf store state) }
+            → IfOk result (λ store. IsStoreOf store state (D.history disk.new)) }
         ensures refused { (events : List Event) → D.history disk.old ≡ Some events
             → IfErr result (λ fault. TellsFailure fault (verdict (content events))) }
         ensures repaired { (events : List Event) → D.history disk.old ≡ Some events
@@ -73,6 +75,7 @@ impl Store {
 
         // Over any disk.
         ensures running { IfOk result (λ store. store.stopped ≡ None) }
+        ensures backed { IfOk result (λ store. IsStoreOver store (D.history disk.new)) }
         ensures long { IfOk result (λ store. total_bytes (sizes_stored store) ≤ D.size disk.new) }
         ensures cause { HasCause OpenFault.Disk (D.faults disk.old) (D.faults disk.new) result }
     {
@@ -85,11 +88,12 @@ impl Store {
     }
 
     /// Does a command or refuses it, by one step of the machine (this project's own). Served are `write`, `clone`,
-    /// `truncate`, `unlink`, `commit`, `show` and `ls`. A file command that is done changes the files, and stays
-    /// pending until a commit brings it to the disk; what is refused or asked changes nothing. After a `Stop` the store
-    /// does nothing more, and the image is to be opened again.
+    /// `truncate`, `unlink`, `commit`, `show` and `ls`. A file command that is done edits the subvolume's tree in
+    /// memory, and stays pending until a commit brings it to the disk; what is refused or asked changes nothing, but
+    /// that nodes were read. After a `Stop` the store does nothing more, and the image is to be opened again: `Image`
+    /// comes where the disk no longer holds what the last call left there.
     ///
-    /// No step is counted so far.
+    /// Each node that is asked for counts as one step of `reads`, none of `looks` so far.
     pub fn apply<D: Disk, L: Ledger, M: Ledger>(
         &mut self,
         disk: &mut D,
@@ -97,26 +101,32 @@ impl Store {
         looks: &mut Steps<L>,
         reads: &mut Steps<M>,
     ) -> Result<Answer, Stop>
+        requires backed { IsStoreOver self.old (D.history disk.old) }
         requires long { total_bytes (sizes_stored self.old) ≤ D.size disk.old }
         requires numbers { IsTrue (is_in_grammar command.now) }
         requires served { IsTrue (is_served_command command.now) }
 
         // Over a disk that tells what it holds, the answer is the machine's, and the disk was made to hold what the
         // machine commits. Whatever is answered, nothing else was done than calls of a commit that the machine does.
-        ensures step { (state : State) (events : List Event) → IsStoreOf self.old state
+        // No rule of the image is found broken.
+        ensures step { (state : State) (events : List Event) → IsStoreOf self.old state (D.history disk.old)
             → D.history disk.old ≡ Some events
             → IfOk result (λ answer. AnswersOn state command.now answer self.new.kept events (D.history disk.new)) }
-        ensures so_far { (state : State) (events : List Event) → IsStoreOf self.old state
+        ensures so_far { (state : State) (events : List Event) → IsStoreOf self.old state (D.history disk.old)
             → D.history disk.old ≡ Some events
             → IsDoneSoFar state command.now events (D.history disk.new) }
+        ensures does { (state : State) (events : List Event) → IsStoreOf self.old state (D.history disk.old)
+            → D.history disk.old ≡ Some events
+            → IfOk result (λ answer. Answers state command.now answer self.new.kept (D.history disk.new)) }
+        ensures sound { (state : State) (events : List Event) → IsStoreOf self.old state (D.history disk.old)
+            → D.history disk.old ≡ Some events
+            → IfErr result (λ stop. is_of_image stop ≡ false) }
 
-        // Over any disk the answer is the machine's. What is refused or asked changes nothing, and only a commit of
-        // something comes to the disk.
-        ensures does { (state : State) → IsStoreOf self.old state
-            → IfOk result (λ answer. Answers state command.now answer self.new.kept) }
+        // Over any disk. What is refused or asked changes nothing but clean nodes, and only a commit of something comes
+        // to the disk.
         ensures running { IfOk result (λ answer. (self.old.stopped ≡ None) × (self.new.stopped ≡ None)) }
         ensures unchanged { IfOk result (λ answer. IsTrue (is_unchanging answer)
-            → (self.new ≡ self.old) × (D.history disk.new ≡ D.history disk.old) × (D.size disk.new ≡ D.size disk.old)) }
+            → IsUnchanged self.old self.new × (D.history disk.new ≡ D.history disk.old) × (D.size disk.new ≡ D.size disk.old)) }
         ensures still { (ComesToDisk self.old command.now → ⊥)
             → (D.history disk.new ≡ D.history disk.old) × (D.size disk.new ≡ D.size disk.old) }
 
@@ -124,13 +134,14 @@ impl Store {
         ensures stops { IfErr result (λ stop. Stops stop self.old self.new) }
         ensures cause { HasCause Stop.Disk (D.faults disk.old) (D.faults disk.new) result }
 
+        ensures backed { IsStoreOver self.new (D.history disk.new) }
         ensures sizes { (sizes_stored self.new ≡ sizes_stored self.old) × (D.size disk.old ≤ D.size disk.new) }
-        ensures counts { (looks.new ≡ looks.old) × (reads.new ≡ reads.old) }
+        ensures counts { looks.new ≡ looks.old }
     {
         if let Some(cause) = self.stopped {
             return Err(Stop::Aborted(cause));
         }
-        match answer(&mut self.kept, disk, command) {
+        match answer(&mut self.kept, disk, command, reads) {
             Ok(answer) => Ok(answer),
             Err(fault) => {
                 let stop = stop_of(&fault);
@@ -163,30 +174,37 @@ fn stop_of(fault: &BlockFault) -> Stop
 }
 
 // Does a command or refuses it.
-fn answer<D: Disk>(kept: &mut Kept, disk: &mut D, command: &Command) -> Result<Answer, BlockFault>
-    requires kept { IsKept kept.old }
-    requires long { total_bytes (sizes_of kept.old.superblock) ≤ D.size disk.old }
+fn answer<D: Disk, M: Ledger>(
+    kept: &mut Kept,
+    disk: &mut D,
+    command: &Command,
+    reads: &mut Steps<M>,
+) -> Result<Answer, BlockFault>
+    requires kept { IsKept kept.old (D.history disk.old) (D.size disk.old) }
     requires numbers { IsTrue (is_in_grammar command.now) }
     requires served { IsTrue (is_served_command command.now) }
-    ensures kept { IfOk result (λ answer. IsKept kept.new) }
-    ensures step { (state : State) (events : List Event) → IsKeptOf kept.old state → D.history disk.old ≡ Some events
+    ensures kept { IfOk result (λ answer. IsKept kept.new (D.history disk.new) (D.size disk.new)) }
+    ensures step { (state : State) (events : List Event) → IsKeptOf kept.old state (D.history disk.old)
+        → D.history disk.old ≡ Some events
         → IfOk result (λ answer. AnswersOn state command.now answer kept.new events (D.history disk.new)) }
-    ensures so_far { (state : State) (events : List Event) → IsKeptOf kept.old state → D.history disk.old ≡ Some events
+    ensures so_far { (state : State) (events : List Event) → IsKeptOf kept.old state (D.history disk.old)
+        → D.history disk.old ≡ Some events
         → IsDoneSoFar state command.now events (D.history disk.new) }
-    ensures does { (state : State) → IsKeptOf kept.old state
-        → IfOk result (λ answer. Answers state command.now answer kept.new) }
+    ensures sound { (state : State) (events : List Event) → D.history disk.old ≡ Some events
+        → IsKeptOf kept.old state (D.history disk.old) → BreaksNone result }
     ensures unchanged { IfOk result (λ answer. IsTrue (is_unchanging answer)
-        → (kept.new ≡ kept.old) × (disk.new ≡ disk.old)) }
-    ensures apart { comes_to_disk command.now ≡ false → disk.new ≡ disk.old }
-    ensures idle { kept.old.pending ≡ 0 → disk.new ≡ disk.old }
-    ensures err { IfErr result (λ fault. ((fault ≡ BlockFault.Disk) ⊎ (fault ≡ BlockFault.NoMemory))
-        × (kept.new.superblock ≡ kept.old.superblock)) }
+        → HasLooked kept.old kept.new (D.history disk.old) (D.history disk.new) (D.size disk.old) (D.size disk.new)) }
+    ensures apart { comes_to_disk command.now ≡ false
+        → (D.history disk.new ≡ D.history disk.old) × (D.size disk.new ≡ D.size disk.old) }
+    ensures idle { kept.old.pending ≡ 0
+        → (D.history disk.new ≡ D.history disk.old) × (D.size disk.new ≡ D.size disk.old) }
+    ensures err { IfErr result (λ fault. kept.new.superblock ≡ kept.old.superblock) }
     ensures sizes { (sizes_of kept.new.superblock ≡ sizes_of kept.old.superblock)
         × (D.size disk.old ≤ D.size disk.new) }
     ensures cause { HasCause BlockFault.Disk (D.faults disk.old) (D.faults disk.new) result }
 {
     match command {
-        Command::Write { sub, ino, off, len } => Ok(write(kept, *sub, *ino, *off, *len)?),
+        Command::Write { sub, ino, off, len } => write(kept, disk, *sub, *ino, *off, *len, reads),
         Command::Clone {
             sub,
             ino,
@@ -195,12 +213,14 @@ fn answer<D: Disk>(kept: &mut Kept, disk: &mut D, command: &Command) -> Result<A
             to_sub,
             to_ino,
             to_off,
-        } => Ok(clone(kept, *sub, *ino, *off, *len, *to_sub, *to_ino, *to_off)?),
-        Command::Truncate { sub, ino, size } => Ok(truncate(kept, *sub, *ino, *size)?),
-        Command::Unlink { sub, ino } => Ok(unlink(kept, *sub, *ino)?),
+        } => clone(
+            kept, disk, *sub, *ino, *off, *len, *to_sub, *to_ino, *to_off, reads,
+        ),
+        Command::Truncate { sub, ino, size } => truncate(kept, disk, *sub, *ino, *size, reads),
+        Command::Unlink { sub, ino } => unlink(kept, disk, *sub, *ino, reads),
         Command::Commit => commit(kept, disk),
         Command::Show => Ok(show(kept.alloc, &kept.group)?),
-        Command::Ls { sub, ino } => Ok(list(kept, *sub, *ino)?),
+        Command::Ls { sub, ino } => list(kept, disk, *sub, *ino, reads),
         _ => unreachable!(),
     }
 }

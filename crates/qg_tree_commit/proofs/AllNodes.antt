@@ -22,7 +22,6 @@ use Rattle.qg_blocks.specs.Held.{Draft}
 use Rattle.qg_blocks.specs.Told.{fresh_at}
 use Rattle.qg_tree.specs.Row.{address_of}
 use Rattle.qg_tree.proofs.Frame.{AllByRecursion-append}
-use Rattle.qg_laid.specs.Holds as laid
 use Rattle.qg_commit.specs.Calls.{IsReadBack, IsWritable, with_commit}
 use Rattle.qg_commit.proofs.Slots.{is_slot-IsBetween}
 use Rattle.qg_commit.proofs.Written.{AreCommittable, with_commit-HasCommit}
@@ -155,7 +154,7 @@ module _ (sizes : Sizes) (generation : ℕ) (root : RootItem) (book : List (ℕ 
           subst (λ (s : Sizes). IsReadBack s.nodesize (get_or nodes k d)) (sym written-sizes)
           (written-read read (get_or nodes k d) (Contains-get_or nodes k d below))
 
-      pub written-commit : laid.HasCommit trees.superblock nodes (content (with_commit trees.superblock nodes events))
+      pub written-commit : HasCommit trees.superblock nodes (content (with_commit trees.superblock nodes events))
       written-commit =
           with_commit-HasCommit trees.superblock nodes events laying.superblock
           (subst (λ (s : Sizes). total_bytes s ≤ length (content events)) (sym written-sizes) long)

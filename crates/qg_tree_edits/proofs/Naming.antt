@@ -1,13 +1,12 @@
 -- A call names a rule at an address only where this is so.
 use Rattle.std.proofs.Common.{◌≡◌, ℕ}
-use Rattle.std.specs.Prelude.{Result, Ok, Err}
+use Rattle.std.specs.Prelude.{List, Result, Ok, Err}
 use Rattle.qg_device.specs.History.{Event, content}
 use Rattle.qg_num.specs.declared.fault.BlockFault.{BlockFault}
 use Rattle.qg_num.specs.declared.fault.BlockFault.TheVariants.{NoMemory, Disk, Image}
 use Rattle.qg_num.specs.declared.rule.Rule.{Rule}
 use Rattle.qg_verdict.specs.declared.expected.Expected.{Expected}
 use Rattle.qg_verdict.specs.declared.tree.Tree.{Tree}
-use Rattle.std.specs.Prelude.{List}
 use Rattle.qg_blocks.specs.Told.{BreaksNone, found}
 use Rattle.qg_ground.specs.declared.ground.Ground.{Ground}
 use Rattle.qg_edit.specs.Answering.{AnswersBy}

@@ -53,8 +53,8 @@ IsRefused tree root old new events expected at rule address =
 
 -- ---- a child that was edited, and what stands in its place does not fit its node
 
--- A child that is not a quarter full has no neighbour to be joined with: its node has no other pointer, or what the
--- pointer beside leads to is misread, or that pointer leads to the child itself
+-- A child that was edited has no neighbour to be joined with: its node has no other pointer, or what the pointer beside
+-- leads to is misread, or that pointer leads to the child itself
 abbrev pub LacksNeighbour : Tree → Root → Ground → List Event → Node → ℕ → Option Key → ℕ → ℕ → ℕ → Rule → ℕ → Type 0
 LacksNeighbour tree root land events node at to level place child rule address =
     ((length (own_pointers node) ≡ 1) × (rule ≡ Shape) × (address ≡ at))
@@ -69,7 +69,7 @@ pub record ArentJoined (land : Ground) (left right : ℕ) (a b : Node) (rule : R
   pub right_here : fresh_at land.blocks.draft right ≡ Some b
   pub broken : IsBrokenByMerge a b rule address
 
--- and so a child is not joined with its neighbour
+-- and so a child is not joined with a fresh node of its level, in front or behind
 pub record CantJoin (land : Ground) (level child : ℕ) (rule : Rule) (address : ℕ) : Type 0 where
   pub left : ℕ
   pub right : ℕ
@@ -97,7 +97,8 @@ pub record IsMisled (land : Ground) (node : Node) (from to : ℕ) (instead : Ins
   pub point : PointTo land instead pointers
   pub disorder : CanSplice from to pointers node → ⊥
 
--- and so a node can't lead to what stands in the place of its child, or of the child and a neighbour
+-- and so a node can't lead to one or two fresh nodes of the level below, in the place of its child, or of the child and
+-- others
 pub record CantLead (land : Ground) (node : Node) (level place : ℕ) (rule : Rule) (address : ℕ) : Type 0 where
   pub from : ℕ
   pub to : ℕ
@@ -141,8 +142,8 @@ FailsUnder tree root edit events (suc level) expected at old new rule address =
 
 -- ---- an edit of a tree
 
--- Two nodes stand in the place of a tree's root, and no root fits above them: the tree is as high as trees get, or the
--- keys of the second are not greater
+-- No root fits above two fresh nodes of the level of a tree's root: the tree is as high as trees get, or the first key
+-- of the second is not greater
 pub record CantGrow (root : Root) (land : Ground) (rule : Rule) (address : ℕ) : Type 0 where
   pub more : ℕ
   pub first : IsFreshOn land root.height address
@@ -152,7 +153,7 @@ pub record CantGrow (root : Root) (land : Ground) (rule : Rule) (address : ℕ) 
       ⊎ (IsTrue (is_lt (key_cmp (pointer_to first.node).key (pointer_to second.node).key)) → ⊥)
 
 -- A tree that is edited over a disk that tells breaks a rule at an address: on the way that the edit's key leads down
--- from the root a node does not fit, or no root fits above what stands in the root's place
+-- from the root a node does not fit, or no root fits above what stands in the root's place then
 pub record IsUnfit (tree : Tree) (root : Root) (edit : Edit) (old new : Ground) (events : List Event) (rule : Rule)
     (address : ℕ) : Type 0 where
   pub is : FailsUnder tree root edit events root.height (root_expected (Some root.height) None) root.address old new

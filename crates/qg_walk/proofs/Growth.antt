@@ -1,10 +1,12 @@
 -- What was found grows, node by node.
 use Rattle.std.proofs.Common.{◌≡◌, ℕ, suc, ◌-◌, true, List, [], ◌∷◌, ◌++◌, map, append_assoc, append-nil, arith, refl, sym, ap, ◌∙◌, subst, Option, Some, None}
-use Rattle.std.specs.Prelude.{OnOk, Result, Ok, Err}
+use Rattle.std.specs.Prelude.{All, OnOk, Result, Ok, Err}
 use Rattle.std.specs.List.{list_all}
 use Rattle.std.specs.Option.{option_and_then}
 use Rattle.std.proofs.lemmas.Bool.{and_from, eqb-true}
 use Rattle.std.proofs.lemmas.List.{map-append}
+use Rattle.std.proofs.lemmas.List.Elements.{All-append, All-nil}
+use Rattle.qg_bytes.specs.Fields.{IsBytes}
 use Rattle.qg_device.specs.History.{Event, content}
 use Rattle.qg_num.specs.declared.key.Key.{Key}
 use Rattle.qg_num.specs.declared.rule.Rule.TheVariants as rule
@@ -55,10 +57,10 @@ inner_stands super image address level header pointers items nodes is above own 
 pub HasAdded-leaf : {P N : Type 0} (tree : Tree) (meaning : Item → Option P) (keeps : N → List Node → Type 0) (super : Super) (history : Option (List Event)) (expected : Expected) (address : ℕ)
     (header : Header) (items : List Item) (old new : Found P N) → IsJudged tree super expected address (Leaf header items)
     → ((events : List Event) → history ≡ Some events → node_found super (content events) address ≡ Ok (Leaf header items))
-    → list_all (is_item_of tree super.generation) items ≡ true → AddsSaid meaning items old.parts new.parts
+    → list_all (is_item_of tree super.generation) items ≡ true → All (λ item. IsBytes item.body) items → AddsSaid meaning items old.parts new.parts
     → ((before : List Node) → keeps old.nodes before → keeps new.nodes (before ++ Leaf header items ∷ []))
     → HasAdded tree meaning keeps super history expected.from expected.to (below_node super address) old new
-HasAdded-leaf tree meaning keeps super history expected address header items old new judged found held said nodes =
+HasAdded-leaf tree meaning keeps super history expected address header items old new judged found held bytes said nodes =
     let stands = judged.stands in
     let formed = IsFormed-form tree super expected address (Leaf header items) judged.formed in
     record {
@@ -66,6 +68,7 @@ HasAdded-leaf tree meaning keeps super history expected address header items old
       nodes = Leaf header items ∷ [];
       parts = said.parts;
       held = held;
+      bytes = bytes;
       within = AreWithin-own expected.from expected.to (map (λ item. item.key) items) stands.sound.ascending formed.begins formed.ends;
       said = said.said;
       slots = and_from (is_slot (sizes_of super) header.address) true (rw stands.placed stands.slot) refl;
@@ -89,6 +92,7 @@ HasAdded-inner tree meaning keeps super history expected address header pointers
       nodes = Inner header pointers ∷ added.nodes;
       parts = added.parts;
       held = added.held;
+      bytes = added.bytes;
       within = added.within;
       said = added.said;
       slots = and_from (is_slot (sizes_of super) header.address) (list_all (λ node. is_slot (sizes_of super) (header_of node).address) added.nodes) (rw stands.placed stands.slot) added.slots;
@@ -137,6 +141,7 @@ HasPassed-none tree meaning keeps super history from to level pointers old = rec
     nodes = [];
     parts = [];
     held = refl;
+    bytes = All-nil (λ (item : Item). IsBytes item.body);
     within = AreWithin-none from (next_key to pointers);
     said = refl;
     slots = refl;
@@ -164,6 +169,7 @@ HasPassed-more tree meaning keeps super history from to level pointers pointer o
         nodes = added.nodes ++ more.nodes;
         parts = added.parts ++ more.parts;
         held = list_all-both (is_item_of tree super.generation) added.items more.items added.held more.held;
+        bytes = All-append (λ (item : Item). IsBytes item.body) added.items more.items added.bytes more.bytes;
         within = rw map-append (AreWithin-append from (next_key to others) pointer.key (map key_of added.items) (map key_of more.items) added.within more.within first last);
         said = map-append meaning added.items more.items ∙ ap (λ front. front ++ map meaning more.items) added.said
             ∙ ap (λ back. map (λ part. Some part) added.parts ++ back) more.said ∙ sym (map-append (λ part. Some part) added.parts more.parts);
@@ -191,13 +197,13 @@ HasPassed-all tree meaning keeps super history from to level pointers rest old n
 pub HasAdded-said : {P N : Type 0} (tree : Tree) (meaning : Item → Option P) (keeps : N → List Node → Type 0) (super : Super) (history : Option (List Event)) (expected : Expected) (address : ℕ)
     (header : Header) (items : List Item) (old new : Found P N) (result : Result Unit OpenFault) → IsJudged tree super expected address (Leaf header items)
     → ((events : List Event) → history ≡ Some events → node_found super (content events) address ≡ Ok (Leaf header items))
-    → FailsAs result (unless (list_all (is_item_of tree super.generation) items) rule.Item address) → OnOk result (AddsSaid meaning items old.parts new.parts)
+    → FailsAs result (unless (list_all (is_item_of tree super.generation) items) rule.Item address) → OnOk result (All (λ item. IsBytes item.body) items) → OnOk result (AddsSaid meaning items old.parts new.parts)
     → ((before : List Node) → keeps old.nodes before → keeps new.nodes (before ++ Leaf header items ∷ []))
     → OnOk result (HasAdded tree meaning keeps super history expected.from expected.to (below_node super address) old new)
-HasAdded-said tree meaning keeps super history expected address header items old new (Ok done) judged found fails said nodes =
+HasAdded-said tree meaning keeps super history expected address header items old new (Ok done) judged found fails bytes said nodes =
     HasAdded-leaf tree meaning keeps super history expected address header items old new judged found
-    (kept-none (list_all (is_item_of tree super.generation) items) rule.Item address fails) said nodes
-HasAdded-said tree meaning keeps super history expected address header items old new (Err fault) judged found fails said nodes = tt
+    (kept-none (list_all (is_item_of tree super.generation) items) rule.Item address fails) bytes said nodes
+HasAdded-said tree meaning keeps super history expected address header items old new (Err fault) judged found fails bytes said nodes = tt
 
 pub level_passed : (super : Super) (image : List ℕ) (expected : Expected) (address level : ℕ) → expected.level ≡ Some level → IsPassed expected (node_found super image address)
     → level_in super image address ≡ level

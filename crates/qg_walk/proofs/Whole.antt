@@ -99,6 +99,7 @@ IsWalk-added tree meaning keeps super history events from to expected root old n
       items = items ∙ ap Some (sym all_items);
       reached = nodes ∙ ap Some (sym all_nodes);
       held = rw all_items added.held;
+      bytes = rw all_items added.bytes;
       said = rw (all_items, parts) added.said;
       kept = rw all_nodes (added.more_nodes [] no_nodes);
     }

@@ -1,8 +1,9 @@
 -- What a walk adds to what was found before (this project's own).
-use Rattle.std.specs.Prelude.{◌≡◌, ℕ, Bool, true, not, List, [], ◌∷◌, ◌++◌, map, Option, Some, None, IsTrue}
+use Rattle.std.specs.Prelude.{◌≡◌, All, ℕ, Bool, true, not, List, [], ◌∷◌, ◌++◌, map, Option, Some, None, IsTrue}
 use Rattle.std.specs.List.{list_all}
 use Rattle.std.specs.Ordering.{is_lt}
 use Rattle.qg_device.specs.History.{Event, content}
+use Rattle.qg_bytes.specs.Fields.{IsBytes}
 use Rattle.qg_num.specs.Key.{key_cmp}
 use Rattle.qg_num.specs.declared.key.Key.{Key}
 use Rattle.qg_node.specs.declared.item.Item.{Item}
@@ -71,13 +72,14 @@ pub record Found (P N : Type 0) : Type 0 where
 abbrev pub found_by : {L P N : Type 0} → (L → List P) → Walked L N → Found P N
 found_by list walked = record { parts = list walked.parts; nodes = walked.nodes }
 
--- What was found grew by what some items say, which the tree may hold and whose keys ascend within a range, and by what is kept of some
+-- What was found grew by what some items say, which the tree may hold, whose bodies are bytes and whose keys ascend within a range, and by what is kept of some
 -- nodes, which lie in slots. Where the disk tells what it holds, those are the items and nodes that stand there
 pub record HasAdded {P N : Type 0} (tree : Tree) (meaning : Item → Option P) (keeps : N → List Node → Type 0) (super : Super) (history : Option (List Event)) (from to : Option Key) (below : List ℕ → Below) (old new : Found P N) : Type 0 where
   pub items : List Item
   pub nodes : List Node
   pub parts : List P
   pub held : IsTrue (list_all (is_item_of tree super.generation) items)
+  pub bytes : All (λ item. IsBytes item.body) items
   pub within : AreWithin from to (map (λ item. item.key) items)
   pub said : map meaning items ≡ map (λ part. Some part) parts
   pub slots : IsTrue (list_all (λ node. is_slot (sizes_of super) (header_of node).address) nodes)

@@ -1,6 +1,7 @@
 -- What a walk finds of a tree (this project's own).
-use Rattle.std.specs.Prelude.{◌≡◌, ℕ, List, map, Option, Some, None, IsTrue}
+use Rattle.std.specs.Prelude.{◌≡◌, All, ℕ, List, map, Option, Some, None, IsTrue}
 use Rattle.std.specs.List.{list_all}
+use Rattle.qg_bytes.specs.Fields.{IsBytes}
 use Rattle.qg_node.specs.declared.item.Item.{Item}
 use Rattle.qg_node.specs.declared.node.Node.{Node}
 use Rattle.qg_super.specs.declared.superblock.Super.{Super}
@@ -17,5 +18,6 @@ pub record IsWalk {P N : Type 0} (tree : Tree) (meaning : Item → Option P) (ke
   pub items : items_under tree super (node_found super image) (level_in super image root) expected root ≡ Some (tree_items tree super image expected root)
   pub reached : nodes_under tree super (node_found super image) (level_in super image root) expected root ≡ Some (tree_nodes tree super image expected root)
   pub held : IsTrue (list_all (is_item_of tree super.generation) (tree_items tree super image expected root))
+  pub bytes : All (λ item. IsBytes item.body) (tree_items tree super image expected root)
   pub said : map meaning (tree_items tree super image expected root) ≡ map (λ part. Some part) parts
   pub kept : keeps nodes (tree_nodes tree super image expected root)

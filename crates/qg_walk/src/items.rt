@@ -1,6 +1,7 @@
 // The items of a leaf.
-ghost use Rattle.std.specs.Prelude.{◌≡◌, ◌++◌, OnOk, IsErrOf};
+ghost use Rattle.std.specs.Prelude.{◌≡◌, ◌++◌, All, OnOk, IsErrOf};
 ghost use Rattle.std.specs.List.{list_all};
+ghost use Rattle.qg_bytes.specs.Fields.{IsBytes};
 ghost use Rattle.qg_num.specs.declared.rule.Rule.TheVariants as rule;
 ghost use Rattle.qg_verdict.specs.Failure.{unless};
 ghost use Rattle.qg_verdict.specs.Walk.{is_item_of};
@@ -21,8 +22,10 @@ pub(crate) fn add_said<P: TreePart, L: PartList<P>>(
 ) -> Result<(), OpenFault>
     ensures failure { FailsAs result (unless (list_all (is_item_of P.tree generation) items.now) rule.Item address) }
     ensures said { OnOk result (AddsSaid P.meaning items.now (L.list parts.old) (L.list parts.new)) }
+    ensures bytes { OnOk result (All (λ item. IsBytes item.body) items.now) }
     ensures disk { IsErrOf result OpenFault.Disk → ⊥ }
 {
+    are_of_bytes(items);
     for item in items {
         match P::read(item, generation) {
             None => {
@@ -35,4 +38,20 @@ pub(crate) fn add_said<P: TreePart, L: PartList<P>>(
         }
     }
     Ok(())
+}
+
+// The bodies of items are bytes.
+fn are_of_bytes(items: &[Item])
+    ensures { All (λ item. IsBytes item.body) items.now }
+{
+    for item in items {
+        are_bytes(item.body.as_slice());
+    }
+}
+
+// What a slice of bytes has.
+fn are_bytes(bytes: &[u8])
+    ensures { IsBytes bytes.now }
+{
+    let _count = bytes.len();
 }

@@ -1,5 +1,5 @@
 -- What records take, each once: that depends on which there are, not on their order, nor on how often each is there.
-use Rattle.std.proofs.Common.{◌≡◌, ℕ, ◌+◌, Bool, true, false, List, [], ◌∷◌, ◌++◌, refl, sym, ap, subst, ◌∙◌, arith}
+use Rattle.std.proofs.Common.{◌≡◌, ℕ, ◌+◌, ◌≤◌, Bool, true, false, List, [], ◌∷◌, ◌++◌, refl, sym, ap, subst, ◌∙◌, arith}
 use Rattle.std.proofs.Common.{inl, inr}
 use Rattle.std.specs.Prelude.{not, ◌||◌, ◌==◌, if◌then◌else◌}
 use Rattle.std.specs.List.{filter, sum_by}
@@ -179,6 +179,11 @@ bytes-alike (x ∷ xs) ys alike = elim (cases_Bool (is_among xs x)) [
       | inr unlike ↦
           sym (ap (λ (b : Bool). b || is_among xs one) unlike) ∙ alike one ∙ sym (among-without x one ys unlike)
     ]
+
+-- others in front take no less away
+pub bytes-more : (xs ys : List Record) → records_bytes ys ≤ records_bytes (xs ++ ys)
+bytes-more [] ys = omega arith
+bytes-more (x ∷ xs) ys = omega (arith, bytes-one x (xs ++ ys), bytes-more xs ys)
 
 -- records that are apart take what each take
 pub bytes-apart : (xs ys : List Record) → ((one : Record) → is_among xs one ≡ true → is_among ys one ≡ false)

@@ -1,5 +1,5 @@
 -- What a state's extent tree takes is what its books take.
-use Rattle.std.proofs.Common.{◌≡◌, ℕ, ◌+◌, Bool, true, false, List, ◌++◌, refl, sym, ap, ◌∙◌, inl, inr}
+use Rattle.std.proofs.Common.{◌≡◌, ℕ, ◌+◌, ◌≤◌, Bool, true, false, List, ◌++◌, refl, sym, ap, ◌∙◌, inl, inr}
 use Rattle.std.specs.Prelude.{◌||◌}
 use Rattle.std.proofs.lemmas.Bool.{cases_Bool, true≢false}
 use Rattle.std.proofs.lemmas.List.Folds.{list_any-append}
@@ -10,7 +10,7 @@ use Rattle.qg_refs.specs.declared.kept.Kept.{Kept}
 use Rattle.qg_weighed.specs.Laws.{CountsLayout, IsRecorded, IsWeight, is_among, is_of_extents, other_records}
 use Rattle.qg_weighed.specs.Laws.{whole_records}
 use Rattle.qg_weighed.specs.Weight.{records_in, weight_of}
-use Rattle.qg_weighed.proofs.Distinct.{bytes-alike, bytes-apart}
+use Rattle.qg_weighed.proofs.Distinct.{bytes-alike, bytes-apart, bytes-more}
 use Rattle.qg_weighed.proofs.Trees.{are-both, layout-are, none-named, others, others-are, others-named, quota-are}
 use Rattle.qg_weighed.proofs.Trees.{root-are, table-are}
 use Rattle.qg_weighed.proofs.Layouts.{layout-alike}
@@ -112,3 +112,8 @@ module _ (state : State) (held refs : List (ℕ × Kept)) (counted : CountsLayou
         (layout-alike (layout_of state) refs counted);
     whole = whole;
   }
+
+-- both books take no less than the one that is kept now
+pub no-less : (held refs : List (ℕ × Kept)) → records_bytes (records_in refs) ≤ weight_of held refs
+unfolding weight_of
+no-less held refs = bytes-more (records_in held) (records_in refs)

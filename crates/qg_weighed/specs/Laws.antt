@@ -1,5 +1,5 @@
 -- What the items of a state's extent tree take, by two books (this project's own). Addresses and lengths are in bytes.
-use Rattle.std.specs.Prelude.{◌≡◌, ℕ, ◌+◌, ◌<◌, Bool, true, false, not, List, ◌++◌, Option, Some}
+use Rattle.std.specs.Prelude.{◌≡◌, ℕ, ◌+◌, ◌<◌, ◌≤◌, Bool, true, false, not, List, ◌++◌, Option, Some}
 use Rattle.std.specs.List.{Contains, filter, filter_map, flat_map, list_any}
 use Rattle.std.specs.List.Sorted.{IsStrictlyIncreasing}
 use Rattle.std.specs.Option.{option_map}
@@ -86,6 +86,10 @@ abbrev pub other_records : State → List Record
 other_records state =
     filter (λ one. not (is_of_extents one)) (held_records state.held)
     ++ (root_records state ++ quota_records state.quota)
+
+-- both books take no less than the one that is kept now
+abbrev pub TakesNoLess : Type 0
+TakesNoLess = (held refs : List (ℕ × Kept)) → records_bytes (records_in refs) ≤ weight_of held refs
 
 -- What a state's layout has to be recorded takes what the book takes. With what the last commit holds, and with the
 -- items of the root and quota trees, all take what both books and those items take

@@ -3,7 +3,7 @@
 
 use anyhow::{Result, anyhow};
 use qg_cases::{Case, Cases, Program, Report, case_names, case_text, judge_case, read_case};
-use qg_disk::{Disk, MemDisk};
+use qg_disk::Disk;
 use qg_edge::{MemSink, MemSource, Sink, Source};
 use std::rt::Files;
 
@@ -12,7 +12,7 @@ use std::rt::Files;
 struct Echo;
 
 // The status of a call of that program.
-fn status_of(disk: &mut MemDisk, source: &mut MemSource, sink: &mut MemSink) -> u8 {
+fn status_of<D: Disk>(disk: &mut D, source: &mut MemSource, sink: &mut MemSink) -> u8 {
     if disk.write_at(4, &[0xab, 0xcd]).is_err() || disk.sync().is_err() {
         return 6;
     }
@@ -27,10 +27,10 @@ fn status_of(disk: &mut MemDisk, source: &mut MemSource, sink: &mut MemSink) -> 
 }
 
 impl Program for Echo {
-    fn call(
+    fn call<D: Disk>(
         &self,
         words: &Vec<String>,
-        disk: &mut MemDisk,
+        disk: &mut D,
         source: &mut MemSource,
         sink: &mut MemSink,
     ) -> u8 {

@@ -103,9 +103,24 @@ returns-clause-image g c = λ events told.
       chosen = chosen ∙ ap (λ (s : Super). Some s) (sym kept.same);
       stale = c.stale-image.ensures.value ∙ (rw (first, second) refl);
       kept = subst (λ (s : Super). StandsFor s (content events) (record c.in_ok-image.image { stale = c.stale-image.result })) (sym kept.same)
-          (record { same = kept.same; only = kept.only; state = kept.state; others = kept.others; nodes = kept.nodes; ascending = kept.ascending; extents = kept.extents });
+          (record {
+            same = kept.same;
+            only = kept.only;
+            files = kept.files;
+            told = kept.told;
+            bodies = kept.bodies;
+            state = kept.state;
+            others = kept.others;
+            nodes = kept.nodes;
+            ascending = kept.ascending;
+            extents = kept.extents;
+            recorded = kept.recorded;
+            owed = kept.owed;
+            agrees = kept.agrees;
+            home = kept.home;
+          });
     }
 
 pub returns-clause-editable : goal.returns-clause-editable
 returns-clause-editable g c =
-    stale_editable c.in_ok-image.image c.stale-image.result (c.in_ok-image.ensures.editable c.in-Some.ensures.fits c.in_ok-trees.ensures.slots c.in_ok-trees.ensures.copied)
+    stale_editable c.in_ok-image.image c.stale-image.result (c.in_ok-image.ensures.editable c.in-Some.ensures.fits c.in_ok-trees.ensures.slots c.in_ok-trees.ensures.root)

@@ -9,7 +9,7 @@ use Rattle.qg_parts.specs.Said.{AreSaid}
 use Rattle.qg_parts.proofs.Keys.{roots_ascending}
 use Rattle.qg_walk.specs.Held.{AreHeld}
 use Rattle.qg_check.specs.Trees.{AreNamed}
-use Rattle.qg_check.proofs.Passing.{copied_by}
+use Rattle.qg_check.proofs.Passing.{root_fit}
 use Rattle.qg_check.proofs.Said.{roots_read}
 use Rattle.qg_check.proofs.Staging.{fails_handed, tells_first}
 use Rattle.qg_super.specs.SuperText.{sizes_of}
@@ -42,12 +42,12 @@ returns-clause-trees g c = λ events told.
     let roots : roots_in super (content events) ≡ c.as_slice.result.now = roots_read super (content events) _ _ walk ∙ sym c.as_slice.ensures in
     record { named = rw roots c.in-Some.ensures.some; placed = walk.kept }
 
-pub returns-clause-copied : goal.returns-clause-copied
-returns-clause-copied g c =
+pub returns-clause-root : goal.returns-clause-root
+returns-clause-root g c =
     let generation = c.args.superblock.now.generation in
     let held = subst (λ (roots : List (ℕ × RootItem)). AreHeld Roots root_part c.args.superblock.now.generation roots) (sym c.as_slice.ensures) c.in_ok-walked.ensures.held in
     let named : AreNamed c.as_slice.result.now c.in-Some.named.extents c.in-Some.named.quotas c.in-Some.named.files = c.in-Some.ensures.some in
-    copied_by generation c.as_slice.result.now c.in-Some.named.files held named.only
+    root_fit generation c.as_slice.result.now c.in-Some.named.files held named.only
 
 pub returns-in_err-walked-clause-failure : goal.returns-in_err-walked-clause-failure
 returns-in_err-walked-clause-failure g c = λ events told.

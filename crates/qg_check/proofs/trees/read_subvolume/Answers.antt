@@ -9,18 +9,15 @@ use Rattle.qg_verdict.specs.ImageState.{items_of_root, nodes_of_root, level_in}
 use Rattle.qg_verdict.specs.Walk.{node_found, root_told, tree_failure}
 use Rattle.qg_items.specs.declared.root.RootItem.{RootItem}
 use Rattle.qg_super.specs.declared.superblock.Super.{Super}
-use Rattle.qg_walk.specs.Held.{AreAddressesOf}
 use Rattle.qg_walk.specs.IsWalk.{IsWalk}
+use Rattle.qg_gathered.specs.declared.nodes.NodesRead.{NodesRead}
+use Rattle.qg_gathered.specs.Told.{AreOfNodes}
 use Rattle.qg_parts.proofs.Keys.{files_ascending}
 use Rattle.qg_check.proofs.Said.{tree_read, is_none}
 use Rattle.qg_check.proofs.Found.{items_under-nodes}
-use Rattle.qg_check.proofs.FitFiles.{files_fit}
-use Rattle.qg_check.proofs.Passing.{files_by}
 use Rattle.qg_check.proofs.Held.{files_read, files_none, files_of_held}
 use Rattle.qg_walk.specs.Fault.{TellsFailure}
 use Rattle.qg_check.proofs.Staging.{fails_handed, tells_first}
-use Rattle.qg_super.specs.SuperText.{sizes_of}
-use Rattle.qg_check.proofs.SlotsOf.{slots_of_addresses}
 use Rattle.qg_check.proofs.trees.read_subvolume.Goals as goal
 
 pub read_files-requires : goal.read_files-requires
@@ -31,12 +28,12 @@ read_files-requires g c = record {
 -- ---- what was read
 
 -- the walk that was asked for is that of the ROOT_ITEM
-walk_of : (super : Super) (image : List ℕ) (root : RootItem) (expected : Expected) (parts : List FilePart) (nodes : List ℕ) → expected ≡ root_told root
-    → IsWalk Files file_part AreAddressesOf super image expected root.bytenr parts nodes → IsWalk Files file_part AreAddressesOf super image (root_told root) root.bytenr parts nodes
-walk_of super image root expected parts nodes is walk = subst (λ (e : Expected). IsWalk Files file_part AreAddressesOf super image e root.bytenr parts nodes) is walk
+walk_of : (super : Super) (image : List ℕ) (root : RootItem) (expected : Expected) (parts : List FilePart) (nodes : NodesRead) → expected ≡ root_told root
+    → IsWalk Files file_part AreOfNodes super image expected root.bytenr parts nodes → IsWalk Files file_part AreOfNodes super image (root_told root) root.bytenr parts nodes
+walk_of super image root expected parts nodes is walk = subst (λ (e : Expected). IsWalk Files file_part AreOfNodes super image e root.bytenr parts nodes) is walk
 
 -- its parts are what the items say
-parts_of : (super : Super) (image : List ℕ) (root : RootItem) (parts : List FilePart) (nodes : List ℕ) → IsWalk Files file_part AreAddressesOf super image (root_told root) root.bytenr parts nodes
+parts_of : (super : Super) (image : List ℕ) (root : RootItem) (parts : List FilePart) (nodes : NodesRead) → IsWalk Files file_part AreOfNodes super image (root_told root) root.bytenr parts nodes
     → file_parts (items_of_root Files super image root) ≡ parts
 parts_of super image root parts nodes walk = tree_read Files file_part super image root parts nodes walk
 
@@ -62,28 +59,22 @@ returns-clause-tree g c = λ events told.
     let walk = walk_of super image root c.root_told.result c.in_ok-walked.walked.parts c.in_ok-walked.walked.nodes c.root_told.ensures (c.in_ok-walked.ensures.found events told) in
     let files = files_read c.in_ok-walked.walked.parts c.in-Some.files (sym c.in-Some.is ∙ c.in_ok-files.ensures) in
     record {
-      files = files_of_held super.generation items c.in_ok-walked.walked.parts c.in-Some.files walk.held (parts_of super image root c.in_ok-walked.walked.parts c.in_ok-walked.walked.nodes walk) files;
-      placed = walk.kept;
-      under = walk.reached;
-      stand = items_under-nodes Files super (node_found super image) (level_in super image root.bytenr) (root_told root) root.bytenr items (nodes_of_root Files super image root) walk.items walk.reached;
-      parts = c.in_ok-walked.walked.parts;
-      said = walk.said;
-      fit = files.are;
-      told = files.is;
+      holds = record {
+        read = files_of_held super.generation items c.in_ok-walked.walked.parts c.in-Some.files walk.held (parts_of super image root c.in_ok-walked.walked.parts c.in_ok-walked.walked.nodes walk) files;
+        sound = walk.sound;
+        under = walk.reached;
+        stand = items_under-nodes Files super (node_found super image) (level_in super image root.bytenr) (root_told root) root.bytenr items (nodes_of_root Files super image root) walk.items walk.reached;
+        bytes = walk.bytes;
+        parts = c.in_ok-walked.walked.parts;
+        said = walk.said;
+        fit = files.are;
+        told = files.is;
+      };
+      gathered = walk.kept;
     }
-
-pub returns-clause-files : goal.returns-clause-files
-returns-clause-files g c =
-    let generation = c.args.superblock.now.generation in
-    let parts = c.in_ok-walked.walked.parts in
-    let files = files_read parts c.in-Some.files (sym c.in-Some.is ∙ c.in_ok-files.ensures) in
-    files_fit generation parts c.in-Some.files (files_ascending parts c.in_ok-walked.ensures.ascending) (files_by generation parts c.in_ok-walked.ensures.held) files.are files.is
 
 pub returns-in_err-walked-clause-failure : goal.returns-in_err-walked-clause-failure
 returns-in_err-walked-clause-failure g c = λ events told.
     let fault = c.in_err-walked.field-0.0 in
     let walk = subst (λ (expected : Expected). TellsFailure fault (tree_failure Files c.args.superblock.now (content events) expected c.args.root.now.bytenr)) c.root_told.ensures (c.in_err-walked.ensures.unsound events told) in
     fails_handed c.from_residual.result fault _ c.from_residual.ensures.1 (tells_first fault _ _ walk)
-
-pub returns-clause-slots : goal.returns-clause-slots
-returns-clause-slots g c = slots_of_addresses (sizes_of c.args.superblock.now) c.in_ok-walked.walked.nodes c.in_ok-walked.ensures.slots

@@ -1,32 +1,62 @@
-use Rattle.std.proofs.Common.{◌≡◌, ◌+◌, [], arith, refl, lit<}
-use Rattle.std.proofs.lemmas.List.Elements.{All-nil}
-use Rattle.qg_super.proofs.Served.{SizesFit-is_served}
-use Rattle.qg_verdict.specs.Verdict.{space_failure}
-use Rattle.qg_laid.proofs.Enough.{filled_none}
-use Rattle.qg_commit.proofs.FreshTrees.{fresh_slots-IsDistinct, nodes_are, superblock_is}
+use Rattle.std.proofs.Common.{ℕ, ◌≤◌, arith, refl, lit<}
+use Rattle.std.specs.List.{All}
+use Rattle.std.proofs.lemmas.List.Elements.{All-from_recursion}
+use Rattle.qg_super.specs.Places.{slot_at}
+use Rattle.qg_refs.specs.declared.kept.Kept.{Kept}
+use Rattle.qg_extents.specs.Fresh.{fresh_table}
+use Rattle.qg_commit.proofs.FreshTrees.{fresh-enough, fresh_slots-IsDistinct, nodes_are, superblock_is}
 use Rattle.qg_commit.proofs.fresh.lay_fresh.Goals as goal
 
-pub lay_trees-requires : goal.lay_trees-requires
-unfolding space_failure
-lay_trees-requires c =
-    let size = (SizesFit-is_served c.args.sizes c.requires).node_size in
-    rw (c.slots.ensures, c.new.ensures, c.new-2.ensures, c.new-3.ensures) (record {
+-- what is known is of generation 1
+known : (nodesize root : ℕ) → All (λ (entry : ℕ × Kept). entry.1.what.generation ≤ 1) (fresh_table nodesize root)
+known nodesize root =
+    All-from_recursion (λ (entry : ℕ × Kept). entry.1.what.generation ≤ 1) (fresh_table nodesize root) (omega arith, tt)
+
+pub lay_other_trees-requires : goal.lay_other_trees-requires
+lay_other_trees-requires c =
+    let sizes = c.args.sizes in
+    rw (
+      c.slots.ensures,
+      c.in_ok-book.ensures.exact,
+      c.slot.ensures,
+      c.slot-2.ensures,
+      c.new.ensures,
+      c.new-2.ensures,
+      c.new-3.ensures,
+      c.new-4.ensures,
+    ) (record {
       served = c.requires;
       some = omega arith;
       early = lit< tt;
-      copied = omega arith;
+      counted = refl;
+      by = record { made = omega arith; copied = omega arith };
       stamp = omega arith;
-      files = record { ascending = λ k below. absurd (omega (arith, below)); each = All-nil _ };
-      by = All-nil _;
-      space = refl;
-      room = record { apart = fresh_slots-IsDistinct c.args.sizes c.requires; few = omega arith; enough = omega (arith, filled_none c.args.sizes.nodesize size) };
+      known = known sizes.nodesize (slot_at sizes 2);
+      room = record {
+        apart = fresh_slots-IsDistinct sizes c.requires;
+        few = omega arith;
+        enough = fresh-enough sizes c.requires;
+      };
     })
 
 pub returns-clause-trees : goal.returns-clause-trees
-returns-clause-trees c = rw (c.slots.ensures, c.new.ensures, c.new-2.ensures, c.new-3.ensures) at c.in_ok-laid.ensures.trees
+returns-clause-trees c =
+    rw (
+      c.slots.ensures,
+      c.in_ok-book.ensures.exact,
+      c.slot.ensures,
+      c.slot-2.ensures,
+      c.new.ensures,
+      c.new-2.ensures,
+      c.new-3.ensures,
+      c.new-4.ensures,
+    ) at c.in_ok-trees.ensures.trees
+
+pub returns-clause-table : goal.returns-clause-table
+returns-clause-table c = rw (c.in_ok-book.ensures.exact, c.slot.ensures) at c.len-len.ensures.table
 
 pub returns-clause-superblock : goal.returns-clause-superblock
-returns-clause-superblock c = superblock_is c.args.sizes c.in_ok-laid.laid c.requires (returns-clause-trees c)
+returns-clause-superblock c = superblock_is c.args.sizes c.in_ok-trees.trees c.requires (returns-clause-trees c)
 
 pub returns-clause-nodes : goal.returns-clause-nodes
-returns-clause-nodes c = nodes_are c.args.sizes c.in_ok-laid.laid c.requires (returns-clause-trees c)
+returns-clause-nodes c = nodes_are c.args.sizes c.in_ok-trees.trees c.requires (returns-clause-trees c)

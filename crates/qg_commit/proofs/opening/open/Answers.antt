@@ -1,7 +1,7 @@
 use Rattle.std.proofs.Common.{ap, inl, ◌∙◌}
 use Rattle.std.specs.Prelude.{◌∷◌}
 use Rattle.std.proofs.lemmas.Result.{err_from_is_err_and}
-use Rattle.qg_device.specs.History.{Synced, content, with_event}
+use Rattle.qg_device.specs.History.{Synced, with_event}
 use Rattle.qg_commit.proofs.Touched.{looked-kept, looked-sync, opening-kept, opening-written}
 use Rattle.qg_commit.proofs.opening.open.Goals as goal
 use Rattle.qg_commit.proofs.opening.open.Goals.{in-Some+in_ok-write_place, in_default}

@@ -1,7 +1,8 @@
 use Rattle.std.proofs.Common.{inl, inr, refl, sym, subst, ◌∙◌}
 use Rattle.std.proofs.lemmas.Option.{none-some}
+use Rattle.qg_device.specs.History.{content}
 use Rattle.qg_walk.specs.Fault.{TellsFailure}
-use Rattle.qg_program.proofs.Judged.{follows-unopened, looked-unsound, untouched-judged}
+use Rattle.qg_program.proofs.Judged.{follows-unopened, looked-unsound, state-sound, untouched-judged}
 use Rattle.qg_program.proofs.run.run.Goals as goal
 
 pub returns-in-Ok-clause-follows : goal.returns-in-Ok-clause-follows
@@ -37,3 +38,9 @@ returns-in-Err-clause-refuses g c = λ events failure told unsound. (
 
 pub returns-in-Ok-clause-refuses : goal.returns-in-Ok-clause-refuses
 returns-in-Ok-clause-refuses g c = λ events failure told unsound. absurd (none-some failure (sym (c.in-Ok.ensures.sound events told) ∙ unsound))
+
+pub returns-in-Ok-clause-unsound : goal.returns-in-Ok-clause-unsound
+returns-in-Ok-clause-unsound g c = λ events told image sound.
+    let found = state-sound (content events) sound in
+    let opens = c.in-Ok.ensures.repaired events told in
+    c.answer_lines.ensures.sound (record { state = found.0; events = _; told = opens.repaired; stands = c.in-Ok.ensures.opened events found.0 told found.1 }) image

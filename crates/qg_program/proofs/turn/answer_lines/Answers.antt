@@ -1,11 +1,14 @@
 use Rattle.std.proofs.Common.{Ok, Err, refl, ap, ◌∙◌, arith}
 use Rattle.qg_program.proofs.Answered.{answered-none, answered-more, answered-all, answered-failed, counted-none, counted-on, taken-by, taken-whole, within-none}
+use Rattle.qg_program.proofs.Replied.{failure-behind, replies-more, replies-none}
 use Rattle.qg_program.proofs.turn.answer_lines.Goals as goal
 
 pub loop-text-init : goal.loop-text-init
 loop-text-init g c = record {
   ready = c.requires.ready;
   answered = λ state opened input stands known told. answered-none state input opened _ _ _ _ (rw (c.new-feed.ensures, told) refl) stands known;
+  stands = λ is. is;
+  replied = replies-none _;
   counted = rw c.new-feed.ensures (counted-none _);
   within = rw c.new-feed.ensures within-none;
   source_later = omega arith;
@@ -19,6 +22,8 @@ loop-text-preserved g c = record {
   answered = λ state opened input stands known told.
       let so_far = c.loop-text.invariant.answered state opened input stands known told in
       answered-more _ so_far (rw c.in-Ok-true.field-0-test at c.in-Ok-true.ensures.ok so_far.present so_far.events so_far.left so_far.stands so_far.known so_far.told);
+  stands = λ is. rw c.in-Ok-true.is at c.turn.ensures.stands (c.loop-text.invariant.stands is);
+  replied = replies-more _ _ _ c.loop-text.invariant.replied (rw c.in-Ok-true.is at c.turn.ensures.replied);
   counted = counted-on _ _ _ _ _ c.loop-text.invariant.counted c.turn.ensures.counted;
   within = c.turn.ensures.within;
   source_later = omega (arith, c.loop-text.invariant.source_later, c.turn.ensures.source_cause.later);
@@ -50,3 +55,9 @@ pub returns-in-Err-clause-takes : goal.returns-in-Err-clause-takes
 returns-in-Err-clause-takes g c =
     let counted = counted-on _ _ _ _ _ c.loop-text.invariant.counted c.turn.ensures.counted in
     taken-by _ c.turn.new.feed _ _ counted c.turn.ensures.within (λ is. c.turn.ensures.too_long (c.in-Err.is ∙ ap Err is)) c.in-Err.ensures.not_done
+
+pub returns-in-Err-clause-sound : goal.returns-in-Err-clause-sound
+returns-in-Err-clause-sound g c = λ stands is. c.turn.ensures.sound (c.loop-text.invariant.stands stands) (c.in-Err.is ∙ ap Err is)
+
+pub returns-in-Err-clause-told : goal.returns-in-Err-clause-told
+returns-in-Err-clause-told g c = λ is. failure-behind _ _ _ c.loop-text.invariant.replied (c.turn.ensures.told (c.in-Err.is ∙ ap Err is))

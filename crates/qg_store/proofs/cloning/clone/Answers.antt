@@ -1,79 +1,129 @@
-use Rattle.std.proofs.Common.{◌≡◌, ℕ, ◌+◌, List, map, ap, arith, subst, sym, ◌∙◌}
-use Rattle.std.proofs.lemmas.List.{length-map}
-use Rattle.qg_num.specs.declared.piece.Piece.{Piece}
+use Rattle.std.proofs.Common.{◌≡◌, ◌+◌, ◌∙◌, ℕ, List, [], None, Option, Some, ap, subst, sym}
+use Rattle.std.specs.Prelude.{IfOk}
+use Rattle.std.specs.Option.{option_map}
+use Rattle.qg_num.specs.declared.command.Command.TheVariants.{Clone}
+use Rattle.qg_items.specs.declared.file.InodeItem.{InodeItem}
+use Rattle.qg_items.specs.declared.tree.TheConstants.{TOP_LEVEL}
 use Rattle.qg_image.specs.declared.file.File.{File}
-use Rattle.qg_state.specs.State.{State}
-use Rattle.qg_machine.specs.FileChange.{moved}
-use Rattle.qg_laid.proofs.Enough.{node_size}
-use Rattle.qg_store.specs.Cloning.{files_cloned}
-use Rattle.qg_store.specs.Editing.{IsEdited}
-use Rattle.qg_store.specs.Keeping.{IsKeptOf, files_weight, need_of}
-use Rattle.qg_store.proofs.ClonedSteps.{MayClone, clones, lacks_for_clone, refused_clone}
+use Rattle.qg_image.specs.Table.{value_at}
+use Rattle.qg_contents.specs.Written.{inode_of}
+use Rattle.qg_inodes.proofs.PiecesRead.{handed}
+use Rattle.qg_inodes.proofs.Whole.{handed-sound}
+use Rattle.qg_file_edits.specs.Files.{HoldsFiles}
+use Rattle.qg_store.specs.Answering.{Answered}
+use Rattle.qg_store.specs.Editing.{clone_refusal}
+use Rattle.qg_store.proofs.Cloned.{refuses-clone}
+use Rattle.qg_store.proofs.Looked.{holds-looked, keeps-looked, looked-back}
+use Rattle.qg_store.proofs.Reasons.{missing-clone, none-there, other-clone, other-target, overlap-clone, some-there}
 use Rattle.qg_store.proofs.cloning.clone.Goals as goal
-use Rattle.qg_store.proofs.cloning.clone.Goals.{After-free_slots-free, In_ok-cut}
+use Rattle.qg_store.proofs.cloning.clone.Goals.{then-value-ne-TOP_LEVEL-via-then-value-ne-TOP_LEVEL}
+use Rattle.qg_store.proofs.cloning.clone.Goals.{then-value-ne-TOP_LEVEL-via-else-value-ne-TOP_LEVEL+then-value-ne-TOP_LEVEL-2}
 
-pub returns-in-Some-clause-step : goal.returns-in-Some-clause-step
-returns-in-Some-clause-step c = λ state keeps.
-    refused_clone c.args.kept.now state c.args.sub c.args.ino c.args.off c.args.len c.args.to_sub c.args.to_ino c.args.to_off c.in-Some.why keeps (sym (c.in-Some.ensures.value state keeps))
+pub returns-in_err-inode-clause-sound : goal.returns-in_err-inode-clause-sound
+returns-in_err-inode-clause-sound g c = λ state events told keeps.
+    handed-sound (Option InodeItem) c.from_residual.result _
+    (handed c.from_residual.result _ c.from_residual.ensures.1)
+    (c.in_err-inode.ensures.sound keeps.files keeps.keeps.holds)
 
-pub taken_from-requires-clause-off : goal.taken_from-requires-clause-off
-taken_from-requires-clause-off c = (c.in_default.ensures.clonable c.requires.least c.requires.below).off_aligned
-
-pub taken_from-requires-clause-len : goal.taken_from-requires-clause-len
-taken_from-requires-clause-len c = (c.in_default.ensures.clonable c.requires.least c.requires.below).len_aligned
-
-pub taken_from-requires-clause-near : goal.taken_from-requires-clause-near
-taken_from-requires-clause-near c = (c.in_default.ensures.clonable c.requires.least c.requires.below).source
-
-pub cut_for-requires-clause-near : goal.cut_for-requires-clause-near
-cut_for-requires-clause-near c = (c.in_default.ensures.clonable c.requires.least c.requires.below).near
-
-pub cut_for-requires-clause-few : goal.cut_for-requires-clause-few
-cut_for-requires-clause-few c = omega (arith, c.in_ok-taken.ensures.taken.light, c.len.ensures)
-
-pub need_of-need-requires-clause-size : goal.need_of-need-requires-clause-size
-need_of-need-requires-clause-size c = node_size c.args.kept.now.superblock c.requires.kept.superblock
-
--- what the files weigh once the pieces stand there
-weighs : (c : In_ok-cut) → c.in_ok-cut.cut.weight ≡ files_weight (files_cloned (c.args.kept.now.superblock.generation + 1) c.args.off c.args.len c.in_ok-taken.taken c.args.to_ino c.args.to_off c.args.kept.now.files)
-weighs c =
-    let move = moved c.args.off c.args.to_off in
-    c.in_ok-cut.ensures.weight (map move c.in_ok-taken.taken) (length-map c.in_ok-taken.taken move ∙ sym c.len.ensures)
-
--- the ranges may be cloned
-may : (c : After-free_slots-free) → c.in_ok-cut.cut.weight ≡ files_weight (files_cloned (c.args.kept.now.superblock.generation + 1) c.args.off c.args.len c.in_ok-taken.taken c.args.to_ino c.args.to_off c.args.kept.now.files)
-    → (state : State) → IsKeptOf c.args.kept.now state
-    → MayClone c.args.kept.now state c.args.sub c.args.ino c.args.off c.args.len c.args.to_sub c.args.to_ino c.args.to_off c.free_slots-free.result c.need_of-need.result
-may c weighs state keeps =
+pub returns-then-value-ne-TOP_LEVEL-clause-step : goal.returns-then-value-ne-TOP_LEVEL-clause-step
+returns-then-value-ne-TOP_LEVEL-clause-step g c = λ state keeps.
+    let history = g.D.Disk.history c.args.disk.now in
     let kept = c.args.kept.now in
-    let weight : List Piece → ℕ = λ pieces. files_weight (files_cloned (kept.superblock.generation + 1) c.args.off c.args.len pieces c.args.to_ino c.args.to_off kept.files) in
-    record {
-      fits = c.requires.kept;
-      keeps = keeps;
-      top = c.in_default.ensures.top;
-      to_top = c.in_default.ensures.to_top;
-      passes = sym (c.in_default.ensures.value state keeps);
-      slots = c.free_slots-free.ensures;
-      needs = c.need_of-need.ensures ∙ ap (need_of kept.superblock.nodesize) (weighs ∙ ap weight c.in_ok-taken.ensures.value);
-    }
+    refuses-clone kept state history c.args.sub c.args.ino c.args.off c.args.len c.args.to_sub c.args.to_ino
+    c.args.to_off _ keeps
+    (elim c.then-value-ne-TOP_LEVEL.branch [
+      | then-value-ne-TOP_LEVEL-via-then-value-ne-TOP_LEVEL w ↦
+          other-clone kept state history keeps c.args.ino c.args.off c.args.len c.args.to_sub c.args.to_ino
+          c.args.to_off c.args.sub (λ is. w.if-value-ne-TOP_LEVEL.true (c.value.ensures ∙ is))
+      | then-value-ne-TOP_LEVEL-via-else-value-ne-TOP_LEVEL+then-value-ne-TOP_LEVEL-2 w ↦
+          other-target kept state history keeps c.args.ino c.args.off c.args.len c.args.to_sub c.args.to_ino
+          c.args.to_off c.args.sub (sym c.value.ensures ∙ w.if-value-ne-TOP_LEVEL.false)
+          (λ is. w.if-value-ne-TOP_LEVEL-2.true (w.value-else-value-ne-TOP_LEVEL.ensures ∙ is))
+    ])
 
-pub returns-then-free-need-clause-step : goal.returns-then-free-need-clause-step
-returns-then-free-need-clause-step c = λ state keeps.
-    let at = goal.at.returns-then-free-need-clause-step c in
-    lacks_for_clone c.args.kept.now state c.args.sub c.args.ino c.args.off c.args.len c.args.to_sub c.args.to_ino c.args.to_off c.free_slots-free.result c.need_of-need.result
-    (may at.After-free_slots-free (weighs at.In_ok-cut) state keeps) c.if-free-need.true
+pub returns-in_default-clause-step : goal.returns-in_default-clause-step
+returns-in_default-clause-step g c = λ state keeps.
+    let kept = c.args.kept.now in
+    let read = c.inode_in.new.kept in
+    let before = g.D.Disk.history c.args.disk.now in
+    let bytes = g.D.Disk.size c.args.disk.now in
+    let then = g.D.Disk.history c.inode_in.new.disk in
+    let left = g.D.Disk.size c.inode_in.new.disk in
+    let first = c.in_ok-inode.ensures.looked in
+    let still = keeps-looked kept read before then bytes left state first keeps in
+    let told = sym c.in_default.is ∙ c.in_ok-inode.ensures.found keeps.files keeps.keeps.holds in
+    refuses-clone read state then c.args.sub c.args.ino c.args.off c.args.len c.args.to_sub c.args.to_ino c.args.to_off _
+    still
+    (ap (λ (sub : ℕ). clone_refusal state sub c.args.ino c.args.off c.args.len c.args.to_sub c.args.to_ino c.args.to_off)
+    (sym c.value.ensures ∙ c.if-value-ne-TOP_LEVEL.false)
+    ∙ ap (λ (sub : ℕ). clone_refusal state TOP_LEVEL c.args.ino c.args.off c.args.len sub c.args.to_ino c.args.to_off)
+    (sym c.value-else-value-ne-TOP_LEVEL.ensures ∙ c.if-value-ne-TOP_LEVEL-2.false)
+    ∙ missing-clone read state then still c.args.ino c.args.off c.args.len c.args.to_ino c.args.to_off
+    (none-there (value_at c.args.ino keeps.files) told))
 
-pub put_taken-requires-clause-range : goal.put_taken-requires-clause-range
-put_taken-requires-clause-range c = c.in_default.ensures.clonable c.requires.least c.requires.below
+pub returns-in-Some-refusal_of_clone-clause-step : goal.returns-in-Some-refusal_of_clone-clause-step
+returns-in-Some-refusal_of_clone-clause-step g c = λ state keeps.
+    let kept = c.args.kept.now in
+    let read = c.inode_in.new.kept in
+    let before = g.D.Disk.history c.args.disk.now in
+    let bytes = g.D.Disk.size c.args.disk.now in
+    let then = g.D.Disk.history c.inode_in.new.disk in
+    let left = g.D.Disk.size c.inode_in.new.disk in
+    let first = c.in_ok-inode.ensures.looked in
+    let still = keeps-looked kept read before then bytes left state first keeps in
+    let told = sym c.in-Some.is ∙ c.in_ok-inode.ensures.found keeps.files keeps.keeps.holds in
+    let there = some-there (value_at c.args.ino keeps.files) c.in-Some.inode told in
+    refuses-clone read state then c.args.sub c.args.ino c.args.off c.args.len c.args.to_sub c.args.to_ino c.args.to_off
+    c.in-Some-refusal_of_clone.why still
+    (ap (λ (sub : ℕ). clone_refusal state sub c.args.ino c.args.off c.args.len c.args.to_sub c.args.to_ino c.args.to_off)
+    (sym c.value.ensures ∙ c.if-value-ne-TOP_LEVEL.false)
+    ∙ ap (λ (sub : ℕ). clone_refusal state TOP_LEVEL c.args.ino c.args.off c.args.len sub c.args.to_ino c.args.to_off)
+    (sym c.value-else-value-ne-TOP_LEVEL.ensures ∙ c.if-value-ne-TOP_LEVEL-2.false)
+    ∙ overlap-clone read state then still c.args.ino c.args.off c.args.len c.args.to_ino c.args.to_off c.in-Some.inode.size
+    there.file there.is there.size c.do_overlap-overlap.result c.do_overlap-overlap.ensures
+    ∙ sym c.in-Some-refusal_of_clone.ensures.value)
 
-pub put_taken-requires-clause-weight : goal.put_taken-requires-clause-weight
-put_taken-requires-clause-weight c = weighs (goal.at.put_taken-requires-clause-weight c).In_ok-cut
+pub clone_range-requires-clause-range : goal.clone_range-requires-clause-range
+clone_range-requires-clause-range g c = c.in_default-refusal_of_clone.ensures.clonable
+
+pub returns-clause-sound : goal.returns-clause-sound
+returns-clause-sound g c = λ state events told keeps.
+    let kept = c.args.kept.now in
+    let read = c.inode_in.new.kept in
+    let before = g.D.Disk.history c.args.disk.now in
+    let bytes = g.D.Disk.size c.args.disk.now in
+    let then = g.D.Disk.history c.inode_in.new.disk in
+    let left = g.D.Disk.size c.inode_in.new.disk in
+    let first = c.in_ok-inode.ensures.looked in
+    c.clone_range.ensures.sound state events (first.history ∙ told)
+    (keeps-looked kept read before then bytes left state first keeps)
+    (λ files holds. sym c.in-Some.is ∙ c.in_ok-inode.ensures.found files
+    (holds-looked read kept then before left bytes files (looked-back kept read before then bytes left first) holds))
 
 pub returns-clause-step : goal.returns-clause-step
-returns-clause-step c = λ state keeps.
-    let at = goal.at.returns-clause-step c in
+returns-clause-step g c = λ state keeps.
     let kept = c.args.kept.now in
-    let files : List Piece → List (ℕ × File) = λ pieces. files_cloned (kept.superblock.generation + 1) c.args.off c.args.len pieces c.args.to_ino c.args.to_off kept.files in
-    clones kept c.put_taken.new.kept state c.args.sub c.args.ino c.args.off c.args.len c.args.to_sub c.args.to_ino c.args.to_off c.free_slots-free.result c.need_of-need.result
-    (may at.After-free_slots-free (weighs at.In_ok-cut) state keeps) c.if-free-need.false
-    (subst (λ (pieces : List Piece). IsEdited kept (files pieces) c.put_taken.new.kept) c.in_ok-taken.ensures.value c.in_ok-put_taken.ensures.edited) c.in_ok-put_taken.ensures.kept
+    let read = c.inode_in.new.kept in
+    let before = g.D.Disk.history c.args.disk.now in
+    let bytes = g.D.Disk.size c.args.disk.now in
+    let then = g.D.Disk.history c.inode_in.new.disk in
+    let left = g.D.Disk.size c.inode_in.new.disk in
+    let first = c.in_ok-inode.ensures.looked in
+    let still = keeps-looked kept read before then bytes left state first keeps in
+    let told = sym c.in-Some.is ∙ c.in_ok-inode.ensures.found keeps.files keeps.keeps.holds in
+    let there = some-there (value_at c.args.ino keeps.files) c.in-Some.inode told in
+    let passes = overlap-clone read state then still c.args.ino c.args.off c.args.len c.args.to_ino c.args.to_off
+    c.in-Some.inode.size there.file there.is there.size c.do_overlap-overlap.result c.do_overlap-overlap.ensures
+    ∙ sym c.in_default-refusal_of_clone.ensures.value in
+    let step = c.clone_range.ensures.step state still
+    (λ files holds. sym c.in-Some.is ∙ c.in_ok-inode.ensures.found files
+    (holds-looked read kept then before left bytes files (looked-back kept read before then bytes left first) holds))
+    passes in
+    subst (λ (sub : ℕ). IfOk c.clone_range.result (λ answer. Answered state
+    (Clone sub c.args.ino c.args.off c.args.len c.args.to_sub c.args.to_ino c.args.to_off) answer []
+    c.clone_range.new.kept (g.D.Disk.history c.clone_range.new.disk)))
+    (sym (sym c.value.ensures ∙ c.if-value-ne-TOP_LEVEL.false))
+    (subst (λ (sub : ℕ). IfOk c.clone_range.result (λ answer. Answered state
+    (Clone TOP_LEVEL c.args.ino c.args.off c.args.len sub c.args.to_ino c.args.to_off) answer []
+    c.clone_range.new.kept (g.D.Disk.history c.clone_range.new.disk)))
+    (sym (sym c.value-else-value-ne-TOP_LEVEL.ensures ∙ c.if-value-ne-TOP_LEVEL-2.false)) step)

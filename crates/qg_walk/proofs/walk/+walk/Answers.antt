@@ -40,7 +40,8 @@ walk-returns-in-Leaf-clause-added g t c =
     HasAdded-said g.P.TreePart.tree g.P.TreePart.meaning g.N.NodeList.keeps c.args.superblock.now (g.D.Disk.history c.args.disk.now) c.args.expected.now c.args.address c.in-Leaf.header c.in-Leaf.items
     (found_by g.L.PartList.list c.args.walked.now) (record { parts = g.L.PartList.list c.add_said.new.parts; nodes = c.visit.new.nodes }) c.add_said.result judged
     (λ events told. rw c.in-Leaf.is at (c.in_ok-node.ensures.found events told))
-    (rw c.as_slice.ensures at c.add_said.ensures.failure) (rw c.as_slice.ensures at c.add_said.ensures.said) (rw c.in-Leaf.is at c.in_ok-node.ensures.kept)
+    (rw c.as_slice.ensures at c.add_said.ensures.failure) (rw c.as_slice.ensures at c.add_said.ensures.bytes)
+    (rw c.as_slice.ensures at c.add_said.ensures.said) (rw c.in-Leaf.is at c.in_ok-node.ensures.kept)
 
 pub walk-returns-in-Inner-clause-failure : goal.walk-returns-in-Inner-clause-failure
 walk-returns-in-Inner-clause-failure g t c events depth told deep =

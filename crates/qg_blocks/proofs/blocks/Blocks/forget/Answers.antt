@@ -4,7 +4,7 @@ use Rattle.std.specs.Map.{lookup, remove_entry}
 use Rattle.lru.specs.LruCache.{LruCache}
 use Rattle.qg_node.specs.declared.node.Node.{Node}
 use Rattle.qg_blocks.specs.contracts.blocks.Blocks.{the_view}
-use Rattle.qg_blocks.proofs.Backing.{IsBacked-forget, clean-gone}
+use Rattle.qg_blocks.proofs.Backing.{IsBacked-forget, clean-gone, clean-none}
 use Rattle.qg_blocks.proofs.Telling.{is_at-same, told-remove}
 use Rattle.qg_blocks.specs.Told.{fresh_at}
 use Rattle.qg_blocks.proofs.blocks.Blocks.forget.Goals as goal
@@ -28,3 +28,12 @@ returns-clause-gone c =
     ∙ ap (λ (a : ℕ). lookup (nat_eq c.args.address) (remove_entry (nat_eq a) c.self.inside.shelf.clean.entries)) c.value-2.ensures
     ∙ clean-gone c.args.address c.self.inside.shelf.clean.entries c.len-count.ensures.valid.0 in
     rw (fresh, clean) refl
+
+pub returns-clause-others : goal.returns-clause-others
+returns-clause-others c at none =
+    let clean = c.self.inside.shelf.clean.entries in
+    let before : lookup (nat_eq at) clean ≡ None = rw (sym c.self.view_is) at none in
+    let after : lookup (nat_eq at) c.pop.new.self.entries ≡ lookup (nat_eq at) (remove_entry (nat_eq c.args.address) clean) =
+    ap (λ (cache : LruCache ℕ Node). lookup (nat_eq at) cache.entries) c.pop.ensures.entries
+    ∙ ap (λ (a : ℕ). lookup (nat_eq at) (remove_entry (nat_eq a) clean)) c.value-2.ensures in
+    after ∙ clean-none c.args.address at clean before

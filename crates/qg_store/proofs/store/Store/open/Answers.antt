@@ -1,16 +1,30 @@
-use Rattle.std.proofs.Common.{◌∷◌, ◌∙◌, ℕ, Option, Some, ap, refl}
-use Rattle.qg_device.specs.History.{Synced, content}
+use Rattle.std.proofs.Common.{◌∷◌, ◌∙◌, ℕ, List, Option, Some, ap, refl, subst, sym}
+use Rattle.qg_device.specs.History.{Event, Synced, content}
+use Rattle.qg_super.specs.Places.{first_place, second_place}
+use Rattle.qg_verdict.specs.ImageState.{super_in}
 use Rattle.qg_commit.specs.Opening.{with_repair}
+use Rattle.qg_store.specs.Keeping.{IsKeptOf}
+use Rattle.qg_store.proofs.Opened.{image-long}
+use Rattle.qg_store.proofs.Repaired.{kept-reopened}
 use Rattle.qg_store.proofs.store.Store.open.Goals as goal
 
 pub returns-clause-sound : goal.returns-clause-sound
 returns-clause-sound g c = λ events told. (c.in_ok-image.ensures.image events told).sound
 
 pub returns-clause-opened : goal.returns-clause-opened
-returns-clause-opened g c = λ events state told stands. record {
-  running = refl;
-  keeps = c.in_ok-kept.ensures.keeps (content events) state (c.in_ok-image.ensures.image events told) stands;
-}
+returns-clause-opened g c = λ events state told stands.
+    let super = c.in_ok-image.image.superblock in
+    let image = c.in_ok-image.ensures.image events told in
+    record {
+      running = refl;
+      keeps = subst (λ (history : Option (List Event)). IsKeptOf c.in_ok-kept.kept state history)
+          (sym (c.in_ok-image.ensures.repaired events told))
+          (kept-reopened c.in_ok-kept.kept super events (super_in (content events) first_place)
+          (super_in (content events) second_place) c.in_ok-image.image.stale state c.in_ok-image.ensures.fits
+          c.in_ok-kept.ensures.fitted c.in_ok-kept.ensures.superblock
+          (image-long c.in_ok-image.image (content events) c.in_ok-image.ensures.fits image) image.stale
+          (c.in_ok-kept.ensures.keeps events state image stands));
+    }
 
 pub returns-clause-repaired : goal.returns-clause-repaired
 returns-clause-repaired g c = λ events told.
@@ -18,7 +32,7 @@ returns-clause-repaired g c = λ events told.
     record {
       super = c.in_ok-image.image.superblock;
       chosen = image.chosen;
-      repaired =
-          c.in_ok-image.ensures.repaired events told
-          ∙ ap (λ (stale : Option ℕ). Some (with_repair c.in_ok-image.image.superblock stale (Synced ∷ events))) image.stale;
+      repaired = c.in_ok-image.ensures.repaired events told
+          ∙ ap (λ (stale : Option ℕ). Some (with_repair c.in_ok-image.image.superblock stale (Synced ∷ events)))
+          image.stale;
     }

@@ -1,0 +1,90 @@
+// A disk that changes by itself.
+ghost use Rattle.std.specs.Prelude.{◌≡◌, ◌+◌, ◌<◌, ◌≤◌, ◌^◌, IsErrOf, None, OnOk, length, max};
+ghost use Rattle.qg_device.specs.Cause.{HasCause};
+ghost use Rattle.qg_disk.specs.Disk.{Cuts, Syncs, Writes};
+ghost use Rattle.qg_disk.specs.MemDisk.{memory_faults, memory_size};
+
+use qg_disk::{Disk, DiskFault, MemDisk};
+use std::marker::Model;
+
+/// A disk in memory that tells nothing of what it holds: from one of its calls on, some bytes are read as others.
+#[derive(Drop)]
+pub(crate) struct FlipDisk {
+    disk: MemDisk,
+    first: u64,
+    place: u64,
+    bytes: Vec<u8>,
+}
+
+impl Model for FlipDisk {
+    ghost use Rattle.qg_disk.specs.MemDisk.{MemoryDisk};
+
+    ghost Value = { MemoryDisk };
+
+    ghost view = { λ d. d.disk };
+}
+
+impl FlipDisk {
+    /// A disk of which these bytes are read at a place from the call of a number on.
+    pub(crate) fn new(disk: MemDisk, first: u64, place: u64, bytes: Vec<u8>) -> FlipDisk {
+        FlipDisk {
+            disk,
+            first,
+            place,
+            bytes,
+        }
+    }
+
+    /// The disk as it holds its bytes.
+    pub(crate) fn into_disk(self) -> MemDisk {
+        self.disk
+    }
+}
+
+// Puts bytes that lie at a place into what was read from another place on.
+fn put_over(bytes: &[u8], place: u64, at: u64, buf: &mut [u8]) {
+    for (number, byte) in bytes.iter().enumerate() {
+        let here = place.saturating_add(number as u64);
+        if here >= at {
+            if let Some(old) = buf.get_mut((here - at) as usize) {
+                *old = *byte;
+            }
+        }
+    }
+}
+
+impl Disk for FlipDisk {
+    ghost use Rattle.qg_disk.specs.FileDisk.{sized_untold};
+
+    ghost history = { λ _. None };
+
+    ghost size = { memory_size };
+
+    ghost faults = { memory_faults };
+
+    ghost sized = { λ disk events told. sized_untold (memory_size disk) events told };
+
+    fn len(&self) -> u64 {
+        self.disk.len()
+    }
+
+    fn read(&mut self, at: u64, buf: &mut [u8]) -> Result<(), DiskFault> {
+        self.disk.read(at, buf)?;
+        if self.disk.calls().len() as u64 >= self.first {
+            put_over(&self.bytes, self.place, at, buf);
+        }
+        Ok(())
+    }
+
+    fn write_at(&mut self, at: u64, bytes: &[u8]) -> Result<(), DiskFault> {
+        self.disk.write_at(at, bytes)
+    }
+
+    fn cut(&mut self, len: u64) -> Result<(), DiskFault> {
+        self.disk.cut(len)
+    }
+
+    fn sync(&mut self) -> Result<(), DiskFault> {
+        self.disk.sync()
+    }
+}

@@ -1,0 +1,151 @@
+-- What the trees of an image say together, where its extents keep their rule.
+use Rattle.std.proofs.Common.{◌≡◌, ℕ, Bool, true, false, List, [], ◌∷◌, Option, Some, None, refl, sym, ap, subst, ◌∙◌, inl, inr}
+use Rattle.std.specs.Prelude.{IsTrue, ◌==◌, ◌||◌}
+use Rattle.std.specs.List.{Contains, find}
+use Rattle.std.specs.Option.{option_map}
+use Rattle.std.proofs.lemmas.Bool.{eq-eqb, true≢false}
+use Rattle.qg_num.specs.declared.rule.Rule.TheVariants as rule
+use Rattle.qg_super.specs.declared.superblock.Super.{Super}
+use Rattle.qg_super.specs.Places.{is_served}
+use Rattle.qg_super.specs.SuperText.{sizes_of}
+use Rattle.qg_image.specs.Table.{value_at}
+use Rattle.qg_image.specs.declared.part.ExtentPart.{ExtentPart}
+use Rattle.qg_state.specs.declared.element.Element.{Element}
+use Rattle.qg_state.specs.Owed.{Agrees, disagreement, homeless, layout_extents, what_at, Data}
+use Rattle.qg_state.specs.Reach.{is_among}
+use Rattle.qg_state.specs.State.{Layout, Placed, layout_of}
+use Rattle.qg_state.proofs.Contained.{contains_cases, none_contained}
+use Rattle.qg_verdict.specs.declared.failure.Failure.TheVariants.{Broken}
+use Rattle.qg_verdict.specs.declared.tree.Tree.TheVariants.{Files}
+use Rattle.qg_verdict.specs.Failure.{first_failure}
+use Rattle.qg_verdict.specs.ImageState.{extent_parts, items_of_root, nodes_of_root, state_in}
+use Rattle.qg_verdict.specs.Verdict.{references_failure, space_failure}
+use Rattle.qg_reach.proofs.Distinct.{apart_same}
+use Rattle.qg_refs.specs.Book.{Book}
+use Rattle.qg_home.proofs.Reaching.{entry_of_value}
+use Rattle.qg_owed.proofs.Layouts.{some_or_none}
+use Rattle.qg_extents.specs.Laws.{AreFew}
+use Rattle.qg_extents.specs.Told.{IsTold, records_failure}
+use Rattle.qg_extents.proofs.Agreeing.{owed-sound}
+use Rattle.qg_gathered.specs.Gathered.{AreGathered}
+use Rattle.qg_gathered.proofs.Extents.{at_is, at_none}
+use Rattle.qg_gathered.proofs.Judged.{extents_apart, named_there, no_extent}
+use Rattle.qg_check.specs.declared.judge.Read.{Read}
+use Rattle.qg_check.specs.IsImage.{IsBookOf, extents_in}
+use Rattle.qg_check.specs.Trees.{AreRead}
+use Rattle.qg_check.proofs.Agreed.{agrees-everywhere, book-of}
+use Rattle.qg_check.proofs.Owing.{entry-there, owing-image}
+use Rattle.qg_check.proofs.Pieces.{extents_told}
+
+-- where neither rule on references is broken, nothing disagrees
+refs_kept : (refs home : Option ℕ) → first_failure (option_map (Broken rule.Refs) refs ∷ option_map (Broken rule.Home) home ∷ []) ≡ None → refs ≡ None
+refs_kept None home none = refl
+refs_kept (Some address) home none = absurd cc
+
+no_disagreement : (super : Super) (image : List ℕ) (layout : Layout) → references_failure super image layout ≡ None → disagreement layout (extent_parts super image) ≡ None
+unfolding references_failure
+no_disagreement super image layout none = refs_kept (disagreement layout (extent_parts super image)) (homeless layout) none
+
+home_kept : (refs home : Option ℕ) → first_failure (option_map (Broken rule.Refs) refs ∷ option_map (Broken rule.Home) home ∷ []) ≡ None → home ≡ None
+home_kept refs None none = refl
+home_kept None (Some address) none = absurd cc
+home_kept (Some address) (Some other) none = absurd cc
+
+-- and each node that is not full is reached by its owner
+pub all_at_home : (super : Super) (image : List ℕ) (layout : Layout) → references_failure super image layout ≡ None → homeless layout ≡ None
+unfolding references_failure
+all_at_home super image layout none = home_kept (disagreement layout (extent_parts super image)) (homeless layout) none
+
+among_has : (elements : List Element) (element : Element) → Contains elements element → is_among element.address elements ≡ true
+among_has [] element has = absurd (none_contained element has)
+among_has (first ∷ elements) element has = elim (contains_cases first elements element has) [
+  | inl is ↦ rw (eq-eqb first.address element.address (ap (λ (e : Element). e.address) is)) refl
+  | inr later ↦ either (first.address == element.address) (is_among element.address elements) (among_has elements element later)
+]
+  where
+    either : (b c : Bool) → c ≡ true → (b || c) ≡ true
+    either true c is = refl
+    either false c is = is
+
+nodesize_in : (super : Super) (image : List ℕ) → super.nodesize ≡ (layout_of (state_in super image)).nodesize
+unfolding state_in
+nodesize_in super image = refl
+
+module _ (super : Super) (bytes : List ℕ) (read : Read) (are : AreRead super bytes read) (served : IsTrue (is_served (sizes_of super))) (extents : List Element)
+    (named : extents ≡ extents_in read.subvolume.files) (space : space_failure (sizes_of super) extents ≡ None) where
+  pub parts-read : read.extents.parts ≡ extent_parts super bytes
+  unfolding extent_parts
+  parts-read = are.extents.said ∙ (rw are.trees.named.extent_tree refl)
+
+  pub gathered-read : AreGathered super bytes read.trees.files read.subvolume.nodes extents read.extents.parts
+  gathered-read = record {
+    served = served;
+    only = are.trees.named.only;
+    sound = are.subvolume.holds.sound;
+    reached = are.subvolume.holds.under;
+    gathered = are.subvolume.gathered;
+    named = extents_told (nodes_of_root Files super bytes read.trees.files) (items_of_root Files super bytes read.trees.files) are.subvolume.holds.parts read.subvolume.files extents
+        are.subvolume.holds.stand are.subvolume.holds.said are.subvolume.holds.fit are.subvolume.holds.told named;
+    space = space;
+    told = parts-read;
+  }
+
+  -- an extent that leaves name is what begins at its address
+  no_node : (run : Element) → Contains (layout_extents (layout_of (state_in super bytes))) run → (placed : Placed)
+      → value_at run.address (layout_of (state_in super bytes)).nodes ≡ Some placed → ⊥
+  no_node run has placed is =
+      let entry = entry-there super bytes read.trees.files read.subvolume.nodes extents read.extents.parts gathered-read (run.address, placed)
+      (entry_of_value run.address placed (layout_of (state_in super bytes)).nodes is) in
+      let apart = no_extent super bytes read.trees.files read.subvolume.nodes extents read.extents.parts gathered-read placed.node entry.0 in
+      let there = subst (λ (a : ℕ). is_among a (layout_extents (layout_of (state_in super bytes))) ≡ false) entry.1 apart in
+      true≢false (sym (among_has (layout_extents (layout_of (state_in super bytes))) run has) ∙ there)
+
+  that_one : (run other : Element) → Contains (layout_extents (layout_of (state_in super bytes))) run → Contains (layout_extents (layout_of (state_in super bytes))) other
+      → other.address ≡ run.address → other ≡ run
+  that_one run other has has' same =
+      let there = named_there super bytes read.trees.files read.subvolume.nodes extents read.extents.parts gathered-read in
+      let apart = extents_apart super bytes read.trees.files read.subvolume.nodes extents read.extents.parts gathered-read in
+      apart_same extents other run apart (there.back other has') (there.back run has) same
+
+  extent_begins : (run : Element) → Contains (layout_extents (layout_of (state_in super bytes))) run
+      → what_at (layout_of (state_in super bytes)) run.address ≡ Data run.bytes
+  extent_begins run has =
+      let layout = layout_of (state_in super bytes) in
+      elim (some_or_none (value_at run.address layout.nodes)) [
+        | inr placed ↦ absurd (no_node run has placed.0 placed.1)
+        | inl none ↦ elim (some_or_none (find (λ extent. extent.address == run.address) (layout_extents layout))) [
+          | inl none' ↦ absurd (at_none (layout_extents layout) run.address run none' has refl)
+          | inr found ↦
+              let its = at_is (layout_extents layout) run.address found.0 found.1 in
+              what_is layout run.address found.0 none found.1 ∙ ap (λ (e : Element). Data e.bytes) (that_one run found.0 has its.0 its.1)
+        ]
+      ]
+    where
+      what_is : (layout : Layout) (at : ℕ) (extent : Element) → value_at at layout.nodes ≡ None → find (λ extent. extent.address == at) (layout_extents layout) ≡ Some extent
+          → what_at layout at ≡ Data extent.bytes
+      what_is layout at extent none is = rw none (rw is refl)
+
+  -- where the rules on references are kept
+  module _ (none : references_failure super bytes (layout_of (state_in super bytes)) ≡ None) where
+    agrees : Agrees (layout_of (state_in super bytes)) read.extents.parts
+    agrees =
+        agrees-everywhere (layout_of (state_in super bytes)) read.extents.parts
+        (owing-image super bytes read.trees.files read.subvolume.nodes extents read.extents.parts gathered-read)
+        (subst (λ parts. disagreement (layout_of (state_in super bytes)) parts ≡ None) (sym parts-read) (no_disagreement super bytes (layout_of (state_in super bytes)) none))
+
+    -- exactly what is owed is recorded
+    pub agrees-recorded : Agrees (layout_of (state_in super bytes)) (extent_parts super bytes)
+    agrees-recorded = subst (λ (parts : List ExtentPart). Agrees (layout_of (state_in super bytes)) parts) parts-read agrees
+
+    -- the extent tree's items tell a book
+    pub book-told : AreFew read.extents.parts → records_failure read.extents.parts ≡ None
+    book-told few =
+        owed-sound (layout_of (state_in super bytes)) read.extents.parts agrees
+        (owing-image super bytes read.trees.files read.subvolume.nodes extents read.extents.parts gathered-read) few
+
+    -- which says what the layout owes
+    pub book-owed : (book : Book) → IsTold super.nodesize read.extents.parts book → IsBookOf (layout_of (state_in super bytes)) book
+    book-owed book told =
+        book-of (layout_of (state_in super bytes)) read.extents.parts book agrees
+        (subst (λ (n : ℕ). IsTold n read.extents.parts book) (nodesize_in super bytes) told)
+        (owing-image super bytes read.trees.files read.subvolume.nodes extents read.extents.parts gathered-read) extent_begins

@@ -1,0 +1,101 @@
+// The references that the extent tree records.
+ghost use Rattle.std.specs.Prelude.{◌≡◌, ℕ, All, List, Option, IfOk, IsErrOf};
+ghost use Rattle.std.specs.List.Sorted.{IsNonDecreasingBy};
+ghost use Rattle.std.specs.Option.{option_map};
+ghost use Rattle.qg_num.specs.declared.rule.Rule.TheVariants as rule;
+ghost use Rattle.qg_items.specs.declared.root.RootItem.{RootItem};
+ghost use Rattle.qg_super.specs.declared.superblock.Super.{Super};
+ghost use Rattle.qg_state.specs.Owed.{part_address};
+ghost use Rattle.qg_state.specs.State.{layout_of};
+ghost use Rattle.qg_verdict.specs.declared.failure.Failure.TheVariants as failure;
+ghost use Rattle.qg_verdict.specs.ImageState.{state_in};
+ghost use Rattle.qg_verdict.specs.Verdict.{references_failure};
+ghost use Rattle.qg_walk.specs.Fault.{FailsAs, TellsFailure};
+ghost use Rattle.qg_extents.specs.Table.{IsTable, book_of};
+ghost use Rattle.qg_extents.specs.Told.{IsFault, IsTold, records_failure};
+ghost use Rattle.qg_gathered.specs.Gathered.{AreGathered};
+ghost use Rattle.qg_check.specs.Counts.{CountFits};
+
+use qg_extents::{Extents, RefsFault};
+use qg_gathered::{NodesRead, judge_references};
+use qg_image::ExtentPart;
+use qg_num::{Address, Rule};
+use qg_state::Element;
+use qg_walk::OpenFault;
+use std::alloc::Global;
+
+/// Judges the references that the extent tree records, and that each node that is not full is reached by its owner.
+pub(crate) fn judge_recorded(
+    alloc: Global,
+    nodes: NodesRead,
+    root: Address,
+    extents: &[Element],
+    parts: &[ExtentPart],
+) -> Result<(), OpenFault>
+    requires { IsNonDecreasingBy part_address parts.now }
+    ensures failure { (super : Super) (bytes : List ℕ) (item : RootItem) → root ≡ item.bytenr
+        → AreGathered super bytes item nodes extents.now parts.now
+        → FailsAs result (references_failure super bytes (layout_of (state_in super bytes))) }
+    ensures no_disk { IsErrOf result OpenFault.Disk → ⊥ }
+{
+    match judge_references(alloc, nodes, root, extents, parts)? {
+        None => Ok(()),
+        Some(failure) => Err(OpenFault::from(failure)),
+    }
+}
+
+/// The book that the extent tree's items tell. Where they tell none, as only a disk that lies has it, rule `refs` is broken.
+pub(crate) fn read_book(
+    alloc: Global,
+    nodesize: u32,
+    parts: &[ExtentPart],
+) -> Result<Extents, OpenFault>
+    requires { IsNonDecreasingBy part_address parts.now }
+    ensures failure { FailsAs result (option_map (failure.Broken rule.Refs) (records_failure parts.now)) }
+    ensures told { IfOk result (λ book. IsTold nodesize parts.now (book_of book)) }
+    ensures table { IfOk result (λ book. IsTable book) }
+    ensures no_disk { IsErrOf result OpenFault.Disk → ⊥ }
+{
+    match Extents::read(alloc, nodesize, parts) {
+        Ok(book) => {
+            let _table = book.table();
+            Ok(book)
+        }
+        Err(fault) => Err(opening_fault(fault)),
+    }
+}
+
+// The fault of opening where no book could be read.
+fn opening_fault(fault: RefsFault) -> OpenFault
+    ensures told { (first : Option ℕ) → IsFault first fault → TellsFailure result (option_map (failure.Broken rule.Refs) first) }
+    ensures no_disk { result ≡ OpenFault.Disk → ⊥ }
+{
+    match fault {
+        RefsFault::Broken(address) => OpenFault::Broken {
+            rule: Rule::Refs,
+            address,
+        },
+        RefsFault::NoMemory => OpenFault::NoMemory,
+    }
+}
+
+/// Looks at each count, which so is one that fits its field.
+pub(crate) fn look_at_counts(parts: &[ExtentPart])
+    ensures { All CountFits parts.now }
+{
+    for part in parts {
+        look_at_count(part);
+    }
+}
+
+fn look_at_count(part: &ExtentPart)
+    ensures { CountFits part.now }
+{
+    match part {
+        ExtentPart::DataRecord { .. } => {}
+        ExtentPart::NodeRecord { .. } => {}
+        ExtentPart::Referenced { count, .. } => {
+            let _count = *count;
+        }
+    }
+}

@@ -1,4 +1,0 @@
-pub mod Leaf
-pub mod Owed
-pub mod OneLeaf
-pub mod Image

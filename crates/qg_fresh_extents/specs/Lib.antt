@@ -1,2 +1,0 @@
-pub mod FreshExtents
-pub mod Examples

@@ -1,0 +1,101 @@
+-- What comes of a write whose range may be written, told by what is kept. Positions and lengths are in bytes.
+use Rattle.std.proofs.Common.{◌≡◌, ℕ, ◌+◌, ◌≤◌, List, [], Some, None, Option, refl, sym, ap, subst, ◌∙◌}
+use Rattle.std.specs.Option.{option_map}
+use Rattle.qg_device.specs.History.{Event}
+use Rattle.qg_num.specs.declared.answer.Answer.TheVariants.{Extent, Refused}
+use Rattle.qg_num.specs.declared.command.Command.TheVariants.{Write}
+use Rattle.qg_num.specs.declared.refusal.Refusal.{Refusal}
+use Rattle.qg_num.specs.declared.refusal.Refusal.TheVariants as why
+use Rattle.qg_items.specs.declared.tree.TheConstants.{TOP_LEVEL}
+use Rattle.qg_image.specs.declared.file.File.{File}
+use Rattle.qg_state.specs.State.{State}
+use Rattle.qg_state.specs.Space.{first_run}
+use Rattle.qg_verdict.specs.Verdict.{longest_extent}
+use Rattle.qg_machine.specs.FileChange.{pieces_meeting}
+use Rattle.qg_machine.specs.Step.{file_answer}
+use Rattle.qg_space.specs.Holding.{free_slots}
+use Rattle.qg_extents.specs.Table.{IsTable}
+use Rattle.qg_fs_tree.specs.declared.fs_tree.FsTree.{FsTree}
+use Rattle.qg_file_edits.specs.Changes.{files_written}
+use Rattle.qg_file_edits.specs.Files.{LeavesFiles, LeavesHeld, pieces_of}
+use Rattle.qg_fs_step.proofs.Others.{changes-told}
+use Rattle.qg_store.specs.declared.kept.Kept.{Kept}
+use Rattle.qg_store.specs.Answering.{Answered}
+use Rattle.qg_store.specs.Editing.{range_refusal, slots_refusal}
+use Rattle.qg_store.specs.Keeping.{IsKept, IsKeptOf, need_of}
+use Rattle.qg_store.proofs.Known.{no-limit}
+use Rattle.qg_store.proofs.Refused.{early-write, late-write, runless-write}
+use Rattle.qg_store.proofs.Leaves.{follows-edit}
+use Rattle.qg_fs_commit.proofs.Short.{short-left}
+use Rattle.qg_store.proofs.Stepped.{Follows, IsLate, change_to, does_edit, does_nothing, edited}
+use Rattle.qg_store.proofs.Stepped.{late-refusal, tree-kept}
+
+-- the range may not be written
+pub refuses-range : (kept : Kept) (state : State) (history : Option (List Event)) (sub ino off len : ℕ)
+    (reason : Refusal) → IsKeptOf kept state history → Some reason ≡ range_refusal state sub off len
+    → Answered state (Write sub ino off len) (Refused reason) [] kept history
+refuses-range kept state history sub ino off len reason keeps is =
+    does_nothing kept state history (Write sub ino off len) reason keeps
+    (early-write state sub ino off len reason (sym is))
+
+-- no run is free
+pub lacks-run : (kept : Kept) (state : State) (history : Option (List Event)) (sub ino off len : ℕ)
+    → IsKeptOf kept state history → None ≡ range_refusal state sub off len → None ≡ first_run state len
+    → Answered state (Write sub ino off len) (Refused why.NoRun) [] kept history
+lacks-run kept state history sub ino off len keeps range none =
+    does_nothing kept state history (Write sub ino off len) why.NoRun keeps
+    (runless-write state sub ino off len (sym range)
+    (no-limit kept state history keeps sub (len + state.sizes.nodesize)) (sym none))
+
+-- a run is free, and so many pieces are touched
+module _ (kept : Kept) (state : State) (history : Option (List Event)) (bytes sub ino off len run pieces : ℕ)
+    (fits : IsKept kept history bytes) (keeps : IsKeptOf kept state history) (table : IsTable kept.fs.refs.refs)
+    (top : sub ≡ TOP_LEVEL) (range : None ≡ range_refusal state sub off len) (found : Some run ≡ first_run state len)
+    (touched : pieces ≡ pieces_meeting off (off + len) (pieces_of ino keeps.files)) where
+  abbrev pub files_now : List (ℕ × File)
+  files_now = files_written kept.fs.tree.next ino off len run keeps.files
+
+  abbrev pub amount : ℕ
+  amount = len + kept.fs.land.space.sizes.nodesize
+
+  pub is-late : IsLate state (Write TOP_LEVEL ino off len) files_now amount pieces
+  is-late = record {
+    late = late-write state TOP_LEVEL ino off len run
+        (ap (λ (sub : ℕ). range_refusal state sub off len) (sym top) ∙ sym range)
+        (no-limit kept state history keeps TOP_LEVEL (len + state.sizes.nodesize)) (sym found);
+    change = (changes-told kept.fs history bytes state keeps.mine keeps.files
+        (tree-kept kept state history bytes fits keeps table) keeps.keeps).write ino off len run (sym found)
+        ∙ ap (λ (n : ℕ). Some (change_to files_now amount n)) (sym touched);
+  }
+
+  pub lacks-slots : (reason : Refusal) → Some reason ≡ slots_refusal kept pieces
+      → Answered state (Write sub ino off len) (Refused reason) [] kept history
+  lacks-slots reason is =
+      subst (λ (sub : ℕ). Answered state (Write sub ino off len) (Refused reason) [] kept history) (sym top)
+      (does_nothing kept state history (Write TOP_LEVEL ino off len) reason keeps
+      (late-refusal kept state history bytes fits keeps table (Write TOP_LEVEL ino off len) files_now amount pieces
+      is-late ∙ sym is))
+
+  pub writes : (fs : FsTree) (after : Option (List Event)) → None ≡ slots_refusal kept pieces
+      → Follows kept fs state keeps.mine history files_now pieces → after ≡ history
+      → Answered state (Write sub ino off len) (Extent run) [] (edited kept fs) after
+  writes fs after enough follows same =
+      subst (λ (sub : ℕ). Answered state (Write sub ino off len) (Extent run) [] (edited kept fs) after) (sym top)
+      (does_edit kept fs history after bytes state (Write TOP_LEVEL ino off len) (Extent run) files_now amount pieces
+      fits keeps table is-late enough (ap (option_map (λ (extent : ℕ). Extent extent)) (sym found)) follows same
+      (λ done. done))
+
+  -- the run was written there
+  pub written : (fs : FsTree) (new : Kept) (after : Option (List Event)) (left : ℕ) → new ≡ edited kept fs
+      → IsTable new.fs.refs.refs → None ≡ slots_refusal kept pieces
+      → need_of kept pieces ≤ free_slots kept.fs.land.space
+      → LeavesHeld kept.fs fs history after bytes left
+      → LeavesFiles kept.fs fs history files_now (pieces_meeting off (off + len) (pieces_of ino keeps.files))
+      → len ≤ longest_extent → Answered state (Write sub ino off len) (Extent run) [] new after
+  written fs new after left is table_new none enough held leaves few =
+      subst (λ (k : Kept). Answered state (Write sub ino off len) (Extent run) [] k after) (sym is)
+      (writes fs after none
+      (follows-edit kept fs history after bytes left state files_now pieces fits keeps table
+      (subst (λ (k : Kept). IsTable k.fs.refs.refs) is table_new) held
+      (subst (λ (n : ℕ). LeavesFiles kept.fs fs history files_now n) (sym touched) leaves)
+      ((short-left kept.fs.tree.next keeps.files keeps.short).written ino off len run few) enough) held.history)

@@ -1,5 +1,0 @@
-pub mod Entries
-pub mod Ascending
-pub mod Places
-pub mod Editable
-pub mod Moved

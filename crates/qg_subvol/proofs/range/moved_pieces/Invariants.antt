@@ -1,6 +1,0 @@
-use Rattle.std.proofs.Common.{◌≡◌, map, take}
-use Rattle.qg_machine.specs.FileChange.{moved}
-use Rattle.qg_subvol.proofs.range.moved_pieces.Given as goal
-
-abbrev pub invariant-loop-piece : goal.invariant-loop-piece
-invariant-loop-piece l = l.given ≡ take l.piece-index (map (moved l.from l.off) l.piece-items)
