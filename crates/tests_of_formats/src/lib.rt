@@ -1,4 +1,4 @@
-//! Tests of disk, source and sink, of numbers, bytes and formats, of words and replies: what no clause says, and bytes worked out by hand.
+//! Tests of disk, source and sink, of numbers, bytes and formats, of words, replies and generated lines: what no clause says, and bytes worked out by hand.
 #![tactic(auto)]
 
 #[cfg(test)]
@@ -9,6 +9,8 @@ mod crc32c;
 mod disk;
 #[cfg(test)]
 mod edge;
+#[cfg(test)]
+mod generator;
 #[cfg(test)]
 mod items;
 #[cfg(test)]

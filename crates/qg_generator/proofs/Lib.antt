@@ -1,0 +1,2 @@
+mod OfKind
+mod InGrammar

@@ -1,0 +1,2 @@
+pub mod GeneratedScript
+pub mod Examples
