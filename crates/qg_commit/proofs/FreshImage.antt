@@ -30,7 +30,6 @@ use Rattle.qg_extents.specs.Table.{IsTable}
 use Rattle.qg_other_trees.specs.declared.laying.OtherTrees.{OtherTrees}
 use Rattle.qg_other_trees.specs.Holds.{HasCommit, HoldsLayout}
 use Rattle.qg_other_trees.specs.Sound.{IsCommitted}
-use Rattle.qg_other_trees.specs.Telling.{TellState}
 use Rattle.qg_other_trees.specs.Trees.{nodes_laid}
 use Rattle.qg_other_trees.proofs.Sound.{committed_others, is_committed}
 use Rattle.qg_commit.specs.Calls.{IsReadBack, IsWritable, with_image}
@@ -60,29 +59,6 @@ three_joined : (a b c : List Node) (x y z : Node) → a ≡ x ∷ [] → b ≡ y
 three_joined a b c x y z first second third = rw (first, second, third) refl
 
 -- ---- the other trees of a state
-
-told-AreOtherTrees : (state : State) (others : List Node) → TellState state others → AreOtherTrees state others
-told-AreOtherTrees state others tell = record {
-  format = tell.format;
-  root = tell.root;
-  root_nodes = tell.root_nodes;
-  root_items = tell.root_items;
-  roots = tell.roots;
-  subvolumes = tell.subvolumes;
-  extent_root = tell.extent_root;
-  extents_named = tell.extents_named;
-  extent_nodes = tell.extent_nodes;
-  extent_items = tell.extent_items;
-  extents = tell.extents;
-  recorded = tell.agrees;
-  quota_root = tell.quota_root;
-  quotas_named = tell.quotas_named;
-  quota_nodes = tell.quota_nodes;
-  quota_items = tell.quota_items;
-  quotas = tell.quotas;
-  told = tell.told;
-  all = tell.all;
-}
 
 -- ---- the leaves
 
@@ -266,7 +242,7 @@ module _ (sizes : Sizes) (trees : OtherTrees) (served : is_served sizes ≡ true
         others = commits.others;
         leaves = others_are;
         fresh = refl;
-        trees = told-AreOtherTrees state commits.others commits.told.tell;
+        trees = commits.told.tell;
         apart = first_slots-IsDistinct sizes served;
         in_slots = rw (
           low_slot-is_slot sizes 0 served (lit< tt),

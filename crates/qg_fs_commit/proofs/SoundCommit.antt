@@ -32,6 +32,7 @@ use Rattle.qg_verdict.specs.OtherTrees.{root_item_of}
 use Rattle.qg_verdict.specs.Verdict.{counts_failure, extent_set, longest_extent, space_failure}
 use Rattle.qg_contents.specs.Written.{items_of_file}
 use Rattle.qg_machine.specs.Written.{new_nodes}
+use Rattle.qg_machine.specs.Step.{Commits}
 use Rattle.qg_refs.specs.declared.kept.What.{What}
 use Rattle.qg_refs.specs.Book.{what_in}
 use Rattle.qg_extents.specs.Table.{book_of}
@@ -61,7 +62,7 @@ use Rattle.qg_tree_commit.specs.Writing.{fresh_nodes, nodes_written}
 use Rattle.qg_tree_commit.proofs.NewNodes.{written-new}
 use Rattle.qg_tree_commit.proofs.OnDisk.{on-disk}
 use Rattle.qg_tree_commit.proofs.Subvolume.{fresh-read}
-use Rattle.qg_fs_step.specs.Keeping.{CommitsInPlace, IsKept, KeepsState}
+use Rattle.qg_fs_step.specs.Keeping.{IsKept, KeepsState}
 use Rattle.qg_fs_commit.specs.Committing.{IsSoundCommit, LaysTree, root_made}
 use Rattle.qg_fs_commit.proofs.AtHome.{at-home}
 use Rattle.qg_fs_step.proofs.Commit.{commit-of-machine}
@@ -297,9 +298,9 @@ module _ (fs : FsTree) (events : List Event) (bytes : ℕ) (state : State) (mine
       ∙ ap (λ (n : ℕ). stamp_after lays.counters_old counters lays.stamp_old n) next_is
 
   machine : (others : List Node) → AreToldBy (committed others state counters stamp) slots trees others
-      → CommitsInPlace state (committed others state counters stamp) others
+      → Commits state (committed others state counters stamp)
   machine others told =
-      subst (λ (s : ℕ). CommitsInPlace state (committed others state counters s) others) (sym stamp_is)
+      subst (λ (s : ℕ). Commits state (committed others state counters s)) (sym stamp_is)
       (commit-of-machine state lays.counters_old counters lays.stamp_old slots trees others lays.quota
       (direct lays.counters_old lays.stamp_old) slots_free
       (subst (λ (s : ℕ). AreToldBy (committed others state counters s) slots trees others) stamp_is told))

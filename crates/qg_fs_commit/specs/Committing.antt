@@ -15,6 +15,7 @@ use Rattle.qg_state.specs.Members.{hierarchy_of}
 use Rattle.qg_state.specs.State.{State, Subvolume, layout_of}
 use Rattle.qg_verdict.specs.Verdict.{longest_extent}
 use Rattle.qg_machine.specs.Written.{new_nodes}
+use Rattle.qg_machine.specs.Step.{Commits}
 use Rattle.qg_refs.specs.declared.kept.What.{What}
 use Rattle.qg_refs.specs.Book.{what_in}
 use Rattle.qg_extents.specs.Table.{book_of}
@@ -30,7 +31,7 @@ use Rattle.qg_other_trees.specs.Telling.{one_group}
 use Rattle.qg_other_trees.specs.Trees.{stamp_after}
 use Rattle.qg_tree_commit.specs.Holds.{AreFree, with_tree_commit}
 use Rattle.qg_tree_commit.specs.Writing.{IsLaying, nodes_written}
-use Rattle.qg_fs_step.specs.Keeping.{CommitsInPlace, IsKept, KeepsState, NamesOthers, counters_of}
+use Rattle.qg_fs_step.specs.Keeping.{IsKept, KeepsState, NamesOthers, counters_of}
 
 -- ---- what is asked
 
@@ -104,7 +105,7 @@ StoresCounts state = (quota : Quota) → state.quota ≡ Some quota
 pub record IsSoundCommit (fs : FsTree) (events : List Event) (state : State) (counters : Counters) (stamp : ℕ)
     (slots : List ℕ) (trees : OtherTrees) : Type 0 where
   pub is : sound.IsCommitted trees state counters stamp slots (content (with_tree_commit fs trees events))
-  pub machine : CommitsInPlace state (committed is.others state counters stamp) is.others
+  pub machine : Commits state (committed is.others state counters stamp)
   pub written : IsPermutation (nodes_written fs.land.blocks.draft trees)
       (new_nodes state.held (committed is.others state counters stamp))
   pub counted : StoresCounts (committed is.others state counters stamp)

@@ -20,12 +20,11 @@ use Rattle.qg_state.proofs.Contained.{contains_here, contains_later}
 use Rattle.qg_verdict.specs.ImageState.{addresses_of, as_committed}
 use Rattle.qg_machine.specs.GroupChange.{recounted, same_counters}
 use Rattle.qg_machine.specs.Layout.{is_other_slot}
-use Rattle.qg_machine.specs.Step.{settled}
+use Rattle.qg_machine.specs.Step.{Commits, settled}
 use Rattle.qg_other_trees.specs.declared.laying.OtherTrees.{OtherTrees}
 use Rattle.qg_other_trees.specs.Sound.{committed}
 use Rattle.qg_other_trees.specs.Telling.{AreToldBy, one_group}
 use Rattle.qg_other_trees.specs.Trees.{stamp_after}
-use Rattle.qg_fs_step.specs.Keeping.{CommitsInPlace}
 
 -- ---- the group
 
@@ -116,9 +115,9 @@ pub commit-of-machine : (old : State) (counters_old counters : Counters) (stamp_
     → All (λ slot. is_free_slot old slot ≡ true) slots
     → AreToldBy (committed others old counters (stamp_after counters_old counters stamp_old (next_generation old)))
     slots trees others
-    → CommitsInPlace old
-    (committed others old counters (stamp_after counters_old counters stamp_old (next_generation old))) others
+    → Commits old (committed others old counters (stamp_after counters_old counters stamp_old (next_generation old)))
 commit-of-machine old counters_old counters stamp_old slots trees others quota count free told = record {
+  others = others;
   slots = each_true (is_other_slot old old) (addresses_of others)
       (λ at has. slot_other old at
       (All-contains (λ slot. is_free_slot old slot ≡ true) slots at free (told.within at has)));

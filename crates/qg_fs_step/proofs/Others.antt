@@ -10,7 +10,7 @@ use Rattle.qg_num.specs.declared.counters.Counters.{Counters}
 use Rattle.qg_items.specs.declared.tree.TheConstants.{TOP_LEVEL}
 use Rattle.qg_image.specs.declared.file.File.{File}
 use Rattle.qg_image.specs.Table.{value_at, with_value, without_key}
-use Rattle.qg_state.specs.Need.{held_records, quota_records, root_records}
+use Rattle.qg_state.specs.Need.{held_records, quota_records, root_records, weight}
 use Rattle.qg_state.specs.Record.{Record, records_bytes, same_record}
 use Rattle.qg_state.specs.State.{State, Subvolume, file_at, files_in_sub, next_generation}
 use Rattle.qg_super.specs.declared.sizes.Sizes.{Sizes}
@@ -18,7 +18,7 @@ use Rattle.qg_machine.specs.FileChange.{FileChange, file_change, file_or_new, mo
 use Rattle.qg_machine.specs.FileChange.{pieces_or_none, pieces_past, truncate_change, unlink_change, with_pieces}
 use Rattle.qg_machine.specs.FileChange.{with_size}
 use Rattle.qg_machine.specs.FileChange.{within, write_change}
-use Rattle.qg_weighed.specs.Laws.{IsRecorded, is_among, is_of_extents, other_records, whole_records}
+use Rattle.qg_weighed.specs.Laws.{IsRecorded, is_among, is_of_extents, other_records}
 use Rattle.qg_weighed.specs.Weight.{weight_of}
 use Rattle.qg_weighed.proofs.Distinct.{bytes-alike}
 use Rattle.qg_weighed.proofs.Law.{weighs}
@@ -62,8 +62,7 @@ module _ (fs : FsTree) (history : Option (List Event)) (bytes : ℕ) (state : St
         (λ one. names_alike (held_records state.held) other_names one (names one))
         ∙ refl
 
-    pub weight-told : records_bytes (held_records state.held ++ whole_records state)
-        ≡ weight_of fs.refs.held fs.refs.refs + other_weight
+    pub weight-told : weight state ≡ weight_of fs.refs.held fs.refs.refs + other_weight
     weight-told =
         (weighs state fs.refs.held fs.refs.refs (counts fs history bytes state mine files kept keeps) recorded).whole
         ∙ ap (λ (n : ℕ). weight_of fs.refs.held fs.refs.refs + n) others_weigh

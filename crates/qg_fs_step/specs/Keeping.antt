@@ -3,11 +3,10 @@
 -- Addresses, lengths and weights are in bytes.
 use Rattle.std.specs.Prelude.{◌≡◌, ◌↔◌, ℕ, ◌+◌, ◌*◌, ◌^◌, ◌<◌, false, ◌==◌, List, [], ◌∷◌, length, Option}
 use Rattle.std.specs.Prelude.{Some, IsTrue, Contains}
-use Rattle.std.specs.List.{IsDistinct, flat_map, list_all}
+use Rattle.std.specs.List.{IsDistinct}
 use Rattle.qg_device.specs.History.{Event}
 use Rattle.qg_num.specs.declared.command.Command.TheVariants.{Write, Clone, Truncate, Unlink}
 use Rattle.qg_num.specs.declared.counters.Counters.{Counters}
-use Rattle.qg_node.specs.declared.node.Node.{Node}
 use Rattle.qg_items.specs.declared.tree.TheConstants.{EXTENT_TREE, TOP_LEVEL, QUOTA_TREE}
 use Rattle.qg_super.specs.Places.{is_slot}
 use Rattle.qg_image.specs.declared.file.File.{File}
@@ -18,10 +17,9 @@ use Rattle.qg_state.specs.Need.{held_records}
 use Rattle.qg_state.specs.Record.{Record, InfoOf, LimitOf, RootOf, Status}
 use Rattle.qg_state.specs.Space as present
 use Rattle.qg_state.specs.State.{Accepted, Committed, State, Subvolume, file_at, files_in_sub}
-use Rattle.qg_verdict.specs.ImageState.{addresses_of, as_committed}
 use Rattle.qg_machine.specs.FileChange.{file_change, pieces_meeting, pieces_past}
-use Rattle.qg_machine.specs.Layout.{CopiesOnWrite, is_other_slot}
-use Rattle.qg_machine.specs.Step.{settled, with_tree}
+use Rattle.qg_machine.specs.Layout.{CopiesOnWrite}
+use Rattle.qg_machine.specs.Step.{with_tree}
 use Rattle.qg_space.specs.Holding.{Holding, first_run, free_slots, has_slot, is_free_run, is_free_slot}
 use Rattle.qg_extents.specs.Table.{IsTable}
 use Rattle.qg_weighed.specs.Laws.{is_among, is_of_extents}
@@ -30,7 +28,6 @@ use Rattle.qg_fs_tree.specs.Standing.{IsSubvolume}
 use Rattle.qg_fs_layout.specs.Laying.{HoldsSlots, IsLaidOutAlone, nodes_in}
 use Rattle.qg_file_edits.specs.Changes.{files_cloned, files_cut, files_written}
 use Rattle.qg_file_edits.specs.Files.{HoldsFiles, pieces_of}
-use Rattle.qg_other_trees.specs.Telling.{TellState}
 
 -- ---- what is kept
 
@@ -141,14 +138,3 @@ pub record FollowsCommand (new : FsTree) (history : Option (List Event)) (before
     (files : List (ℕ × File)) (copies : ℕ) : Type 0 where
   pub copied : CopiesOnWrite before after TOP_LEVEL copies
   pub keeps : KeepsState new history after mine files
-
--- ---- a commit
-
--- What is pending is committed, and the last commit is now the state itself, with these trees of roots, extents and
--- quota, which tell it: the fields are those of the machine's `Commits`, where a commit leaves subvolumes' trees where
--- they lie, and the extent tree records what is owed
-pub record CommitsInPlace (old new : State) (others : List Node) : Type 0 where
-  pub slots : IsTrue (list_all (is_other_slot old old) (addresses_of others))
-  pub apart : IsDistinct (λ a b. a == b) (addresses_of others)
-  pub trees : TellState new others
-  pub committed : new ≡ as_committed others (settled old)

@@ -1,6 +1,6 @@
 -- Laws that lead from a subvolume's tree to a step of the machine (this project's own). Addresses, lengths and weights
 -- are in bytes.
-use Rattle.std.specs.Prelude.{◌≡◌, ◌≤◌, ℕ, ◌+◌, ◌++◌, List, Option, Some, IsTrue, All}
+use Rattle.std.specs.Prelude.{◌≡◌, ◌≤◌, ℕ, ◌+◌, List, Option, Some, IsTrue, All}
 use Rattle.qg_device.specs.History.{Event}
 use Rattle.qg_num.specs.declared.counters.Counters.{Counters}
 use Rattle.qg_node.specs.declared.node.Node.{Node}
@@ -8,13 +8,13 @@ use Rattle.qg_items.specs.declared.tree.TheConstants.{TOP_LEVEL}
 use Rattle.qg_image.specs.declared.file.File.{File}
 use Rattle.qg_state.specs.Counts.{direct_count}
 use Rattle.qg_state.specs.Members.{hierarchy_of}
-use Rattle.qg_state.specs.Need.{file_copies, held_records}
-use Rattle.qg_state.specs.Record.{records_bytes}
+use Rattle.qg_state.specs.Need.{file_copies, weight}
 use Rattle.qg_state.specs.Space.{is_free_slot}
 use Rattle.qg_state.specs.State.{Accepted, State, Subvolume, layout_of, next_generation}
 use Rattle.qg_machine.specs.Layout.{IsWhole}
 use Rattle.qg_machine.specs.Refusals.{root_level}
-use Rattle.qg_weighed.specs.Laws.{CountsLayout, IsRecorded, whole_records}
+use Rattle.qg_machine.specs.Step.{Commits}
+use Rattle.qg_weighed.specs.Laws.{CountsLayout, IsRecorded}
 use Rattle.qg_weighed.specs.Weight.{weight_of}
 use Rattle.qg_fs_tree.specs.declared.fs_tree.FsTree.{FsTree}
 use Rattle.qg_fs_tree.specs.Standing.{taken_slots}
@@ -23,7 +23,7 @@ use Rattle.qg_other_trees.specs.declared.laying.OtherTrees.{OtherTrees}
 use Rattle.qg_other_trees.specs.Sound.{committed}
 use Rattle.qg_other_trees.specs.Telling.{AreToldBy, one_group}
 use Rattle.qg_other_trees.specs.Trees.{stamp_after}
-use Rattle.qg_fs_step.specs.Keeping.{CommitsInPlace, FollowsCommand, IsKept, KeepsState, LieApart}
+use Rattle.qg_fs_step.specs.Keeping.{FollowsCommand, IsKept, KeepsState, LieApart}
 use Rattle.qg_fs_step.specs.Keeping.{NamesOthers}
 use Rattle.qg_fs_step.specs.Keeping.{TellsChanges, TellsSpace, counters_of, mine_after, other_weight}
 use Rattle.qg_fs_step.specs.Keeping.{state_after}
@@ -49,8 +49,7 @@ WeightIsTold = (fs : FsTree) (history : Option (List Event)) (bytes : ℕ) (stat
     (files : List (ℕ × File)) (counters : Counters) (stamp : ℕ)
     → IsKept fs history bytes → KeepsState fs history state mine files
     → state.quota ≡ Some (one_group counters stamp) → IsRecorded state fs.refs.held → NamesOthers state.held
-    → records_bytes (held_records state.held ++ whole_records state)
-    ≡ weight_of fs.refs.held fs.refs.refs + other_weight
+    → weight state ≡ weight_of fs.refs.held fs.refs.refs + other_weight
 
 -- what each file command changes is told by the tree's files
 abbrev pub ChangesAreTold : Type 0
@@ -94,5 +93,4 @@ CommitIsOfMachine = (old : State) (counters_old counters : Counters) (stamp_old 
     → All (λ slot. IsTrue (is_free_slot old slot)) slots
     → AreToldBy (committed others old counters (stamp_after counters_old counters stamp_old (next_generation old)))
     slots trees others
-    → CommitsInPlace old
-    (committed others old counters (stamp_after counters_old counters stamp_old (next_generation old))) others
+    → Commits old (committed others old counters (stamp_after counters_old counters stamp_old (next_generation old)))

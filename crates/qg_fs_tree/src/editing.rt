@@ -23,9 +23,8 @@ use std::sync::ledger::Ledger;
 impl FsTree {
     /// Puts an item in its place. Its key must not be there, and its body has at most 1024 bytes.
     ///
-    /// It takes at most 2·height + 3 slots. `Image` comes where a node is not what leads to it expects, or with `refs` where the key is
-    /// there, or a reference is not what the tree owes; and with `shape` and the root's address where not 3·(height + 2) slots are free. After
-    /// an `Err` nothing of it is of use.
+    /// It takes at most 2·height + 3 slots. Over a disk that tells, no `Image` comes where the subvolume stands, the key is not there and
+    /// 3·(height + 2) slots are free. After an `Err` nothing of it is of use.
     pub fn insert<D: Disk, L: Ledger>(
         &mut self,
         alloc: Global,

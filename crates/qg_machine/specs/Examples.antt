@@ -12,7 +12,7 @@ use Rattle.qg_state.specs.Reach.{reach}
 use Rattle.qg_state.specs.Members.{leads, is_below, members, next_subvolume}
 use Rattle.qg_state.specs.Limits.{bytes_reserved, first_over, over}
 use Rattle.qg_state.specs.Space.{present_extents, is_free_run, is_free_slot, free_slots, least, first_run}
-use Rattle.qg_state.specs.Need.{present_records, weight, whole_weight}
+use Rattle.qg_state.specs.Need.{present_records, weight}
 use Rattle.qg_state.specs.Examples.{fresh, fresh-weight, piece, file, one_one}
 use Rattle.qg_machine.specs.FileChange.{before, after, with_range, within, moved, with_size, file_change}
 use Rattle.qg_machine.specs.GroupChange.{with_pair}
@@ -54,24 +54,24 @@ piece_is_cut = refl
 -- ---- refusals, in a fresh image of 64 slots
 
 no_such_subvolume : refusal fresh (Write 256 257 0 4096) ≡ Some why.NoSub
-unfolding refusal first_run least is_free_run is_run present_extents over file_change free_slots is_free_slot is_slot whole_weight present_records first_over bytes_reserved members is_below leads
+unfolding refusal first_run least is_free_run is_run present_extents over file_change free_slots is_free_slot is_slot weight present_records first_over bytes_reserved members is_below leads
 no_such_subvolume = refl
 
 length_of_zero : refusal fresh (Write 5 257 0 0) ≡ Some why.Align
-unfolding refusal first_run least is_free_run is_run present_extents over file_change free_slots is_free_slot is_slot whole_weight present_records first_over bytes_reserved members is_below leads
+unfolding refusal first_run least is_free_run is_run present_extents over file_change free_slots is_free_slot is_slot weight present_records first_over bytes_reserved members is_below leads
 length_of_zero = refl
 
 end_past_the_largest_size : refusal fresh (Write 5 257 (2 ^ 40) 4096) ≡ Some why.Far
-unfolding refusal first_run least is_free_run is_run present_extents over file_change free_slots is_free_slot is_slot whole_weight present_records first_over bytes_reserved members is_below leads
+unfolding refusal first_run least is_free_run is_run present_extents over file_change free_slots is_free_slot is_slot weight present_records first_over bytes_reserved members is_below leads
 end_past_the_largest_size = refl
 
 longer_than_the_longest_extent : refusal fresh (Write 5 257 0 134221824) ≡ Some why.Far
-unfolding refusal first_run least is_free_run is_run present_extents over file_change free_slots is_free_slot is_slot whole_weight present_records first_over bytes_reserved members is_below leads
+unfolding refusal first_run least is_free_run is_run present_extents over file_change free_slots is_free_slot is_slot weight present_records first_over bytes_reserved members is_below leads
 longer_than_the_longest_extent = refl
 
 -- one sector more than there are
 no_such_run : refusal fresh (Write 5 257 0 (1025 * 4096)) ≡ Some why.NoRun
-unfolding refusal first_run least is_free_run is_run present_extents over file_change free_slots is_free_slot is_slot whole_weight present_records first_over bytes_reserved members is_below leads
+unfolding refusal first_run least is_free_run is_run present_extents over file_change free_slots is_free_slot is_slot weight present_records first_over bytes_reserved members is_below leads
 no_such_run = refl
 
 -- 60 slots are free, and a write needs 228

@@ -101,25 +101,6 @@ pub record CopiesOnWrite (old new : State) (sub copies : ℕ) : Type 0 where
   pub made : IsTrue (list_all (is_made_node old sub) (made_nodes old new))
   pub few : length (made_nodes old new) ≤ copies
 
--- ---- at a commit, as long as it builds all trees anew
-
--- what a subvolume is but for where its nodes lie
-abbrev pub but_for_root : ℕ × Subvolume → ℕ × Subvolume
-but_for_root entry = (entry.0, record entry.1 { root = 0 })
-
--- a node lies in a free slot, of the generation to come, is not full, and is its owner's
-abbrev pub is_rebuilt_node : State → State → ℕ × Placed → Bool
-is_rebuilt_node old new entry =
-    is_free_slot old entry.0 && ((header_of entry.1.node).generation == next_generation old) && not entry.1.full
-    && reaches (layout_of new) (header_of entry.1.node).owner entry.0
-
--- all trees are built anew for the same files, and nothing else changes
-pub record Rebuilds (old new : State) : Type 0 where
-  pub rest : new ≡ record old { subvolumes = new.subvolumes; layout = new.layout }
-  pub files : map but_for_root new.subvolumes ≡ map but_for_root old.subvolumes
-  pub whole : IsWhole new
-  pub made : IsTrue (list_all (is_rebuilt_node old new) new.layout)
-
 -- ---- the other trees
 
 -- a node of the root, extent or quota tree lies in a slot that the layout leaves: a free one, or once these trees are edited by copy on write

@@ -11,7 +11,6 @@ use Rattle.qg_node.specs.declared.node.Node.{Node}
 use Rattle.qg_node.specs.declared.node.Node.TheVariants.{Leaf, Inner}
 use Rattle.qg_image.specs.Table.{value_at, with_value, without_key, keys_of}
 use Rattle.qg_image.specs.declared.file.File.{File}
-use Rattle.qg_state.specs.Stage.{copies_on_write}
 use Rattle.qg_state.specs.declared.quota.Group.{Group}
 use Rattle.qg_state.specs.declared.quota.Quota.{Quota}
 use Rattle.qg_state.specs.State.{State, Subvolume, Placed, Accepted, layout_of, next_generation, node_at, file_at}
@@ -22,7 +21,7 @@ use Rattle.qg_verdict.specs.OtherTrees.{AreOtherTrees}
 use Rattle.qg_machine.specs.FileChange.{FileChange, file_change}
 use Rattle.qg_machine.specs.GroupChange.{new_group, with_group, assigned, unassigned, destroyed, limited, inherited, quota_for, recounted}
 use Rattle.qg_machine.specs.Refusals.{refusal, is_pending, change_copies, change_need, number_to_come}
-use Rattle.qg_machine.specs.Layout.{CopiesOnWrite, Rebuilds, is_full_after, is_other_slot}
+use Rattle.qg_machine.specs.Layout.{CopiesOnWrite, is_full_after, is_other_slot}
 
 -- ---- file commands
 
@@ -33,13 +32,6 @@ with_tree state sub files root = changed (value_at sub state.subvolumes) where
   changed None = state
   changed (Some subvolume) = record state { subvolumes = with_value sub (record subvolume { files = files; root = root }) state.subvolumes }
 
--- the address of a subvolume's root node
-abbrev pub root_of : State → ℕ → ℕ
-root_of state sub = root_told (value_at sub state.subvolumes) where
-  root_told : Option Subvolume → ℕ
-  root_told None = 0
-  root_told (Some subvolume) = subvolume.root
-
 -- the command, as it is pending; what it touched is said with the bounds on work
 abbrev pub accepted : State → Command → FileChange → ℕ → Accepted
 accepted state given change touched = record {
@@ -47,19 +39,17 @@ accepted state given change touched = record {
   sub = change.sub;
   amount = change.amount;
   need = change_need state change;
-  copies = if copies_on_write then change_copies state change else 0;
+  copies = change_copies state change;
   touched = touched;
 }
 
--- a file command was done: the files change, the command is pending, and the layout follows, or until copy on write stays
+-- a file command was done: the files change, the command is pending, and the layout follows by copy on write
 pub record ChangesFiles (old : State) (given : Command) (change : FileChange) (new : State) : Type 0 where
   pub root : ℕ
   pub layout : List (ℕ × Placed)
   pub touched : ℕ
   pub changed : new ≡ record (with_tree old change.sub change.files root) { layout = layout; pending = accepted old given change touched ∷ old.pending }
-  pub laid_out : MatchBool copies_on_write
-      (CopiesOnWrite old new change.sub (change_copies old change))
-      ((root ≡ root_of old change.sub) × (layout ≡ old.layout))
+  pub laid_out : CopiesOnWrite old new change.sub (change_copies old change)
 
 -- what a file command answers: a write tells its extent
 abbrev pub file_answer : State → Command → Option Answer
@@ -77,15 +67,13 @@ settled state = record state {
 }
 
 -- what was pending is committed, and the last commit is now the state itself, with trees of roots, extents and quota that tell it, whose nodes
--- lie each in a slot of its own; as long as a commit builds all trees anew, it may lay them out in any way that is right
+-- lie each in a slot of its own
 pub record Commits (old new : State) : Type 0 where
-  pub laid_out : State
   pub others : List Node
-  pub rebuilt : MatchBool copies_on_write (laid_out ≡ old) (Rebuilds old laid_out)
-  pub slots : IsTrue (list_all (is_other_slot old laid_out) (addresses_of others))
+  pub slots : IsTrue (list_all (is_other_slot old old) (addresses_of others))
   pub apart : IsDistinct (λ a b. a == b) (addresses_of others)
   pub trees : AreOtherTrees new others
-  pub committed : new ≡ as_committed others (settled laid_out)
+  pub committed : new ≡ as_committed others (settled old)
 
 -- the state after a commit of what is pending, and that commit; where nothing is, the same state and none
 abbrev pub CommitsPending : State → List State → State → Type 0

@@ -26,14 +26,14 @@ use Rattle.qg_state.specs.Owed.{Agrees}
 use Rattle.qg_verdict.specs.declared.tree.Tree.{Tree}
 use Rattle.qg_verdict.specs.declared.tree.Tree.TheVariants.{Extents, Quotas, Roots}
 use Rattle.qg_verdict.specs.ImageState.{addresses_of, quota_told, subvolume_roots}
-use Rattle.qg_verdict.specs.OtherTrees.{IsOfFormat, IsTreeOfNodes, root_item_of, subvolume_items, super_at}
+use Rattle.qg_verdict.specs.OtherTrees.{AreOtherTrees, IsOfFormat, IsTreeOfNodes, root_item_of, subvolume_items, super_at}
 use Rattle.qg_verdict.specs.Walk.{is_generation, is_item_of, is_owner, root_expected, root_told}
 use Rattle.qg_refs.specs.declared.kept.Kept.{Kept}
 use Rattle.qg_tree.specs.declared.building.Built.{Built}
 use Rattle.qg_tree.specs.Row.{address_of}
 use Rattle.qg_tree.proofs.Frame.{AllByRecursion-append, IsDistinct-front}
 use Rattle.qg_other_trees.specs.declared.laying.OtherTrees.{OtherTrees}
-use Rattle.qg_other_trees.specs.Telling.{AreToldBy, IsStateOf, TellState, one_group}
+use Rattle.qg_other_trees.specs.Telling.{AreToldBy, IsStateOf, one_group}
 use Rattle.qg_other_trees.specs.Trees.{AreTrees, IsTreeOfItems, nodes_laid, quota_parts_laid, root_item_laid, roots_laid}
 use Rattle.qg_other_trees.proofs.Others.{format, tree_open, tree_told}
 use Rattle.qg_other_trees.proofs.Recorded.{book_agrees}
@@ -247,7 +247,7 @@ module _ (sizes : Sizes) (generation : ℕ) (root : RootItem) (book : List (ℕ 
       (quota_laid_told generation counters stamp
       ∙ ap (λ (parts : List QuotaPart). quota_told parts) (sym are.quota_tree.told.told))
 
-  tell : TellState state others
+  tell : AreOtherTrees state others
   tell = record {
     format = subst (λ (s : Sizes). AllByRecursion (IsOfFormat s.nodesize) others) is.same_sizes formats;
     root = trees.roots.root;

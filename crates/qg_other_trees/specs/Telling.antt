@@ -20,7 +20,7 @@ use Rattle.qg_state.specs.State.{Layout, Placed, State, Subvolume, layout_of, no
 use Rattle.qg_state.specs.Owed.{Agrees, is_nothing, layout_extents, owed_count, what_at}
 use Rattle.qg_verdict.specs.declared.tree.Tree.TheVariants.{Extents, Quotas, Roots}
 use Rattle.qg_verdict.specs.ImageState.{addresses_of, quota_told, subvolume_roots}
-use Rattle.qg_verdict.specs.OtherTrees.{IsOfFormat, IsTreeOfNodes, IsTreeOfRoot, root_item_of, subvolume_items, super_at}
+use Rattle.qg_verdict.specs.OtherTrees.{AreOtherTrees, root_item_of, subvolume_items, super_at}
 use Rattle.qg_verdict.specs.Walk.{root_expected}
 use Rattle.qg_refs.specs.declared.kept.Kept.{Kept}
 use Rattle.qg_refs.specs.Book.{AgreesWithOwed, Book, full_in, what_in}
@@ -81,32 +81,9 @@ pub record IsStateOf (sizes : Sizes) (generation : ℕ) (root : RootItem) (book 
 
 -- ---- what is told
 
--- All that `AreOtherTrees` asks, but for what the extent tree has until it records what is owed: it records that. The
--- fields are those
-pub record TellState (state : State) (others : List Node) : Type 0 where
-  pub format : AllByRecursion (IsOfFormat state.sizes.nodesize) others
-  pub root : ℕ
-  pub root_nodes : List Node
-  pub root_items : List Item
-  pub roots : IsTreeOfNodes Roots (super_at state root) (root_expected None None) root root_nodes root_items
-  pub subvolumes : subvolume_roots (filter_map root_part root_items) ≡ subvolume_items state
-  pub extent_root : RootItem
-  pub extents_named : value_at EXTENT_TREE (filter_map root_part root_items) ≡ Some extent_root
-  pub extent_nodes : List Node
-  pub extent_items : List Item
-  pub extents : IsTreeOfRoot Extents (super_at state root) (Some extent_root) extent_nodes extent_items
-  pub agrees : Agrees (layout_of state) (filter_map extent_part extent_items)
-  pub quota_root : Option RootItem
-  pub quotas_named : value_at QUOTA_TREE (filter_map root_part root_items) ≡ quota_root
-  pub quota_nodes : List Node
-  pub quota_items : List Item
-  pub quotas : IsTreeOfRoot Quotas (super_at state root) quota_root quota_nodes quota_items
-  pub told : state.quota ≡ option_map (λ root. quota_told (filter_map quota_part quota_items)) quota_root
-  pub all : others ≡ root_nodes ++ extent_nodes ++ quota_nodes
-
 -- these are the nodes that were laid out in slots, each tree's in the order of its walk; they tell this state, and lie apart
 pub record AreToldBy (state : State) (slots : List ℕ) (trees : OtherTrees) (others : List Node) : Type 0 where
   pub moved : IsPermutation others (nodes_laid trees)
   pub within : (slot : ℕ) → Contains (addresses_of others) slot → Contains slots slot
   pub apart : IsDistinct (λ a b. a == b) (addresses_of others)
-  pub tell : TellState state others
+  pub tell : AreOtherTrees state others

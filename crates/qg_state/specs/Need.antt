@@ -6,7 +6,6 @@ use Rattle.qg_node.specs.Nodes.{header_of, own_items}
 use Rattle.qg_super.specs.Places.{capacity}
 use Rattle.qg_image.specs.Table.{keys_of}
 use Rattle.qg_image.specs.declared.file.File.{File}
-use Rattle.qg_state.specs.Stage.{copies_on_write}
 use Rattle.qg_state.specs.Record.{Record, RootOf, ExtentOf, NodeOf, ReferenceTo, Status, InfoOf, LimitOf, RelationOf, record_named, records_bytes}
 use Rattle.qg_state.specs.declared.quota.Quota.{Quota}
 use Rattle.qg_state.specs.State.{State, Layout, Accepted, Committed, layout_of}
@@ -32,9 +31,8 @@ extent_records layout =
     map (λ entry. NodeOf entry.0 (header_of entry.1.node).level) layout.nodes ++ map (λ extent. ExtentOf extent.address extent.bytes) (layout_extents layout)
     ++ map (λ owing. ReferenceTo owing.address owing.reference) (owed layout)
 
--- as long as the extent tree records nothing it is an empty leaf
 unfoldable pub present_records : State → List Record
-present_records state = root_records state ++ (if copies_on_write then extent_records (layout_of state) else []) ++ quota_records state.quota
+present_records state = root_records state ++ extent_records (layout_of state) ++ quota_records state.quota
 
 -- what the items of those trees name that the last commit holds
 unfoldable pub held_records : Committed → List Record
@@ -49,10 +47,6 @@ weight state = records_bytes (held_records state.held ++ present_records state)
 -- what a file's items take: its INODE_ITEM, and an EXTENT_DATA for each piece
 abbrev pub file_bytes : File → ℕ
 file_bytes file = (25 + 160) + (25 + 53) * length file.pieces
-
--- what the items of all trees take, if a commit came now
-unfoldable pub whole_weight : State → ℕ
-whole_weight state = sum_by (λ entry. sum_by (λ file. file_bytes file.1) entry.1.files) state.subvolumes + records_bytes (present_records state)
 
 -- ---- need
 
@@ -70,10 +64,6 @@ file_need state copies = 10 * copies + 8 * nodes_filled state.sizes.nodesize (we
 
 abbrev pub structural_need : State → ℕ → ℕ
 structural_need state copies = 10 * copies + 16 * nodes_filled state.sizes.nodesize (weight state) + 80
-
--- the slots that a file command needs as long as each commit builds all trees anew, for the state that it leaves
-abbrev pub rebuilding_need : State → ℕ
-rebuilding_need after = 8 * nodes_filled after.sizes.nodesize (whole_weight after) + 40
 
 -- the slots that the commit to come may take are there: those needed, less those that the last accepted command may have taken
 abbrev pub IsReserved : State → Type 0

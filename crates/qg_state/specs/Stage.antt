@@ -1,13 +1,6 @@
 -- What is served so far (this project's own). Each narrowing is lifted by writing `true` for `false`. Which lines of a script are served is
 -- a definition of its own, with the grammar.
-use Rattle.std.specs.Prelude.{Bool, true, false}
-
--- The layout follows each file command by copy on write, the extent tree records what is referenced, an image is judged by these records,
--- and the need of slots is that of copies. Until then the layout is told at commits alone, the program writes the extent tree as an empty
--- leaf, records that are found there are looked at like any item and pass, and a file command needs the slots of a commit that builds all
--- trees anew.
-abbrev pub copies_on_write : Bool
-copies_on_write = true
+use Rattle.std.specs.Prelude.{Bool, false}
 
 -- The root, extent and quota trees are edited by copy on write too. Until then each commit builds these three whole, in slots that the last
 -- commit and the new layout leave free.

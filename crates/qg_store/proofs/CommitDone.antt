@@ -35,7 +35,6 @@ use Rattle.qg_store.specs.Committing.{IsLaidBy, IsPlanOf, KeepsCommit}
 use Rattle.qg_store.specs.Keeping.{IsKept, IsKeptOf}
 use Rattle.qg_store.specs.Making.{BringsTo, StartsCommit}
 use Rattle.qg_store.proofs.Commits.{commit_step, generation-kept}
-use Rattle.qg_store.proofs.Flagged.{commits-so}
 use Rattle.qg_store.proofs.Stepped.{tree-kept}
 
 module _ (old : Kept) (plan : Plan) (trees : OtherTrees) (events : List Event) (bytes : ℕ) (state : State)
@@ -87,7 +86,7 @@ module _ (old : Kept) (plan : Plan) (trees : OtherTrees) (events : List Event) (
   state_now = committed sound.is.others state plan.counters plan.stamp
 
   pub commits : Commits state state_now
-  commits = commits-so state state_now sound.is.others sound.machine
+  commits = sound.machine
 
   pub brings : BringsTo state.held state_now events trees.superblock (nodes_written old.fs.land.blocks.draft trees)
   brings = record {

@@ -1,6 +1,5 @@
 pub mod Looked
 pub mod Known
-pub mod Flagged
 pub mod Refused
 pub mod Stepped
 pub mod Touched

@@ -1,5 +1,5 @@
 -- What the machine does where nothing changes, and where files are edited, by what is kept. Weights are in bytes.
-use Rattle.std.proofs.Common.{◌≡◌, ℕ, ◌+◌, ◌*◌, ◌≤◌, ◌++◌, List, [], ◌∷◌, None, Some, Option, refl, sym, ap, subst, ◌∙◌}
+use Rattle.std.proofs.Common.{◌≡◌, ℕ, ◌+◌, ◌*◌, ◌≤◌, List, [], ◌∷◌, None, Some, Option, refl, sym, ap, subst, ◌∙◌}
 use Rattle.std.proofs.Common.{arith}
 use Rattle.std.specs.Prelude.{◌<◌, MatchOption, length, nat_lt}
 use Rattle.qg_device.specs.History.{Event}
@@ -12,7 +12,6 @@ use Rattle.qg_items.specs.declared.tree.TheConstants.{TOP_LEVEL}
 use Rattle.qg_super.specs.declared.sizes.Sizes.{Sizes}
 use Rattle.qg_image.specs.declared.file.File.{File}
 use Rattle.qg_state.specs.Need.{file_copies, held_records, nodes_filled, weight}
-use Rattle.qg_state.specs.Record.{records_bytes}
 use Rattle.qg_state.specs.State.{Accepted, Committed, State, Subvolume}
 use Rattle.qg_state.specs.Space as present
 use Rattle.qg_machine.specs.FileChange.{FileChange, file_change}
@@ -23,7 +22,7 @@ use Rattle.qg_machine.specs.Step as machine
 use Rattle.qg_space.specs.Holding.{free_slots}
 use Rattle.qg_extents.specs.Table.{IsTable}
 use Rattle.qg_refs.specs.declared.kept.Kept.{Kept as Reference}
-use Rattle.qg_weighed.specs.Laws.{IsRecorded, is_among, whole_records}
+use Rattle.qg_weighed.specs.Laws.{IsRecorded, is_among}
 use Rattle.qg_weighed.specs.Weight.{records_in}
 use Rattle.qg_fs_tree.specs.declared.fs_tree.FsTree.{FsTree}
 use Rattle.qg_fs_layout.specs.Laying.{nodes_in}
@@ -38,7 +37,6 @@ use Rattle.qg_store.specs.declared.kept.Kept.{Kept}
 use Rattle.qg_store.specs.Answering.{Answered}
 use Rattle.qg_store.specs.Editing.{slots_refusal}
 use Rattle.qg_store.specs.Keeping.{IsKept, IsKeptOf, book_weight, commit_need, need_of}
-use Rattle.qg_store.proofs.Flagged.{laid-copies, need-copies, weight-whole}
 use Rattle.qg_store.proofs.Known.{only}
 use Rattle.qg_store.proofs.Looked.{is-near, is-subvolume}
 
@@ -83,8 +81,7 @@ module _ (kept : Kept) (state : State) (history : Option (List Event)) (bytes : 
 
   weight-kept : weight state ≡ book_weight kept + other_weight
   weight-kept =
-      weight-whole state
-      ∙ weight-told kept.fs history bytes state keeps.mine keeps.files tree-kept keeps.keeps kept.group.counters
+      weight-told kept.fs history bytes state keeps.mine keeps.files tree-kept keeps.keeps kept.group.counters
       kept.group.stamp keeps.quota keeps.recorded keeps.others
 
   nodesize-kept : state.sizes.nodesize ≡ kept.superblock.nodesize
@@ -95,8 +92,7 @@ module _ (kept : Kept) (state : State) (history : Option (List Event)) (bytes : 
   need-kept : (files : List (ℕ × File)) (amount pieces : ℕ)
       → change_need state (change_to files amount pieces) ≡ need_of kept pieces
   need-kept files amount pieces =
-      need-copies state (change_to files amount pieces)
-      ∙ (λ i. 10 * file_copies (level-kept i) pieces + 8 * nodes_filled (nodesize-kept i) (weight-kept i) + 40)
+      λ i. 10 * file_copies (level-kept i) pieces + 8 * nodes_filled (nodesize-kept i) (weight-kept i) + 40
 
   -- so many pieces are touched
   pub late-refusal : (command : Command) (files : List (ℕ × File)) (amount pieces : ℕ)
@@ -164,8 +160,7 @@ module _ (old : Kept) (fs : FsTree) (before after : Option (List Event)) (bytes 
     layout = nodes_in fs before;
     touched = 0;
     changed = refl;
-    laid_out = laid-copies state state_now (change_to files amount pieces) fs.tree.address (nodes_in fs before)
-        copied-now;
+    laid_out = copied-now;
   }
 
   steps : Edits state command reply state_now → Step state command reply [] state_now

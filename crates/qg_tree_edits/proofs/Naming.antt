@@ -1,6 +1,6 @@
 -- A call names a rule at an address only where this is so.
 use Rattle.std.proofs.Common.{◌≡◌, ℕ}
-use Rattle.std.specs.Prelude.{List, Result, Ok, Err}
+use Rattle.std.specs.Prelude.{List, Result, Ok, Err, IsErrOf}
 use Rattle.qg_device.specs.History.{Event, content}
 use Rattle.qg_num.specs.declared.fault.BlockFault.{BlockFault}
 use Rattle.qg_num.specs.declared.fault.BlockFault.TheVariants.{NoMemory, Disk, Image}
@@ -50,6 +50,13 @@ names-answers (Ok x) P Q answers = tt
 names-answers (Err (Image rule at)) P Q answers = answers
 names-answers (Err Disk) P Q answers = tt
 names-answers (Err NoMemory) P Q answers = tt
+
+-- and it never answers `Disk`
+pub answers-no_disk : {A : Type 0} (result : Result A BlockFault) (P : Type 0) (Q : Rule → ℕ → Type 0)
+    → AnswersBy P Q result → IsErrOf result Disk → ⊥
+answers-no_disk result P Q answers is =
+    let that : result ≡ Err Disk = is in
+    rw that at answers
 
 -- what is answered of a node that is misread
 pub names-refused : (A B : Type 0) (tree : Tree) (root : Root) (old new : Ground) (events : List Event)

@@ -15,6 +15,7 @@ use Rattle.qg_space.specs.Holding.{is_free_slot}
 use Rattle.qg_ground.specs.declared.ground.Ground.{Ground}
 use Rattle.qg_ground.specs.Tellings.{Telling}
 use Rattle.qg_ground.specs.Tellings.Telling.{Copied}
+use Rattle.qg_ground.proofs.Slots.{free-apart}
 use Rattle.qg_descent.specs.Tree.{Reaches, Root, super_of}
 use Rattle.qg_descent.specs.Branch.{IsBranch}
 use Rattle.qg_tree_edits.specs.Editing.{CanMake, IsOwned}
@@ -53,7 +54,8 @@ module _ (old : Ground) (nodes clean : ℕ → Option Node) (Reached : ℕ → T
     new = new_there free;
     as_was = All-from_recursion (IsAsWas nodes) (Copied node now ∷ []) (ap nodes named ∙ stood, tt);
     bare = All-from_recursion IsBare (Copied node now ∷ []) (tt, tt);
-    unheld = All-from_recursion (IsUnheld old.space.held_slots) (Copied node now ∷ []) (tt, tt);
+    unheld = All-from_recursion (IsUnheld old.space.held_slots) (Copied node now ∷ [])
+        (free-apart old.space now free, tt);
     few_come = omega arith;
     few_left = omega arith;
     few_made = omega arith;

@@ -8,6 +8,7 @@ use Rattle.qg_node.specs.declared.node.Node.{Node}
 use Rattle.qg_space.specs.Holding.{is_free_slot}
 use Rattle.qg_ground.specs.declared.ground.Ground.{Ground}
 use Rattle.qg_ground.specs.Tellings.Telling.{Made}
+use Rattle.qg_ground.proofs.Slots.{free-apart}
 use Rattle.qg_tree_edits.specs.Counting.{IsAsWas, IsBare, IsTold, IsUnheld, copied_in, gains, made_in, one, tellings_made}
 use Rattle.qg_tree_edits.specs.declared.instead.Instead.{Instead}
 use Rattle.qg_tree_edits.specs.Editing.{IsPlacedBehind, slots_for}
@@ -35,7 +36,7 @@ module _ (old : Ground) (nodes clean : ℕ → Option Node) (Reached : ℕ → T
     new = new_there free;
     as_was = All-from_recursion (IsAsWas nodes) (Made more ∷ []) (tt, tt);
     bare = All-from_recursion IsBare (Made more ∷ []) (tt, tt);
-    unheld = All-from_recursion (IsUnheld old.space.held_slots) (Made more ∷ []) (tt, tt);
+    unheld = All-from_recursion (IsUnheld old.space.held_slots) (Made more ∷ []) (free-apart old.space more free, tt);
     few_come = omega arith;
     few_left = omega arith;
     few_made = omega arith;

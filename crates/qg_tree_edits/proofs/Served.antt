@@ -16,6 +16,7 @@ use Rattle.qg_ground.specs.declared.ground.Ground.{Ground}
 use Rattle.qg_ground.specs.Land.{IsDrafted}
 use Rattle.qg_tree_edits.specs.declared.instead.Instead.{Instead}
 use Rattle.qg_tree_edits.specs.Editing.{IsFreshOn, IsNamed, OfEach, StandsInstead, slots_for}
+use Rattle.qg_tree_edits.specs.Steps.{HasNodeSize}
 
 size_served : (sizes : Sizes) → is_served sizes ≡ true → IsNodeSize sizes.nodesize
 unfolding is_served
@@ -34,6 +35,13 @@ size-drafted land generation drafted = size_served land.space.sizes drafted.size
 
 pub size-blocks : (land : Ground) (generation : ℕ) → IsDrafted land generation → IsNodeSize land.blocks.draft.sizes.nodesize
 size-blocks land generation drafted = subst (λ (n : ℕ). IsNodeSize n) (sym drafted.sizes.nodesize) (size-drafted land generation drafted)
+
+-- nodes and space agree on it
+pub sizes-drafted : (land : Ground) (generation : ℕ) → IsDrafted land generation → HasNodeSize land
+sizes-drafted land generation drafted = record {
+  size = size-drafted land generation drafted;
+  nodesize = drafted.sizes.nodesize;
+}
 
 pub node-drafted : (land : Ground) (generation at : ℕ) (node : Node) → IsDrafted land generation → fresh_at land.blocks.draft at ≡ Some node → IsNode land.space.sizes.nodesize node
 node-drafted land generation at node drafted here = (drafted.each at node here).kept.sound

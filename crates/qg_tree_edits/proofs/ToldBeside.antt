@@ -1,21 +1,42 @@
 -- What a book is told where the neighbour of a child is owned.
-use Rattle.std.proofs.Common.{◌≡◌, ◌≢◌, ℕ, false, List, ◌++◌, refl, sym, ap, ◌∙◌, inl, inr, Option, Some}
+use Rattle.std.proofs.Common.{◌≡◌, ◌≢◌, ℕ, false, List, ◌++◌, refl, sym, ap, ◌∙◌, inl, inr, Option, Some, None}
 use Rattle.std.proofs.lemmas.Bool.{false_from_ne_true}
 use Rattle.qg_device.specs.History.{Event}
 use Rattle.qg_num.specs.declared.key.Key.{Key}
 use Rattle.qg_node.specs.declared.item.Item.{Item}
+use Rattle.qg_node.specs.declared.node.Node.{Node}
+use Rattle.qg_verdict.specs.declared.expected.Expected.{Expected}
 use Rattle.qg_verdict.specs.declared.tree.Tree.{Tree}
+use Rattle.qg_walk.specs.Standing.{form_failure}
 use Rattle.qg_blocks.specs.Told.{told}
 use Rattle.qg_space.specs.Holding.{is_free_slot}
 use Rattle.qg_ground.specs.declared.ground.Ground.{Ground}
 use Rattle.qg_ground.specs.Tellings.{Telling}
 use Rattle.qg_tree_edits.specs.declared.child.Neighbour.{Neighbour}
-use Rattle.qg_descent.specs.Tree.{Root}
+use Rattle.qg_descent.specs.Tree.{Root, super_of}
 use Rattle.qg_tree_edits.specs.Editing.{IsBeside, IsOwned, IsUnsettled, alone}
 use Rattle.qg_tree_edits.specs.Uniting.{IsPaired}
 use Rattle.qg_tree_edits.specs.Counting.{tellings_owned}
 use Rattle.qg_tree_edits.proofs.Beside.{beside-differs}
 use Rattle.qg_descent.proofs.BranchFrames.{reach-top}
+
+-- the neighbour is what the way to it leads to expect
+pub beside-judged : (tree : Tree) (root : Root) (land : Ground) (history : Option (List Event)) (level at : ℕ)
+    (to : Option Key) (place child : ℕ) (items : List Item)
+    (un : IsUnsettled tree root land history level at to place (alone child) items) (beside : Neighbour)
+    → (is : IsBeside un.pointers to level place beside)
+    → (node : Node) × (told land.blocks.draft history beside.way.address ≡ Some node)
+    × (form_failure tree (super_of root land.blocks.draft) beside.way.expected beside.way.address node ≡ None)
+beside-judged tree root land history level at to place child items un beside is =
+    let differs = beside-differs un.pointers to level place beside is in
+    let judged = un.judged is.other is.way.pointer differs is.way.there in (
+      judged.0,
+      ap (told land.blocks.draft history) is.way.child ∙ judged.1,
+      ap (λ (q : ℕ). form_failure tree (super_of root land.blocks.draft) beside.way.expected q judged.0) is.way.child
+          ∙ ap (λ (e : Expected). form_failure tree (super_of root land.blocks.draft) e is.way.pointer.child judged.0)
+          is.way.expects
+          ∙ judged.2,
+    )
 
 module _ (tree : Tree) (root : Root) (land new : Ground) (history : Option (List Event)) (level at : ℕ)
     (to : Option Key) (place child : ℕ) (items : List Item)

@@ -106,10 +106,10 @@ IsBare (Copied node copy) = ⊤
 IsBare (Made address) = ⊤
 IsBare (Left node) = (own_items node ≡ []) × (own_pointers node ≡ [])
 
--- and lies in none of these slots
+-- what comes, or is left, lies in none of these slots
 abbrev pub IsUnheld : List ℕ → Telling → Type 0
-IsUnheld slots (Copied node copy) = ⊤
-IsUnheld slots (Made address) = ⊤
+IsUnheld slots (Copied node copy) = Contains slots copy → ⊥
+IsUnheld slots (Made address) = Contains slots address → ⊥
 IsUnheld slots (Left node) = Contains slots (header_of node).address → ⊥
 
 -- what is copied is what these nodes tell at its address
@@ -139,8 +139,9 @@ made_in (Left node) = 0
 -- What a book was told in the course of a change: it turns the ways that led to each address before into those that
 -- lead there then, and goes down from nodes that are copied to those below, by the time none of the clean ones that are
 -- given leads to what is copied or left. A node came only into a slot that was free, or that was reached. What was
--- copied is what stood at its address before, among the nodes that are given. What was left has nothing under it, and
--- the last commit does not hold it. At most so many nodes came, by a copy or anew, so many were left, and so many made
+-- copied is what stood at its address before, among the nodes that are given. What was left has nothing under it. The
+-- last commit holds no slot into which a node came, and none of a node that was left. At most so many nodes came, by a
+-- copy or anew, so many were left, and so many made
 pub record IsTold (old : Ground) (nodes clean : ℕ → Option Node) (Reached : ℕ → Type 0) (before after : ℕ → ℕ)
     (come left made : ℕ) (tellings : List Telling) : Type 0 where
   pub turns : Turns before tellings after

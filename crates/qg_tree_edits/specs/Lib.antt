@@ -4,3 +4,5 @@ pub mod Uniting
 pub mod Rooting
 pub mod Counting
 pub mod Failing
+pub mod Steps
+pub mod Calls

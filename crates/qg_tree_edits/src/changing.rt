@@ -1,17 +1,14 @@
 // A tree is edited.
-ghost use Rattle.std.specs.Prelude.{◌≡◌, ◌++◌, ◌+◌, ◌*◌, ◌≤◌, ℕ, List, Some, MatchResult, OnOk, IsTrue, drop, length, not};
-ghost use Rattle.qg_device.specs.Cause.{HasCause};
-ghost use Rattle.qg_device.specs.History.{Event};
+ghost use Rattle.std.specs.Prelude.{◌≡◌, ◌+◌, ◌*◌, ◌≤◌, ℕ, List, MatchResult, OnOk, IsTrue, drop, length, not};
 ghost use Rattle.qg_node.specs.declared.item.Item.{Item as ItemValue};
-ghost use Rattle.qg_blocks.specs.Told.{BreaksNone, told};
+ghost use Rattle.qg_blocks.specs.Told.{told};
 ghost use Rattle.qg_ground.specs.Changes.{IsOwnedBy};
-ghost use Rattle.qg_ground.specs.Tellings.{Telling};
-ghost use Rattle.qg_edit.specs.Edits.{CanEdit, IsShort, growth_of, has_key, with_item, without_key};
-ghost use Rattle.qg_tree_edits.specs.Counting.{IsTreeTold};
-ghost use Rattle.qg_tree_edits.specs.Failing.{IsUnfit, NamesOnly};
-ghost use Rattle.qg_tree_edits.specs.First.{first_leaf, least, leaves, leaves_behind};
-ghost use Rattle.qg_tree_edits.specs.Rooting.{Grows, IsEdited, IsReady, IsReplaced, IsRooted, LeavesBe};
 ghost use Rattle.qg_edit.specs.declared.edit.Change.TheVariants as edit_change;
+ghost use Rattle.qg_edit.specs.Edits.{CanEdit, IsShort, growth_of, has_key, with_item, without_key};
+ghost use Rattle.qg_tree_edits.specs.Calls.{EditsTree, FailsToEditTree, ReplacesItems};
+ghost use Rattle.qg_tree_edits.specs.First.{first_leaf, least, leaves, leaves_behind};
+ghost use Rattle.qg_tree_edits.specs.Rooting.{Grows, IsReady, IsRooted, LeavesBe};
+ghost use Rattle.qg_tree_edits.specs.Steps.{KeepsBook};
 
 use crate::editing::edit_under;
 use crate::rooting::set_root;
@@ -50,22 +47,16 @@ pub fn insert<P: TreePart, D: Disk, L: Ledger, B: Book<D, L>>(
 ) -> Result<(), BlockFault>
     requires ready { IsReady P.tree tree.old land.old (D.history disk.old) (D.size disk.old) × (length body ≤ 1024) }
     requires stands { B.stands book.old land.old disk.old }
-    ensures inserted { (items : List ItemValue) → IsRooted P.tree tree.old land.old (D.history disk.old) items → IsTrue (not (has_key key items))
-        → OnOk result (IsReplaced P.tree tree.old tree.new land.old land.new (D.history disk.old) (with_item (record { key = key; body = body }) items)) }
-    ensures told { (items : List ItemValue) → IsRooted P.tree tree.old land.old (D.history disk.old) items → IsTrue (not (has_key key items))
-        → (before : B) (log : List Telling) → B.follows before log book.old
-        → OnOk result ((tellings : List Telling) × B.follows before (log ++ tellings) book.new
-        × IsTreeTold tree.old tree.new land.old land.new (D.history disk.old) tellings) }
-    ensures sound { (events : List Event) → D.history disk.old ≡ Some events → (items : List ItemValue)
-        → IsRooted P.tree tree.old land.old (D.history disk.old) items → IsTrue (not (has_key key items)) → BreaksNone result }
-    ensures broken { (events : List Event) → D.history disk.old ≡ Some events
-        → NamesOnly (IsUnfit P.tree tree.old (record { key = key; change = edit_change.Insert body }) land.old land.new events) result }
+    ensures inserted { (items : List ItemValue) → IsRooted P.tree tree.old land.old (D.history disk.old) items
+        → IsTrue (not (has_key key items))
+        → ReplacesItems B.follows P.tree tree.old tree.new land.old land.new (D.history disk.old)
+        (with_item (record { key = key; body = body }) items) book.old book.new result }
+    ensures fails { FailsToEditTree P.tree tree.old (record { key = key; change = edit_change.Insert body })
+        land.old land.new (D.history disk.old) (D.faults disk.old) (D.faults disk.new) result }
     ensures tree { MatchResult result (λ done. Grows 1 tree.old tree.new land.old land.new) (λ fault. tree.new ≡ tree.old) }
     ensures rests { LeavesBe land.old land.new (D.history disk.old) (D.history disk.new) (D.size disk.old) (D.size disk.new) tree.old.next }
-    ensures stands { OnOk result (B.stands book.new land.new disk.new) }
-    ensures settled { B.settled book.old land.old disk.old → OnOk result (B.settled book.new land.new disk.new) }
+    ensures book { KeepsBook B.stands B.settled book.old book.new land.old land.new disk.old disk.new result }
     ensures owners { OnOk result (IsOwnedBy tree.old.owner land.old land.new) }
-    ensures cause { HasCause BlockFault.Disk (D.faults disk.old) (D.faults disk.new) result }
     ensures reads { (most : ℕ) → ((book : B) (q : ℕ) → B.to_read book q ≤ most)
         → reads.new ≤ reads.old + (5 + 4 * most) * (tree.old.height + 2) }
 {
@@ -89,22 +80,16 @@ pub fn replace<P: TreePart, D: Disk, L: Ledger, B: Book<D, L>>(
 ) -> Result<(), BlockFault>
     requires ready { IsReady P.tree tree.old land.old (D.history disk.old) (D.size disk.old) × (length body ≤ 1024) }
     requires stands { B.stands book.old land.old disk.old }
-    ensures replaced { (items : List ItemValue) → IsRooted P.tree tree.old land.old (D.history disk.old) items → IsTrue (has_key key items)
-        → OnOk result (IsReplaced P.tree tree.old tree.new land.old land.new (D.history disk.old) (with_item (record { key = key; body = body }) items)) }
-    ensures told { (items : List ItemValue) → IsRooted P.tree tree.old land.old (D.history disk.old) items → IsTrue (has_key key items)
-        → (before : B) (log : List Telling) → B.follows before log book.old
-        → OnOk result ((tellings : List Telling) × B.follows before (log ++ tellings) book.new
-        × IsTreeTold tree.old tree.new land.old land.new (D.history disk.old) tellings) }
-    ensures sound { (events : List Event) → D.history disk.old ≡ Some events → (items : List ItemValue)
-        → IsRooted P.tree tree.old land.old (D.history disk.old) items → IsTrue (has_key key items) → BreaksNone result }
-    ensures broken { (events : List Event) → D.history disk.old ≡ Some events
-        → NamesOnly (IsUnfit P.tree tree.old (record { key = key; change = edit_change.Replace body }) land.old land.new events) result }
+    ensures replaced { (items : List ItemValue) → IsRooted P.tree tree.old land.old (D.history disk.old) items
+        → IsTrue (has_key key items)
+        → ReplacesItems B.follows P.tree tree.old tree.new land.old land.new (D.history disk.old)
+        (with_item (record { key = key; body = body }) items) book.old book.new result }
+    ensures fails { FailsToEditTree P.tree tree.old (record { key = key; change = edit_change.Replace body })
+        land.old land.new (D.history disk.old) (D.faults disk.old) (D.faults disk.new) result }
     ensures tree { MatchResult result (λ done. Grows 1 tree.old tree.new land.old land.new) (λ fault. tree.new ≡ tree.old) }
     ensures rests { LeavesBe land.old land.new (D.history disk.old) (D.history disk.new) (D.size disk.old) (D.size disk.new) tree.old.next }
-    ensures stands { OnOk result (B.stands book.new land.new disk.new) }
-    ensures settled { B.settled book.old land.old disk.old → OnOk result (B.settled book.new land.new disk.new) }
+    ensures book { KeepsBook B.stands B.settled book.old book.new land.old land.new disk.old disk.new result }
     ensures owners { OnOk result (IsOwnedBy tree.old.owner land.old land.new) }
-    ensures cause { HasCause BlockFault.Disk (D.faults disk.old) (D.faults disk.new) result }
     ensures reads { (most : ℕ) → ((book : B) (q : ℕ) → B.to_read book q ≤ most)
         → reads.new ≤ reads.old + (5 + 4 * most) * (tree.old.height + 2) }
 {
@@ -127,22 +112,16 @@ pub fn remove<P: TreePart, D: Disk, L: Ledger, B: Book<D, L>>(
 ) -> Result<(), BlockFault>
     requires ready { IsReady P.tree tree.old land.old (D.history disk.old) (D.size disk.old) }
     requires stands { B.stands book.old land.old disk.old }
-    ensures removed { (items : List ItemValue) → IsRooted P.tree tree.old land.old (D.history disk.old) items → IsTrue (has_key key items)
-        → OnOk result (IsReplaced P.tree tree.old tree.new land.old land.new (D.history disk.old) (without_key key items)) }
-    ensures told { (items : List ItemValue) → IsRooted P.tree tree.old land.old (D.history disk.old) items → IsTrue (has_key key items)
-        → (before : B) (log : List Telling) → B.follows before log book.old
-        → OnOk result ((tellings : List Telling) × B.follows before (log ++ tellings) book.new
-        × IsTreeTold tree.old tree.new land.old land.new (D.history disk.old) tellings) }
-    ensures sound { (events : List Event) → D.history disk.old ≡ Some events → (items : List ItemValue)
-        → IsRooted P.tree tree.old land.old (D.history disk.old) items → IsTrue (has_key key items) → BreaksNone result }
-    ensures broken { (events : List Event) → D.history disk.old ≡ Some events
-        → NamesOnly (IsUnfit P.tree tree.old (record { key = key; change = edit_change.Remove }) land.old land.new events) result }
+    ensures removed { (items : List ItemValue) → IsRooted P.tree tree.old land.old (D.history disk.old) items
+        → IsTrue (has_key key items)
+        → ReplacesItems B.follows P.tree tree.old tree.new land.old land.new (D.history disk.old)
+        (without_key key items) book.old book.new result }
+    ensures fails { FailsToEditTree P.tree tree.old (record { key = key; change = edit_change.Remove })
+        land.old land.new (D.history disk.old) (D.faults disk.old) (D.faults disk.new) result }
     ensures tree { MatchResult result (λ done. Grows 0 tree.old tree.new land.old land.new) (λ fault. tree.new ≡ tree.old) }
     ensures rests { LeavesBe land.old land.new (D.history disk.old) (D.history disk.new) (D.size disk.old) (D.size disk.new) tree.old.next }
-    ensures stands { OnOk result (B.stands book.new land.new disk.new) }
-    ensures settled { B.settled book.old land.old disk.old → OnOk result (B.settled book.new land.new disk.new) }
+    ensures book { KeepsBook B.stands B.settled book.old book.new land.old land.new disk.old disk.new result }
     ensures owners { OnOk result (IsOwnedBy tree.old.owner land.old land.new) }
-    ensures cause { HasCause BlockFault.Disk (D.faults disk.old) (D.faults disk.new) result }
     ensures reads { (most : ℕ) → ((book : B) (q : ℕ) → B.to_read book q ≤ most)
         → reads.new ≤ reads.old + (5 + 4 * most) * (tree.old.height + 2) }
 {
@@ -166,25 +145,18 @@ pub fn drop_first_leaf<P: TreePart, D: Disk, L: Ledger, B: Book<D, L>>(
     requires ready { IsReady P.tree tree.old land.old (D.history disk.old) (D.size disk.old) }
     requires stands { B.stands book.old land.old disk.old }
     ensures dropped { (items : List ItemValue) → IsRooted P.tree tree.old land.old (D.history disk.old) items
-        → OnOk result (IsReplaced P.tree tree.old tree.new land.old land.new (D.history disk.old)
-        (drop (length (first_leaf (told land.old.blocks.draft (D.history disk.old)) tree.old.height tree.old.address)) items)) }
-    ensures told { (items : List ItemValue) → IsRooted P.tree tree.old land.old (D.history disk.old) items
-        → (before : B) (log : List Telling) → B.follows before log book.old
-        → OnOk result ((tellings : List Telling) × B.follows before (log ++ tellings) book.new
-        × IsTreeTold tree.old tree.new land.old land.new (D.history disk.old) tellings) }
+        → ReplacesItems B.follows P.tree tree.old tree.new land.old land.new (D.history disk.old)
+        (drop (length (first_leaf (told land.old.blocks.draft (D.history disk.old)) tree.old.height tree.old.address))
+        items) book.old book.new result }
     ensures leaves { (items : List ItemValue) → IsRooted P.tree tree.old land.old (D.history disk.old) items
         → OnOk result (leaves (told land.new.blocks.draft (D.history disk.old)) tree.new.height tree.new.address
         ≡ leaves_behind (leaves (told land.old.blocks.draft (D.history disk.old)) tree.old.height tree.old.address)) }
-    ensures sound { (events : List Event) → D.history disk.old ≡ Some events → (items : List ItemValue)
-        → IsRooted P.tree tree.old land.old (D.history disk.old) items → BreaksNone result }
-    ensures broken { (events : List Event) → D.history disk.old ≡ Some events
-        → NamesOnly (IsUnfit P.tree tree.old (record { key = least; change = edit_change.Clear }) land.old land.new events) result }
+    ensures fails { FailsToEditTree P.tree tree.old (record { key = least; change = edit_change.Clear })
+        land.old land.new (D.history disk.old) (D.faults disk.old) (D.faults disk.new) result }
     ensures tree { MatchResult result (λ done. Grows 0 tree.old tree.new land.old land.new) (λ fault. tree.new ≡ tree.old) }
     ensures rests { LeavesBe land.old land.new (D.history disk.old) (D.history disk.new) (D.size disk.old) (D.size disk.new) tree.old.next }
-    ensures stands { OnOk result (B.stands book.new land.new disk.new) }
-    ensures settled { B.settled book.old land.old disk.old → OnOk result (B.settled book.new land.new disk.new) }
+    ensures book { KeepsBook B.stands B.settled book.old book.new land.old land.new disk.old disk.new result }
     ensures owners { OnOk result (IsOwnedBy tree.old.owner land.old land.new) }
-    ensures cause { HasCause BlockFault.Disk (D.faults disk.old) (D.faults disk.new) result }
     ensures reads { (most : ℕ) → ((book : B) (q : ℕ) → B.to_read book q ≤ most)
         → reads.new ≤ reads.old + (5 + 4 * most) * (tree.old.height + 2) }
 {
@@ -207,26 +179,16 @@ fn edit_tree<P: TreePart, D: Disk, L: Ledger, B: Book<D, L>>(
 ) -> Result<(), BlockFault>
     requires ready { IsReady P.tree tree.old land.old (D.history disk.old) (D.size disk.old) × IsShort edit.change }
     requires stands { B.stands book.old land.old disk.old }
-    ensures edited { (items : List ItemValue) → IsRooted P.tree tree.old land.old (D.history disk.old) items → CanEdit edit items
-        → OnOk result (IsEdited P.tree tree.old tree.new land.old land.new (D.history disk.old) edit items) }
-    ensures told { (items : List ItemValue) → IsRooted P.tree tree.old land.old (D.history disk.old) items → CanEdit edit items
-        → (before : B) (log : List Telling) → B.follows before log book.old
-        → OnOk result ((tellings : List Telling) × B.follows before (log ++ tellings) book.new
-        × IsTreeTold tree.old tree.new land.old land.new (D.history disk.old) tellings) }
-    ensures leaves { (items : List ItemValue) → IsRooted P.tree tree.old land.old (D.history disk.old) items → CanEdit edit items
-        → edit.key ≡ least → edit.change ≡ edit_change.Clear
-        → OnOk result (leaves (told land.new.blocks.draft (D.history disk.old)) tree.new.height tree.new.address
-        ≡ leaves_behind (leaves (told land.old.blocks.draft (D.history disk.old)) tree.old.height tree.old.address)) }
-    ensures sound { (events : List Event) → D.history disk.old ≡ Some events → (items : List ItemValue)
-        → IsRooted P.tree tree.old land.old (D.history disk.old) items → CanEdit edit items → BreaksNone result }
-    ensures broken { (events : List Event) → D.history disk.old ≡ Some events
-        → NamesOnly (IsUnfit P.tree tree.old edit land.old land.new events) result }
+    ensures edited { (items : List ItemValue) → IsRooted P.tree tree.old land.old (D.history disk.old) items
+        → CanEdit edit items
+        → EditsTree B.follows P.tree tree.old tree.new edit land.old land.new (D.history disk.old) items book.old
+        book.new result }
+    ensures fails { FailsToEditTree P.tree tree.old edit land.old land.new (D.history disk.old) (D.faults disk.old)
+        (D.faults disk.new) result }
     ensures tree { MatchResult result (λ done. Grows (growth_of edit.change) tree.old tree.new land.old land.new) (λ fault. tree.new ≡ tree.old) }
     ensures rests { LeavesBe land.old land.new (D.history disk.old) (D.history disk.new) (D.size disk.old) (D.size disk.new) tree.old.next }
-    ensures stands { OnOk result (B.stands book.new land.new disk.new) }
-    ensures settled { B.settled book.old land.old disk.old → OnOk result (B.settled book.new land.new disk.new) }
+    ensures book { KeepsBook B.stands B.settled book.old book.new land.old land.new disk.old disk.new result }
     ensures owners { OnOk result (IsOwnedBy tree.old.owner land.old land.new) }
-    ensures cause { HasCause BlockFault.Disk (D.faults disk.old) (D.faults disk.new) result }
     ensures reads { (most : ℕ) → ((book : B) (q : ℕ) → B.to_read book q ≤ most)
         → reads.new ≤ reads.old + (5 + 4 * most) * (tree.old.height + 2) }
 {

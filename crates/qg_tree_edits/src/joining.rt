@@ -1,20 +1,17 @@
 // Two fresh neighbours.
-ghost use Rattle.std.specs.Prelude.{◌≡◌, ◌≢◌, ◌⊎◌, ◌+◌, ◌≤◌, ℕ, List, ◌++◌, Some, OnOk, IfOk, IsErrOf, IsSome};
-ghost use Rattle.qg_device.specs.Cause.{HasCause};
-ghost use Rattle.qg_device.specs.History.{Event};
+ghost use Rattle.std.specs.Prelude.{◌≡◌, ◌≢◌, ◌+◌, ◌≤◌, ℕ, Some, OnOk, IfOk, IsErrOf, IsSome};
 ghost use Rattle.qg_node.specs.declared.node.Node.{Node as NodeValue};
 ghost use Rattle.qg_node.specs.Nodes.{header_of};
 ghost use Rattle.qg_node.specs.NodeText.{IsNode, IsNodeSize};
 ghost use Rattle.qg_shape.specs.Filled.{HasShortBodies, IsThin};
 ghost use Rattle.qg_blocks.specs.Lending.{with_fresh};
 ghost use Rattle.qg_blocks.specs.Told.{BreaksNone, IsBacked, fresh_at};
-ghost use Rattle.qg_ground.specs.Land.{IsDrafted, Rests};
-ghost use Rattle.qg_ground.specs.Tellings.{Telling};
+ghost use Rattle.qg_ground.specs.Land.{IsDrafted};
 ghost use Rattle.qg_edit.specs.Outcome.{IsInFront, cleared};
 ghost use Rattle.qg_tree_edits.specs.Editing.{ArePair, AreRewritten, IsJoinedThere};
 ghost use Rattle.qg_tree_edits.specs.Uniting.{AreUnited};
-ghost use Rattle.qg_tree_edits.specs.Counting.{TellsUnited};
 ghost use Rattle.qg_tree_edits.specs.Failing.{ArentJoined, NamesOnly};
+ghost use Rattle.qg_tree_edits.specs.Steps.{FailsToUnite, UnitesDrafted};
 
 use crate::instead::Instead;
 use qg_disk::Disk;
@@ -87,17 +84,13 @@ pub(crate) fn unite<D: Disk, L: Ledger, B: Book<D, L>>(
     requires apart { left ≢ right }
     requires pair { ArePair land.old left right }
     ensures united { IfOk result (λ instead. AreUnited land.old land.new left right instead) }
-    ensures sound { (events : List Event) → D.history disk.old ≡ Some events → (a b : NodeValue) → fresh_at land.old.blocks.draft left ≡ Some a
-        → fresh_at land.old.blocks.draft right ≡ Some b → IsInFront a b → HasShortBodies a → HasShortBodies b → BreaksNone result }
-    ensures broken { (events : List Event) → D.history disk.old ≡ Some events → (a b : NodeValue) → fresh_at land.old.blocks.draft left ≡ Some a
-        → fresh_at land.old.blocks.draft right ≡ Some b → NamesOnly (ArentJoined land.new left right a b) result }
-    ensures rests { (generation : ℕ) → IsDrafted land.old generation → Rests land.old land.new (D.history disk.new) generation }
-    ensures told { (generation : ℕ) → IsDrafted land.old generation → (before : B) (log : List Telling) → B.follows before log book.old
-        → IfOk result (λ instead. (tellings : List Telling) × B.follows before (log ++ tellings) book.new × TellsUnited right instead tellings) }
+    ensures fails { FailsToUnite land.old land.new left right (D.history disk.old) (D.faults disk.old)
+        (D.faults disk.new) result }
+    ensures drafted { (generation : ℕ) → IsDrafted land.old generation
+        → UnitesDrafted B.follows B.settled land.old land.new (D.history disk.new) generation right book.old book.new
+        disk.old disk.new result }
     ensures stands { OnOk result (B.stands book.new land.new disk.new) }
-    ensures settled { (generation : ℕ) → IsDrafted land.old generation → B.settled book.old land.old disk.old → OnOk result (B.settled book.new land.new disk.new) }
     ensures disk { (D.history disk.new ≡ D.history disk.old) × (D.size disk.new ≡ D.size disk.old) }
-    ensures cause { HasCause BlockFault.Disk (D.faults disk.old) (D.faults disk.new) result }
     ensures reads { (most : ℕ) → ((book : B) (q : ℕ) → B.to_read book q ≤ most) → reads.new ≤ reads.old + (1 + most) }
 {
     match join_nodes(alloc, land, left, right)? {

@@ -1,8 +1,6 @@
 // The root of a tree that was edited.
-ghost use Rattle.std.specs.Prelude.{◌≡◌, ◌++◌, ◌+◌, ◌<◌, ◌≤◌, ◌∷◌, [], ℕ, IfOk, IsErrOf, IsSome, IsTrue, List, None, OnErr, OnOk, Some};
+ghost use Rattle.std.specs.Prelude.{◌≡◌, ◌+◌, ◌<◌, ◌≤◌, ◌∷◌, [], ℕ, IfOk, IsErrOf, IsSome, IsTrue, List, None, Some};
 ghost use Rattle.std.specs.Ordering.{is_lt};
-ghost use Rattle.qg_device.specs.Cause.{HasCause};
-ghost use Rattle.qg_device.specs.History.{Event};
 ghost use Rattle.qg_num.specs.Key.{key_cmp};
 ghost use Rattle.qg_num.specs.declared.fault.BlockFault.TheVariants as block;
 ghost use Rattle.qg_num.specs.declared.rule.Rule.TheVariants as rule;
@@ -11,17 +9,12 @@ ghost use Rattle.qg_node.specs.declared.node.Node.{Node as NodeValue};
 ghost use Rattle.qg_node.specs.declared.node.Node.TheVariants as node;
 ghost use Rattle.qg_node.specs.NodeText.{IsNode, IsNodeSize};
 ghost use Rattle.qg_shape.specs.Pointing.{pointer_to};
-ghost use Rattle.qg_blocks.specs.Told.{BreaksNone, fresh_at, told};
-ghost use Rattle.qg_space.specs.Holding.{free_slots};
-ghost use Rattle.qg_ground.specs.Changes.{IsOwnedBy};
-ghost use Rattle.qg_ground.specs.Land.{Rests};
-ghost use Rattle.qg_ground.specs.Tellings.{Telling};
+ghost use Rattle.qg_blocks.specs.Told.{BreaksNone, fresh_at};
 ghost use Rattle.qg_edit.specs.Outcome.{cleared};
-ghost use Rattle.qg_tree_edits.specs.First.{leaves};
-ghost use Rattle.qg_tree_edits.specs.Editing.{CanMake, IsEditable, IsFreshOn, IsRewritten, StandsInstead, alone};
-ghost use Rattle.qg_tree_edits.specs.Counting.{IsRootTold};
-ghost use Rattle.qg_tree_edits.specs.Failing.{CantGrow, NamesOnly};
-ghost use Rattle.qg_tree_edits.specs.Rooting.{HasRoot, StandsForRoot, StaysTree, levels_for, lone_child};
+ghost use Rattle.qg_tree_edits.specs.Editing.{IsEditable, IsFreshOn, IsRewritten, StandsInstead, alone};
+ghost use Rattle.qg_tree_edits.specs.Failing.{NamesOnly};
+ghost use Rattle.qg_tree_edits.specs.Rooting.{LeavesBe, StandsForRoot, levels_for, lone_child};
+ghost use Rattle.qg_tree_edits.specs.Steps.{FailsByDisk, FailsToRoot, IsReadyFor, KeepsBook, RootsItems, SetsRoot};
 
 use crate::instead::Instead;
 use qg_descent::Tree;
@@ -49,33 +42,20 @@ pub(crate) fn set_root<P: TreePart, D: Disk, L: Ledger, B: Book<D, L>>(
     instead: Instead,
     reads: &mut Steps<L>,
 ) -> Result<(), BlockFault>
-    requires editable { IsEditable land.old (D.history disk.old) (D.size disk.old) tree.old.next }
+    requires ready { IsReadyFor 1 P.tree tree.old land.old (D.history disk.old) (D.size disk.old) }
     requires stands { B.stands book.old land.old disk.old }
-    requires makes { CanMake P.tree tree.old }
-    requires slots { 0 < free_slots land.old.space }
     requires stood { StandsInstead land.old tree.old.height instead }
-    ensures rooted { (items : List ItemValue) → StandsForRoot P.tree tree.old land.old (D.history disk.old) instead items
-        → OnOk result (HasRoot P.tree tree.old tree.new land.old land.new (D.history disk.old) instead items) }
-    ensures told { (items : List ItemValue) → StandsForRoot P.tree tree.old land.old (D.history disk.old) instead items
-        → (before : B) (log : List Telling) → B.follows before log book.old
-        → OnOk result ((tellings : List Telling) × B.follows before (log ++ tellings) book.new
-        × IsRootTold tree.old tree.new land.old land.new (D.history disk.old) instead tellings) }
-    ensures leaves { (items : List ItemValue) → StandsForRoot P.tree tree.old land.old (D.history disk.old) instead items → instead.more ≡ None
-        → OnOk result (leaves (told land.new.blocks.draft (D.history disk.old)) tree.new.height tree.new.address
-        ≡ leaves (told land.old.blocks.draft (D.history disk.old)) tree.old.height instead.now) }
-    ensures stays { StaysTree (levels_for instead.more) tree.old tree.new }
-    ensures count { OnOk result (free_slots land.old.space ≤ 1 + free_slots land.new.space) }
-    ensures sound { (events : List Event) → D.history disk.old ≡ Some events → (items : List ItemValue)
-        → StandsForRoot P.tree tree.old land.old (D.history disk.old) instead items → tree.old.height < 7 → BreaksNone result }
-    ensures broken { (events : List Event) → D.history disk.old ≡ Some events → NamesOnly (CantGrow tree.old land.new) result }
-    ensures rests { Rests land.old land.new (D.history disk.new) tree.old.next }
-    ensures stands { OnOk result (B.stands book.new land.new disk.new) }
-    ensures settled { B.settled book.old land.old disk.old → OnOk result (B.settled book.new land.new disk.new) }
-    ensures owners { OnOk result (IsOwnedBy tree.old.owner land.old land.new) }
-    ensures disk { (D.history disk.new ≡ D.history disk.old) × (D.size disk.new ≡ D.size disk.old) }
-    ensures cause { HasCause BlockFault.Disk (D.faults disk.old) (D.faults disk.new) result }
+    ensures root { SetsRoot (levels_for instead.more) 1 tree.old tree.new land.old land.new result }
+    ensures rooted { (items : List ItemValue)
+        → StandsForRoot P.tree tree.old land.old (D.history disk.old) instead items
+        → RootsItems B.follows P.tree tree.old tree.new land.old land.new (D.history disk.old) instead items book.old
+        book.new result }
+    ensures fails { FailsToRoot P.tree tree.old land.old land.new (D.history disk.old) instead (D.faults disk.old)
+        (D.faults disk.new) result }
+    ensures rests { LeavesBe land.old land.new (D.history disk.old) (D.history disk.new) (D.size disk.old)
+        (D.size disk.new) tree.old.next }
+    ensures book { KeepsBook B.stands B.settled book.old book.new land.old land.new disk.old disk.new result }
     ensures reads { (most : ℕ) → ((book : B) (q : ℕ) → B.to_read book q ≤ most) → reads.new ≤ reads.old + (1 + most) }
-    ensures err { OnErr result (tree.new ≡ tree.old) }
 {
     match instead.more {
         Some(more) => {
@@ -96,33 +76,21 @@ fn grow<P: TreePart, D: Disk, L: Ledger, B: Book<D, L>>(
     more: Address,
     reads: &mut Steps<L>,
 ) -> Result<(), BlockFault>
-    requires editable { IsEditable land.old (D.history disk.old) (D.size disk.old) tree.old.next }
+    requires ready { IsReadyFor 1 P.tree tree.old land.old (D.history disk.old) (D.size disk.old) }
     requires stands { B.stands book.old land.old disk.old }
-    requires makes { CanMake P.tree tree.old }
-    requires slots { 0 < free_slots land.old.space }
     requires first { IsFreshOn land.old tree.old.height now }
     requires second { IsFreshOn land.old tree.old.height more }
+    ensures root { SetsRoot 1 1 tree.old tree.new land.old land.new result }
     ensures rooted { (items : List ItemValue)
         → StandsForRoot P.tree tree.old land.old (D.history disk.old) (record { now = now; more = Some more }) items
-        → OnOk result (HasRoot P.tree tree.old tree.new land.old land.new (D.history disk.old) (record { now = now; more = Some more }) items) }
-    ensures told { (items : List ItemValue) → StandsForRoot P.tree tree.old land.old (D.history disk.old) (record { now = now; more = Some more }) items
-        → (before : B) (log : List Telling) → B.follows before log book.old
-        → OnOk result ((tellings : List Telling) × B.follows before (log ++ tellings) book.new
-        × IsRootTold tree.old tree.new land.old land.new (D.history disk.old) (record { now = now; more = Some more }) tellings) }
-    ensures stays { StaysTree 1 tree.old tree.new }
-    ensures count { OnOk result (free_slots land.old.space ≤ 1 + free_slots land.new.space) }
-    ensures sound { (events : List Event) → D.history disk.old ≡ Some events → (items : List ItemValue)
-        → StandsForRoot P.tree tree.old land.old (D.history disk.old) (record { now = now; more = Some more }) items
-        → tree.old.height < 7 → BreaksNone result }
-    ensures broken { (events : List Event) → D.history disk.old ≡ Some events → NamesOnly (CantGrow tree.old land.new) result }
-    ensures rests { Rests land.old land.new (D.history disk.new) tree.old.next }
-    ensures stands { OnOk result (B.stands book.new land.new disk.new) }
-    ensures settled { B.settled book.old land.old disk.old → OnOk result (B.settled book.new land.new disk.new) }
-    ensures owners { OnOk result (IsOwnedBy tree.old.owner land.old land.new) }
-    ensures disk { (D.history disk.new ≡ D.history disk.old) × (D.size disk.new ≡ D.size disk.old) }
-    ensures cause { HasCause BlockFault.Disk (D.faults disk.old) (D.faults disk.new) result }
+        → RootsItems B.follows P.tree tree.old tree.new land.old land.new (D.history disk.old)
+        (record { now = now; more = Some more }) items book.old book.new result }
+    ensures fails { FailsToRoot P.tree tree.old land.old land.new (D.history disk.old)
+        (record { now = now; more = Some more }) (D.faults disk.old) (D.faults disk.new) result }
+    ensures rests { LeavesBe land.old land.new (D.history disk.old) (D.history disk.new) (D.size disk.old)
+        (D.size disk.new) tree.old.next }
+    ensures book { KeepsBook B.stands B.settled book.old book.new land.old land.new disk.old disk.new result }
     ensures reads { (most : ℕ) → ((book : B) (q : ℕ) → B.to_read book q ≤ most) → reads.new ≤ reads.old + most }
-    ensures err { OnErr result (tree.new ≡ tree.old) }
 {
     if tree.height() >= HIGHEST {
         return Err(BlockFault::Image {
@@ -154,26 +122,16 @@ fn shrink<P: TreePart, D: Disk, L: Ledger, B: Book<D, L>>(
     requires editable { IsEditable land.old (D.history disk.old) (D.size disk.old) tree.old.next }
     requires stands { B.stands book.old land.old disk.old }
     requires fresh { IsFreshOn land.old tree.old.height now }
-    ensures rooted { (items : List ItemValue) → StandsForRoot P.tree tree.old land.old (D.history disk.old) (alone now) items
-        → OnOk result (HasRoot P.tree tree.old tree.new land.old land.new (D.history disk.old) (alone now) items) }
-    ensures told { (items : List ItemValue) → StandsForRoot P.tree tree.old land.old (D.history disk.old) (alone now) items
-        → (before : B) (log : List Telling) → B.follows before log book.old
-        → OnOk result ((tellings : List Telling) × B.follows before (log ++ tellings) book.new
-        × IsRootTold tree.old tree.new land.old land.new (D.history disk.old) (alone now) tellings) }
-    ensures leaves { (items : List ItemValue) → StandsForRoot P.tree tree.old land.old (D.history disk.old) (alone now) items
-        → OnOk result (leaves (told land.new.blocks.draft (D.history disk.old)) tree.new.height tree.new.address
-        ≡ leaves (told land.old.blocks.draft (D.history disk.old)) tree.old.height now) }
-    ensures stays { StaysTree 0 tree.old tree.new }
-    ensures count { OnOk result (free_slots land.old.space ≤ free_slots land.new.space) }
-    ensures sound { (events : List Event) → D.history disk.old ≡ Some events → BreaksNone result }
-    ensures rests { Rests land.old land.new (D.history disk.new) tree.old.next }
-    ensures stands { OnOk result (B.stands book.new land.new disk.new) }
-    ensures settled { B.settled book.old land.old disk.old → OnOk result (B.settled book.new land.new disk.new) }
-    ensures owners { OnOk result (IsOwnedBy tree.old.owner land.old land.new) }
-    ensures disk { (D.history disk.new ≡ D.history disk.old) × (D.size disk.new ≡ D.size disk.old) }
-    ensures cause { HasCause BlockFault.Disk (D.faults disk.old) (D.faults disk.new) result }
+    ensures root { SetsRoot 0 0 tree.old tree.new land.old land.new result }
+    ensures rooted { (items : List ItemValue)
+        → StandsForRoot P.tree tree.old land.old (D.history disk.old) (alone now) items
+        → RootsItems B.follows P.tree tree.old tree.new land.old land.new (D.history disk.old) (alone now) items
+        book.old book.new result }
+    ensures fails { FailsByDisk (D.history disk.old) (D.faults disk.old) (D.faults disk.new) result }
+    ensures rests { LeavesBe land.old land.new (D.history disk.old) (D.history disk.new) (D.size disk.old)
+        (D.size disk.new) tree.old.next }
+    ensures book { KeepsBook B.stands B.settled book.old book.new land.old land.new disk.old disk.new result }
     ensures reads { (most : ℕ) → ((book : B) (q : ℕ) → B.to_read book q ≤ most) → reads.new ≤ reads.old + (1 + most) }
-    ensures err { OnErr result (tree.new ≡ tree.old) }
 {
     match lone_child(land.blocks.peek(now)) {
         None => {

@@ -111,6 +111,29 @@ pub record IsProper (telling : Telling) (book : TreeRefs) : Type 0 where
   pub can : CanExchange (book_of book.refs) (exchange_of book telling) (coming_of book 0 telling)
   pub level : KeepsLevel (book_of book.refs) telling
 
+-- ---- a node that is reached no more, and what is above it
+
+-- The case of a node that a subvolume reaches no more, by the references that are left: its own, if it had one, is gone
+-- before, or the reference is that of a node above which stays
+abbrev pub parting_in : Book → ℕ → Placed → Leaving
+parting_in book tree placed = leaving_case (references_to book (header_of placed.node).address) placed tree
+
+-- what becomes of references then
+abbrev pub exchange_by_parting : Book → ℕ → Placed → Exchange
+exchange_by_parting book tree placed = record {
+  full = full_by_leaving (parting_in book tree placed) (header_of placed.node).address;
+  gains = leaving_gains (parting_in book tree placed) placed;
+  losses = leaving_losses (parting_in book tree placed) placed;
+}
+
+-- an exchange with which no node comes is done where no misfit is met, and none is met where it can be done. The first
+-- misfit ever met is noted
+pub record IsExchanged (before : TreeRefs) (exchange : Exchange) (after : TreeRefs) : Type 0 where
+  pub misfit : Option ℕ
+  pub done : misfit ≡ None → Exchanges (book_of before.refs) (book_of after.refs) exchange None
+  pub proper : CanExchange (book_of before.refs) exchange None → misfit ≡ None
+  pub noted : after ≡ record before { refs = after.refs; misfit = option_or before.misfit misfit }
+
 -- what a telling makes of a book: where no misfit is met it is done, and where it is proper none is met. The first
 -- misfit ever met is noted
 pub record Step (before : TreeRefs) (telling : Telling) (after : TreeRefs) : Type 0 where

@@ -58,7 +58,7 @@ fn give_back(space: &mut Space, at: Address)
 
 /// Lets a node go to which no reference is left: it is forgotten, and its slot given back, where the present state
 /// has it.
-fn let_go(refs: &Extents, land: &mut Ground, at: Address)
+pub fn let_go(refs: &Extents, land: &mut Ground, at: Address)
     ensures stays { 0 < length (references_at (book_of refs.now) at) → land.new ≡ land.old }
     ensures goes { references_at (book_of refs.now) at ≡ [] → (held_at land.new.blocks at ≡ None)
         × (land.new.space ≡ record land.old.space { slots = without_slot at land.old.space.slots }) }

@@ -5,7 +5,7 @@ ghost use Rattle.qg_refs.specs.Book.{references_at};
 ghost use Rattle.qg_extents.specs.Table.{book_of};
 ghost use Rattle.qg_owed.specs.Told.{owings_told};
 ghost use Rattle.qg_tree_refs.specs.Exchange.{exchange_told};
-ghost use Rattle.qg_tree_refs.specs.Following.{exchange_by_copy, exchange_by_leaving};
+ghost use Rattle.qg_tree_refs.specs.Following.{exchange_by_copy, exchange_by_leaving, exchange_by_parting, parting_in};
 
 use crate::lists::Lists;
 use qg_cow::{Edits, Leaving, edits, leaving};
@@ -83,6 +83,49 @@ pub(crate) fn lists_of_leaving(refs: &Extents, node: &Node, tree: RootId) -> Res
         Leaving::Goes => owings_of_node(node, full, &mut lists.losses)?,
         Leaving::TurnsFull => {
             lists.full = Some(at);
+            owings_of_node(node, true, &mut lists.gains)?;
+            put_keyed(node, header.owner, &mut lists.losses)?;
+        }
+        Leaving::Stays => {}
+    }
+    Ok(lists)
+}
+
+/// The case of a node that a subvolume reaches no more, by the references that are left.
+pub(crate) fn parting(refs: &Extents, node: &Node, full: bool, tree: RootId) -> Leaving
+    ensures { result ≡ parting_in (book_of refs.now) tree (record { node = node.now; full = full }) }
+{
+    let header = node.header();
+    leaving(
+        refs.how_many(header.address) as u64,
+        full,
+        header.owner,
+        tree,
+    )
+}
+
+/// What changes in that case.
+pub(crate) fn lists_of_parting(
+    refs: &Extents,
+    node: &Node,
+    full: bool,
+    tree: RootId,
+) -> Result<Lists, NoMemory>
+    ensures exact { IfOk result (λ lists. exchange_told lists
+        ≡ exchange_by_parting (book_of refs.now) tree (record { node = node.now; full = full })) }
+    ensures some { IfOk result (λ lists. IfSome lists.full (λ at. 0 < length (references_at (book_of refs.now) at))) }
+{
+    let alloc = refs.allocator();
+    let mut lists = Lists {
+        full: None,
+        gains: Vec::new(alloc),
+        losses: Vec::new(alloc),
+    };
+    match parting(refs, node, full, tree) {
+        Leaving::Goes => owings_of_node(node, full, &mut lists.losses)?,
+        Leaving::TurnsFull => {
+            let header = node.header();
+            lists.full = Some(header.address);
             owings_of_node(node, true, &mut lists.gains)?;
             put_keyed(node, header.owner, &mut lists.losses)?;
         }

@@ -11,6 +11,7 @@ mod naming;
 mod taking;
 mod tree_refs;
 
+pub use book::let_go;
 pub use tree_refs::TreeRefs;
 
 #[cfg(test)]

@@ -3,10 +3,11 @@ ghost use Rattle.std.specs.Prelude.{◌≡◌, ◌<◌, None, IfOk, IfSome, OnEr
 ghost use Rattle.std.specs.Option.{option_or};
 ghost use Rattle.qg_ground.specs.Tellings.Telling.{Copied, Made, Left};
 
-use crate::cases::{lists_of_copy, lists_of_leaving};
+use crate::cases::{lists_of_copy, lists_of_leaving, lists_of_parting, parting};
 use crate::coming::Coming;
 use crate::exchange::exchange;
 use crate::lists::Lists;
+use qg_cow::Leaving;
 use qg_extents::Extents;
 use qg_node::Node;
 use qg_num::{Address, Generation, NoMemory, RootId};
@@ -46,6 +47,7 @@ impl TreeRefs {
     ghost use Rattle.qg_refs.specs.Book.{references_at};
     ghost use Rattle.qg_tree_refs.specs.Exchange.{CanExchange, Exchanges, exchange_told};
     ghost use Rattle.qg_tree_refs.specs.Following.{Step, comes, other_level};
+    ghost use Rattle.qg_tree_refs.specs.Following.{IsExchanged, exchange_by_parting, parting_in};
 
     /// The book of the subvolume `tree`, whose nodes have so many bytes. Those that come are of the generation `next`.
     /// No misfit is noted.
@@ -198,5 +200,21 @@ impl TreeRefs {
         let misfit = self.exchange(&lists, None)?;
         self.note(level.or(misfit));
         Ok(())
+    }
+
+    /// The subvolume reaches the node no more: its own reference to it is gone before, or the reference is that of a node
+    /// above which stays. `full` says whether the node was full, which a book forgets with the last reference. The answer
+    /// is what became of it.
+    pub fn part_with(&mut self, node: &Node, full: bool) -> Result<Leaving, NoMemory>
+        ensures case { IfOk result (λ case. case
+            ≡ parting_in (book_of self.old.refs) self.old.tree (record { node = node.now; full = full })) }
+        ensures done { OnOk result (IsExchanged self.old
+            (exchange_by_parting (book_of self.old.refs) self.old.tree (record { node = node.now; full = full })) self.new) }
+    {
+        let case = parting(self.refs(), node, full, self.tree);
+        let lists = lists_of_parting(self.refs(), node, full, self.tree)?;
+        let misfit = self.exchange(&lists, None)?;
+        self.note(misfit);
+        Ok(case)
     }
 }

@@ -12,7 +12,6 @@ use Rattle.qg_items.specs.declared.tree.TheConstants.{EXTENT_TREE, QUOTA_TREE}
 use Rattle.qg_super.specs.declared.superblock.Super.{Super}
 use Rattle.qg_image.specs.Table.{value_at}
 use Rattle.qg_image.specs.ItemMeaning.{root_part, extent_part, quota_part}
-use Rattle.qg_state.specs.Stage.{copies_on_write}
 use Rattle.qg_state.specs.State.{State, Subvolume, layout_of, node_at}
 use Rattle.qg_state.specs.Reach.{level_of}
 use Rattle.qg_state.specs.Owed.{Agrees}
@@ -68,7 +67,7 @@ subvolume_items state =
 
 -- These are the nodes of the root, extent and quota trees of a committed state. Each is a tree by the rules of the walk. The root tree names
 -- the other two and the subvolumes' roots, the quota tree tells quota and is there where quota is on, and the extent tree records exactly what
--- is owed, or until it does has no items. Which number a reference's key has, and which generation a data extent's record tells, is free.
+-- is owed. Which number a reference's key has, and which generation a data extent's record tells, is free.
 pub record AreOtherTrees (state : State) (others : List Node) : Type 0 where
   pub format : AllByRecursion (IsOfFormat state.sizes.nodesize) others
   pub root : ℕ
@@ -81,7 +80,7 @@ pub record AreOtherTrees (state : State) (others : List Node) : Type 0 where
   pub extent_nodes : List Node
   pub extent_items : List Item
   pub extents : IsTreeOfRoot Extents (super_at state root) (Some extent_root) extent_nodes extent_items
-  pub recorded : MatchBool copies_on_write (Agrees (layout_of state) (filter_map extent_part extent_items)) (extent_items ≡ [])
+  pub agrees : Agrees (layout_of state) (filter_map extent_part extent_items)
   pub quota_root : Option RootItem
   pub quotas_named : value_at QUOTA_TREE (filter_map root_part root_items) ≡ quota_root
   pub quota_nodes : List Node

@@ -18,7 +18,7 @@ use Rattle.qg_image.specs.declared.part.QuotaPart.{QuotaPart}
 use Rattle.qg_image.specs.declared.part.QuotaPart.TheVariants.{Status, Info, Limits, Relation}
 use Rattle.qg_image.specs.ItemMeaning.{is_subvolume_number}
 use Rattle.qg_image.specs.FilesOf.{file_parts, are_files}
-use Rattle.qg_state.specs.Stage.{copies_on_write, serves_subvolumes, serves_groups}
+use Rattle.qg_state.specs.Stage.{serves_subvolumes, serves_groups}
 use Rattle.qg_state.specs.declared.quota.Quota.{Quota}
 use Rattle.qg_state.specs.declared.quota.Group.{Group}
 use Rattle.qg_state.specs.declared.element.Element.{Element}
@@ -236,7 +236,7 @@ together_failure super image =
     let state = state_in super image in
     first_failure
     (space_failure (sizes_of super) (extent_set (present_extents state))
-    ∷ (if copies_on_write then references_failure super image (layout_of state) else None)
+    ∷ references_failure super image (layout_of state)
     ∷ counts_failure (layout_of state) state.quota
     ∷ [])
 

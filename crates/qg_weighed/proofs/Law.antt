@@ -3,12 +3,11 @@ use Rattle.std.proofs.Common.{◌≡◌, ℕ, ◌+◌, ◌≤◌, Bool, true, fa
 use Rattle.std.specs.Prelude.{◌||◌}
 use Rattle.std.proofs.lemmas.Bool.{cases_Bool, true≢false}
 use Rattle.std.proofs.lemmas.List.Folds.{list_any-append}
-use Rattle.qg_state.specs.Need.{extent_records, held_records, quota_records, root_records}
+use Rattle.qg_state.specs.Need.{extent_records, held_records, present_records, quota_records, root_records, weight}
 use Rattle.qg_state.specs.Record.{Record, records_bytes, same_record}
 use Rattle.qg_state.specs.State.{State, layout_of}
 use Rattle.qg_refs.specs.declared.kept.Kept.{Kept}
 use Rattle.qg_weighed.specs.Laws.{CountsLayout, IsRecorded, IsWeight, is_among, is_of_extents, other_records}
-use Rattle.qg_weighed.specs.Laws.{whole_records}
 use Rattle.qg_weighed.specs.Weight.{records_in, weight_of}
 use Rattle.qg_weighed.proofs.Distinct.{bytes-alike, bytes-apart, bytes-more}
 use Rattle.qg_weighed.proofs.Trees.{are-both, layout-are, none-named, others, others-are, others-named, quota-are}
@@ -32,10 +31,11 @@ one-of-others h h' r e q f o held refs layout other =
 
 module _ (state : State) (held refs : List (ℕ × Kept)) (counted : CountsLayout (layout_of state) refs)
     (recorded : IsRecorded state held) where
-  among-whole : (one : Record) → is_among (held_records state.held ++ whole_records state) one
+  among-whole : (one : Record) → is_among (held_records state.held ++ present_records state) one
       ≡ (is_among (held_records state.held) one
       || ((is_among (root_records state) one || is_among (extent_records (layout_of state)) one)
       || is_among (quota_records state.quota) one))
+  unfolding present_records
   among-whole one =
       let root = root_records state in
       let extents = extent_records (layout_of state) in
@@ -60,7 +60,7 @@ module _ (state : State) (held refs : List (ℕ × Kept)) (counted : CountsLayou
       ∙ ap (λ (b : Bool). is_among (others (held_records state.held)) one || b)
       (list_any-append (same_record one) root quota))
 
-  alike : (one : Record) → is_among (held_records state.held ++ whole_records state) one
+  alike : (one : Record) → is_among (held_records state.held ++ present_records state) one
       ≡ is_among (records_in held ++ records_in refs ++ other_records state) one
   alike one = among-whole one ∙ elim (cases_Bool (is_of_extents one)) [
     | inl extents ↦
@@ -98,11 +98,10 @@ module _ (state : State) (held refs : List (ℕ × Kept)) (counted : CountsLayou
         (are-both true (records_in held) (records_in refs) (table-are held) (table-are refs)) other))
   ]
 
-  whole : records_bytes (held_records state.held ++ whole_records state)
-      ≡ weight_of held refs + records_bytes (other_records state)
-  unfolding weight_of
+  whole : weight state ≡ weight_of held refs + records_bytes (other_records state)
+  unfolding weight weight_of
   whole =
-      bytes-alike (held_records state.held ++ whole_records state)
+      bytes-alike (held_records state.held ++ present_records state)
       (records_in held ++ records_in refs ++ other_records state) alike
       ∙ bytes-apart (records_in held ++ records_in refs) (other_records state) apart
 

@@ -10,7 +10,7 @@ use Rattle.qg_super.specs.declared.sizes.Sizes.{Sizes}
 use Rattle.qg_image.specs.ItemMeaning.{extent_part}
 use Rattle.qg_image.specs.Table.{keys_of, value_at}
 use Rattle.qg_state.specs.declared.element.Element.{Element}
-use Rattle.qg_state.specs.Need.{extent_records, held_records, quota_records, root_records}
+use Rattle.qg_state.specs.Need.{extent_records, held_records, quota_records, root_records, weight}
 use Rattle.qg_state.specs.Owed.{is_nothing, layout_extents, owed_count, what_at}
 use Rattle.qg_state.specs.Record.{Record, RootOf, ExtentOf, NodeOf, ReferenceTo, Status, InfoOf, LimitOf, RelationOf}
 use Rattle.qg_state.specs.Record.{records_bytes, same_record}
@@ -77,10 +77,6 @@ SaidIsRecorded = (state : State) (held : List (ℕ × Kept)) → IsTable held
 
 -- ---- what all take
 
--- what the root, extent and quota trees would name if a commit came now, where it records what is owed
-abbrev pub whole_records : State → List Record
-whole_records state = root_records state ++ extent_records (layout_of state) ++ quota_records state.quota
-
 -- what the root and quota trees name in the last commit, or would name if one came now
 abbrev pub other_records : State → List Record
 other_records state =
@@ -91,12 +87,11 @@ other_records state =
 abbrev pub TakesNoLess : Type 0
 TakesNoLess = (held refs : List (ℕ × Kept)) → records_bytes (records_in refs) ≤ weight_of held refs
 
--- What a state's layout has to be recorded takes what the book takes. With what the last commit holds, and with the
--- items of the root and quota trees, all take what both books and those items take
+-- What a state's layout has to be recorded takes what the book takes; the state's weight is what both books and the
+-- items of the root and quota trees take
 pub record IsWeight (state : State) (held refs : List (ℕ × Kept)) : Type 0 where
   pub records : records_bytes (extent_records (layout_of state)) ≡ records_bytes (records_in refs)
-  pub whole : records_bytes (held_records state.held ++ whole_records state)
-      ≡ weight_of held refs + records_bytes (other_records state)
+  pub whole : weight state ≡ weight_of held refs + records_bytes (other_records state)
 
 abbrev pub Weighs : Type 0
 Weighs = (state : State) (held refs : List (ℕ × Kept)) → CountsLayout (layout_of state) refs → IsRecorded state held

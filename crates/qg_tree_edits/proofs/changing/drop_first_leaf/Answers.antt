@@ -5,9 +5,14 @@ use Rattle.qg_tree_edits.proofs.changing.drop_first_leaf.Goals as goal
 
 pub returns-clause-dropped : goal.returns-clause-dropped
 returns-clause-dropped g c items rooted =
-    on_ok_weaker c.edit_tree.result
-    (λ is. replaced-first g.P.TreePart.tree c.args.tree.now c.edit_tree.new.tree c.args.land.now c.edit_tree.new.land (g.D.Disk.history c.args.disk.now) _ items refl refl is)
-    (c.edit_tree.ensures.edited items rooted tt)
+    let edits = c.edit_tree.ensures.edited items rooted tt in
+    record {
+      replaced = on_ok_weaker c.edit_tree.result
+          (λ is. replaced-first g.P.TreePart.tree c.args.tree.now c.edit_tree.new.tree c.args.land.now
+          c.edit_tree.new.land (g.D.Disk.history c.args.disk.now) _ items refl refl is)
+          edits.edited;
+      told = edits.told;
+    }
 
 pub returns-clause-leaves : goal.returns-clause-leaves
-returns-clause-leaves g c items rooted = c.edit_tree.ensures.leaves items rooted tt refl refl
+returns-clause-leaves g c items rooted = (c.edit_tree.ensures.edited items rooted tt).leaves refl refl

@@ -1,13 +1,15 @@
-use Rattle.std.proofs.Common.{◌≡◌, ℕ, List, refl, sym, ap, subst, ◌∙◌, Option, Some}
-use Rattle.std.proofs.lemmas.Result.{IfOk-weaker, err_from_is_err_and}
+use Rattle.std.proofs.Common.{◌≡◌, ℕ, List, arith, refl, sym, ap, subst, ◌∙◌, Option, Some}
+use Rattle.std.proofs.lemmas.Result.{IfOk-weaker, err_from_is_err_and, on_ok_weaker}
 use Rattle.qg_device.specs.History.{Event}
 use Rattle.qg_blocks.specs.Held.{Draft}
 use Rattle.qg_blocks.specs.Told.{fresh_at, told}
 use Rattle.qg_ground.specs.declared.ground.Ground.{Ground}
 use Rattle.qg_ground.proofs.Editing.{ArePlaced-drafted}
-use Rattle.qg_ground.proofs.Lands.{Rests-draft}
+use Rattle.qg_ground.proofs.Lands.{Rests-after, Rests-draft}
 use Rattle.qg_ground.proofs.Settling.{KeepsLevels-draft}
 use Rattle.qg_tree_edits.proofs.Owned.{IsOwned-visited, owned-unbroken}
+use Rattle.qg_tree_edits.proofs.Rejoined.{unbroken-other}
+use Rattle.qg_tree_edits.proofs.Stepped.{cause-handed, cause-last}
 use Rattle.qg_tree_edits.proofs.ToldOwned.{tells-owned}
 use Rattle.qg_ground.proofs.Owners.{IsOwnedBy-after, IsOwnedBy-draft, IsOwnedBy-owned}
 use Rattle.qg_tree_edits.proofs.Naming.{names-none, names-refused}
@@ -18,79 +20,129 @@ pub visit-requires : goal.visit-requires
 visit-requires g c = record {
   readable = record {
     backed = c.requires.editable.backed;
-    placed = ArePlaced-drafted c.args.land.now c.args.tree.now.next (g.D.Disk.size c.args.disk.now) c.requires.editable.room c.requires.editable.drafted;
+    placed = ArePlaced-drafted c.args.land.now c.args.tree.now.next (g.D.Disk.size c.args.disk.now)
+        c.requires.editable.room c.requires.editable.drafted;
   };
 }
-
-pub returns-in_err-visit-clause-rests : goal.returns-in_err-visit-clause-rests
-returns-in_err-visit-clause-rests g c =
-    Rests-draft c.args.land.now (record c.args.land.now { blocks = c.visit.new.blocks }) (g.D.Disk.history c.visit.new.disk) c.args.tree.now.next
-    c.visit.ensures.read.draft c.visit.ensures.read.bound refl c.visit.ensures.readable.backed c.requires.editable.drafted
 
 pub own_node-requires-clause-drafted : goal.own_node-requires-clause-drafted
 own_node-requires-clause-drafted g c =
     let mid : Ground = record c.args.land.now { blocks = c.visit.new.blocks } in
     let rests = Rests-draft c.args.land.now mid (g.D.Disk.history c.visit.new.disk) c.args.tree.now.next
-    c.visit.ensures.read.draft c.visit.ensures.read.bound refl c.visit.ensures.readable.backed c.requires.editable.drafted in
+    c.visit.ensures.read.draft c.visit.ensures.read.bound refl c.visit.ensures.readable.backed
+    c.requires.editable.drafted in
     rw c.next.ensures rests.drafted
 
 pub returns-clause-owned : goal.returns-clause-owned
 returns-clause-owned g c =
-    let mid : Ground = record c.args.land.now { blocks = c.visit.new.blocks } in
-    let rests = Rests-draft c.args.land.now mid (g.D.Disk.history c.visit.new.disk) c.args.tree.now.next
-    c.visit.ensures.read.draft c.visit.ensures.read.bound refl c.visit.ensures.readable.backed c.requires.editable.drafted in
-    IsOwned-visited g.P.TreePart.tree c.args.tree.now c.args.land.now c.own_node.new.land (g.D.Disk.history c.args.disk.now) (g.D.Disk.history c.visit.new.disk)
-    c.args.way.now.expected c.args.way.now.address c.visit.new.blocks c.own_node.result c.in_ok-visit.ensures.visited c.requires.editable.drafted rests.drafted c.visit.ensures.read.draft
-    (rw (c.owner.ensures, c.next.ensures) at c.own_node.ensures.owned) c.own_node.ensures.takes
-
-pub returns-clause-sound : goal.returns-clause-sound
-returns-clause-sound g c node there formed =
-    owned-unbroken c.own_node.result c.visit.new.blocks.draft c.args.land.now.blocks.draft (g.D.Disk.history c.visit.new.disk) (g.D.Disk.history c.args.disk.now) c.args.way.now.address node
-    c.visit.ensures.read.draft c.visit.ensures.read.history (λ some. (c.own_node.ensures.same some).0) c.own_node.ensures.answers there
+    let root = c.args.tree.now in
+    let owner = root.owner in
+    let land = c.args.land.now in
+    let mid : Ground = record land { blocks = c.visit.new.blocks } in
+    let new = c.own_node.new.land in
+    let at = c.args.way.now.address in
+    let later = g.D.Disk.history c.visit.new.disk in
+    let read = c.visit.ensures.read in
+    let drafted = c.requires.editable.drafted in
+    let rests = Rests-draft land mid later root.next read.draft read.bound refl c.visit.ensures.readable.backed
+    drafted in
+    let first = IsOwnedBy-draft owner land mid read.draft in
+    record {
+      is = IsOwned-visited g.P.TreePart.tree root land new (g.D.Disk.history c.args.disk.now) later
+          c.args.way.now.expected at c.visit.new.blocks c.own_node.result c.in_ok-visit.ensures.visited drafted
+          rests.drafted read.draft (rw (c.owner.ensures, c.next.ensures) at c.own_node.ensures.owned)
+          c.own_node.ensures.takes;
+      count = on_ok_weaker c.own_node.result (λ takes. takes.count) c.own_node.ensures.takes;
+      owners = IfOk-weaker c.own_node.result _ _
+          (λ now owned. IsOwnedBy-after owner land mid new first
+          (IsOwnedBy-owned mid new later at now owner root.next owned))
+          (rw (c.owner.ensures, c.next.ensures) at c.own_node.ensures.owned);
+    }
 
 pub returns-clause-told : goal.returns-clause-told
 returns-clause-told g c node there taken before log follows =
-    let told_then = subst (λ (h : Option (List Event)). told c.visit.new.blocks.draft h c.args.way.now.address ≡ Some node) (sym c.visit.ensures.read.history)
-    (ap (λ (d : Draft). told d (g.D.Disk.history c.args.disk.now) c.args.way.now.address) c.visit.ensures.read.draft ∙ there) in
-    tells-owned _ (g.B.Book.follows before) c.args.book.now c.own_node.new.book log node c.args.way.now.address c.args.land.now.space taken follows
-    (fresh_at c.visit.new.blocks.draft c.args.way.now.address) c.own_node.result c.own_node.ensures.same
-    (λ none. c.own_node.ensures.told node told_then none taken before log follows)
+    let told_then = subst (λ (h : Option (List Event)). told c.visit.new.blocks.draft h c.args.way.now.address ≡ Some
+    node) (sym c.visit.ensures.read.history) (ap (λ (d : Draft). told d (g.D.Disk.history c.args.disk.now)
+    c.args.way.now.address) c.visit.ensures.read.draft ∙ there) in
+    tells-owned _ (g.B.Book.follows before) c.args.book.now c.own_node.new.book log node c.args.way.now.address
+    c.args.land.now.space taken follows (fresh_at c.visit.new.blocks.draft c.args.way.now.address) c.own_node.result
+    c.own_node.ensures.same (λ none. c.own_node.ensures.told node told_then none taken before log follows)
     (λ none. IfOk-weaker c.own_node.result _ _ (λ now owned. (owned.copied none).puts.free) c.own_node.ensures.owned)
 
-pub returns-clause-settled : goal.returns-clause-settled
-returns-clause-settled g c settled =
-    let mid : Ground = record c.args.land.now { blocks = c.visit.new.blocks } in
-    c.own_node.ensures.settled
-    (g.met.B.Book.keeps c.args.book.now c.args.land.now mid c.args.disk.now c.visit.new.disk c.visit.ensures.read.history refl
-    (KeepsLevels-draft c.args.land.now mid c.visit.ensures.read.draft) settled)
+-- ---- where it fails
 
--- ---- owners
-
-pub returns-clause-owners : goal.returns-clause-owners
-returns-clause-owners g c =
-    let owner = c.args.tree.now.owner in
-    let mid : Ground = record c.args.land.now { blocks = c.visit.new.blocks } in
-    let first = IsOwnedBy-draft owner c.args.land.now mid c.visit.ensures.read.draft in
-    IfOk-weaker c.own_node.result _ _
-    (λ now owned. IsOwnedBy-after owner c.args.land.now mid c.own_node.new.land first
-    (IsOwnedBy-owned mid c.own_node.new.land (g.D.Disk.history c.visit.new.disk) c.args.way.now.address now owner c.args.tree.now.next owned))
-    (rw (c.owner.ensures, c.next.ensures) at c.own_node.ensures.owned)
-
--- ---- where a rule is named
-
-pub returns-in_err-visit-clause-broken : goal.returns-in_err-visit-clause-broken
-returns-in_err-visit-clause-broken g c events told_is =
+pub returns-in_err-visit-clause-fails : goal.returns-in_err-visit-clause-fails
+returns-in_err-visit-clause-fails g c =
     let p = err_from_is_err_and c.from_residual.result c.from_residual.ensures.1 in
     let land = c.args.land.now in
     let mid : Ground = record land { blocks = c.visit.new.blocks } in
-    rw (p.1, p.2) (names-refused (Unit {0}) ℕ g.P.TreePart.tree c.args.tree.now land mid events c.args.way.now.expected
-    c.args.way.now.address c.in_err-visit.field-0.0 c.visit.ensures.read.draft (c.in_err-visit.ensures.broken events told_is))
+    let fault = c.in_err-visit.field-0.0 in
+    let old = g.D.Disk.faults c.args.disk.now in
+    rw (p.1, p.2) (record {
+      sound = λ node there formed. unbroken-other (Unit {0}) ℕ fault (c.in_err-visit.ensures.sound node there formed);
+      broken = λ events told_is. names-refused (Unit {0}) ℕ g.P.TreePart.tree c.args.tree.now land mid events
+          c.args.way.now.expected c.args.way.now.address fault c.visit.ensures.read.draft
+          (c.in_err-visit.ensures.broken events told_is);
+      cause = cause-handed (Unit {0}) ℕ old old (g.D.Disk.faults c.visit.new.disk) fault (omega arith)
+          c.in_err-visit.ensures.cause;
+    })
 
-pub returns-clause-broken : goal.returns-clause-broken
-returns-clause-broken g c events told_is =
+pub returns-clause-fails : goal.returns-clause-fails
+returns-clause-fails g c =
+    let land = c.args.land.now in
+    let at = c.args.way.now.address in
     let visited = c.in_ok-visit.ensures.visited in
-    names-none c.own_node.result
-    (IsRefused g.P.TreePart.tree c.args.tree.now c.args.land.now c.own_node.new.land events c.args.way.now.expected
-    c.args.way.now.address)
-    (owned-unbroken c.own_node.result c.visit.new.blocks.draft c.args.land.now.blocks.draft (g.D.Disk.history c.visit.new.disk) (g.D.Disk.history c.args.disk.now) c.args.way.now.address visited.node
-    c.visit.ensures.read.draft c.visit.ensures.read.history (λ some. (c.own_node.ensures.same some).0) c.own_node.ensures.answers (visited.tells events told_is))
+    let read = c.visit.ensures.read in
+    record {
+      sound = λ node there formed. owned-unbroken c.own_node.result c.visit.new.blocks.draft land.blocks.draft
+          (g.D.Disk.history c.visit.new.disk) (g.D.Disk.history c.args.disk.now) at node read.draft read.history
+          (λ some. (c.own_node.ensures.same some).0) c.own_node.ensures.answers there;
+      broken = λ events told_is. names-none c.own_node.result
+          (IsRefused g.P.TreePart.tree c.args.tree.now land c.own_node.new.land events c.args.way.now.expected at)
+          (owned-unbroken c.own_node.result c.visit.new.blocks.draft land.blocks.draft
+          (g.D.Disk.history c.visit.new.disk) (g.D.Disk.history c.args.disk.now) at visited.node read.draft read.history
+          (λ some. (c.own_node.ensures.same some).0) c.own_node.ensures.answers (visited.tells events told_is));
+      cause = cause-last (g.D.Disk.faults c.args.disk.now) (g.D.Disk.faults c.visit.new.disk)
+          (g.D.Disk.faults c.own_node.new.disk) c.own_node.result c.visit.ensures.cause.later c.own_node.ensures.cause;
+    }
+
+-- ---- what is left so
+
+pub returns-in_err-visit-clause-rests : goal.returns-in_err-visit-clause-rests
+returns-in_err-visit-clause-rests g c =
+    let land = c.args.land.now in
+    let read = c.visit.ensures.read in
+    record {
+      rests = Rests-draft land (record land { blocks = c.visit.new.blocks }) (g.D.Disk.history c.visit.new.disk)
+          c.args.tree.now.next read.draft read.bound refl c.visit.ensures.readable.backed c.requires.editable.drafted;
+      history = read.history;
+      size = read.size;
+    }
+
+pub returns-clause-rests : goal.returns-clause-rests
+returns-clause-rests g c =
+    let land = c.args.land.now in
+    let mid : Ground = record land { blocks = c.visit.new.blocks } in
+    let next = c.args.tree.now.next in
+    let later = g.D.Disk.history c.visit.new.disk in
+    let read = c.visit.ensures.read in
+    let first = Rests-draft land mid later next read.draft read.bound refl c.visit.ensures.readable.backed
+    c.requires.editable.drafted in
+    let second = rw c.next.ensures at c.own_node.ensures.rests in
+    record {
+      rests = Rests-after land mid c.own_node.new.land later (g.D.Disk.history c.own_node.new.disk) next first second;
+      history = c.own_node.ensures.disk.0 ∙ read.history;
+      size = c.own_node.ensures.disk.1 ∙ read.size;
+    }
+
+pub returns-clause-book : goal.returns-clause-book
+returns-clause-book g c =
+    let land = c.args.land.now in
+    let mid : Ground = record land { blocks = c.visit.new.blocks } in
+    let read = c.visit.ensures.read in
+    record {
+      stands = c.own_node.ensures.stands;
+      settled = λ settled. c.own_node.ensures.settled
+          (g.met.B.Book.keeps c.args.book.now land mid c.args.disk.now c.visit.new.disk read.history refl
+          (KeepsLevels-draft land mid read.draft) settled);
+    }

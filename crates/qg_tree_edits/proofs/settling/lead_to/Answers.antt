@@ -28,13 +28,6 @@ returns-in-None-clause-led c = λ tree super history level pointers header items
     (Inner header (take c.args.from pointers ++ (p ∷ []) ++ drop c.args.to pointers)) rest) c.pointer_to-now.ensures.pointer cut))
     (c.rewrite_pointers.ensures.cut (Inner header pointers) can.here)
 
-pub returns-in-None-clause-sound : goal.returns-in-None-clause-sound
-returns-in-None-clause-sound c = λ tree super history level pointers header items can.
-    c.rewrite_pointers.ensures.sound (Inner header pointers) can.here
-    (subst (λ (p : Pointer). is_ascending (keys_to (take c.args.from pointers ++ (p ∷ []) ++ drop c.args.to pointers)) ≡ true) (sym c.pointer_to-now.ensures.pointer)
-    (one-ascends tree super c.args.land.now c.rewrite_pointers.new.land history level c.args.at c.args.from c.args.to c.args.instead pointers header items can c.requires.fresh.0
-    c.peek.result.now c.peek.ensures c.in-None.is))
-
 pub returns-in-Some-clause-led : goal.returns-in-Some-clause-led
 returns-in-Some-clause-led c = λ tree super history level pointers header items can.
     let named = MatchOption-at_some _ (IsNamed c.args.land.now) c.in-Some.more c.in-Some.is c.requires.fresh.1 in
@@ -46,15 +39,6 @@ returns-in-Some-clause-led c = λ tree super history level pointers header items
     (subst (λ (p : Pointer). IsCutThere c.args.land.now.space.sizes.nodesize c.rewrite_pointers-in-Some.new.land c.args.at (Inner header pointers)
     (Inner header (take c.args.from pointers ++ (c.pointer_to-now.result ∷ p ∷ []) ++ drop c.args.to pointers)) rest) c.pointer_to-behind.ensures.pointer cut)))
     (c.rewrite_pointers-in-Some.ensures.cut (Inner header pointers) can.here)
-
-pub returns-in-Some-clause-sound : goal.returns-in-Some-clause-sound
-returns-in-Some-clause-sound c = λ tree super history level pointers header items can.
-    let named = MatchOption-at_some _ (IsNamed c.args.land.now) c.in-Some.more c.in-Some.is c.requires.fresh.1 in
-    c.rewrite_pointers-in-Some.ensures.sound (Inner header pointers) can.here
-    (subst (λ (p : Pointer). is_ascending (keys_to (take c.args.from pointers ++ (p ∷ c.pointer_to-behind.result ∷ []) ++ drop c.args.to pointers)) ≡ true) (sym c.pointer_to-now.ensures.pointer)
-    (subst (λ (p : Pointer). is_ascending (keys_to (take c.args.from pointers ++ (pointer_to c.peek.result.now ∷ p ∷ []) ++ drop c.args.to pointers)) ≡ true) (sym c.pointer_to-behind.ensures.pointer)
-    (two-ascend tree super c.args.land.now c.rewrite_pointers-in-Some.new.land history level c.args.at c.args.from c.args.to c.args.instead pointers header items can c.requires.fresh.0
-    c.peek.result.now c.peek.ensures c.in-Some.more c.in-Some.is named c.peek-in-Some.result.now c.peek-in-Some.ensures)))
 
 pub returns-in-None-clause-rest : goal.returns-in-None-clause-rest
 returns-in-None-clause-rest c = λ node here.
@@ -69,24 +53,60 @@ returns-in-Some-clause-rest c = λ node here.
 
 -- ---- where a rule is named
 
-pub returns-in-None-clause-broken : goal.returns-in-None-clause-broken
-returns-in-None-clause-broken c node here =
+pub returns-in-None-clause-fails : goal.returns-in-None-clause-fails
+returns-in-None-clause-fails c =
     let land = c.args.land.now in
-    let new = c.pointer_to-now.result ∷ [] in
-    names-weaker c.rewrite_pointers.result (IsBrokenUnless Refs node (CanSplice c.args.from c.args.to new node))
-    (IsMisled land node c.args.from c.args.to c.args.instead)
-    (λ rule address bad. misled-one land node c.args.from c.args.to c.args.instead c.peek.result.now c.pointer_to-now.result
-    rule address c.requires.fresh.0 c.peek.ensures c.in-None.is c.pointer_to-now.ensures.pointer bad)
-    (c.rewrite_pointers.ensures.broken node here)
+    let at = c.args.at in
+    let from = c.args.from in
+    let to = c.args.to in
+    let instead = c.args.instead in
+    let now = c.pointer_to-now.result in
+    let is = c.pointer_to-now.ensures.pointer in
+    let fails = c.rewrite_pointers.ensures.fails in
+    record {
+      sound = λ tree super history level pointers header items can.
+          fails.sound (Inner header pointers) can.here
+          (subst (λ (p : Pointer). is_ascending (keys_to (take from pointers ++ (p ∷ []) ++ drop to pointers)) ≡ true)
+          (sym is)
+          (one-ascends tree super land c.rewrite_pointers.new.land history level at from to instead pointers header
+          items can c.requires.fresh.0 c.peek.result.now c.peek.ensures c.in-None.is));
+      broken = λ node here. names-weaker c.rewrite_pointers.result
+          (IsBrokenUnless Refs node (CanSplice from to (now ∷ []) node)) (IsMisled land node from to instead)
+          (λ rule address bad. misled-one land node from to instead c.peek.result.now now rule address
+          c.requires.fresh.0 c.peek.ensures c.in-None.is is bad)
+          (fails.broken node here);
+      no_disk = fails.no_disk;
+    }
 
-pub returns-in-Some-clause-broken : goal.returns-in-Some-clause-broken
-returns-in-Some-clause-broken c node here =
+pub returns-in-Some-clause-fails : goal.returns-in-Some-clause-fails
+returns-in-Some-clause-fails c =
     let land = c.args.land.now in
-    let new = c.pointer_to-now.result ∷ c.pointer_to-behind.result ∷ [] in
+    let at = c.args.at in
+    let from = c.args.from in
+    let to = c.args.to in
+    let instead = c.args.instead in
+    let now = c.pointer_to-now.result in
+    let behind = c.pointer_to-behind.result in
+    let is = c.pointer_to-now.ensures.pointer in
+    let is_behind = c.pointer_to-behind.ensures.pointer in
+    let one = c.peek.result.now in
+    let two = c.peek-in-Some.result.now in
     let named = MatchOption-at_some _ (IsNamed land) c.in-Some.more c.in-Some.is c.requires.fresh.1 in
-    names-weaker c.rewrite_pointers-in-Some.result (IsBrokenUnless Refs node (CanSplice c.args.from c.args.to new node))
-    (IsMisled land node c.args.from c.args.to c.args.instead)
-    (λ rule address bad. misled-two land node c.args.from c.args.to c.args.instead c.in-Some.more c.peek.result.now
-    c.peek-in-Some.result.now c.pointer_to-now.result c.pointer_to-behind.result rule address c.requires.fresh.0 named
-    c.peek.ensures c.peek-in-Some.ensures c.in-Some.is c.pointer_to-now.ensures.pointer c.pointer_to-behind.ensures.pointer bad)
-    (c.rewrite_pointers-in-Some.ensures.broken node here)
+    let fails = c.rewrite_pointers-in-Some.ensures.fails in
+    record {
+      sound = λ tree super history level pointers header items can.
+          fails.sound (Inner header pointers) can.here
+          (subst (λ (p : Pointer). is_ascending (keys_to (take from pointers ++ (p ∷ behind ∷ [])
+          ++ drop to pointers)) ≡ true) (sym is)
+          (subst (λ (p : Pointer). is_ascending (keys_to (take from pointers ++ (pointer_to one ∷ p ∷ [])
+          ++ drop to pointers)) ≡ true) (sym is_behind)
+          (two-ascend tree super land c.rewrite_pointers-in-Some.new.land history level at from to instead pointers
+          header items can c.requires.fresh.0 one c.peek.ensures c.in-Some.more c.in-Some.is named two
+          c.peek-in-Some.ensures)));
+      broken = λ node here. names-weaker c.rewrite_pointers-in-Some.result
+          (IsBrokenUnless Refs node (CanSplice from to (now ∷ behind ∷ []) node)) (IsMisled land node from to instead)
+          (λ rule address bad. misled-two land node from to instead c.in-Some.more one two now behind rule address
+          c.requires.fresh.0 named c.peek.ensures c.peek-in-Some.ensures c.in-Some.is is is_behind bad)
+          (fails.broken node here);
+      no_disk = fails.no_disk;
+    }

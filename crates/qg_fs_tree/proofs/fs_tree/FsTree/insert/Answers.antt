@@ -26,11 +26,12 @@ returns-clause-inserted g c items names stands there =
     let bytes = g.D.Disk.size c.args.disk.now in
     let met = c.in_ok-insert.ensures in
     let table = subst (λ (refs : List (ℕ × Kept)). IsTable refs) c.refs.ensures c.len-ascending.ensures.table in
-    let told = met.told items stands.rooted there old.refs [] (Follows-none old.refs) in
+    let made = met.inserted items stands.rooted there in
+    let told = made.told old.refs [] (Follows-none old.refs) in
     let edited = IsEditedTo-called old new history bytes items (with_item (record { key = c.args.key; body = c.args.body }) items) names told.0
     c.requires.subvolume stands table told.2 told.1 (g.D.Disk.history c.insert.new.disk) (g.D.Disk.size c.insert.new.disk)
-    1 (met.inserted items stands.rooted there) c.insert.ensures.rests met.tree.stays met.owners
-    (met.settled (λ none. stands.settled))
+    1 made.replaced c.insert.ensures.rests met.tree.stays met.owners
+    (met.book.settled (λ none. stands.settled))
     (subst (λ (refs : List (ℕ × Kept)). IsTable refs) c.refs-2.ensures c.len-ascending_still.ensures.table) in
     ok-known _ c.fitting.result edited
 
@@ -41,7 +42,7 @@ returns-clause-sound g c events is items names stands there room =
     let history = g.D.Disk.history c.args.disk.now in
     let bytes = g.D.Disk.size c.args.disk.now in
     let table = subst (λ (refs : List (ℕ × Kept)). IsTable refs) c.refs.ensures c.len-ascending.ensures.table in
-    let told = c.in_ok-insert.ensures.told items stands.rooted there old.refs [] (Follows-none old.refs) in
+    let told = (c.in_ok-insert.ensures.inserted items stands.rooted there).told old.refs [] (Follows-none old.refs) in
     let fits = fits-called old new history bytes items items names told.0 c.requires.subvolume stands table told.2 told.1
     in
     fitting-sound new.refs.misfit c.fitting.result c.fitting.ensures fits

@@ -26,11 +26,12 @@ returns-clause-removed g c items names stands there =
     let bytes = g.D.Disk.size c.args.disk.now in
     let met = c.in_ok-remove.ensures in
     let table = subst (λ (refs : List (ℕ × Kept)). IsTable refs) c.refs.ensures c.len-ascending.ensures.table in
-    let told = met.told items stands.rooted there old.refs [] (Follows-none old.refs) in
+    let made = met.removed items stands.rooted there in
+    let told = made.told old.refs [] (Follows-none old.refs) in
     let edited = IsEditedTo-called old new history bytes items (without_key c.args.key items) names told.0
     c.requires.subvolume stands table told.2 told.1 (g.D.Disk.history c.remove.new.disk) (g.D.Disk.size c.remove.new.disk)
-    0 (met.removed items stands.rooted there) c.remove.ensures.rests met.tree.stays met.owners
-    (met.settled (λ none. stands.settled))
+    0 made.replaced c.remove.ensures.rests met.tree.stays met.owners
+    (met.book.settled (λ none. stands.settled))
     (subst (λ (refs : List (ℕ × Kept)). IsTable refs) c.refs-2.ensures c.len-ascending_still.ensures.table) in
     ok-known _ c.fitting.result edited
 
@@ -41,7 +42,7 @@ returns-clause-sound g c events is items names stands there room =
     let history = g.D.Disk.history c.args.disk.now in
     let bytes = g.D.Disk.size c.args.disk.now in
     let table = subst (λ (refs : List (ℕ × Kept)). IsTable refs) c.refs.ensures c.len-ascending.ensures.table in
-    let told = c.in_ok-remove.ensures.told items stands.rooted there old.refs [] (Follows-none old.refs) in
+    let told = (c.in_ok-remove.ensures.removed items stands.rooted there).told old.refs [] (Follows-none old.refs) in
     let fits = fits-called old new history bytes items items names told.0 c.requires.subvolume stands table told.2 told.1
     in
     fitting-sound new.refs.misfit c.fitting.result c.fitting.ensures fits

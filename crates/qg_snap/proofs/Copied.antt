@@ -1,0 +1,142 @@
+-- A state that is held, once a subvolume has a snapshot: what the book counts, its marks, and that it is settled.
+use Rattle.std.proofs.Common.{◌≡◌, ◌≢◌, ℕ, ◌+◌, Bool, true, false, List, [], ◌∷◌, Option, Some, None, arith, refl, sym, ap, subst, ◌∙◌, inl, inr}
+use Rattle.std.specs.Prelude.{◌||◌, IsTrue}
+use Rattle.std.specs.Option.{option_or}
+use Rattle.std.proofs.lemmas.Bool.Decides.{eqb_tells}
+use Rattle.std.proofs.lemmas.Option.{same_Some}
+use Rattle.qg_device.specs.History.{Event}
+use Rattle.qg_items.specs.declared.extent.Reference.{Reference}
+use Rattle.qg_super.specs.Places.{is_slot}
+use Rattle.qg_super.specs.declared.sizes.Sizes.{Sizes}
+use Rattle.qg_image.specs.Table.{value_at, with_value}
+use Rattle.qg_state.specs.State.{Placed, State, next_generation}
+use Rattle.qg_state.specs.Owed.{Owing}
+use Rattle.qg_machine.specs.Step.{Snapshots, copy_of}
+use Rattle.qg_cow.specs.Children.{way_to}
+use Rattle.qg_blocks.specs.Told.{told}
+use Rattle.qg_ground.specs.declared.ground.Ground.{Ground}
+use Rattle.qg_ground.specs.Tellings.Telling.{Made}
+use Rattle.qg_refs.specs.declared.kept.Kept.{Kept}
+use Rattle.qg_refs.specs.declared.kept.What.{What}
+use Rattle.qg_refs.specs.Book.{Book, IsBook, count_at, full_in, what_in}
+use Rattle.qg_extents.specs.Table.{book_of}
+use Rattle.qg_reach.proofs.Layouts.{value_at-with_other, value_at-with_same}
+use Rattle.qg_tree_refs.specs.declared.tree_refs.TreeRefs.{TreeRefs}
+use Rattle.qg_tree_refs.specs.Exchange.{Exchange, Exchanges, Gives, times, what_comes}
+use Rattle.qg_tree_refs.specs.Following.{coming_of}
+use Rattle.qg_tree_refs.specs.Settled.{IsSettled}
+use Rattle.qg_tree_refs.proofs.Gains.{count-none}
+use Rattle.qg_tree_refs.proofs.Times.{times-append, times-nil}
+use Rattle.qg_tree_refs.proofs.Whole.{nothing-kept}
+use Rattle.qg_forest.specs.Standing.{HoldsNode, HoldsState}
+use Rattle.qg_forest.proofs.Known.{Settled-known}
+
+-- a node is made, and nothing else becomes of references
+abbrev pub nothing_else : Exchange
+nothing_else = record { full = None; gains = []; losses = [] }
+
+or_nothing : (full : Bool) → (full || false) ≡ full
+or_nothing true = refl
+or_nothing false = refl
+
+module _ (old made given : Book) (book : TreeRefs) (now level : ℕ) (children : List Owing) (first : IsBook old)
+    (done : Exchanges old made nothing_else (coming_of book level (Made now))) (gives : Gives made given children) where
+  -- the counts are those before, with the way to the copy and what the children got
+  pub counts-then : (at : ℕ) (reference : Reference) → count_at given at reference
+      ≡ count_at old at reference + times (way_to now book.tree ∷ []) at reference
+      + times children at reference
+  counts-then at reference =
+      let put = done.counts at reference in
+      let none = times-nil at reference in
+      let both = times-append (way_to now book.tree ∷ []) [] at reference in
+      let more = gives.counts at reference in
+      omega (arith, put, none, both, more)
+
+  more_there : (at : ℕ) (reference : Reference) → count_at made at reference ≡ 0 → count_at old at reference ≡ 0
+  more_there at reference none =
+      let put = done.counts at reference in
+      let nothing = times-nil at reference in
+      omega (arith, put, nothing, none)
+
+  none_made : (at : ℕ) → made at ≡ None → (reference : Reference) → count_at made at reference ≡ 0
+  none_made at none reference = count-none made at reference none
+
+  full_made : (at : ℕ) (kept : Option Kept) → made at ≡ kept → full_in (made at) ≡ full_in (old at)
+  full_made at (Some kept) here = ap full_in here ∙ done.full at kept here ∙ or_nothing (full_in (old at))
+  full_made at None here = ap full_in here ∙ sym (ap full_in (nothing-kept old at first (λ reference.
+      more_there at reference (none_made at here reference))))
+
+  -- marks are as they were
+  pub marks-then : (at : ℕ) → full_in (given at) ≡ full_in (old at)
+  marks-then at = gives.full at ∙ full_made at (made at) refl
+
+  known_made : (at : ℕ) (what : What) (kept : Option Kept) → made at ≡ kept → what_in (old at) ≡ Some what
+      → what_in (made at) ≡ Some what
+  known_made at what (Some kept) here there =
+      ap what_in here ∙ sym (done.known at kept here)
+      ∙ ap (λ (known : Option What). option_or known (what_comes (coming_of book level (Made now)) at)) there
+  known_made at what None here there =
+      let none = nothing-kept old at first (λ reference. more_there at reference (none_made at here reference)) in
+      let wrong : ◌≡◌ {A = Option What} None (Some what) = sym (ap what_in none) ∙ there in absurd cc
+
+  -- what was known is known
+  pub known-then : (at : ℕ) (what : What) → what_in (old at) ≡ Some what → what_in (given at) ≡ Some what
+  known-then at what there = gives.known at ∙ known_made at what (made at) refl there
+
+  -- what comes is not full
+  pub bare-then : full_in (given now) ≡ false
+  bare-then = marks-then now ∙ ap full_in (nothing-kept old now first done.first)
+
+module _ (before after : State) (sub copy : ℕ) (parents : List ℕ) (snap : Snapshots before sub parents copy after)
+    (land new : Ground) (history : Option (List Event)) (old given : TreeRefs)
+    (holds : HoldsState land history old before)
+    (sizes : new.space.sizes ≡ land.space.sizes) (slot : IsTrue (is_slot before.sizes snap.address))
+    (others : (q : ℕ) → q ≢ snap.address → told new.blocks.draft history q ≡ told land.blocks.draft history q)
+    (here : told new.blocks.draft history snap.address
+    ≡ Some (copy_of (next_generation before) copy snap.address snap.root))
+    (marks : (q : ℕ) → full_in (book_of given.refs q) ≡ full_in (book_of old.refs q))
+    (bare : full_in (book_of given.refs snap.address) ≡ false) where
+  made_node : Placed
+  made_node = record { node = copy_of (next_generation before) copy snap.address snap.root; full = false }
+
+  layout_is : after.layout ≡ with_value snap.address made_node before.layout
+  unfolding made_node
+  layout_is = ap (λ (state : State). state.layout) snap.copied
+
+  copy_held : (placed : Placed) → made_node ≡ placed → HoldsNode new history given snap.address placed
+  unfolding made_node
+  copy_held placed same = record {
+    slot = subst (λ (s : Sizes). IsTrue (is_slot s snap.address)) (holds.sizes ∙ sym sizes) slot;
+    told = here ∙ ap (λ (p : Placed). Some p.node) same;
+    mark = bare ∙ ap (λ (p : Placed). p.full) same;
+  }
+
+  -- the layout's nodes are held
+  pub nodes-then : (at : ℕ) (placed : Placed) → value_at at after.layout ≡ Some placed
+      → HoldsNode new history given at placed
+  nodes-then at placed there = elim (eqb_tells snap.address at) [
+    | inl (equal, same) ↦
+        let value = sym (value_at-with_same snap.address made_node before.layout)
+        ∙ ap (λ (table : List (ℕ × Placed)). value_at snap.address table) (sym layout_is)
+        ∙ ap (λ (q : ℕ). value_at q after.layout) same ∙ there in
+        subst (λ (q : ℕ). HoldsNode new history given q placed) same
+        (copy_held placed (same_Some made_node placed value))
+    | inr (unequal, differ) ↦
+        let value = sym (value_at-with_other snap.address at made_node before.layout differ)
+        ∙ ap (λ (table : List (ℕ × Placed)). value_at at table) (sym layout_is) ∙ there in
+        let was = holds.nodes at placed value in
+        record {
+          slot = subst (λ (s : Sizes). IsTrue (is_slot s at)) (sym sizes) was.slot;
+          told = others at (λ is. differ (sym is)) ∙ was.told;
+          mark = marks at ∙ was.mark;
+        }
+  ]
+
+-- the book stays settled while children get references
+pub settled-then : (made given : TreeRefs) (land : Ground) (history : Option (List Event)) (children : List Owing)
+    → IsBook (book_of made.refs) → IsBook (book_of given.refs) → given ≡ record made { refs = given.refs }
+    → Gives (book_of made.refs) (book_of given.refs) children → IsSettled made land history
+    → IsSettled given land history
+settled-then made given land history children first last others gives settled =
+    Settled-known made given land history first last (ap (λ (book : TreeRefs). book.nodesize) others)
+    (ap (λ (book : TreeRefs). book.next) others) gives.known settled

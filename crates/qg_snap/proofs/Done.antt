@@ -1,0 +1,390 @@
+-- What the calls of a snapshot do, where nodes, disk and book hold a state.
+use Rattle.std.proofs.Common.{◌≡◌, ℕ, ◌+◌, ◌<◌, ◌≤◌, ◌^◌, true, false, List, [], ◌∷◌, Option, Some, None, arith, refl, sym, ap, subst, ◌∙◌, inl, inr}
+use Rattle.std.specs.Prelude.{◌==◌, ◌&&◌, is_some, not, nat_le, nat_lt}
+use Rattle.std.specs.Option.{option_map, option_or}
+use Rattle.std.proofs.lemmas.Bool.{and_parts, eqb-true, ltb-true, or_cases, true≢false}
+use Rattle.std.proofs.lemmas.List.Elements.{All-nil}
+use Rattle.std.proofs.lemmas.Option.{same_Some}
+use Rattle.qg_device.specs.History.{Event}
+use Rattle.qg_node.specs.declared.node.Node.{Node}
+use Rattle.qg_node.specs.declared.node.Node.TheVariants.{Leaf, Inner}
+use Rattle.qg_node.specs.Fits.{HeaderFits, NodeFits}
+use Rattle.qg_node.specs.Nodes.{header_of}
+use Rattle.qg_node.specs.NodeText.{IsNode}
+use Rattle.qg_items.specs.declared.extent.Reference.{Reference}
+use Rattle.qg_super.specs.declared.sizes.Sizes.{Sizes}
+use Rattle.qg_super.specs.declared.superblock.Super.{Super}
+use Rattle.qg_super.proofs.Served.{SizesFit-is_served}
+use Rattle.qg_super.proofs.Slots.{slot_ends}
+use Rattle.qg_image.specs.ItemMeaning.{is_subvolume_number}
+use Rattle.qg_image.specs.Table.{value_at, with_value}
+use Rattle.qg_state.specs.Owed.{Owing}
+use Rattle.qg_state.specs.State.{Placed, State, Subvolume, has_subvolume, layout_of, next_generation, node_at}
+use Rattle.qg_state.specs.Reach.{level_of}
+use Rattle.qg_verdict.specs.declared.expected.Expected.{Expected}
+use Rattle.qg_verdict.specs.declared.tree.Tree.TheVariants.{Files}
+use Rattle.qg_machine.specs.GroupChange.{inherited}
+use Rattle.qg_machine.specs.Step.{Snapshots, copy_of}
+use Rattle.qg_machine.specs.Refusals.{root_level}
+use Rattle.qg_cow.specs.Children.{keyed_children, way_to}
+use Rattle.qg_blocks.specs.Held.{Draft, Held}
+use Rattle.qg_blocks.specs.Told.{held_at, told}
+use Rattle.qg_space.specs.Holding.{Holding, is_free_slot}
+use Rattle.qg_ground.specs.declared.ground.Ground.{Ground}
+use Rattle.qg_ground.specs.Changes.{Makes, node_at as placed_at}
+use Rattle.qg_ground.specs.Land.{IsGround}
+use Rattle.qg_ground.specs.Tellings.{node_copy}
+use Rattle.qg_ground.specs.Tellings.Telling.{Made}
+use Rattle.qg_ground.proofs.Lands.{node_copy-generation, told-fresh_at}
+use Rattle.qg_ground.proofs.Slots.{free-parts}
+use Rattle.qg_reach.proofs.Layouts.{value_at-with_same}
+use Rattle.qg_refs.specs.Book.{count_at}
+use Rattle.qg_extents.specs.Table.{IsTable, book_of}
+use Rattle.qg_descent.specs.Tree.{Root}
+use Rattle.qg_descent.specs.Way.{IsVisited}
+use Rattle.qg_tree_refs.specs.declared.tree_refs.TreeRefs.{TreeRefs}
+use Rattle.qg_tree_refs.specs.Exchange.{CanGive, Exchanges, Gives, IsKnown, times}
+use Rattle.qg_tree_refs.specs.Following.{IsProper, Step, coming_of}
+use Rattle.qg_tree_refs.specs.Settled.{IsSettled}
+use Rattle.qg_tree_refs.proofs.Times.{times-append, times-nil}
+use Rattle.qg_forest.specs.Standing.{HoldsState, root_of, tree_of}
+use Rattle.qg_snap.proofs.Copied.{nothing_else}
+use Rattle.qg_snap.proofs.Held.{IsDone, holds-then}
+use Rattle.qg_snap.proofs.CopyWalked.{copy-level}
+use Rattle.qg_snap.proofs.Homed.{value_mapped}
+use Rattle.qg_snap.proofs.Referred.{free-count, free-none, free-slot, free-state}
+use Rattle.qg_snap.proofs.Room.{can-give}
+use Rattle.qg_snap.proofs.Source.{HasRoot, has-root, level-is, node-there, root-reached, root-told, root_level-value, root_of-value}
+
+-- ---- the copy
+
+-- the machine's copy is the one that was put
+copy_put : (node : Node) (from address owner generation : ℕ)
+    → placed_at address (node_copy node from owner generation) ≡ copy_of generation owner address node
+copy_put (Leaf header items) from address owner generation = refl
+copy_put (Inner header pointers) from address owner generation = refl
+
+copy_sound : (size generation owner address : ℕ) (node : Node) → IsNode size node
+    → IsNode size (copy_of generation owner address node)
+copy_sound size generation owner address (Leaf header items) is = record {
+  levelled = is.levelled;
+  ascending = is.ascending;
+  fits = is.fits;
+}
+copy_sound size generation owner address (Inner header pointers) is = record {
+  levelled = is.levelled;
+  ascending = is.ascending;
+  fits = is.fits;
+}
+
+copy_fits : (generation owner address : ℕ) (node : Node) → generation < 2 ^ 64 → owner < 2 ^ 64 → address < 2 ^ 64
+    → NodeFits node → NodeFits (copy_of generation owner address node)
+copy_fits generation owner address (Leaf header items) dated own lies fits =
+    (record { address = lies; generation = dated; owner = own; level = fits.0.level }, fits.1)
+copy_fits generation owner address (Inner header pointers) dated own lies fits =
+    (record { address = lies; generation = dated; owner = own; level = fits.0.level }, fits.1)
+
+-- a subvolume's number fits its field
+number_fits : (owner : ℕ) → is_subvolume_number owner ≡ true → owner < 2 ^ 64
+unfolding is_subvolume_number
+number_fits owner is = elim (or_cases (owner == 5) (nat_le 256 owner && nat_lt owner (2 ^ 48)) is) [
+  | inl top ↦ let same : owner ≡ 5 = eqb-true owner 5 top in omega arith
+  | inr free ↦
+      let parts = and_parts (nat_le 256 owner) (nat_lt owner (2 ^ 48)) free in
+      let low : owner < 2 ^ 48 = ltb-true owner (2 ^ 48) parts.1 in
+      omega arith
+]
+
+-- a generation fits its field, where a copy's header does
+pub generation-low : (copy node : Node) (owner generation : ℕ)
+    → copy ≡ node_copy node (header_of node).address owner generation → HeaderFits (header_of copy)
+    → generation < 2 ^ 64
+generation-low copy node owner generation is fits =
+    let same = ap (λ (n : Node). (header_of n).generation) is
+    ∙ node_copy-generation node (header_of node).address owner generation in
+    let low = fits.generation in
+    omega (arith, same, low)
+
+-- a node that was visited is the one that is told, if one is
+pub peeked-alone : (super : Super) (expected : Expected) (draft : Draft) (history : Option (List Event)) (held : Held)
+    (address at : ℕ) (peeked : Node) → address ≡ at → IsVisited Files super expected draft history held address
+    → held_at held address ≡ Some peeked → (node : Node) → told draft history at ≡ Some node → node ≡ peeked
+peeked-alone super expected draft history held address at peeked same visited here node there =
+    let told_there = ap (λ (q : ℕ). told draft history q) same ∙ there in
+    visited.alone node told_there ∙ same_Some visited.node peeked (sym visited.is ∙ here)
+
+-- ---- the book
+
+none_or : (first last : Option ℕ) → first ≡ None → option_or first last ≡ None → last ≡ None
+none_or None last first none = none
+none_or (Some at) last first none = absurd cc
+
+first_misfit : (first last : Option ℕ) → first ≡ None → last ≡ None → option_or first last ≡ None
+first_misfit None last first none = none
+first_misfit (Some at) last first none = absurd cc
+
+-- what the calls of a snapshot answer: the source's root was visited, its copy made, and its children given a
+-- reference each
+pub record Calls (land mid new : Ground) (history : Option (List Event)) (old made given : TreeRefs) (source : Root)
+    (copy now : ℕ) : Type 0 where
+  pub tree : old.tree ≡ copy
+  pub first : IsTable old.refs
+  pub last : IsTable given.refs
+  pub peeked : Node
+  pub alone : (node : Node) → told land.blocks.draft history source.address ≡ Some node → node ≡ peeked
+  pub draft : mid.blocks.draft ≡ land.blocks.draft
+  pub space : mid.space ≡ land.space
+  pub node : Node
+  pub copied : node ≡ node_copy peeked (header_of peeked).address copy source.next
+  pub makes : Makes mid new now node
+  pub step : Step old (Made now) made
+  pub fits : made.misfit ≡ None
+  pub settled : old.misfit ≡ None → IsSettled old land history → IsSettled made new history
+  pub gives : Gives (book_of made.refs) (book_of given.refs) (keyed_children peeked copy)
+  pub others : given ≡ record made { refs = given.refs }
+  pub sizes : new.space.sizes ≡ mid.space.sizes
+  pub runs : new.space.runs ≡ mid.space.runs
+  pub held_slots : new.space.held_slots ≡ mid.space.held_slots
+  pub held_runs : new.space.held_runs ≡ mid.space.held_runs
+  pub dated : source.next < 2 ^ 64
+
+no_value : {A : Type 0} (o : Option A) → not (is_some o) ≡ true → o ≡ None
+no_value {A} None none = refl
+no_value {A} (Some x) none = absurd (true≢false (sym none))
+
+-- ---- a state that is held
+
+module _ (state : State) (sub copy now : ℕ) (land : Ground) (history : Option (List Event)) (old : TreeRefs)
+    (holds : HoldsState land history old state) (has : has_subvolume state sub ≡ true)
+    (unused : not (has_subvolume state copy) ≡ true) (ground : IsGround land)
+    (free : is_free_slot land.space now ≡ true) where
+  pub other : value_at copy state.subvolumes ≡ None
+  other = no_value (value_at copy state.subvolumes) unused
+
+  abbrev pub root_source : HasRoot state sub
+  root_source = has-root state sub holds.whole has
+
+  other_root : value_at copy (layout_of state).roots ≡ None
+  other_root =
+      value_mapped copy state.subvolumes
+      ∙ ap (λ (o : Option Subvolume). option_map (λ (subvolume : Subvolume). subvolume.root) o) other
+
+  no_node : node_at state.layout now ≡ None
+  no_node =
+      ap (λ (o : Option Placed). option_map (λ (placed : Placed). placed.node) o)
+      (free-none land history old state holds now free)
+
+  small : state.sizes.nodesize ≤ 16384
+  small =
+      let fits = (SizesFit-is_served land.space.sizes ground.served).nodesize in
+      let same = ap (λ (sizes : Sizes). sizes.nodesize) holds.sizes in
+      omega (arith, fits, same)
+
+  low : now < 2 ^ 64
+  low =
+      let ends = slot_ends land.space.sizes now (SizesFit-is_served land.space.sizes ground.served)
+      (free-parts land.space now free).0 in
+      omega (arith, ends)
+
+  -- ---- no misfit is met
+
+  proper : IsTable old.refs → IsProper (Made now) old
+  proper first = record {
+    can = record {
+      there = record { there = λ at reference. let none = times-nil at reference in omega (arith, none) };
+      room = record {
+        room = λ at reference.
+            let none = times-nil at reference in
+            let fits = first.fitting at reference in
+            omega (arith, none, fits);
+        known = All-nil (λ (owing : Owing). IsKnown (book_of old.refs) owing.address);
+      };
+      first = λ reference. free-count land history old state holds now free reference;
+    };
+    level = tt;
+  }
+
+  pub fits-made : (made : TreeRefs) → IsTable old.refs → Step old (Made now) made → made.misfit ≡ None
+  fits-made made first step =
+      ap (λ (book : TreeRefs). book.misfit) step.noted
+      ∙ first_misfit old.misfit step.misfit holds.fits (step.proper (proper first))
+
+  -- ---- children may get their references
+
+  exchanged : (made : TreeRefs) (step : Step old (Made now) made) → made.misfit ≡ None
+      → Exchanges (book_of old.refs) (book_of made.refs) nothing_else (coming_of old step.level (Made now))
+  exchanged made step fits =
+      step.done (none_or old.misfit step.misfit holds.fits
+      (sym (ap (λ (book : TreeRefs). book.misfit) step.noted) ∙ fits))
+
+  counts_made : (made : TreeRefs) → Step old (Made now) made → made.misfit ≡ None → (at : ℕ) (reference : Reference)
+      → count_at (book_of made.refs) at reference
+      ≡ count_at (book_of old.refs) at reference + times (way_to now old.tree ∷ []) at reference
+  counts_made made step fits at reference =
+      let put = (exchanged made step fits).counts at reference in
+      let none = times-nil at reference in
+      let both = times-append (way_to now old.tree ∷ []) [] at reference in
+      omega (arith, put, none, both)
+
+  pub can-give-children : (made : TreeRefs) (peeked : Node) → IsTable old.refs → old.tree ≡ copy
+      → Step old (Made now) made → made.misfit ≡ None → root_source.placed.node ≡ peeked
+      → CanGive (book_of made.refs) (keyed_children peeked copy)
+  can-give-children made peeked first tree step fits same =
+      subst (λ (node : Node). CanGive (book_of made.refs) (keyed_children node copy)) same
+      (can-give state sub copy now holds.whole holds.home root_source other_root no_node small (book_of old.refs)
+      (book_of made.refs) holds.agrees first.fitting
+      (subst (λ (n : ℕ). (at : ℕ) (reference : Reference) → count_at (book_of made.refs) at reference
+      ≡ count_at (book_of old.refs) at reference + times (way_to now n ∷ []) at reference) tree
+      (counts_made made step fits)))
+
+  -- ---- what is left is the machine's state
+
+  module _ (parents : List ℕ) (mid new : Ground) (made given : TreeRefs) (source : Root)
+      (is : source ≡ tree_of state sub) (number : is_subvolume_number copy ≡ true)
+      (calls : Calls land mid new history old made given source copy now) where
+    abbrev root : Node
+    root = root_source.placed.node
+
+    abbrev generation : ℕ
+    generation = next_generation state
+
+    abbrev pub after : State
+    after = record state {
+      subvolumes = with_value copy
+          (record { files = root_source.source.files; root = now; last_snapshot = generation })
+          (with_value sub (record root_source.source { last_snapshot = generation }) state.subvolumes);
+      layout = with_value now (record { node = copy_of generation copy now root; full = false }) state.layout;
+      quota = option_map (inherited generation sub copy parents) state.quota;
+    }
+
+    abbrev pub snapshot : Snapshots state sub parents copy after
+    snapshot = record {
+      source = root_source.source;
+      there = root_source.there;
+      root = root;
+      root_there = node-there state sub root_source;
+      address = now;
+      free = free-state land history old state holds now free;
+      copied = refl;
+    }
+
+    same_root : root ≡ calls.peeked
+    same_root = calls.alone root (root-told state sub root_source land history old holds source is)
+
+    next_is : source.next ≡ generation
+    next_is = ap (λ (r : Root). r.next) is
+
+    put_is : placed_at now calls.node ≡ copy_of generation copy now root
+    put_is =
+        ap (λ (node : Node). placed_at now node) calls.copied
+        ∙ copy_put calls.peeked (header_of calls.peeked).address now copy source.next
+        ∙ ap (λ (n : ℕ). copy_of n copy now calls.peeked) next_is
+        ∙ sym (ap (λ (node : Node). copy_of generation copy now node) same_root)
+
+    here : told new.blocks.draft history now ≡ Some (copy_of generation copy now root)
+    here =
+        told-fresh_at new.blocks.draft history now (placed_at now calls.node) calls.makes.puts.here
+        ∙ ap (λ (node : Node). Some node) put_is
+
+    sound : IsNode state.sizes.nodesize (copy_of generation copy now root)
+    sound =
+        copy_sound state.sizes.nodesize generation copy now root
+        (root-reached state sub root_source holds.whole).node_of_format
+
+    dated : generation < 2 ^ 64
+    dated = let same = next_is in let last = calls.dated in omega (arith, same, last)
+
+    fits : NodeFits (copy_of generation copy now root)
+    fits =
+        copy_fits generation copy now root dated (number_fits copy number) low
+        (root-reached state sub root_source holds.whole).fits
+
+    noted : made ≡ record old { refs = made.refs }
+    noted =
+        calls.step.noted
+        ∙ ap (λ (misfit : Option ℕ). record old { refs = made.refs; misfit = misfit })
+        (sym (ap (λ (book : TreeRefs). book.misfit) calls.step.noted) ∙ calls.fits ∙ sym holds.fits)
+
+    done : Exchanges (book_of old.refs) (book_of made.refs) nothing_else (coming_of old calls.step.level (Made now))
+    done = exchanged made calls.step calls.fits
+
+    is_done : IsDone state after sub copy parents snapshot land new history old made given
+    is_done = record {
+      tree = calls.tree;
+      level = calls.step.level;
+      first = calls.first.book;
+      mid = done.book;
+      last = calls.last.book;
+      done = done;
+      noted = noted;
+      gives = subst (λ (node : Node). Gives (book_of made.refs) (book_of given.refs) (keyed_children node copy))
+          (sym same_root) calls.gives;
+      others = calls.others;
+      settled = calls.settled holds.fits holds.settled;
+      slot = free-slot land history old state holds now free;
+      free = free-none land history old state holds now free;
+      elsewhere = λ q differ. calls.makes.puts.others history q differ
+          ∙ ap (λ (draft : Draft). told draft history q) calls.draft;
+      here = here;
+      sound = sound;
+      fits = fits;
+      sizes = calls.sizes ∙ ap (λ (space : Holding). space.sizes) calls.space;
+      runs = calls.runs ∙ ap (λ (space : Holding). space.runs) calls.space;
+      held_slots = calls.held_slots ∙ ap (λ (space : Holding). space.held_slots) calls.space;
+      held_runs = calls.held_runs ∙ ap (λ (space : Holding). space.held_runs) calls.space;
+    }
+
+    pub held : HoldsState new history given after
+    held =
+        holds-then state after sub copy parents snapshot land new history old made given holds number other is_done
+
+    made_there : value_at copy after.subvolumes
+        ≡ Some (record { files = root_source.source.files; root = now; last_snapshot = generation })
+    made_there =
+        value_at-with_same copy (record { files = root_source.source.files; root = now; last_snapshot = generation })
+        (with_value sub (record root_source.source { last_snapshot = generation }) state.subvolumes)
+
+    copy_there : node_at after.layout now ≡ Some (copy_of generation copy now root)
+    copy_there =
+        ap (λ (o : Option Placed). option_map (λ (placed : Placed). placed.node) o)
+        (value_at-with_same now (record { node = copy_of generation copy now root; full = false }) state.layout)
+
+    root_after : root_of after copy ≡ now
+    root_after =
+        root_of-value after copy (record { files = root_source.source.files; root = now; last_snapshot = generation })
+        made_there
+
+    height_after : root_level after copy ≡ source.height
+    height_after =
+        root_level-value after copy (record {
+          files = root_source.source.files;
+          root = now;
+          last_snapshot = generation;
+        })
+        made_there
+        ∙ ap level_of copy_there ∙ copy-level generation copy now root ∙ sym (level-is state sub root_source)
+        ∙ sym (ap (λ (r : Root). r.height) is)
+
+    -- the answer is the new subvolume's tree
+    pub tree-after : (answer : Root) → answer ≡ record source { address = now; owner = copy } → answer
+        ≡ tree_of after copy
+    tree-after answer given =
+        given
+        ∙ (λ i. record {
+          address = sym root_after i;
+          height = sym height_after i;
+          owner = copy;
+          next = next_is i;
+        })
+
+    -- so it is, over a disk of the same history
+    pub copied-then : (later : Option (List Event)) → later ≡ history → (answer : Root)
+        → answer ≡ record source { address = now; owner = copy }
+        → (then : State) × Snapshots state sub parents copy then × HoldsState new later given then
+        × (answer ≡ tree_of then copy)
+    copied-then later same answer given_is = (
+      after,
+      snapshot,
+      subst (λ (h : Option (List Event)). HoldsState new h given after) (sym same) held,
+      tree-after answer given_is,
+    )

@@ -1,0 +1,284 @@
+-- Once a subvolume has a snapshot, each node that is not full is reached by its owner still.
+use Rattle.std.proofs.Common.{◌≡◌, ◌≢◌, ℕ, ◌≤◌, true, false, List, [], ◌∷◌, map, Option, Some, None, arith, refl, sym, ap, subst, ◌∙◌, inl, inr}
+use Rattle.std.specs.Prelude.{◌==◌}
+use Rattle.std.specs.List.{AllByRecursion}
+use Rattle.std.specs.List.Sorted.{IsStrictlyIncreasing}
+use Rattle.std.specs.Option.{option_map}
+use Rattle.std.proofs.lemmas.Bool.{cases_Bool, cond-false, cond-true, eqb-true, true≢false}
+use Rattle.std.proofs.lemmas.Bool.Decides.{eqb_tells}
+use Rattle.std.proofs.lemmas.Option.{same_Some}
+use Rattle.qg_node.specs.declared.node.Node.{Node}
+use Rattle.qg_node.specs.declared.node.Node.TheVariants.{Leaf, Inner}
+use Rattle.qg_node.specs.Nodes.{header_of}
+use Rattle.qg_node.specs.NodeText.{IsLevelled}
+use Rattle.qg_image.specs.Table.{keys_of, value_at, with_value}
+use Rattle.qg_state.specs.declared.element.Element.{Element}
+use Rattle.qg_state.specs.Owed.{homeless}
+use Rattle.qg_state.specs.Reach.{is_among, level_of, reach, reach_of, reach_of_root, reach_under, reaches}
+use Rattle.qg_state.specs.State.{Placed, State, Subvolume, layout_of, next_generation, node_at}
+use Rattle.qg_verdict.specs.declared.tree.Tree.TheVariants.{Files}
+use Rattle.qg_verdict.specs.Walk.{deepest, node_failure, root_expected}
+use Rattle.qg_machine.specs.Layout.{IsReached, IsTreeOf, IsWhole, super_to_come}
+use Rattle.qg_machine.specs.Step.{Snapshots, copy_of}
+use Rattle.qg_files.proofs.Ascending.{Ascends-increasing, ascends-with_value, increasing-Ascends}
+use Rattle.qg_descent.specs.Tree.{Reaches}
+use Rattle.qg_descent.proofs.BranchFrames.{reach-top}
+use Rattle.qg_reach.proofs.Layouts.{value_at-with_other, value_at-with_same}
+use Rattle.qg_forest.proofs.Homes.{all-home, met-own, owner-reaches}
+use Rattle.qg_forest.proofs.Reach.{met-same}
+use Rattle.qg_forest.proofs.Snapshotted.{root_entry}
+use Rattle.qg_forest.proofs.Tables.{map-with}
+use Rattle.qg_forest.proofs.Walked.{reaches-deeper, walked-found}
+
+-- ---- tables
+
+-- what holds of each entry of a table holds of a value with its number
+pub each-at : {A : Type 0} (P : ℕ × A → Type 0) (n : ℕ) (value : A) (table : List (ℕ × A)) → AllByRecursion P table
+    → value_at n table ≡ Some value → P (n, value)
+each-at {A} P n value [] all there = let wrong : ◌≡◌ {A = Option A} None (Some value) = there in absurd cc
+each-at {A} P n value (entry ∷ table) all there = elim (cases_Bool (entry.0 == n)) [
+  | inl passes ↦
+      let own = same_Some entry.1 value
+      (sym (cond-true (entry.0 == n) (Some entry.1) (value_at n table) passes) ∙ there) in
+      let number = eqb-true entry.0 n passes in
+      subst P (λ i. (number i, own i)) all.0
+  | inr fails ↦
+      each-at P n value table all.1 (sym (cond-false (entry.0 == n) (Some entry.1) (value_at n table) fails) ∙ there)
+]
+
+pub value_mapped : (n : ℕ) (table : List (ℕ × Subvolume)) → value_at n (map root_entry table)
+    ≡ option_map (λ (subvolume : Subvolume). subvolume.root) (value_at n table)
+value_mapped n [] = refl
+value_mapped n (entry ∷ table) = elim (cases_Bool (entry.0 == n)) [
+  | inl passes ↦
+      cond-true (entry.0 == n) (Some entry.1.root) (value_at n (map root_entry table)) passes
+      ∙ sym (ap (λ (o : Option Subvolume). option_map (λ (subvolume : Subvolume). subvolume.root) o)
+      (cond-true (entry.0 == n) (Some entry.1) (value_at n table) passes))
+  | inr fails ↦
+      cond-false (entry.0 == n) (Some entry.1.root) (value_at n (map root_entry table)) fails ∙ value_mapped n table
+      ∙ sym (ap (λ (o : Option Subvolume). option_map (λ (subvolume : Subvolume). subvolume.root) o)
+      (cond-false (entry.0 == n) (Some entry.1) (value_at n table) fails))
+]
+
+level_low : (node : Node) → IsLevelled node → (header_of node).level ≤ 7
+level_low (Leaf header items) level = omega (arith, level)
+level_low (Inner header pointers) level = level.1
+
+placed_there : (layout : List (ℕ × Placed)) (q : ℕ) (o : Option Placed) → value_at q layout ≡ o → (node : Node)
+    → node_at layout q ≡ Some node → (placed : Placed) × (value_at q layout ≡ Some placed) × (placed.node ≡ node)
+placed_there layout q None is node there =
+    let wrong : ◌≡◌ {A = Option Node} None (Some node) =
+    sym (ap (λ (o : Option Placed). option_map (λ (placed : Placed). placed.node) o) is) ∙ there in absurd cc
+placed_there layout q (Some placed) is node there = (
+  placed,
+  is,
+  same_Some placed.node node (sym (ap (λ (o : Option Placed). option_map (λ (p : Placed). p.node) o) is)
+      ∙ there),
+)
+
+-- ---- trees of a whole state
+
+module _ (before : State) (whole : IsWhole before) where
+  pub tree_at : (owner : ℕ) (subvolume : Subvolume) → value_at owner before.subvolumes ≡ Some subvolume
+      → IsTreeOf before subvolume
+  tree_at owner subvolume there =
+      each-at (λ (entry : ℕ × Subvolume). IsTreeOf before entry.1) owner subvolume before.subvolumes whole.trees there
+
+  -- what a subvolume's tree reaches is a node of the layout
+  pub tree-reached : (subvolume : Subvolume) → IsTreeOf before subvolume → (q : ℕ)
+      → Reaches (node_at before.layout) deepest subvolume.root q
+      → (node : Node) × (node_at before.layout q ≡ Some node)
+  tree-reached subvolume tree q reaches =
+      walked-found (node_failure Files (super_to_come before)) (node_at before.layout) deepest (root_expected None None)
+      subvolume.root tree.walked q reaches
+
+  pub reached-there : (owner : ℕ) (subvolume : Subvolume) → value_at owner before.subvolumes ≡ Some subvolume
+      → (q : ℕ) → Reaches (node_at before.layout) deepest subvolume.root q
+      → (node : Node) × (node_at before.layout q ≡ Some node)
+  reached-there owner subvolume there q reaches = tree-reached subvolume (tree_at owner subvolume there) q reaches
+
+  level_of_some : (o : Option Node) (node : Node) → o ≡ Some node → IsLevelled node → level_of o ≤ 7
+  level_of_some o node is levelled =
+      let low = level_low node levelled in
+      let same = ap level_of is in
+      omega (arith, low, same)
+
+  pub tree-low : (subvolume : Subvolume) → IsTreeOf before subvolume
+      → level_of (node_at before.layout subvolume.root) ≤ 7
+  tree-low subvolume tree =
+      let found = tree-reached subvolume tree subvolume.root
+      (reach-top (node_at before.layout) deepest subvolume.root) in
+      let placed = placed_there before.layout subvolume.root (value_at subvolume.root before.layout) refl found.0
+      found.1 in
+      let its = each-at (IsReached before) subvolume.root placed.0 before.layout whole.reached placed.1 in
+      level_of_some (node_at before.layout subvolume.root) found.0 found.1
+      (subst IsLevelled placed.2 its.node_of_format.levelled)
+
+  pub root-low : (owner : ℕ) (subvolume : Subvolume) → value_at owner before.subvolumes ≡ Some subvolume
+      → level_of (node_at before.layout subvolume.root) ≤ 7
+  root-low owner subvolume there = tree-low subvolume (tree_at owner subvolume there)
+
+-- ---- a snapshot
+
+module _ (before after : State) (sub copy : ℕ) (parents : List ℕ) (snap : Snapshots before sub parents copy after)
+    (whole : IsWhole before) (home : homeless (layout_of before) ≡ None)
+    (up : IsStrictlyIncreasing (keys_of before.subvolumes)) (other : value_at copy before.subvolumes ≡ None)
+    (free : value_at snap.address before.layout ≡ None) where
+  marked : Subvolume
+  marked = record snap.source { last_snapshot = next_generation before }
+
+  made : Subvolume
+  made = record { files = snap.source.files; root = snap.address; last_snapshot = next_generation before }
+
+  placed_copy : Placed
+  placed_copy = record { node = copy_of (next_generation before) copy snap.address snap.root; full = false }
+
+  subvolumes_are : after.subvolumes ≡ with_value copy made (with_value sub marked before.subvolumes)
+  unfolding marked made
+  subvolumes_are = ap (λ (state : State). state.subvolumes) snap.copied
+
+  layout_is : after.layout ≡ with_value snap.address placed_copy before.layout
+  unfolding placed_copy
+  layout_is = ap (λ (state : State). state.layout) snap.copied
+
+  nodesize_is : after.sizes.nodesize ≡ before.sizes.nodesize
+  nodesize_is = ap (λ (state : State). state.sizes.nodesize) snap.copied
+
+  -- nodes elsewhere are as they were
+  pub node_same : (q : ℕ) → snap.address ≢ q → node_at after.layout q ≡ node_at before.layout q
+  node_same q differ =
+      ap (λ (o : Option Placed). option_map (λ (placed : Placed). placed.node) o)
+      (ap (λ (table : List (ℕ × Placed)). value_at q table) layout_is
+      ∙ value_at-with_other snap.address q placed_copy before.layout differ)
+
+  pub not_new : (q : ℕ) (node : Node) → node_at before.layout q ≡ Some node → snap.address ≢ q
+  not_new q node there same =
+      let wrong : ◌≡◌ {A = Option Node} None (Some node) =
+      sym (ap (λ (o : Option Placed). option_map (λ (placed : Placed). placed.node) o) free)
+      ∙ ap (λ (at : ℕ). node_at before.layout at) same ∙ there in absurd cc
+
+  -- roots are as they were
+  pub root_same : (owner root : ℕ) → owner ≢ copy → value_at owner (layout_of before).roots ≡ Some root
+      → value_at owner (layout_of after).roots ≡ Some root
+  unfolding marked
+  root_same owner root differ there =
+      let roots = ap (λ (table : List (ℕ × Subvolume)). value_at owner (map root_entry table)) subvolumes_are in
+      let past = value_at-with_other copy owner made (with_value sub marked before.subvolumes)
+      (λ same. differ (sym same)) in
+      let still = map-with root_entry sub snap.source marked refl 0 before.subvolumes
+      (Ascends-increasing before.subvolumes up) snap.there in
+      roots ∙ value_mapped owner (with_value copy made (with_value sub marked before.subvolumes))
+      ∙ ap (λ (o : Option Subvolume). option_map (λ (subvolume : Subvolume). subvolume.root) o) past
+      ∙ sym (value_mapped owner (with_value sub marked before.subvolumes))
+      ∙ ap (λ (table : List (ℕ × ℕ)). value_at owner table) still ∙ there
+
+  pub copy_root : value_at copy (layout_of after).roots ≡ Some snap.address
+  unfolding made
+  copy_root =
+      ap (λ (table : List (ℕ × Subvolume)). value_at copy (map root_entry table)) subvolumes_are
+      ∙ value_mapped copy (with_value copy made (with_value sub marked before.subvolumes))
+      ∙ ap (λ (o : Option Subvolume). option_map (λ (subvolume : Subvolume). subvolume.root) o)
+      (value_at-with_same copy made (with_value sub marked before.subvolumes))
+
+  -- what is met from the root of a subvolume that was there is met as before
+  met_root : (owner : ℕ) (subvolume : Subvolume) → value_at owner before.subvolumes ≡ Some subvolume
+      → reach_of_root (layout_of after) subvolume.root ≡ reach_of_root (layout_of before) subvolume.root
+  unfolding reach_of_root
+  met_root owner subvolume there =
+      let nodes = node_at before.layout in
+      let low = root-low before whole owner subvolume there in
+      let level = level_of (node_at before.layout subvolume.root) in
+      let same : (q : ℕ) → Reaches nodes level subvolume.root q → node_at after.layout q ≡ node_at before.layout q =
+      λ q reaches.
+      let found = reached-there before whole owner subvolume there q
+      (reaches-deeper nodes level deepest subvolume.root q low reaches) in
+      node_same q (not_new q found.0 found.1) in
+      let top = reached-there before whole owner subvolume there subvolume.root
+      (reach-top nodes deepest subvolume.root) in
+      let high = ap level_of (node_same subvolume.root (not_new subvolume.root top.0 top.1)) in
+      ap (λ (n : ℕ). reach_under (node_at after.layout) n (level_of (node_at after.layout subvolume.root))
+      subvolume.root)
+      nodesize_is
+      ∙ ap (λ (n : ℕ). reach_under (node_at after.layout) before.sizes.nodesize n subvolume.root) high
+      ∙ met-same nodes (node_at after.layout) before.sizes.nodesize level subvolume.root same
+
+  subvolume_of : (owner root : ℕ) (o : Option Subvolume) → value_at owner before.subvolumes ≡ o
+      → value_at owner (layout_of before).roots ≡ Some root
+      → (subvolume : Subvolume) × (value_at owner before.subvolumes ≡ Some subvolume) × (subvolume.root ≡ root)
+  subvolume_of owner root None is there =
+      let wrong : ◌≡◌ {A = Option ℕ} None (Some root) =
+      sym (ap (λ (o : Option Subvolume). option_map (λ (subvolume : Subvolume). subvolume.root) o) is)
+      ∙ sym (value_mapped owner before.subvolumes) ∙ there in absurd cc
+  subvolume_of owner root (Some subvolume) is there = (
+    subvolume,
+    is,
+    same_Some subvolume.root root
+        (sym (ap (λ (o : Option Subvolume). option_map (λ (s : Subvolume). s.root) o) is)
+        ∙ sym (value_mapped owner before.subvolumes) ∙ there),
+  )
+
+  -- who reached something reaches it still
+  pub reaches-still : (owner at : ℕ) → reaches (layout_of before) owner at ≡ true
+      → reaches (layout_of after) owner at ≡ true
+  unfolding reach
+  reaches-still owner at is = by (value_at owner (layout_of before).roots) refl where
+    by : (o : Option ℕ) → value_at owner (layout_of before).roots ≡ o → reaches (layout_of after) owner at ≡ true
+    by None none =
+        let nothing : reaches (layout_of before) owner at ≡ false =
+        ap (λ (o : Option ℕ). is_among at (reach_of (layout_of before) o)) none in
+        absurd (true≢false (sym is ∙ nothing))
+    by (Some root) there =
+        let its = subvolume_of owner root (value_at owner before.subvolumes) refl there in
+        let differ : owner ≢ copy = λ same.
+        let wrong : ◌≡◌ {A = Option Subvolume} None (Some its.0) =
+        sym other ∙ ap (λ (n : ℕ). value_at n before.subvolumes) (sym same) ∙ its.1 in absurd cc in
+        let now = ap (λ (o : Option ℕ). is_among at (reach_of (layout_of after) o))
+        (root_same owner root differ there) in
+        let was = ap (λ (o : Option ℕ). is_among at (reach_of (layout_of before) o)) there in
+        let met = ap (λ (r : ℕ). is_among at (reach_of_root (layout_of after) r)) (sym its.2)
+        ∙ ap (λ (elements : List Element). is_among at elements) (met_root owner its.0 its.1)
+        ∙ ap (λ (r : ℕ). is_among at (reach_of_root (layout_of before) r)) its.2 in
+        now ∙ met ∙ sym was ∙ is
+
+  -- the copy is reached by the new subvolume
+  pub copy-reached : reaches (layout_of after) copy snap.address ≡ true
+  unfolding reach reach_of_root placed_copy
+  copy-reached =
+      ap (λ (o : Option ℕ). is_among snap.address (reach_of (layout_of after) o)) copy_root
+      ∙ met-own (node_at after.layout) after.sizes.nodesize (level_of (node_at after.layout snap.address)) snap.address
+      (copy_of (next_generation before) copy snap.address snap.root)
+      (ap (λ (o : Option Placed). option_map (λ (placed : Placed). placed.node) o)
+      (ap (λ (table : List (ℕ × Placed)). value_at snap.address table) layout_is
+      ∙ value_at-with_same snap.address placed_copy before.layout))
+
+  owner_copy : (node : Node) → (header_of (copy_of (next_generation before) copy snap.address node)).owner ≡ copy
+  owner_copy (Leaf header items) = refl
+  owner_copy (Inner header pointers) = refl
+
+  home_at : (at : ℕ) (placed : Placed) → value_at at after.layout ≡ Some placed → placed.full ≡ false
+      → reaches (layout_of after) (header_of placed.node).owner at ≡ true
+  unfolding placed_copy
+  home_at at placed there bare = elim (eqb_tells snap.address at) [
+    | inl (equal, same) ↦
+        let value = same_Some placed_copy placed
+        (sym (value_at-with_same snap.address placed_copy before.layout)
+        ∙ ap (λ (table : List (ℕ × Placed)). value_at snap.address table) (sym layout_is)
+        ∙ ap (λ (q : ℕ). value_at q after.layout) same ∙ there) in
+        let owner = ap (λ (p : Placed). (header_of p.node).owner) (sym value) ∙ owner_copy snap.root in
+        ap (λ (n : ℕ). reaches (layout_of after) n at) owner
+        ∙ ap (λ (q : ℕ). reaches (layout_of after) copy q) (sym same) ∙ copy-reached
+    | inr (unequal, differ) ↦
+        let value = sym (value_at-with_other snap.address at placed_copy before.layout differ)
+        ∙ ap (λ (table : List (ℕ × Placed)). value_at at table) (sym layout_is) ∙ there in
+        reaches-still (header_of placed.node).owner at (owner-reaches (layout_of before) home at placed value bare)
+  ]
+
+  pub ascending-then : IsStrictlyIncreasing (keys_of after.layout)
+  ascending-then =
+      subst (λ (table : List (ℕ × Placed)). IsStrictlyIncreasing (keys_of table)) (sym layout_is)
+      (increasing-Ascends 0 (with_value snap.address placed_copy before.layout)
+      (ascends-with_value 0 snap.address placed_copy before.layout (omega arith)
+      (Ascends-increasing before.layout whole.ascending)))
+
+  pub home-then : homeless (layout_of after) ≡ None
+  home-then = all-home (layout_of after) ascending-then home_at

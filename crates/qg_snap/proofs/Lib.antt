@@ -1,0 +1,15 @@
+pub mod Given
+pub mod Copied
+pub mod Homed
+pub mod Whole
+pub mod CopyWalked
+pub mod WholeAfter
+pub mod Named
+pub mod Held
+pub mod Referred
+pub mod Source
+pub mod Unowed
+pub mod Distinct
+pub mod Room
+pub mod Heavier
+pub mod Done

@@ -1,0 +1,82 @@
+// A subvolume that begins as another one is.
+ghost use Rattle.std.specs.Prelude.{◌≡◌, ◌+◌, ◌<◌, ◌≤◌, ℕ, List, Option, Some, IfOk, OnOk, IsTrue, not};
+ghost use Rattle.qg_device.specs.Cause.{HasCause};
+ghost use Rattle.qg_device.specs.History.{Event};
+ghost use Rattle.qg_image.specs.ItemMeaning.{is_subvolume_number};
+ghost use Rattle.qg_super.specs.Places.{capacity};
+ghost use Rattle.qg_state.specs.State.{State as MachineState, has_subvolume};
+ghost use Rattle.qg_machine.specs.Step.{Snapshots};
+ghost use Rattle.qg_blocks.specs.Told.{BreaksNone};
+ghost use Rattle.qg_space.specs.Holding.{free_slots, is_free_slot};
+ghost use Rattle.qg_tree_edits.specs.Editing.{IsEditable};
+ghost use Rattle.qg_tree_edits.specs.Rooting.{LeavesBe};
+ghost use Rattle.qg_heavier.specs.Heavier.{BookGetsHeavier, node_bytes};
+ghost use Rattle.qg_forest.specs.Standing.{HoldsState, tree_of};
+
+use crate::copying::copy_node;
+use crate::sharing::{give_all, keyed_children, misfit_at};
+use qg_descent::Tree;
+use qg_disk::Disk;
+use qg_ground::{Ground, make_node};
+use qg_image::FilePart;
+use qg_num::{BlockFault, RootId, Steps};
+use qg_tree_refs::TreeRefs;
+use std::alloc::Global;
+use std::sync::ledger::Ledger;
+
+/// A subvolume that begins as `source` is (btrfs-subvolume(8), "snapshot"): the source's root node is copied to a free slot,
+/// with the new subvolume as owner, and each child gets a keyed reference of the new subvolume. Nothing below is read.
+///
+/// `book` is that of the new subvolume, whose number nothing is owed by. `Image` comes where the source's root is not what
+/// is expected of it, and with `refs` where a child has no reference, or the new one already. After an `Err` nothing of it
+/// is of use.
+pub fn snapshot<D: Disk, L: Ledger>(
+    alloc: Global,
+    land: &mut Ground,
+    disk: &mut D,
+    source: &Tree,
+    copy: RootId,
+    book: &mut TreeRefs,
+    reads: &mut Steps<L>,
+) -> Result<Tree, BlockFault>
+    requires editable { IsEditable land.old (D.history disk.old) (D.size disk.old) source.now.next }
+    requires number { IsTrue (is_subvolume_number copy) }
+    requires book { book.old.tree ≡ copy }
+    requires slots { 0 < free_slots land.old.space }
+
+    // Where they hold a state.
+    ensures copied { (state : MachineState) (parents : List ℕ) → HoldsState land.old (D.history disk.old) book.old state
+        → IsTrue (has_subvolume state source.now.owner) → source.now ≡ tree_of state source.now.owner
+        → IsTrue (not (has_subvolume state copy))
+        → IfOk result (λ tree. (after : MachineState) × Snapshots state source.now.owner parents copy after
+        × HoldsState land.new (D.history disk.new) book.new after × (tree ≡ tree_of after copy)) }
+    ensures sound { (state : MachineState) (events : List Event) → D.history disk.old ≡ Some events
+        → HoldsState land.old (D.history disk.old) book.old state
+        → IsTrue (has_subvolume state source.now.owner) → source.now ≡ tree_of state source.now.owner
+        → IsTrue (not (has_subvolume state copy)) → BreaksNone result }
+
+    // Over any disk.
+    ensures tree { IfOk result (λ tree. (tree ≡ record source.now { address = tree.address; owner = copy })
+        × IsTrue (is_free_slot land.old.space tree.address)) }
+    ensures slots { OnOk result (free_slots land.old.space ≤ 1 + free_slots land.new.space) }
+    ensures book { OnOk result ((book.new.tree ≡ book.old.tree) × (book.new.nodesize ≡ book.old.nodesize) × (book.new.next ≡ book.old.next)) }
+    ensures heavier { OnOk result (BookGetsHeavier book.old book.new (node_bytes + capacity land.old.space.sizes.nodesize)) }
+    ensures rests { LeavesBe land.old land.new (D.history disk.old) (D.history disk.new) (D.size disk.old) (D.size disk.new)
+        source.now.next }
+    ensures cause { HasCause BlockFault.Disk (D.faults disk.old) (D.faults disk.new) result }
+    ensures reads { reads.new ≤ reads.old + 2 }
+{
+    let _ascending = book.refs().len();
+    let way = source.way();
+    source.visit::<FilePart, D, L>(&mut land.blocks, disk, &way, reads)?;
+    let root = land.blocks.peek(way.address);
+    let children = keyed_children(alloc, root, copy)?;
+    let node = copy_node(alloc, root, copy, source.next())?;
+    let now = make_node(land, disk, book, node, reads)?;
+    if let Some(address) = book.misfit() {
+        return Err(misfit_at(address));
+    }
+    give_all(book, children.as_slice())?;
+    let _ascending_still = book.refs().len();
+    Ok(Tree::at(now, source.height(), copy, source.next()))
+}
