@@ -58,7 +58,8 @@ module _ (layout : Layout) where
   all-home up each = none_found _ (keys_of layout.nodes) (λ at has.
       let entry = one_mapped (λ (e : ℕ × Placed). e.0) layout.nodes at has in
       let there : value_at at layout.nodes ≡ Some entry.0.1 =
-      subst (λ (n : ℕ). value_at n layout.nodes ≡ Some entry.0.1) entry.2 (value_of_entry layout.nodes entry.0 up entry.1) in
+      subst (λ (n : ℕ). value_at n layout.nodes ≡ Some entry.0.1) entry.2
+      (value_of_entry layout.nodes entry.0 up entry.1) in
       rw there (either entry.0.1.full (reaches layout (header_of entry.0.1.node).owner at)
       (each at entry.0.1 there)))
 
@@ -72,4 +73,5 @@ met-own nodes nodesize (suc level) at node is =
     ap (λ (o : Option Node). is_among at (own_elements nodesize at o
     ++ flat_map (λ pointer. reach_under nodes nodesize level pointer.child) (pointers_at o))) is
     ∙ or_left (at == at) (is_among at (map extent_of (pieces_of node)
-    ++ flat_map (λ pointer. reach_under nodes nodesize level pointer.child) (pointers_at (Some node)))) (eq-eqb at at refl)
+    ++ flat_map (λ pointer. reach_under nodes nodesize level pointer.child) (pointers_at (Some node))))
+    (eq-eqb at at refl)

@@ -5,3 +5,12 @@ pub mod Snapshotted
 pub mod Reach
 pub mod Walked
 pub mod Homes
+pub mod Below
+pub mod Meeting
+pub mod Changed
+pub mod Referring
+pub mod Leaves
+pub mod Pieces
+pub mod Extents
+pub mod Bytes
+pub mod Roots

@@ -41,7 +41,8 @@ pub owed-parts : (layout : Layout) (at : ℕ) (reference : Reference) → owed_c
 owed-parts layout at reference =
     let whole = owed_times layout at reference
     ∙ ap (λ (owings : List Owing). times owings at reference) (owed_is layout)
-    ∙ times-append (map (λ entry. way_to entry.1 entry.0) layout.roots) (flat_map node_owes layout.nodes) at reference in
+    ∙ times-append (map (λ entry. way_to entry.1 entry.0) layout.roots) (flat_map node_owes layout.nodes) at
+    reference in
     let roots = roots_flat layout.roots at reference in
     omega (arith, whole, roots)
 

@@ -67,8 +67,8 @@ module _ (before after : State) (sub copy : ℕ) (parents : List ℕ) (snap : Sn
   still_none : value_at copy (with_value sub marked before.subvolumes) ≡ None
   unfolding marked
   still_none =
-      value_at-with_other sub copy (record snap.source { last_snapshot = next_generation before }) before.subvolumes apart
-      ∙ other
+      value_at-with_other sub copy (record snap.source { last_snapshot = next_generation before }) before.subvolumes
+      apart ∙ other
     where
       apart : sub ≡ copy → ⊥
       apart same =

@@ -1,13 +1,14 @@
 -- Tables by number with one value more, or another value at a number.
-use Rattle.std.proofs.Common.{◌≡◌, ℕ, ◌+◌, ◌<◌, List, [], ◌∷◌, map, Option, Some, None, arith, refl, sym, ap, ◌∙◌, inl, inr}
+use Rattle.std.proofs.Common.{◌≡◌, ℕ, ◌+◌, ◌<◌, ◌≤◌, List, [], ◌∷◌, map, Option, Some, None, arith, refl, sym, ap, ◌∙◌, inl, inr}
 use Rattle.std.specs.Prelude.{◌==◌, true, false, nat_lt, if◌then◌else◌}
-use Rattle.std.specs.List.{flat_map}
+use Rattle.std.specs.List.{Contains, flat_map}
 use Rattle.std.proofs.lemmas.Bool.{cases_Bool, cases_eq, cond-true, cond-false, eq-eqb, le-ltb, ltb-true, ne_eqb}
 use Rattle.std.proofs.lemmas.Option.{same_Some}
 use Rattle.std.proofs.lemmas.List.Concat.{flat_map-cons}
 use Rattle.qg_items.specs.declared.extent.Reference.{Reference}
 use Rattle.qg_image.specs.Table.{value_at, with_value}
 use Rattle.qg_state.specs.Owed.{Owing}
+use Rattle.qg_state.proofs.Contained.{contains_cases, none_contained}
 use Rattle.qg_files.proofs.Ascending.{Ascends}
 use Rattle.qg_tree_refs.specs.Exchange.{times}
 use Rattle.qg_tree_refs.proofs.Times.{times-append}
@@ -17,13 +18,26 @@ use Rattle.qg_tree_refs.proofs.Times.{times-append}
 pub times-flat : {A : Type 0} (f : A → List Owing) (x : A) (xs : List A) (at : ℕ) (reference : Reference)
     → times (flat_map f (x ∷ xs)) at reference ≡ times (f x) at reference + times (flat_map f xs) at reference
 times-flat {A} f x xs at reference =
-    ap (λ (ys : List Owing). times ys at reference) (flat_map-cons f x xs) ∙ times-append (f x) (flat_map f xs) at reference
+    ap (λ (ys : List Owing). times ys at reference) (flat_map-cons f x xs)
+    ∙ times-append (f x) (flat_map f xs) at reference
+
+-- what one of a list owes, all owe
+pub times-member : {A : Type 0} (f : A → List Owing) (xs : List A) (x : A) → Contains xs x → (at : ℕ)
+    (reference : Reference) → times (f x) at reference ≤ times (flat_map f xs) at reference
+times-member {A} f [] x has at reference = absurd (none_contained x has)
+times-member {A} f (y ∷ ys) x has at reference =
+    let split = times-flat f y ys at reference in
+    elim (contains_cases y ys x has) [
+      | inl same ↦ let own = ap (λ (z : A). times (f z) at reference) same in omega (arith, split, own)
+      | inr later ↦ let rest = times-member f ys x later at reference in omega (arith, split, rest)
+    ]
 
 -- ---- a value where there was none
 
 first_of_table : {A : Type 0} (n : ℕ) (entry : ℕ × A) (entries : List (ℕ × A)) → entry.0 ≡ n
     → value_at n (entry ∷ entries) ≡ Some entry.1
-first_of_table {A} n entry entries is = cond-true (entry.0 == n) (Some entry.1) (value_at n entries) (eq-eqb entry.0 n is)
+first_of_table {A} n entry entries is = cond-true (entry.0 == n) (Some entry.1) (value_at n entries)
+    (eq-eqb entry.0 n is)
 
 rest_of_table : {A : Type 0} (n : ℕ) (entry : ℕ × A) (entries : List (ℕ × A)) → (entry.0 ≡ n → ⊥)
     → value_at n (entry ∷ entries) ≡ value_at n entries
@@ -62,7 +76,8 @@ module _ {A : Type 0} (f : ℕ × A → List Owing) (n : ℕ) (value : A) (at : 
       | inl is ↦ absurd (not_there entry entries is none)
       | inr differ ↦
           let table_is =
-          ap (λ (table : List (ℕ × A)). times (flat_map f table) at reference) (with_past n value entry entries later differ) in
+          ap (λ (table : List (ℕ × A)). times (flat_map f table) at reference)
+          (with_past n value entry entries later differ) in
           let here = times-flat f entry (with_value n value entries) at reference in
           let rest = times-with entries (sym (rest_of_table n entry entries differ) ∙ none) in
           let old = times-flat f entry entries at reference in
@@ -109,8 +124,8 @@ module _ {A B : Type 0} (g : ℕ × A → B) (n : ℕ) (old new : A) (same : g (
         ∙ ap (λ (first : B). first ∷ map g entries) (entry_is entry is (value_is entry entries is there))
     | inr differ ↦
         let rest = sym (rest_of_table n entry entries differ) ∙ there in
-        ap (λ (table : List (ℕ × A)). map g table) (with_past n new entry entries (behind entry entries up.1 rest) differ)
-        ∙ ap (λ (later : List B). g entry ∷ later) (map-with (entry.0 + 1) entries up.1 rest)
+        ap (λ (table : List (ℕ × A)). map g table) (with_past n new entry entries (behind entry entries up.1 rest)
+        differ) ∙ ap (λ (later : List B). g entry ∷ later) (map-with (entry.0 + 1) entries up.1 rest)
   ]
     where
       behind : (entry : ℕ × A) (entries : List (ℕ × A)) → Ascends (entry.0 + 1) entries → value_at n entries ≡ Some old

@@ -42,7 +42,8 @@ tree_of state sub = record {
 -- ---- nodes and extents
 
 -- a node of the layout lies in a slot and is told there, with the mark that the book has of it
-pub record HoldsNode (land : Ground) (history : Option (List Event)) (book : TreeRefs) (at : ℕ) (placed : Placed) : Type 0
+pub record HoldsNode (land : Ground) (history : Option (List Event)) (book : TreeRefs) (at : ℕ) (placed : Placed) :
+    Type 0
   where
     pub slot : IsTrue (is_slot land.space.sizes at)
     pub told : told land.blocks.draft history at ≡ Some placed.node
@@ -69,7 +70,8 @@ pub record HoldsState (land : Ground) (history : Option (List Event)) (book : Tr
   pub numbers : IsStrictlyIncreasing (keys_of state.subvolumes)
   pub whole : IsWhole state
   pub home : homeless (layout_of state) ≡ None
-  pub nodes : (at : ℕ) (placed : Placed) → value_at at state.layout ≡ Some placed → HoldsNode land history book at placed
+  pub nodes : (at : ℕ) (placed : Placed) → value_at at state.layout ≡ Some placed
+      → HoldsNode land history book at placed
   pub agrees : AgreesWithOwed (layout_of state) (book_of book.refs)
   pub settled : IsSettled book land history
   pub extents : (run : Element) → Contains (present_extents state) run

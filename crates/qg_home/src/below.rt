@@ -12,7 +12,7 @@ use qg_num::{Address, Sequence};
 use std::alloc::{AllocError, Global};
 
 /// For each node the indices of those that it points to.
-pub(crate) fn all_below(alloc: Global, nodes: &[Linked]) -> Result<Vec<Sequence<usize>>, AllocError>
+pub fn all_below(alloc: Global, nodes: &[Linked]) -> Result<Vec<Sequence<usize>>, AllocError>
     requires { IsStrictlyIncreasing (map (λ node. node.address) nodes.now) }
     ensures { IfOk result (λ below. AreBelow nodes.now below.items) }
 {

@@ -9,8 +9,11 @@ mod marks;
 mod own;
 mod places;
 
+pub use below::all_below;
 pub use home::homeless;
 pub use linked::{Linked, linked_of};
+pub use marks::highest_level;
+pub use places::place_of_node;
 
 #[cfg(test)]
 mod tests;

@@ -67,7 +67,7 @@ fn spread(rows: &mut [u64], nodes: &[Linked], below: &[Sequence<usize>])
 }
 
 /// The highest level among nodes, or 0.
-pub(crate) fn highest_level(nodes: &[Linked]) -> u8
+pub fn highest_level(nodes: &[Linked]) -> u8
     ensures { All (λ node. node.level ≤ result) nodes.now }
 {
     nodes.iter().map(|node| node.level).max().unwrap_or(0)

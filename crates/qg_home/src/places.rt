@@ -8,7 +8,7 @@ use crate::Linked;
 use qg_num::{Address, RootId};
 
 /// The index of the node at an address; none exactly where none lies there.
-pub(crate) fn place_of_node(nodes: &[Linked], address: Address) -> Option<usize>
+pub fn place_of_node(nodes: &[Linked], address: Address) -> Option<usize>
     requires { IsStrictlyIncreasing (map (λ node. node.address) nodes.now) }
     ensures there { IfSome result (λ place. StandsAt (λ node. node.address) nodes.now address place) }
     ensures absent { IfNone result (AreOthers (λ node. node.address) nodes.now address) }

@@ -1,19 +1,22 @@
 -- One turn of a run (this project's own): the next line is taken and answered.
-use Rattle.std.specs.Prelude.{◌≡◌, ◌⊎◌, ℕ, ◌≤◌, Bool, true, false, List, [], Option, Some, None}
-use Rattle.std.specs.Io.KnownBytes.{append_known}
+use Rattle.std.specs.Prelude.{◌≡◌, ◌⊎◌, ℕ, ◌≤◌, Bool, true, false, List, [], Option, Some, None, Result, Ok, Err, OnOk}
+use Rattle.std.specs.Io.KnownBytes.{IsAtEnd, append_known}
+use Rattle.qg_device.specs.Cause.{HasCause}
 use Rattle.qg_device.specs.History.{Event}
 use Rattle.qg_super.specs.Places.{total_bytes}
 use Rattle.qg_edge.specs.Appended.{AppendsFront}
 use Rattle.qg_num.specs.declared.command.Command.TheVariants.{Commit}
 use Rattle.qg_grammar.specs.ScriptText.{script_lines}
-use Rattle.qg_script.specs.Lines.{LosesLine}
+use Rattle.qg_script.specs.Feeding.{Feeding, IsTooLong, IsWithinLimit}
+use Rattle.qg_script.specs.Lines.{CountsTaken, LosesLine}
 use Rattle.qg_state.specs.State.{State}
 use Rattle.qg_machine.specs.Run.{Asks, Turn}
 use Rattle.qg_store.specs.Making.{MadeCommits, StartsCommit}
 use Rattle.qg_store.specs.Stored.{Stored, IsStoreOf, IsStoreOver, sizes_stored}
 use Rattle.qg_program.specs.declared.status.Status.{Status}
-use Rattle.qg_program.specs.declared.status.Status.TheVariants.{NoMemory, Source, Sink, Disk, TooLong}
+use Rattle.qg_program.specs.declared.status.Status.TheVariants.{NoMemory, Image, Source, Sink, Disk, TooLong}
 use Rattle.qg_program.specs.Following.{StopsBefore}
+use Rattle.qg_program.specs.Putting.{PutsFailure, PutsReplies}
 
 -- a store has not stopped, its disk, where that tells, is as the store left it, and its disk of so many bytes has all of its image
 pub record IsReady (store : Stored) (history : Option (List Event)) (size : ℕ) : Type 0 where
@@ -74,3 +77,25 @@ FailsToTurn TooLong old events before after store history held now = (after ≡ 
 FailsToTurn NoMemory old events before after store history held now = StopsBefore old (script_lines before) events history × (now ≡ held)
 FailsToTurn Disk old events before after store history held now = StopsBefore old (script_lines before) events history × (now ≡ held)
 FailsToTurn _ old events before after store history held now = ⊥
+
+-- ---- over any disk
+
+-- where a turn was made its reply was put, or nothing; where a broken rule ended it the line that says so
+pub record PutsLine (result : Result Bool Status) (held now : Option (List ℕ)) : Type 0 where
+  pub replied : OnOk result (PutsReplies held now)
+  pub told : result ≡ Err Image → PutsFailure held now
+
+-- How many bytes a turn takes, and hands out: those that it takes are counted, and are no more than a script may have, and
+-- one. Where there was no line nothing is left, and where the input is too long the feed is so
+pub record TakesTurn (result : Result Bool Status) (old new : Feeding) (before after : Option (List ℕ)) : Type 0 where
+  pub over : result ≡ Ok false → (new.rest ≡ []) × IsAtEnd after
+  pub too_long : result ≡ Err TooLong → IsTooLong new
+  pub counted : CountsTaken before after old.taken new.taken
+  pub within : IsWithinLimit new
+
+-- a fault of source, sink or disk is told only where the count of its faults rose
+pub record HaveCauses (result : Result Bool Status) (source_before source_after sink_before sink_after disk_before disk_after : ℕ)
+    : Type 0 where
+  pub source : HasCause Source source_before source_after result
+  pub sink : HasCause Sink sink_before sink_after result
+  pub disk : HasCause Disk disk_before disk_after result

@@ -1,18 +1,18 @@
 // One line after the other.
-ghost use Rattle.std.specs.Prelude.{◌≡◌, ◌≢◌, ◌<◌, List, ℕ, Some, Ok, Err, true, false, [], IfOk, IfErr, IsErr, OnOk, IsTrue};
-ghost use Rattle.std.specs.Io.KnownBytes.{IsAtEnd, append_known};
+ghost use Rattle.std.specs.Prelude.{◌≡◌, ◌≢◌, ◌<◌, List, ℕ, Some, Ok, Err, true, IfOk, IfErr, IsErr, OnOk, IsTrue};
+ghost use Rattle.std.specs.Io.KnownBytes.{append_known};
 ghost use Rattle.qg_device.specs.Cause.{HasCause, Rose};
 ghost use Rattle.qg_device.specs.History.{Event};
-ghost use Rattle.qg_script.specs.Feeding.{IsTooLong, IsWithinLimit, most_to_come};
-ghost use Rattle.qg_script.specs.Lines.{CountsTaken, pending};
+ghost use Rattle.qg_script.specs.Feeding.{most_to_come};
+ghost use Rattle.qg_script.specs.Lines.{pending};
 ghost use Rattle.qg_state.specs.State.{State};
 ghost use Rattle.qg_commit.specs.Opened.{IsOpened};
 ghost use Rattle.qg_store.specs.Stored.{IsStoreOf};
 ghost use Rattle.qg_program.specs.Ends.{is_answerers};
 ghost use Rattle.qg_program.specs.Following.{Follows};
-ghost use Rattle.qg_program.specs.Putting.{FailsToPut, PutsFailure, PutsReplies};
+ghost use Rattle.qg_program.specs.Putting.{FailsToPut, PutsFailure};
 ghost use Rattle.qg_program.specs.Running.{IsTaken};
-ghost use Rattle.qg_program.specs.Turning.{FailsToTurn, IsReady, IsTurn, StandsOver};
+ghost use Rattle.qg_program.specs.Turning.{FailsToTurn, HaveCauses, IsReady, IsTurn, PutsLine, StandsOver, TakesTurn};
 
 use crate::Status;
 use crate::answer::answer_line;
@@ -72,23 +72,14 @@ fn turn<L: Ledger, M: Ledger, D: Disk, S: Source, K: Sink>(
         → OnOk result (StandsOver session.new.store (D.history disk.new)) }
     ensures sound { StandsOver session.old.store (D.history disk.old) → result ≢ Err Status.Image }
     ensures ready { OnOk result (IsReady session.new.store (D.history disk.new) (D.size disk.new)) }
-    ensures ends { IfErr result (λ status. IsTrue (is_answerers status)) }
-    ensures not_done { IfErr result (λ status. status ≡ Status.Done → ⊥) }
+    ensures ends { IfErr result (λ status. IsTrue (is_answerers status) × (status ≡ Status.Done → ⊥)) }
 
-    // What is put, over any disk.
-    ensures replied { OnOk result (PutsReplies (K.bytes_held sink.old) (K.bytes_held sink.new)) }
-    ensures told { result ≡ Err Status.Image → PutsFailure (K.bytes_held sink.old) (K.bytes_held sink.new) }
-
-    // How many bytes are taken and handed out.
-    ensures over { result ≡ Ok false → (feed.new.rest ≡ []) × IsAtEnd (S.bytes_left source.new) }
-    ensures too_long { result ≡ Err Status.TooLong → IsTooLong feed.new }
-    ensures counted { CountsTaken
-        (S.bytes_left source.old) (S.bytes_left source.new) feed.old.taken feed.new.taken }
-    ensures within { IsWithinLimit feed.new }
+    // Over any disk.
+    ensures puts { PutsLine result (K.bytes_held sink.old) (K.bytes_held sink.new) }
+    ensures takes { TakesTurn result feed.old feed.new (S.bytes_left source.old) (S.bytes_left source.new) }
     ensures shrinks { result ≡ Ok true → most_to_come feed.new < most_to_come feed.old }
-    ensures source_cause { HasCause Status.Source (S.faults source.old) (S.faults source.new) result }
-    ensures sink_cause { HasCause Status.Sink (K.faults sink.old) (K.faults sink.new) result }
-    ensures disk_cause { HasCause Status.Disk (D.faults disk.old) (D.faults disk.new) result }
+    ensures causes { HaveCauses result (S.faults source.old) (S.faults source.new) (K.faults sink.old)
+        (K.faults sink.new) (D.faults disk.old) (D.faults disk.new) }
 {
     let Some(line) = next_line(feed, source)? else {
         return Ok(false);

@@ -17,11 +17,11 @@ use std::alloc::Global;
 /// The largest size of a file, in bytes (this project's own).
 pub const LARGEST_SIZE: u64 = 1 << 40;
 
-// The least number of a file.
-const LEAST_INODE: u64 = 257;
+/// The least number of a file (this project's own).
+pub const LEAST_INODE: u64 = 257;
 
-// The first number past those of files.
-const INODES_END: u64 = 1 << 48;
+/// The first number past those of files (this project's own).
+pub const INODES_END: u64 = 1 << 48;
 
 /// The files of a subvolume, as its items tell them; `None` exactly where the items do not fit each other (rule `file`).
 pub fn read_files(alloc: Global, parts: FileParts) -> Result<Option<FileList>, NoMemory>
@@ -102,8 +102,8 @@ fn bytes_of_pieces(size: u64, pieces: &[Piece]) -> Option<u64>
     Some(bytes)
 }
 
-// Whether a piece is sound, begins no earlier than at a position and ends by the size.
-fn is_between(from: u64, size: u64, piece: &Piece) -> bool
+/// Whether a piece is sound, begins no earlier than at a position and ends by the size, both in bytes.
+pub fn is_between(from: u64, size: u64, piece: &Piece) -> bool
     ensures { result ≡ is_between from size piece.now }
 {
     from <= piece.position
@@ -112,9 +112,9 @@ fn is_between(from: u64, size: u64, piece: &Piece) -> bool
         && piece.len <= size - piece.position
 }
 
-// Whether a piece is of whole sectors and lies in its extent.
+/// Whether a piece is of whole sectors and lies in its extent.
 #[tactic(auto, unfolding(qg_image::specs::FilesOf::is_piece))]
-fn is_piece(piece: &Piece) -> bool
+pub fn is_piece(piece: &Piece) -> bool
     ensures { result ≡ is_piece piece.now }
 {
     is_aligned(piece.position)
@@ -126,8 +126,8 @@ fn is_piece(piece: &Piece) -> bool
         && piece.len <= piece.extent_bytes - piece.offset
 }
 
-// Whether bytes are whole sectors.
-fn is_aligned(bytes: u64) -> bool
+/// Whether bytes are whole sectors.
+pub fn is_aligned(bytes: u64) -> bool
     ensures { result ≡ is_aligned bytes }
 {
     bytes % SECTOR == 0

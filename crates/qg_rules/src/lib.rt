@@ -6,7 +6,9 @@ mod parts;
 mod quota;
 mod roots;
 
-pub use files::{LARGEST_SIZE, read_files};
+pub use files::{
+    INODES_END, LARGEST_SIZE, LEAST_INODE, is_aligned, is_between, is_piece, read_files,
+};
 pub use parts::FileParts;
 pub use quota::{QuotaFault, read_quota};
 pub use roots::{are_roots, root_of};

@@ -48,13 +48,14 @@ use Rattle.qg_tree_refs.specs.Following.{IsProper, Step, coming_of}
 use Rattle.qg_tree_refs.specs.Settled.{IsSettled}
 use Rattle.qg_tree_refs.proofs.Times.{times-append, times-nil}
 use Rattle.qg_forest.specs.Standing.{HoldsState, root_of, tree_of}
+use Rattle.qg_forest.proofs.Meeting.{root-valued}
+use Rattle.qg_forest.proofs.Roots.{root_level-value, root_of-value}
 use Rattle.qg_snap.proofs.Copied.{nothing_else}
 use Rattle.qg_snap.proofs.Held.{IsDone, holds-then}
 use Rattle.qg_snap.proofs.CopyWalked.{copy-level}
-use Rattle.qg_snap.proofs.Homed.{value_mapped}
 use Rattle.qg_snap.proofs.Referred.{free-count, free-none, free-slot, free-state}
 use Rattle.qg_snap.proofs.Room.{can-give}
-use Rattle.qg_snap.proofs.Source.{HasRoot, has-root, level-is, node-there, root-reached, root-told, root_level-value, root_of-value}
+use Rattle.qg_snap.proofs.Source.{HasRoot, has-root, level-is, node-there, root-reached, root-told}
 
 -- ---- the copy
 
@@ -166,7 +167,7 @@ module _ (state : State) (sub copy now : ℕ) (land : Ground) (history : Option 
 
   other_root : value_at copy (layout_of state).roots ≡ None
   other_root =
-      value_mapped copy state.subvolumes
+      root-valued copy state.subvolumes
       ∙ ap (λ (o : Option Subvolume). option_map (λ (subvolume : Subvolume). subvolume.root) o) other
 
   no_node : node_at state.layout now ≡ None

@@ -1,16 +1,13 @@
 -- Once a subvolume has a snapshot, each node that is not full is reached by its owner still.
-use Rattle.std.proofs.Common.{◌≡◌, ◌≢◌, ℕ, ◌≤◌, true, false, List, [], ◌∷◌, map, Option, Some, None, arith, refl, sym, ap, subst, ◌∙◌, inl, inr}
-use Rattle.std.specs.Prelude.{◌==◌}
-use Rattle.std.specs.List.{AllByRecursion}
+use Rattle.std.proofs.Common.{◌≡◌, ◌≢◌, ℕ, ◌≤◌, true, false, List, [], map, Option, Some, None, arith, refl, sym, ap, subst, ◌∙◌, inl, inr}
 use Rattle.std.specs.List.Sorted.{IsStrictlyIncreasing}
 use Rattle.std.specs.Option.{option_map}
-use Rattle.std.proofs.lemmas.Bool.{cases_Bool, cond-false, cond-true, eqb-true, true≢false}
+use Rattle.std.proofs.lemmas.Bool.{true≢false}
 use Rattle.std.proofs.lemmas.Bool.Decides.{eqb_tells}
 use Rattle.std.proofs.lemmas.Option.{same_Some}
 use Rattle.qg_node.specs.declared.node.Node.{Node}
 use Rattle.qg_node.specs.declared.node.Node.TheVariants.{Leaf, Inner}
 use Rattle.qg_node.specs.Nodes.{header_of}
-use Rattle.qg_node.specs.NodeText.{IsLevelled}
 use Rattle.qg_image.specs.Table.{keys_of, value_at, with_value}
 use Rattle.qg_state.specs.declared.element.Element.{Element}
 use Rattle.qg_state.specs.Owed.{homeless}
@@ -18,7 +15,7 @@ use Rattle.qg_state.specs.Reach.{is_among, level_of, reach, reach_of, reach_of_r
 use Rattle.qg_state.specs.State.{Placed, State, Subvolume, layout_of, next_generation, node_at}
 use Rattle.qg_verdict.specs.declared.tree.Tree.TheVariants.{Files}
 use Rattle.qg_verdict.specs.Walk.{deepest, node_failure, root_expected}
-use Rattle.qg_machine.specs.Layout.{IsReached, IsTreeOf, IsWhole, super_to_come}
+use Rattle.qg_machine.specs.Layout.{IsTreeOf, IsWhole, super_to_come}
 use Rattle.qg_machine.specs.Step.{Snapshots, copy_of}
 use Rattle.qg_files.proofs.Ascending.{Ascends-increasing, ascends-with_value, increasing-Ascends}
 use Rattle.qg_descent.specs.Tree.{Reaches}
@@ -29,52 +26,7 @@ use Rattle.qg_forest.proofs.Reach.{met-same}
 use Rattle.qg_forest.proofs.Snapshotted.{root_entry}
 use Rattle.qg_forest.proofs.Tables.{map-with}
 use Rattle.qg_forest.proofs.Walked.{reaches-deeper, walked-found}
-
--- ---- tables
-
--- what holds of each entry of a table holds of a value with its number
-pub each-at : {A : Type 0} (P : ℕ × A → Type 0) (n : ℕ) (value : A) (table : List (ℕ × A)) → AllByRecursion P table
-    → value_at n table ≡ Some value → P (n, value)
-each-at {A} P n value [] all there = let wrong : ◌≡◌ {A = Option A} None (Some value) = there in absurd cc
-each-at {A} P n value (entry ∷ table) all there = elim (cases_Bool (entry.0 == n)) [
-  | inl passes ↦
-      let own = same_Some entry.1 value
-      (sym (cond-true (entry.0 == n) (Some entry.1) (value_at n table) passes) ∙ there) in
-      let number = eqb-true entry.0 n passes in
-      subst P (λ i. (number i, own i)) all.0
-  | inr fails ↦
-      each-at P n value table all.1 (sym (cond-false (entry.0 == n) (Some entry.1) (value_at n table) fails) ∙ there)
-]
-
-pub value_mapped : (n : ℕ) (table : List (ℕ × Subvolume)) → value_at n (map root_entry table)
-    ≡ option_map (λ (subvolume : Subvolume). subvolume.root) (value_at n table)
-value_mapped n [] = refl
-value_mapped n (entry ∷ table) = elim (cases_Bool (entry.0 == n)) [
-  | inl passes ↦
-      cond-true (entry.0 == n) (Some entry.1.root) (value_at n (map root_entry table)) passes
-      ∙ sym (ap (λ (o : Option Subvolume). option_map (λ (subvolume : Subvolume). subvolume.root) o)
-      (cond-true (entry.0 == n) (Some entry.1) (value_at n table) passes))
-  | inr fails ↦
-      cond-false (entry.0 == n) (Some entry.1.root) (value_at n (map root_entry table)) fails ∙ value_mapped n table
-      ∙ sym (ap (λ (o : Option Subvolume). option_map (λ (subvolume : Subvolume). subvolume.root) o)
-      (cond-false (entry.0 == n) (Some entry.1) (value_at n table) fails))
-]
-
-level_low : (node : Node) → IsLevelled node → (header_of node).level ≤ 7
-level_low (Leaf header items) level = omega (arith, level)
-level_low (Inner header pointers) level = level.1
-
-placed_there : (layout : List (ℕ × Placed)) (q : ℕ) (o : Option Placed) → value_at q layout ≡ o → (node : Node)
-    → node_at layout q ≡ Some node → (placed : Placed) × (value_at q layout ≡ Some placed) × (placed.node ≡ node)
-placed_there layout q None is node there =
-    let wrong : ◌≡◌ {A = Option Node} None (Some node) =
-    sym (ap (λ (o : Option Placed). option_map (λ (placed : Placed). placed.node) o) is) ∙ there in absurd cc
-placed_there layout q (Some placed) is node there = (
-  placed,
-  is,
-  same_Some placed.node node (sym (ap (λ (o : Option Placed). option_map (λ (p : Placed). p.node) o) is)
-      ∙ there),
-)
+use Rattle.qg_forest.proofs.Meeting.{each-there, root-low, root-valued}
 
 -- ---- trees of a whole state
 
@@ -82,7 +34,7 @@ module _ (before : State) (whole : IsWhole before) where
   pub tree_at : (owner : ℕ) (subvolume : Subvolume) → value_at owner before.subvolumes ≡ Some subvolume
       → IsTreeOf before subvolume
   tree_at owner subvolume there =
-      each-at (λ (entry : ℕ × Subvolume). IsTreeOf before entry.1) owner subvolume before.subvolumes whole.trees there
+      each-there (λ (entry : ℕ × Subvolume). IsTreeOf before entry.1) owner subvolume before.subvolumes whole.trees there
 
   -- what a subvolume's tree reaches is a node of the layout
   pub tree-reached : (subvolume : Subvolume) → IsTreeOf before subvolume → (q : ℕ)
@@ -97,26 +49,9 @@ module _ (before : State) (whole : IsWhole before) where
       → (node : Node) × (node_at before.layout q ≡ Some node)
   reached-there owner subvolume there q reaches = tree-reached subvolume (tree_at owner subvolume there) q reaches
 
-  level_of_some : (o : Option Node) (node : Node) → o ≡ Some node → IsLevelled node → level_of o ≤ 7
-  level_of_some o node is levelled =
-      let low = level_low node levelled in
-      let same = ap level_of is in
-      omega (arith, low, same)
-
   pub tree-low : (subvolume : Subvolume) → IsTreeOf before subvolume
       → level_of (node_at before.layout subvolume.root) ≤ 7
-  tree-low subvolume tree =
-      let found = tree-reached subvolume tree subvolume.root
-      (reach-top (node_at before.layout) deepest subvolume.root) in
-      let placed = placed_there before.layout subvolume.root (value_at subvolume.root before.layout) refl found.0
-      found.1 in
-      let its = each-at (IsReached before) subvolume.root placed.0 before.layout whole.reached placed.1 in
-      level_of_some (node_at before.layout subvolume.root) found.0 found.1
-      (subst IsLevelled placed.2 its.node_of_format.levelled)
-
-  pub root-low : (owner : ℕ) (subvolume : Subvolume) → value_at owner before.subvolumes ≡ Some subvolume
-      → level_of (node_at before.layout subvolume.root) ≤ 7
-  root-low owner subvolume there = tree-low subvolume (tree_at owner subvolume there)
+  tree-low subvolume tree = root-low before whole before.subvolumes whole.trees subvolume tree
 
 -- ---- a snapshot
 
@@ -167,16 +102,16 @@ module _ (before after : State) (sub copy : ℕ) (parents : List ℕ) (snap : Sn
       (λ same. differ (sym same)) in
       let still = map-with root_entry sub snap.source marked refl 0 before.subvolumes
       (Ascends-increasing before.subvolumes up) snap.there in
-      roots ∙ value_mapped owner (with_value copy made (with_value sub marked before.subvolumes))
+      roots ∙ root-valued owner (with_value copy made (with_value sub marked before.subvolumes))
       ∙ ap (λ (o : Option Subvolume). option_map (λ (subvolume : Subvolume). subvolume.root) o) past
-      ∙ sym (value_mapped owner (with_value sub marked before.subvolumes))
+      ∙ sym (root-valued owner (with_value sub marked before.subvolumes))
       ∙ ap (λ (table : List (ℕ × ℕ)). value_at owner table) still ∙ there
 
   pub copy_root : value_at copy (layout_of after).roots ≡ Some snap.address
   unfolding made
   copy_root =
       ap (λ (table : List (ℕ × Subvolume)). value_at copy (map root_entry table)) subvolumes_are
-      ∙ value_mapped copy (with_value copy made (with_value sub marked before.subvolumes))
+      ∙ root-valued copy (with_value copy made (with_value sub marked before.subvolumes))
       ∙ ap (λ (o : Option Subvolume). option_map (λ (subvolume : Subvolume). subvolume.root) o)
       (value_at-with_same copy made (with_value sub marked before.subvolumes))
 
@@ -186,7 +121,7 @@ module _ (before after : State) (sub copy : ℕ) (parents : List ℕ) (snap : Sn
   unfolding reach_of_root
   met_root owner subvolume there =
       let nodes = node_at before.layout in
-      let low = root-low before whole owner subvolume there in
+      let low = tree-low before whole subvolume (tree_at before whole owner subvolume there) in
       let level = level_of (node_at before.layout subvolume.root) in
       let same : (q : ℕ) → Reaches nodes level subvolume.root q → node_at after.layout q ≡ node_at before.layout q =
       λ q reaches.
@@ -208,13 +143,13 @@ module _ (before after : State) (sub copy : ℕ) (parents : List ℕ) (snap : Sn
   subvolume_of owner root None is there =
       let wrong : ◌≡◌ {A = Option ℕ} None (Some root) =
       sym (ap (λ (o : Option Subvolume). option_map (λ (subvolume : Subvolume). subvolume.root) o) is)
-      ∙ sym (value_mapped owner before.subvolumes) ∙ there in absurd cc
+      ∙ sym (root-valued owner before.subvolumes) ∙ there in absurd cc
   subvolume_of owner root (Some subvolume) is there = (
     subvolume,
     is,
     same_Some subvolume.root root
         (sym (ap (λ (o : Option Subvolume). option_map (λ (s : Subvolume). s.root) o) is)
-        ∙ sym (value_mapped owner before.subvolumes) ∙ there),
+        ∙ sym (root-valued owner before.subvolumes) ∙ there),
   )
 
   -- who reached something reaches it still

@@ -1,10 +1,8 @@
 -- Each child of a subvolume's root may get a reference that is keyed by a new number: it is known, and has none such.
 use Rattle.std.proofs.Common.{◌≡◌, ℕ, ◌-◌, ◌+◌, ◌≤◌, Bool, true, false, List, [], ◌∷◌, map, Option, Some, None, arith, refl, sym, ap, subst, ◌∙◌, inl, inr}
-use Rattle.std.specs.Prelude.{if◌then◌else◌}
 use Rattle.std.specs.List.{Contains, flat_map}
 use Rattle.std.proofs.lemmas.Bool.{cases_Bool, eq-eqb}
 use Rattle.std.proofs.lemmas.Bool.Decides.{eqb_tells}
-use Rattle.std.proofs.lemmas.List.Sums.{sum_by-cons}
 use Rattle.qg_node.specs.declared.item.Item.{Item}
 use Rattle.qg_node.specs.declared.pointer.Pointer.{Pointer}
 use Rattle.qg_node.specs.declared.node.Header.{Header}
@@ -19,7 +17,6 @@ use Rattle.qg_image.specs.declared.part.FilePart.TheVariants.{Inode, PieceOf}
 use Rattle.qg_image.specs.ItemMeaning.{file_part}
 use Rattle.qg_image.specs.Table.{value_at}
 use Rattle.qg_state.specs.Owed.{Owing, homeless, owed_by_node, owed_by_part, owed_to_child, reference_offset}
-use Rattle.qg_state.specs.Record.{same_reference}
 use Rattle.qg_state.specs.State.{Placed, State, layout_of, node_at}
 use Rattle.qg_state.proofs.Contained.{contains_cases, none_contained}
 use Rattle.qg_verdict.specs.declared.tree.Tree.TheVariants.{Files}
@@ -27,60 +24,18 @@ use Rattle.qg_machine.specs.Layout.{IsWhole, super_to_come}
 use Rattle.qg_cow.specs.Children.{keyed_children, shared_children, way_to, with_header}
 use Rattle.qg_refs.specs.Book.{AgreesWithOwed, Book, count_at}
 use Rattle.qg_refs.specs.Counts.{greatest_count}
-use Rattle.qg_weighed.specs.Weight.{reference_bytes}
 use Rattle.qg_home.proofs.Reaching.{entry_of_value}
 use Rattle.qg_tree_refs.specs.Exchange.{CanGive, times}
 use Rattle.qg_tree_refs.proofs.Keyed.{keyed-under}
-use Rattle.qg_tree_refs.proofs.Owings.{addresses, children-alike, known-alike, times-cons, times-few}
-use Rattle.qg_tree_refs.proofs.Times.{one_of, times-append, times-nil, times_there}
-use Rattle.qg_heavier.specs.Heavier.{owings_bytes}
+use Rattle.qg_tree_refs.proofs.Owings.{addresses, children-alike, known-alike, times-few}
+use Rattle.qg_tree_refs.proofs.Times.{times-append, times-nil, times_there}
 use Rattle.qg_heavier.proofs.Owed.{keyed-bytes}
+use Rattle.qg_forest.proofs.Bytes.{one_of-most, times-bytes}
 use Rattle.qg_forest.proofs.Owing.{node_owes, owed-parts}
-use Rattle.qg_forest.proofs.Tables.{times-flat}
+use Rattle.qg_forest.proofs.Tables.{times-flat, times-member}
 use Rattle.qg_snap.proofs.Distinct.{none-absent, once-led}
 use Rattle.qg_snap.proofs.Source.{HasRoot, root-reached, under-root}
 use Rattle.qg_snap.proofs.Unowed.{have-not-each, is_keyed_by, none-owed, other-keyed, owed-each}
-
--- ---- lists
-
--- what one of a list gives, the list gives
-times_member : {A : Type 0} (f : A → List Owing) (xs : List A) (x : A) → Contains xs x
-    → (at : ℕ) (reference : Reference)
-    → times (f x) at reference ≤ times (flat_map f xs) at reference
-times_member {A} f [] x has at reference = absurd (none_contained x has)
-times_member {A} f (y ∷ ys) x has at reference =
-    let split = times-flat f y ys at reference in
-    elim (contains_cases y ys x has) [
-      | inl same ↦
-          let own = ap (λ (z : A). times (f z) at reference) same in
-          omega (arith, split, own)
-      | inr later ↦ let rest = times_member f ys x later at reference in omega (arith, split, rest)
-    ]
-
-bit_most : (b : Bool) → (if b then 1 else 0) ≤ 1
-bit_most true = omega arith
-bit_most false = omega arith
-
-one_of_most : (reference other : Reference) → one_of reference other ≤ 1
-one_of_most reference other = bit_most (same_reference reference other)
-
-some_bytes : (reference : Reference) → 1 ≤ reference_bytes reference
-some_bytes (KeyedBlock root) = omega arith
-some_bytes (SharedBlock parent) = omega arith
-some_bytes (KeyedData root ino offset) = omega arith
-some_bytes (SharedData parent) = omega arith
-
--- a reference is in a list at most as often as the list has bytes
-times_bytes : (xs : List Owing) (at : ℕ) (reference : Reference) → times xs at reference ≤ owings_bytes xs
-times_bytes [] at reference = let none = times-nil at reference in omega (arith, none)
-times_bytes (x ∷ xs) at reference =
-    let split = times-cons x xs at reference in
-    let few = times-few x at reference in
-    let one = one_of_most reference x.reference in
-    let some = some_bytes x.reference in
-    let rest = times_bytes xs at reference in
-    let bytes = sum_by-cons (λ (o : Owing). reference_bytes o.reference) x xs in
-    omega (arith, split, few, one, some, rest, bytes)
 
 -- ---- what a copy's children get
 
@@ -211,7 +166,7 @@ module _ (state : State) (sub copy now : ℕ) (whole : IsWhole state) (home : ho
       elim (eqb_tells now at) [
         | inl (equal, same) ↦
             let few = times-few (way_to now copy) at (KeyedBlock tree) in
-            let one = one_of_most (KeyedBlock tree) (KeyedBlock copy) in
+            let one = one_of-most (KeyedBlock tree) (KeyedBlock copy) in
             let absent = none-absent Files (super_to_come state) (node_at state.layout) 6 header
             ((header_of root).level - 1) None (own_pointers root) (under-root state sub source) at (KeyedBlock tree)
             (ap (λ (q : ℕ). node_at state.layout q) (sym same) ∙ free) in
@@ -231,8 +186,8 @@ module _ (state : State) (sub copy now : ℕ) (whole : IsWhole state) (home : ho
       let count = counts at (KeyedData tree ino offset) in
       let none = own_none at (KeyedData tree ino offset) keyed in
       let few = times-few (way_to now copy) at (KeyedData tree ino offset) in
-      let one = one_of_most (KeyedData tree ino offset) (KeyedBlock copy) in
-      let many = times_bytes children at (KeyedData tree ino offset) in
+      let one = one_of-most (KeyedData tree ino offset) (KeyedBlock copy) in
+      let many = times-bytes children at (KeyedData tree ino offset) in
       let bytes = keyed-bytes root copy in
       let used = sound.fits in
       omega (arith, count, none, few, one, many, bytes, used, small)
@@ -254,7 +209,7 @@ module _ (state : State) (sub copy now : ℕ) (whole : IsWhole state) (home : ho
   owed_there : (at : ℕ) (reference : Reference) → times (owed_by_node source.placed) at reference
       ≤ count_at made at reference
   owed_there at reference =
-      let member = times_member node_owes state.layout (source.source.root, source.placed)
+      let member = times-member node_owes state.layout (source.source.root, source.placed)
       (entry_of_value source.source.root source.placed state.layout source.here) at reference in
       let parts = owed-parts (layout_of state) at reference in
       let agree = agrees at reference in

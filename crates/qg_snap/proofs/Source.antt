@@ -29,7 +29,9 @@ use Rattle.qg_descent.proofs.BranchForms.{expected-form, form-expected}
 use Rattle.qg_descent.proofs.BranchFrames.{reach-top}
 use Rattle.qg_tree_refs.specs.declared.tree_refs.TreeRefs.{TreeRefs}
 use Rattle.qg_forest.specs.Standing.{HoldsState, root_of, tree_of}
-use Rattle.qg_snap.proofs.Homed.{each-at, tree_at, tree-reached}
+use Rattle.qg_forest.proofs.Meeting.{each-there}
+use Rattle.qg_forest.proofs.Roots.{root_level-value, root_of-value}
+use Rattle.qg_snap.proofs.Homed.{tree_at, tree-reached}
 
 -- ---- a subvolume's root
 
@@ -61,15 +63,6 @@ has-root state sub whole has =
     (reach-top (node_at state.layout) deepest value.0.root) in
     let placed = some_placed state.layout value.0.root (value_at value.0.root state.layout) refl found.0 found.1 in
     record { source = value.0; there = value.1; placed = placed.0; here = placed.1; tree = tree }
-
--- its address and its level
-pub root_of-value : (state : State) (sub : ℕ) (source : Subvolume) → value_at sub state.subvolumes ≡ Some source
-    → root_of state sub ≡ source.root
-root_of-value state sub source there = rw there refl
-
-pub root_level-value : (state : State) (sub : ℕ) (source : Subvolume) → value_at sub state.subvolumes ≡ Some source
-    → root_level state sub ≡ level_of (node_at state.layout source.root)
-root_level-value state sub source there = rw there refl
 
 -- ---- rules
 
@@ -132,7 +125,7 @@ module _ (state : State) (sub : ℕ) (root : HasRoot state sub) where
   under-root = parts.1
 
   pub root-reached : IsWhole state → IsReached state (root.source.root, root.placed)
-  root-reached whole = each-at (IsReached state) root.source.root root.placed state.layout whole.reached root.here
+  root-reached whole = each-there (IsReached state) root.source.root root.placed state.layout whole.reached root.here
 
   module _ (land : Ground) (history : Option (List Event)) (book : TreeRefs)
       (holds : HoldsState land history book state)

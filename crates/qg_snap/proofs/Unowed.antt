@@ -27,7 +27,7 @@ use Rattle.qg_reach.proofs.Members.{one_flat_mapped, one_mapped}
 use Rattle.qg_tree_refs.proofs.Owings.{HaveNot, have-not-more}
 use Rattle.qg_tree_refs.proofs.Times.{one_of, times-nil}
 use Rattle.qg_forest.proofs.Homes.{owner-reaches}
-use Rattle.qg_snap.proofs.Referred.{counted-times}
+use Rattle.qg_forest.proofs.Referring.{counted-times}
 
 -- ---- references keyed by a number
 

@@ -19,11 +19,6 @@ pub record Answered (old : State) (command : Command) (answer : Answer) (commits
   pub step : Step old command answer commits new
   pub keeps : IsKeptOf kept new history
 
--- the machine answers a command so
-abbrev pub Answers : State → Command → Answer → Kept → Option (List Event) → Type 0
-Answers old command answer kept history =
-    (commits : List State) × Answered old command answer commits kept history
-
 -- the machine answers a command so, and the disk was made to hold what it commits
 abbrev pub AnswersOn : State → Command → Answer → Kept → List Event → Option (List Event) → Type 0
 AnswersOn old command answer kept before history =

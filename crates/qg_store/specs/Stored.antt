@@ -1,6 +1,7 @@
 -- A store as its callers see it (this project's own).
-use Rattle.std.specs.Prelude.{◌≡◌, ◌<◌, Bool, true, false, List, Option, None, Some, IsTrue}
+use Rattle.std.specs.Prelude.{◌≡◌, ◌<◌, Bool, true, false, List, Option, None, Some, Result, Ok, Err, IsTrue}
 use Rattle.qg_device.specs.History.{Event}
+use Rattle.qg_num.specs.declared.answer.Answer.{Answer}
 use Rattle.qg_num.specs.declared.command.Command.{Command}
 use Rattle.qg_num.specs.declared.fault.BlockFault.{BlockFault}
 use Rattle.qg_num.specs.declared.fault.BlockFault.TheVariants as fault
@@ -59,6 +60,11 @@ Stops (Aborted cause) old new = (old.stopped ≡ Some cause) × (new ≡ old)
 Stops NoMemory old new = StopsBy fault.NoMemory old new
 Stops Disk old new = StopsBy fault.Disk old new
 Stops (Image rule address) old new = StopsBy (fault.Image rule address) old new
+
+-- a store that answers was running, and is so still; else it stops
+abbrev pub RunsOrStops : Result Answer Stop → Stored → Stored → Type 0
+RunsOrStops (Ok answer) old new = (old.stopped ≡ None) × (new.stopped ≡ None)
+RunsOrStops (Err stop) old new = Stops stop old new
 
 -- a store stops for a rule that the image breaks
 abbrev pub is_of_image : Stop → Bool

@@ -15,10 +15,10 @@ ghost use Rattle.qg_blocks.specs.Told.{BreaksNone};
 ghost use Rattle.qg_walk.specs.Fault.{TellsFailure};
 ghost use Rattle.qg_commit.specs.Opened.{IsOpened, IsOpening};
 ghost use Rattle.qg_commit.specs.Opening.{IsUntouched};
-ghost use Rattle.qg_store.specs.Answering.{Answers, AnswersOn, IsDoneSoFar, comes_to_disk, is_unchanging};
+ghost use Rattle.qg_store.specs.Answering.{AnswersOn, IsDoneSoFar, comes_to_disk, is_unchanging};
 ghost use Rattle.qg_store.specs.Editing.{HasLooked};
 ghost use Rattle.qg_store.specs.Keeping.{IsKept, IsKeptOf};
-ghost use Rattle.qg_store.specs.Stored.{ComesToDisk, IsStoreOf, IsStoreOver, IsUnchanged, Stops, is_of_image, sizes_stored};
+ghost use Rattle.qg_store.specs.Stored.{ComesToDisk, IsStoreOf, IsStoreOver, IsUnchanged, RunsOrStops, is_of_image, sizes_stored};
 
 use crate::cloning::clone;
 use crate::committing::commit;
@@ -115,23 +115,19 @@ impl Store {
         ensures so_far { (state : State) (events : List Event) → IsStoreOf self.old state (D.history disk.old)
             → D.history disk.old ≡ Some events
             → IsDoneSoFar state command.now events (D.history disk.new) }
-        ensures does { (state : State) (events : List Event) → IsStoreOf self.old state (D.history disk.old)
-            → D.history disk.old ≡ Some events
-            → IfOk result (λ answer. Answers state command.now answer self.new.kept (D.history disk.new)) }
         ensures sound { (state : State) (events : List Event) → IsStoreOf self.old state (D.history disk.old)
             → D.history disk.old ≡ Some events
             → IfErr result (λ stop. is_of_image stop ≡ false) }
 
         // Over any disk. What is refused or asked changes nothing but clean nodes, and only a commit of something comes
         // to the disk.
-        ensures running { IfOk result (λ answer. (self.old.stopped ≡ None) × (self.new.stopped ≡ None)) }
         ensures unchanged { IfOk result (λ answer. IsTrue (is_unchanging answer)
             → IsUnchanged self.old self.new × (D.history disk.new ≡ D.history disk.old) × (D.size disk.new ≡ D.size disk.old)) }
         ensures still { (ComesToDisk self.old command.now → ⊥)
             → (D.history disk.new ≡ D.history disk.old) × (D.size disk.new ≡ D.size disk.old) }
 
         // After a stop nothing is done any more.
-        ensures stops { IfErr result (λ stop. Stops stop self.old self.new) }
+        ensures stops { RunsOrStops result self.old self.new }
         ensures cause { HasCause Stop.Disk (D.faults disk.old) (D.faults disk.new) result }
 
         ensures backed { IsStoreOver self.new (D.history disk.new) }

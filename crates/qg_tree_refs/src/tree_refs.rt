@@ -210,6 +210,8 @@ impl TreeRefs {
             ≡ parting_in (book_of self.old.refs) self.old.tree (record { node = node.now; full = full })) }
         ensures done { OnOk result (IsExchanged self.old
             (exchange_by_parting (book_of self.old.refs) self.old.tree (record { node = node.now; full = full })) self.new) }
+        ensures kept { (self.new.tree ≡ self.old.tree) × (self.new.nodesize ≡ self.old.nodesize)
+            × (self.new.next ≡ self.old.next) }
     {
         let case = parting(self.refs(), node, full, self.tree);
         let lists = lists_of_parting(self.refs(), node, full, self.tree)?;

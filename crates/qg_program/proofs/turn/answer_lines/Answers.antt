@@ -23,12 +23,12 @@ loop-text-preserved g c = record {
       let so_far = c.loop-text.invariant.answered state opened input stands known told in
       answered-more _ so_far (rw c.in-Ok-true.field-0-test at c.in-Ok-true.ensures.ok so_far.present so_far.events so_far.left so_far.stands so_far.known so_far.told);
   stands = λ is. rw c.in-Ok-true.is at c.turn.ensures.stands (c.loop-text.invariant.stands is);
-  replied = replies-more _ _ _ c.loop-text.invariant.replied (rw c.in-Ok-true.is at c.turn.ensures.replied);
-  counted = counted-on _ _ _ _ _ c.loop-text.invariant.counted c.turn.ensures.counted;
-  within = c.turn.ensures.within;
-  source_later = omega (arith, c.loop-text.invariant.source_later, c.turn.ensures.source_cause.later);
-  sink_later = omega (arith, c.loop-text.invariant.sink_later, c.turn.ensures.sink_cause.later);
-  disk_later = omega (arith, c.loop-text.invariant.disk_later, c.turn.ensures.disk_cause.later);
+  replied = replies-more _ _ _ c.loop-text.invariant.replied (rw c.in-Ok-true.is at c.turn.ensures.puts.replied);
+  counted = counted-on _ _ _ _ _ c.loop-text.invariant.counted c.turn.ensures.takes.counted;
+  within = c.turn.ensures.takes.within;
+  source_later = omega (arith, c.loop-text.invariant.source_later, c.turn.ensures.causes.source.later);
+  sink_later = omega (arith, c.loop-text.invariant.sink_later, c.turn.ensures.causes.sink.later);
+  disk_later = omega (arith, c.loop-text.invariant.disk_later, c.turn.ensures.causes.disk.later);
 }
 
 pub returns-in-Ok-false-clause-follows : goal.returns-in-Ok-false-clause-follows
@@ -39,25 +39,25 @@ returns-in-Ok-false-clause-follows g c = λ state events opened input stands ope
 
 pub returns-in-Ok-false-clause-takes : goal.returns-in-Ok-false-clause-takes
 returns-in-Ok-false-clause-takes g c =
-    let over = c.turn.ensures.over (c.in-Ok-false.is ∙ ap Ok c.in-Ok-false.field-0-test) in
-    let counted = counted-on _ _ _ _ _ c.loop-text.invariant.counted c.turn.ensures.counted in
-    taken-whole c.turn.new.feed _ _ counted c.turn.ensures.within over.0 over.1
+    let over = c.turn.ensures.takes.over (c.in-Ok-false.is ∙ ap Ok c.in-Ok-false.field-0-test) in
+    let counted = counted-on _ _ _ _ _ c.loop-text.invariant.counted c.turn.ensures.takes.counted in
+    taken-whole c.turn.new.feed _ _ counted c.turn.ensures.takes.within over.0 over.1
 
 pub returns-in-Err-clause-follows : goal.returns-in-Err-clause-follows
 returns-in-Err-clause-follows g c = λ state events opened input stands opens known told.
     let so_far = c.loop-text.invariant.answered state opened input stands known told in
-    let counted = counted-on _ _ _ _ _ c.loop-text.invariant.counted c.turn.ensures.counted in
-    answered-failed _ c.turn.new.feed _ c.turn.new.session.store _ _ so_far opens (record { counted = rw told at counted; within = c.turn.ensures.within })
-    (λ is. c.turn.ensures.too_long (c.in-Err.is ∙ ap Err is))
+    let counted = counted-on _ _ _ _ _ c.loop-text.invariant.counted c.turn.ensures.takes.counted in
+    answered-failed _ c.turn.new.feed _ c.turn.new.session.store _ _ so_far opens (record { counted = rw told at counted; within = c.turn.ensures.takes.within })
+    (λ is. c.turn.ensures.takes.too_long (c.in-Err.is ∙ ap Err is))
     (c.in-Err.ensures.err so_far.present so_far.events so_far.left so_far.stands so_far.known so_far.told)
 
 pub returns-in-Err-clause-takes : goal.returns-in-Err-clause-takes
 returns-in-Err-clause-takes g c =
-    let counted = counted-on _ _ _ _ _ c.loop-text.invariant.counted c.turn.ensures.counted in
-    taken-by _ c.turn.new.feed _ _ counted c.turn.ensures.within (λ is. c.turn.ensures.too_long (c.in-Err.is ∙ ap Err is)) c.in-Err.ensures.not_done
+    let counted = counted-on _ _ _ _ _ c.loop-text.invariant.counted c.turn.ensures.takes.counted in
+    taken-by _ c.turn.new.feed _ _ counted c.turn.ensures.takes.within (λ is. c.turn.ensures.takes.too_long (c.in-Err.is ∙ ap Err is)) c.in-Err.ensures.ends.1
 
 pub returns-in-Err-clause-sound : goal.returns-in-Err-clause-sound
 returns-in-Err-clause-sound g c = λ stands is. c.turn.ensures.sound (c.loop-text.invariant.stands stands) (c.in-Err.is ∙ ap Err is)
 
 pub returns-in-Err-clause-told : goal.returns-in-Err-clause-told
-returns-in-Err-clause-told g c = λ is. failure-behind _ _ _ c.loop-text.invariant.replied (c.turn.ensures.told (c.in-Err.is ∙ ap Err is))
+returns-in-Err-clause-told g c = λ is. failure-behind _ _ _ c.loop-text.invariant.replied (c.turn.ensures.puts.told (c.in-Err.is ∙ ap Err is))

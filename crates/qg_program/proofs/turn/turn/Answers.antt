@@ -38,6 +38,8 @@ returns-in_ok-put-in-Ok-clause-stands g c = λ stands.
     let replied = c.in-Ok.ensures.reply stands.state stands.events stands.stands stands.told in
     record { state = replied.new; events = replied.made.after; told = replied.made.told; stands = replied.stands }
 
-pub returns-in_ok-put-in-Ok-clause-replied : goal.returns-in_ok-put-in-Ok-clause-replied
-returns-in_ok-put-in-Ok-clause-replied g c =
-    replies-one _ _ c.answer_line.new.text c.in-Ok.ensures.replied (rw c.as_slice-in-Ok.ensures at c.in_ok-put-in-Ok.ensures.ok)
+pub returns-in_ok-put-in-Ok-clause-puts : goal.returns-in_ok-put-in-Ok-clause-puts
+returns-in_ok-put-in-Ok-clause-puts g c = record {
+  replied = replies-one _ _ c.answer_line.new.text c.in-Ok.ensures.replied (rw c.as_slice-in-Ok.ensures at c.in_ok-put-in-Ok.ensures.ok);
+  told = λ is. absurd cc;
+}

@@ -23,13 +23,6 @@ kept-in : (inside store : Stored) (state : State) (history : Option (List Event)
 kept-in inside store state history is keeps =
     subst (λ (s : Stored). IsKeptOf s.kept state history) (sym is) keeps.keeps
 
-pub returns-in-Ok-clause-does : goal.returns-in-Ok-clause-does
-returns-in-Ok-clause-does g c = λ state events store told.
-    let history = g.D.Disk.history c.args.disk.now in
-    let keeps = kept-in _ c.args.self.now state history c.self.view_is store in
-    let step = c.in-Ok.ensures.step state events keeps told in
-    (step.0, step.1)
-
 pub returns-in-Err-clause-sound : goal.returns-in-Err-clause-sound
 returns-in-Err-clause-sound g c = λ state events store told.
     let history = g.D.Disk.history c.args.disk.now in

@@ -1,0 +1,483 @@
+use Rattle.std.proofs.Common.{◌≡◌, ℕ, suc, ◌+◌, ◌*◌, ◌-◌, ◌<◌, Bool, List, [], ◌∷◌, Some, arith, refl, sym, ap, subst, ◌∙◌}
+use Rattle.std.specs.Prelude.{◌==◌, ◌&&◌, not}
+use Rattle.std.specs.List.{All}
+use Rattle.std.proofs.lemmas.List.{nil_from_length}
+use Rattle.std.proofs.lemmas.List.Elements.{All-tail}
+use Rattle.std.proofs.lemmas.Result.{on_ok_weaker}
+use Rattle.qg_node.specs.declared.node.Node.{Node}
+use Rattle.qg_node.specs.Nodes.{own_pointers}
+use Rattle.qg_super.specs.Places.{capacity}
+use Rattle.qg_super.specs.declared.sizes.Sizes.{Sizes}
+use Rattle.qg_ground.specs.declared.ground.Ground.{Ground}
+use Rattle.qg_ground.proofs.Editing.{ArePlaced-drafted}
+use Rattle.qg_extents.specs.Table.{book_of}
+use Rattle.qg_heavier.specs.Heavier.{BookGetsHeavier}
+use Rattle.qg_drop.proofs.Resting.{unbroken-handed}
+use Rattle.qg_drop.specs.declared.child.Child.{Child}
+use Rattle.qg_drop.specs.Dropping.{AreParts, children_told, parts_reached}
+use Rattle.qg_drop.proofs.Children.{children-levelled}
+use Rattle.qg_drop.proofs.Opened.{open-part}
+use Rattle.qg_drop.proofs.Under.{children-are, top-formed, top-open}
+use Rattle.qg_drop.proofs.Leaving.{holds-read, inner-counts, inner-leaves, leaf-leaves, part-some, peeked}
+use Rattle.qg_drop.proofs.Stepping.{Went, edit-still, few-all, few-part, never-err, times_on, rests-on, rests-read, rests-still, times-some, cause-handed, weighs-all, weighs-most, weighs-on, went-all, went-none, went-on}
+use Rattle.qg_drop.proofs.dropping.+dropping.Goals as goal
+
+pub drop_each-parts-init : goal.drop_each-parts-init
+drop_each-parts-init g t c = record {
+  editable = c.requires.editable;
+  levelled = c.requires.levelled;
+  went = λ state waiting holds are.
+      went-none state c.args.tree.now.owner c.args.level (capacity c.args.land.now.space.sizes.nodesize) waiting
+      c.args.parts.now c.args.land.now (g.D.Disk.history c.args.disk.now) (g.D.Disk.history c.args.disk.now)
+      c.args.book.now c.args.reads.now holds are;
+  book = (refl, refl, refl);
+  rests = rests-still c.args.land.now (g.D.Disk.history c.args.disk.now) (g.D.Disk.size c.args.disk.now)
+      c.args.tree.now.next c.requires.editable;
+  history = refl;
+  size = refl;
+  count = omega arith;
+}
+
+pub drop_each-parts-preserved : goal.drop_each-parts-preserved
+drop_each-parts-preserved g t c =
+    let met = c.parts.invariant in
+    let part = c.in-Some.part.now in
+    let others = c.in-Some.others.now in
+    let rest = c.in-Some.ensures.cases.0 in
+    let made = c.in_ok-drop_under.ensures in
+    let rests = rests-on c.args.land.now c.parts.land c.drop_under.new.land (g.D.Disk.history c.parts.disk)
+    (g.D.Disk.history c.drop_under.new.disk) c.args.tree.now.next met.rests made.rests in
+    record {
+      editable = edit-still c.parts.land c.drop_under.new.land (g.D.Disk.history c.parts.disk)
+          (g.D.Disk.history c.drop_under.new.disk) (g.D.Disk.size c.parts.disk) (g.D.Disk.size c.drop_under.new.disk)
+          c.args.tree.now.next met.editable made.disk.1 made.rests;
+      levelled = All-tail (λ (part : Child). part.way.expected.level ≡ Some c.args.level) part others
+          (rw rest at met.levelled);
+      went = λ state waiting holds are.
+          let went = rw rest at (met.went state waiting holds are) in
+          let size = ap (λ (sizes : Sizes). capacity sizes.nodesize) met.rests.sizes in
+          went-on state c.args.tree.now.owner c.args.level (capacity c.args.land.now.space.sizes.nodesize) waiting
+          c.args.parts.now part others c.parts.land c.drop_under.new.land (g.D.Disk.history c.parts.disk)
+          (g.D.Disk.history c.drop_under.new.disk) (g.D.Disk.history c.args.disk.now) c.args.book.now c.parts.book
+          c.drop_under.new.book c.args.reads.now c.parts.reads c.drop_under.new.reads went
+          (made.dropped state went.left went.holds went.are.0)
+          (λ events is. made.reads state went.left events (met.history ∙ is) went.holds went.are.0)
+          (subst (λ (n : ℕ). BookGetsHeavier c.parts.book c.drop_under.new.book
+          (parts_reached state c.args.level (part ∷ []) * n)) size
+          (made.heavier state went.left went.holds went.are.0));
+      book = (made.book.0 ∙ met.book.0, made.book.1 ∙ met.book.1, made.book.2 ∙ met.book.2);
+      rests = rests;
+      history = made.disk.0 ∙ met.history;
+      size = made.disk.1 ∙ met.size;
+      count = let now = made.cause.later in let before = met.count in omega (arith, now, before);
+    }
+
+pub drop_each-drop_under-requires : goal.drop_each-drop_under-requires
+drop_each-drop_under-requires g t c κs within =
+    let falls : 2 * c.args.level + 1 < t = omega (arith, c.decreases) in
+    let levelled = rw c.in-Some.ensures.cases.0 at c.parts.invariant.levelled in
+    (falls, (within.0, (within.1, (c.parts.invariant.editable, levelled 0 c.in-Some.part.now (omega arith)))))
+
+pub drop_each-returns-in_err-drop_under-clause-sound :
+    goal.drop_each-returns-in_err-drop_under-clause-sound
+drop_each-returns-in_err-drop_under-clause-sound g t c state waiting events told same holds are =
+    let met = c.parts.invariant in
+    let went = rw c.in-Some.ensures.cases.0 at (met.went state waiting holds are) in
+    unbroken-handed c.from_residual.result _ c.from_residual.ensures.1
+    (c.in_err-drop_under.ensures.sound state went.left events (met.history ∙ told) same went.holds went.are.0)
+
+pub drop_each-returns-in_err-drop_under-clause-reads :
+    goal.drop_each-returns-in_err-drop_under-clause-reads
+drop_each-returns-in_err-drop_under-clause-reads g t c state waiting events told holds are =
+    let met = c.parts.invariant in
+    let rest = c.in-Some.ensures.cases.0 in
+    let went = rw rest at (met.went state waiting holds are) in
+    few-part state c.args.tree.now.owner c.args.level (capacity c.args.land.now.space.sizes.nodesize) waiting
+    c.args.parts.now c.in-Some.part.now c.in-Some.others.now c.parts.land (g.D.Disk.history c.parts.disk)
+    (g.D.Disk.history c.args.disk.now) c.args.book.now c.parts.book c.args.reads.now c.parts.reads
+    c.drop_under.new.reads went events told
+    (c.in_err-drop_under.ensures.reads state went.left events (met.history ∙ told) went.holds went.are.0)
+
+pub drop_each-returns-in_err-drop_under-clause-book :
+    goal.drop_each-returns-in_err-drop_under-clause-book
+drop_each-returns-in_err-drop_under-clause-book g t c =
+    let now = c.in_err-drop_under.ensures.book in
+    let before = c.parts.invariant.book in
+    (now.0 ∙ before.0, now.1 ∙ before.1, now.2 ∙ before.2)
+
+pub drop_each-returns-in_err-drop_under-clause-rests :
+    goal.drop_each-returns-in_err-drop_under-clause-rests
+drop_each-returns-in_err-drop_under-clause-rests g t c =
+    rests-on c.args.land.now c.parts.land c.drop_under.new.land (g.D.Disk.history c.parts.disk)
+    (g.D.Disk.history c.drop_under.new.disk) c.args.tree.now.next c.parts.invariant.rests
+    c.in_err-drop_under.ensures.rests
+
+pub drop_each-returns-in_err-drop_under-clause-disk :
+    goal.drop_each-returns-in_err-drop_under-clause-disk
+drop_each-returns-in_err-drop_under-clause-disk g t c =
+    let now = c.in_err-drop_under.ensures.disk in
+    (now.0 ∙ c.parts.invariant.history, now.1 ∙ c.parts.invariant.size)
+
+pub drop_each-returns-in_err-drop_under-clause-cause :
+    goal.drop_each-returns-in_err-drop_under-clause-cause
+drop_each-returns-in_err-drop_under-clause-cause g t c =
+    cause-handed (g.D.Disk.faults c.args.disk.now) (g.D.Disk.faults c.parts.disk)
+    (g.D.Disk.faults c.drop_under.new.disk) c.from_residual.result _ c.from_residual.ensures.1
+    c.parts.invariant.count c.in_err-drop_under.ensures.cause
+
+pub drop_each-returns-clause-dropped : goal.drop_each-returns-clause-dropped
+drop_each-returns-clause-dropped g t c state waiting holds are =
+    let none = nil_from_length c.parts.rest.now c.in_default.ensures.cases in
+    let went = subst (λ (rest : List Child). Went state c.args.tree.now.owner c.args.level
+    (capacity c.args.land.now.space.sizes.nodesize) waiting c.args.parts.now rest c.parts.land
+    (g.D.Disk.history c.parts.disk) (g.D.Disk.history c.args.disk.now) c.args.book.now c.parts.book c.args.reads.now
+    c.parts.reads) none (c.parts.invariant.went state waiting holds are) in
+    went-all state c.args.tree.now.owner c.args.level (capacity c.args.land.now.space.sizes.nodesize) waiting
+    c.args.parts.now c.parts.land (g.D.Disk.history c.parts.disk) (g.D.Disk.history c.args.disk.now) c.args.book.now
+    c.parts.book c.args.reads.now c.parts.reads went
+
+pub drop_each-returns-clause-reads : goal.drop_each-returns-clause-reads
+drop_each-returns-clause-reads g t c state waiting events told holds are =
+    let none = nil_from_length c.parts.rest.now c.in_default.ensures.cases in
+    let went = subst (λ (rest : List Child). Went state c.args.tree.now.owner c.args.level
+    (capacity c.args.land.now.space.sizes.nodesize) waiting c.args.parts.now rest c.parts.land
+    (g.D.Disk.history c.parts.disk) (g.D.Disk.history c.args.disk.now) c.args.book.now c.parts.book c.args.reads.now
+    c.parts.reads) none (c.parts.invariant.went state waiting holds are) in
+    few-all state c.args.tree.now.owner c.args.level (capacity c.args.land.now.space.sizes.nodesize) waiting
+    c.args.parts.now c.parts.land (g.D.Disk.history c.parts.disk) (g.D.Disk.history c.args.disk.now) c.args.book.now
+    c.parts.book c.args.reads.now c.parts.reads went events told
+
+pub drop_each-returns-clause-heavier : goal.drop_each-returns-clause-heavier
+drop_each-returns-clause-heavier g t c state waiting holds are =
+    let none = nil_from_length c.parts.rest.now c.in_default.ensures.cases in
+    let went = subst (λ (rest : List Child). Went state c.args.tree.now.owner c.args.level
+    (capacity c.args.land.now.space.sizes.nodesize) waiting c.args.parts.now rest c.parts.land
+    (g.D.Disk.history c.parts.disk) (g.D.Disk.history c.args.disk.now) c.args.book.now c.parts.book c.args.reads.now
+    c.parts.reads) none (c.parts.invariant.went state waiting holds are) in
+    weighs-all state c.args.tree.now.owner c.args.level (capacity c.args.land.now.space.sizes.nodesize) waiting
+    c.args.parts.now c.parts.land (g.D.Disk.history c.parts.disk) (g.D.Disk.history c.args.disk.now) c.args.book.now
+    c.parts.book c.args.reads.now c.parts.reads went
+
+pub drop_each-returns-clause-book : goal.drop_each-returns-clause-book
+drop_each-returns-clause-book g t c = c.parts.invariant.book
+
+pub drop_each-returns-clause-rests : goal.drop_each-returns-clause-rests
+drop_each-returns-clause-rests g t c = c.parts.invariant.rests
+
+pub drop_each-returns-clause-disk : goal.drop_each-returns-clause-disk
+drop_each-returns-clause-disk g t c = (c.parts.invariant.history, c.parts.invariant.size)
+
+pub drop_each-returns-clause-cause : goal.drop_each-returns-clause-cause
+drop_each-returns-clause-cause g t c = record {
+  later = c.parts.invariant.count;
+  rose = λ is. absurd (never-err _ _ is);
+}
+
+pub drop_under-visit-requires : goal.drop_under-visit-requires
+drop_under-visit-requires g t c = record {
+  readable = record {
+    backed = c.requires.editable.backed;
+    placed = ArePlaced-drafted c.args.land.now c.args.tree.now.next (g.D.Disk.size c.args.disk.now)
+        c.requires.editable.room c.requires.editable.drafted;
+  };
+}
+
+pub drop_under-returns-in_err-visit-clause-sound :
+    goal.drop_under-returns-in_err-visit-clause-sound
+drop_under-returns-in_err-visit-clause-sound g t c state waiting events told same holds are =
+    let history = g.D.Disk.history c.args.disk.now in
+    let served = c.requires.editable.drafted.sizes.served in
+    let size = c.requires.editable.drafted.sizes.nodesize ∙ ap (λ (s : Sizes). s.nodesize) (sym holds.sizes) in
+    unbroken-handed c.from_residual.result _ c.from_residual.ensures.1
+    (c.in_err-visit.ensures.sound are.placed.node
+    (open-part c.args.land.now history c.args.book.now state c.args.tree.now.owner waiting holds served
+    c.args.part.now.way.address are.placed are.there
+    (top-open c.args.land.now history c.args.book.now state c.args.tree.now.owner waiting holds served c.args.level
+    c.args.part.now are)).told
+    (top-formed c.args.land.now history c.args.book.now state c.args.tree.now.owner waiting holds served c.args.level
+    c.args.part.now are c.args.tree.now.next c.args.land.now.blocks.draft.sizes.nodesize same size))
+
+pub drop_under-returns-in_err-visit-clause-reads :
+    goal.drop_under-returns-in_err-visit-clause-reads
+drop_under-returns-in_err-visit-clause-reads g t c state waiting events told holds are =
+    let some = part-some c.args.land.now (g.D.Disk.history c.args.disk.now) c.args.book.now state
+    c.args.tree.now.owner waiting holds c.requires.editable.drafted.sizes.served c.args.level c.args.part.now are in
+    let one = c.visit.ensures.reads in
+    omega (arith, some, one)
+
+pub drop_under-returns-in_err-visit-clause-rests :
+    goal.drop_under-returns-in_err-visit-clause-rests
+drop_under-returns-in_err-visit-clause-rests g t c =
+    rests-read c.args.land.now c.visit.new.blocks (g.D.Disk.history c.visit.new.disk) c.args.tree.now.next
+    c.visit.ensures.read.draft c.visit.ensures.read.bound c.visit.ensures.readable.backed c.requires.editable.drafted
+
+pub drop_under-returns-in_err-children-clause-reads :
+    goal.drop_under-returns-in_err-children-clause-reads
+drop_under-returns-in_err-children-clause-reads g t c state waiting events told holds are =
+    let some = part-some c.args.land.now (g.D.Disk.history c.args.disk.now) c.args.book.now state
+    c.args.tree.now.owner waiting holds c.requires.editable.drafted.sizes.served c.args.level c.args.part.now are in
+    let one = c.visit.ensures.reads in
+    omega (arith, some, one)
+
+pub drop_under-returns-in_err-children-clause-rests :
+    goal.drop_under-returns-in_err-children-clause-rests
+drop_under-returns-in_err-children-clause-rests g t c =
+    rests-read c.args.land.now c.visit.new.blocks (g.D.Disk.history c.visit.new.disk) c.args.tree.now.next
+    c.visit.ensures.read.draft c.visit.ensures.read.bound c.visit.ensures.readable.backed c.requires.editable.drafted
+
+pub drop_under-returns-in_err-part_with-clause-sound :
+    goal.drop_under-returns-in_err-part_with-clause-sound
+drop_under-returns-in_err-part_with-clause-sound g t c state waiting events told same holds are =
+    let history = g.D.Disk.history c.args.disk.now in
+    let served = c.requires.editable.drafted.sizes.served in
+    let read = holds-read c.args.land.now history c.args.book.now state c.args.tree.now.owner waiting holds
+    c.visit.new.blocks (g.D.Disk.history c.visit.new.disk) c.visit.ensures.read.draft c.visit.ensures.read.history in
+    unbroken-handed c.from_residual-in_err-part_with.result _ c.from_residual-in_err-part_with.ensures.1
+    (c.in_err-part_with.ensures.sound state c.args.tree.now.owner waiting (g.D.Disk.history c.visit.new.disk) are.placed
+    c.args.tree.now.next c.visit.ensures.readable.backed
+    (rests-read c.args.land.now c.visit.new.blocks (g.D.Disk.history c.visit.new.disk) c.args.tree.now.next
+    c.visit.ensures.read.draft c.visit.ensures.read.bound c.visit.ensures.readable.backed
+    c.requires.editable.drafted).drafted read are.there are.mark
+    (top-open c.args.land.now history c.args.book.now state c.args.tree.now.owner waiting holds served c.args.level
+    c.args.part.now are) are.under)
+
+pub drop_under-returns-in_err-part_with-clause-reads :
+    goal.drop_under-returns-in_err-part_with-clause-reads
+drop_under-returns-in_err-part_with-clause-reads g t c state waiting events told holds are =
+    let some = part-some c.args.land.now (g.D.Disk.history c.args.disk.now) c.args.book.now state
+    c.args.tree.now.owner waiting holds c.requires.editable.drafted.sizes.served c.args.level c.args.part.now are in
+    let one = c.visit.ensures.reads in
+    omega (arith, some, one)
+
+pub drop_under-returns-in_err-part_with-clause-rests :
+    goal.drop_under-returns-in_err-part_with-clause-rests
+drop_under-returns-in_err-part_with-clause-rests g t c =
+    let mid : Ground = record c.args.land.now { blocks = c.visit.new.blocks } in
+    let read = rests-read c.args.land.now c.visit.new.blocks (g.D.Disk.history c.visit.new.disk) c.args.tree.now.next
+    c.visit.ensures.read.draft c.visit.ensures.read.bound c.visit.ensures.readable.backed c.requires.editable.drafted in
+    rests-on c.args.land.now mid c.part_with.new.land (g.D.Disk.history c.visit.new.disk)
+    (g.D.Disk.history c.visit.new.disk) c.args.tree.now.next read
+    (c.part_with.ensures.rests (g.D.Disk.history c.visit.new.disk) c.args.tree.now.next read.backed read.drafted)
+
+pub drop_under-returns-then-level-eq0-clause-dropped :
+    goal.drop_under-returns-then-level-eq0-clause-dropped
+drop_under-returns-then-level-eq0-clause-dropped g t c state waiting holds are =
+    let history = g.D.Disk.history c.args.disk.now in
+    let served = c.requires.editable.drafted.sizes.served in
+    let read = holds-read c.args.land.now history c.args.book.now state c.args.tree.now.owner waiting holds
+    c.visit.new.blocks (g.D.Disk.history c.visit.new.disk) c.visit.ensures.read.draft c.visit.ensures.read.history in
+    leaf-leaves c.args.land.now history c.args.book.now state c.args.tree.now.owner waiting holds served c.args.level
+    c.args.part.now are c.if-level-eq0.true c.part_with.new.land (g.D.Disk.history c.visit.new.disk)
+    c.part_with.new.book
+    (c.in_ok-part_with.ensures.parted state c.args.tree.now.owner waiting (g.D.Disk.history c.visit.new.disk) are.placed
+    c.visit.ensures.readable.backed read are.there are.mark
+    (top-open c.args.land.now history c.args.book.now state c.args.tree.now.owner waiting holds served c.args.level
+    c.args.part.now are) are.under)
+
+pub drop_under-returns-then-level-eq0-clause-reads :
+    goal.drop_under-returns-then-level-eq0-clause-reads
+drop_under-returns-then-level-eq0-clause-reads g t c state waiting events told holds are =
+    let some = part-some c.args.land.now (g.D.Disk.history c.args.disk.now) c.args.book.now state
+    c.args.tree.now.owner waiting holds c.requires.editable.drafted.sizes.served c.args.level c.args.part.now are in
+    let one = c.visit.ensures.reads in
+    omega (arith, some, one)
+
+pub drop_under-returns-then-level-eq0-clause-heavier :
+    goal.drop_under-returns-then-level-eq0-clause-heavier
+drop_under-returns-then-level-eq0-clause-heavier g t c state waiting holds are =
+    let read = rests-read c.args.land.now c.visit.new.blocks (g.D.Disk.history c.visit.new.disk) c.args.tree.now.next
+    c.visit.ensures.read.draft c.visit.ensures.read.bound c.visit.ensures.readable.backed c.requires.editable.drafted in
+    let some = part-some c.args.land.now (g.D.Disk.history c.args.disk.now) c.args.book.now state
+    c.args.tree.now.owner waiting holds c.requires.editable.drafted.sizes.served c.args.level c.args.part.now are in
+    let most = capacity c.args.land.now.space.sizes.nodesize in
+    let many = parts_reached state c.args.level (c.args.part.now ∷ []) in
+    weighs-most c.args.book.now c.part_with.new.book most (many * most) (times-some many most some)
+    (c.in_ok-part_with.ensures.heavier (g.D.Disk.history c.visit.new.disk) c.args.tree.now.next read.backed
+    read.drafted)
+
+pub drop_under-returns-then-level-eq0-clause-rests :
+    goal.drop_under-returns-then-level-eq0-clause-rests
+drop_under-returns-then-level-eq0-clause-rests g t c =
+    let mid : Ground = record c.args.land.now { blocks = c.visit.new.blocks } in
+    let read = rests-read c.args.land.now c.visit.new.blocks (g.D.Disk.history c.visit.new.disk) c.args.tree.now.next
+    c.visit.ensures.read.draft c.visit.ensures.read.bound c.visit.ensures.readable.backed c.requires.editable.drafted in
+    rests-on c.args.land.now mid c.part_with.new.land (g.D.Disk.history c.visit.new.disk)
+    (g.D.Disk.history c.visit.new.disk) c.args.tree.now.next read
+    (c.part_with.ensures.rests (g.D.Disk.history c.visit.new.disk) c.args.tree.now.next read.backed read.drafted)
+
+pub drop_under-drop_each-requires : goal.drop_under-drop_each-requires
+drop_under-drop_each-requires g t c κs within =
+    let after = g.D.Disk.history c.visit.new.disk in
+    let falls : 2 * ((c.args.level - 1) + 1) < t = omega (arith, c.decreases, c.if-level-eq0.false) in
+    let read = rests-read c.args.land.now c.visit.new.blocks after c.args.tree.now.next c.visit.ensures.read.draft
+    c.visit.ensures.read.bound c.visit.ensures.readable.backed c.requires.editable.drafted in
+    let moved = c.part_with.ensures.rests after c.args.tree.now.next read.backed read.drafted in
+    let editable = edit-still c.args.land.now c.part_with.new.land (g.D.Disk.history c.args.disk.now) after
+    (g.D.Disk.size c.args.disk.now) (g.D.Disk.size c.visit.new.disk) c.args.tree.now.next c.requires.editable
+    c.visit.ensures.read.size
+    (rests-on c.args.land.now (record c.args.land.now { blocks = c.visit.new.blocks }) c.part_with.new.land after after
+    c.args.tree.now.next read moved) in
+    let told : c.as_slice.result.now ≡ children_told (book_of c.args.book.now.refs) c.args.part.now.way.expected.to
+    (c.args.level - 1) (own_pointers c.peek-node.result.now) =
+    c.as_slice.ensures.value ∙ c.in_ok-children.ensures
+    ∙ ap (λ (n : ℕ). children_told (book_of c.args.book.now.refs) c.args.part.now.way.expected.to n
+    (own_pointers c.peek-node.result.now)) c.saturating_sub.ensures in
+    let levelled = subst (λ (list : List Child). All (λ child. child.way.expected.level ≡ Some (c.args.level - 1)) list)
+    (sym told)
+    (children-levelled (book_of c.args.book.now.refs) c.args.part.now.way.expected.to (c.args.level - 1)
+    (own_pointers c.peek-node.result.now)) in
+    (falls, (within.0, (within.1, (editable, levelled))))
+
+pub drop_under-returns-clause-dropped : goal.drop_under-returns-clause-dropped
+drop_under-returns-clause-dropped g t c state waiting holds are =
+    let history = g.D.Disk.history c.args.disk.now in
+    let after = g.D.Disk.history c.visit.new.disk in
+    let served = c.requires.editable.drafted.sizes.served in
+    let lower = c.args.level - 1 in
+    let high : c.args.level ≡ suc lower = omega (arith, c.if-level-eq0.false) in
+    let read = holds-read c.args.land.now history c.args.book.now state c.args.tree.now.owner waiting holds
+    c.visit.new.blocks after c.visit.ensures.read.draft c.visit.ensures.read.history in
+    let parted = c.in_ok-part_with.ensures.parted state c.args.tree.now.owner waiting after are.placed
+    c.visit.ensures.readable.backed read are.there are.mark
+    (top-open c.args.land.now history c.args.book.now state c.args.tree.now.owner waiting holds served c.args.level
+    c.args.part.now are) are.under in
+    let seen = peeked c.args.land.now history c.args.book.now state c.args.tree.now.owner waiting holds served
+    c.args.level c.args.part.now are _ c.args.part.now.way.expected c.visit.new.blocks c.in_ok-visit.ensures.visited
+    c.peek-node.result.now c.peek-node.ensures in
+    let told_now : c.as_slice.result.now ≡ children_told (book_of c.args.book.now.refs) c.args.part.now.way.expected.to
+    lower (own_pointers are.placed.node) =
+    c.as_slice.ensures.value ∙ c.in_ok-children.ensures
+    ∙ ap (λ (n : ℕ). children_told (book_of c.args.book.now.refs) c.args.part.now.way.expected.to n
+    (own_pointers c.peek-node.result.now)) c.saturating_sub.ensures
+    ∙ ap (λ (n : Node). children_told (book_of c.args.book.now.refs) c.args.part.now.way.expected.to lower
+    (own_pointers n)) seen in
+    let less : ℕ → Bool = λ q. waiting q && not (q == c.args.part.now.way.address) in
+    let parts = subst (λ (list : List Child). AreParts state less lower list) (sym told_now)
+    (children-are c.args.land.now history c.args.book.now state c.args.tree.now.owner waiting holds served c.args.level
+    c.args.part.now are lower high) in
+    on_ok_weaker c.drop_each.result
+    (inner-leaves c.args.land.now history c.args.book.now state c.args.tree.now.owner waiting holds served c.args.level
+    c.args.part.now are lower high c.as_slice.result.now told_now c.drop_each.new.land
+    (g.D.Disk.history c.drop_each.new.disk) c.drop_each.new.book)
+    (c.drop_each.ensures.dropped state less parted parts)
+
+pub drop_under-returns-clause-sound : goal.drop_under-returns-clause-sound
+drop_under-returns-clause-sound g t c state waiting events told same holds are =
+    let history = g.D.Disk.history c.args.disk.now in
+    let after = g.D.Disk.history c.visit.new.disk in
+    let served = c.requires.editable.drafted.sizes.served in
+    let lower = c.args.level - 1 in
+    let high : c.args.level ≡ suc lower = omega (arith, c.if-level-eq0.false) in
+    let read = holds-read c.args.land.now history c.args.book.now state c.args.tree.now.owner waiting holds
+    c.visit.new.blocks after c.visit.ensures.read.draft c.visit.ensures.read.history in
+    let parted = c.in_ok-part_with.ensures.parted state c.args.tree.now.owner waiting after are.placed
+    c.visit.ensures.readable.backed read are.there are.mark
+    (top-open c.args.land.now history c.args.book.now state c.args.tree.now.owner waiting holds served c.args.level
+    c.args.part.now are) are.under in
+    let seen = peeked c.args.land.now history c.args.book.now state c.args.tree.now.owner waiting holds served
+    c.args.level c.args.part.now are _ c.args.part.now.way.expected c.visit.new.blocks c.in_ok-visit.ensures.visited
+    c.peek-node.result.now c.peek-node.ensures in
+    let told_now : c.as_slice.result.now ≡ children_told (book_of c.args.book.now.refs) c.args.part.now.way.expected.to
+    lower (own_pointers are.placed.node) =
+    c.as_slice.ensures.value ∙ c.in_ok-children.ensures
+    ∙ ap (λ (n : ℕ). children_told (book_of c.args.book.now.refs) c.args.part.now.way.expected.to n
+    (own_pointers c.peek-node.result.now)) c.saturating_sub.ensures
+    ∙ ap (λ (n : Node). children_told (book_of c.args.book.now.refs) c.args.part.now.way.expected.to lower
+    (own_pointers n)) seen in
+    let less : ℕ → Bool = λ q. waiting q && not (q == c.args.part.now.way.address) in
+    let parts = subst (λ (list : List Child). AreParts state less lower list) (sym told_now)
+    (children-are c.args.land.now history c.args.book.now state c.args.tree.now.owner waiting holds served c.args.level
+    c.args.part.now are lower high) in
+    c.drop_each.ensures.sound state less events (c.visit.ensures.read.history ∙ told) same parted parts
+
+pub drop_under-returns-clause-reads : goal.drop_under-returns-clause-reads
+drop_under-returns-clause-reads g t c state waiting events told holds are =
+    let history = g.D.Disk.history c.args.disk.now in
+    let after = g.D.Disk.history c.visit.new.disk in
+    let served = c.requires.editable.drafted.sizes.served in
+    let lower = c.args.level - 1 in
+    let high : c.args.level ≡ suc lower = omega (arith, c.if-level-eq0.false) in
+    let read = holds-read c.args.land.now history c.args.book.now state c.args.tree.now.owner waiting holds
+    c.visit.new.blocks after c.visit.ensures.read.draft c.visit.ensures.read.history in
+    let parted = c.in_ok-part_with.ensures.parted state c.args.tree.now.owner waiting after are.placed
+    c.visit.ensures.readable.backed read are.there are.mark
+    (top-open c.args.land.now history c.args.book.now state c.args.tree.now.owner waiting holds served c.args.level
+    c.args.part.now are) are.under in
+    let seen = peeked c.args.land.now history c.args.book.now state c.args.tree.now.owner waiting holds served
+    c.args.level c.args.part.now are _ c.args.part.now.way.expected c.visit.new.blocks c.in_ok-visit.ensures.visited
+    c.peek-node.result.now c.peek-node.ensures in
+    let told_now : c.as_slice.result.now ≡ children_told (book_of c.args.book.now.refs) c.args.part.now.way.expected.to
+    lower (own_pointers are.placed.node) =
+    c.as_slice.ensures.value ∙ c.in_ok-children.ensures
+    ∙ ap (λ (n : ℕ). children_told (book_of c.args.book.now.refs) c.args.part.now.way.expected.to n
+    (own_pointers c.peek-node.result.now)) c.saturating_sub.ensures
+    ∙ ap (λ (n : Node). children_told (book_of c.args.book.now.refs) c.args.part.now.way.expected.to lower
+    (own_pointers n)) seen in
+    let less : ℕ → Bool = λ q. waiting q && not (q == c.args.part.now.way.address) in
+    let parts = subst (λ (list : List Child). AreParts state less lower list) (sym told_now)
+    (children-are c.args.land.now history c.args.book.now state c.args.tree.now.owner waiting holds served c.args.level
+    c.args.part.now are lower high) in
+    let counted = inner-counts c.args.land.now history c.args.book.now state c.args.tree.now.owner waiting holds served
+    c.args.level c.args.part.now are lower high c.as_slice.result.now told_now in
+    let below = c.drop_each.ensures.reads state less events (c.visit.ensures.read.history ∙ told) parted parts in
+    let one = c.visit.ensures.reads in
+    omega (arith, counted, below, one)
+
+pub drop_under-returns-clause-heavier : goal.drop_under-returns-clause-heavier
+drop_under-returns-clause-heavier g t c state waiting holds are =
+    let history = g.D.Disk.history c.args.disk.now in
+    let after = g.D.Disk.history c.visit.new.disk in
+    let served = c.requires.editable.drafted.sizes.served in
+    let lower = c.args.level - 1 in
+    let high : c.args.level ≡ suc lower = omega (arith, c.if-level-eq0.false) in
+    let read = holds-read c.args.land.now history c.args.book.now state c.args.tree.now.owner waiting holds
+    c.visit.new.blocks after c.visit.ensures.read.draft c.visit.ensures.read.history in
+    let parted = c.in_ok-part_with.ensures.parted state c.args.tree.now.owner waiting after are.placed
+    c.visit.ensures.readable.backed read are.there are.mark
+    (top-open c.args.land.now history c.args.book.now state c.args.tree.now.owner waiting holds served c.args.level
+    c.args.part.now are) are.under in
+    let seen = peeked c.args.land.now history c.args.book.now state c.args.tree.now.owner waiting holds served
+    c.args.level c.args.part.now are _ c.args.part.now.way.expected c.visit.new.blocks c.in_ok-visit.ensures.visited
+    c.peek-node.result.now c.peek-node.ensures in
+    let told_now : c.as_slice.result.now ≡ children_told (book_of c.args.book.now.refs) c.args.part.now.way.expected.to
+    lower (own_pointers are.placed.node) =
+    c.as_slice.ensures.value ∙ c.in_ok-children.ensures
+    ∙ ap (λ (n : ℕ). children_told (book_of c.args.book.now.refs) c.args.part.now.way.expected.to n
+    (own_pointers c.peek-node.result.now)) c.saturating_sub.ensures
+    ∙ ap (λ (n : Node). children_told (book_of c.args.book.now.refs) c.args.part.now.way.expected.to lower
+    (own_pointers n)) seen in
+    let less : ℕ → Bool = λ q. waiting q && not (q == c.args.part.now.way.address) in
+    let parts = subst (λ (list : List Child). AreParts state less lower list) (sym told_now)
+    (children-are c.args.land.now history c.args.book.now state c.args.tree.now.owner waiting holds served c.args.level
+    c.args.part.now are lower high) in
+    let counted = inner-counts c.args.land.now history c.args.book.now state c.args.tree.now.owner waiting holds served
+    c.args.level c.args.part.now are lower high c.as_slice.result.now told_now in
+    let mid : Ground = record c.args.land.now { blocks = c.visit.new.blocks } in
+    let rests = rests-read c.args.land.now c.visit.new.blocks after c.args.tree.now.next c.visit.ensures.read.draft
+    c.visit.ensures.read.bound c.visit.ensures.readable.backed c.requires.editable.drafted in
+    let moved = c.part_with.ensures.rests after c.args.tree.now.next rests.backed rests.drafted in
+    let size = ap (λ (sizes : Sizes). capacity sizes.nodesize) moved.sizes in
+    let most = capacity c.args.land.now.space.sizes.nodesize in
+    let many = parts_reached state lower c.as_slice.result.now in
+    let own = c.in_ok-part_with.ensures.heavier after c.args.tree.now.next rests.backed rests.drafted in
+    let sum = times_on many 1 most in
+    let all = ap (λ (n : ℕ). n * most) counted in
+    on_ok_weaker c.drop_each.result
+    (λ (below : BookGetsHeavier c.part_with.new.book c.drop_each.new.book
+    (many * capacity c.part_with.new.land.space.sizes.nodesize)).
+    weighs-most c.args.book.now c.drop_each.new.book (most + many * most)
+    (parts_reached state c.args.level (c.args.part.now ∷ []) * most) (omega (arith, sum, all))
+    (weighs-on c.args.book.now c.part_with.new.book c.drop_each.new.book most (many * most) own
+    (subst (λ (n : ℕ). BookGetsHeavier c.part_with.new.book c.drop_each.new.book (many * n)) size below)))
+    (c.drop_each.ensures.heavier state less parted parts)
+
+pub drop_under-returns-clause-rests : goal.drop_under-returns-clause-rests
+drop_under-returns-clause-rests g t c =
+    let mid : Ground = record c.args.land.now { blocks = c.visit.new.blocks } in
+    let history = g.D.Disk.history c.visit.new.disk in
+    let read = rests-read c.args.land.now c.visit.new.blocks history c.args.tree.now.next c.visit.ensures.read.draft
+    c.visit.ensures.read.bound c.visit.ensures.readable.backed c.requires.editable.drafted in
+    let parted = rests-on c.args.land.now mid c.part_with.new.land history history c.args.tree.now.next read
+    (c.part_with.ensures.rests history c.args.tree.now.next read.backed read.drafted) in
+    rests-on c.args.land.now c.part_with.new.land c.drop_each.new.land history (g.D.Disk.history c.drop_each.new.disk)
+    c.args.tree.now.next parted c.drop_each.ensures.rests

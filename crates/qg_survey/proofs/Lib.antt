@@ -1,0 +1,5 @@
+pub mod Reading
+pub mod Rounds
+pub mod Stepped
+pub mod Ordered
+pub mod Held
