@@ -1,0 +1,4 @@
+pub mod Words
+pub mod Uniting
+pub mod Turning
+pub mod Settling
