@@ -1,8 +1,7 @@
 -- The union of some sets, one set after the other.
-use Rattle.std.proofs.Common.{◌≡◌, ℕ, ◌+◌, ◌<◌, ◌≤◌, List, [], ◌∷◌, ◌++◌, length, take, get_or, refl, sym, ap, subst, ◌∙◌}
+use Rattle.std.proofs.Common.{◌≡◌, ℕ, ◌+◌, ◌<◌, List, [], length, take, get_or, refl, sym, subst}
 use Rattle.std.proofs.Common.{arith, ◌⊎◌, inl, inr, ◌↔◌}
 use Rattle.std.specs.List.{All, Contains}
-use Rattle.std.proofs.lemmas.List.{take_all}
 use Rattle.std.proofs.lemmas.List.Elements.{All-contains}
 use Rattle.qg_home.proofs.Listed.{in_front_more, front_more_cases}
 use Rattle.qg_reached.specs.Sets.{HasMember, row_of, Stand, IsInOne, IsUnionOf}

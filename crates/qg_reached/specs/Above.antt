@@ -1,6 +1,6 @@
 -- For each node the indices of those that point to it (this project's own).
-use Rattle.std.specs.Prelude.{◌≡◌, ◌<◌, ◌↔◌, ◌⊎◌, ℕ, List, [], Some, length, slice_get, slice_index_or}
-use Rattle.std.specs.List.{All, Contains}
+use Rattle.std.specs.Prelude.{◌≡◌, ◌↔◌, ◌⊎◌, ℕ, List, [], Some, length, slice_get, slice_index_or}
+use Rattle.std.specs.List.{Contains}
 use Rattle.qg_home.specs.declared.linked.Linked.{Linked}
 use Rattle.qg_home.specs.Leading.{PointsTo}
 

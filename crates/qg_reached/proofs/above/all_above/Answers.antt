@@ -1,7 +1,7 @@
 use Rattle.std.proofs.Common.{ℕ, ◌<◌, List, length, sym, ap, subst, ◌∙◌}
 use Rattle.std.specs.List.{All}
 use Rattle.std.proofs.lemmas.List.{take_at}
-use Rattle.qg_reached.specs.Above.{AreAbove, AreEmpty, AreTurned}
+use Rattle.qg_reached.specs.Above.{AreAbove, AreTurned}
 use Rattle.qg_reached.proofs.Turning.{below_within, above_all}
 use Rattle.qg_reached.proofs.above.all_above.Goals as goal
 

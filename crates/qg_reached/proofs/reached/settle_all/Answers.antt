@@ -1,4 +1,4 @@
-use Rattle.std.proofs.Common.{◌≡◌, ℕ, ◌+◌, ◌-◌, List, sym, subst, arith}
+use Rattle.std.proofs.Common.{◌≡◌, ◌+◌, ◌-◌, subst, arith}
 use Rattle.qg_reached.specs.Reached.{AreSettledFrom}
 use Rattle.qg_reached.proofs.reached.settle_all.Goals as goal
 

@@ -1,0 +1,5 @@
+pub mod Alone
+pub mod Filtered
+pub mod Counted
+pub mod Weights
+pub mod Told

@@ -1,0 +1,4 @@
+pub mod Counted
+pub mod Portions
+pub mod Telling
+pub mod Laws
