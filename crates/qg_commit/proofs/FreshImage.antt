@@ -33,7 +33,7 @@ use Rattle.qg_other_trees.specs.Sound.{IsCommitted}
 use Rattle.qg_other_trees.specs.Trees.{nodes_laid}
 use Rattle.qg_other_trees.proofs.Sound.{committed_others, is_committed}
 use Rattle.qg_commit.specs.Calls.{IsReadBack, IsWritable, with_image}
-use Rattle.qg_commit.specs.Fresh.{AreFreshTrees, extent_items, fresh_counters, fresh_nodes, fresh_root, fresh_slots, fresh_super, own_leaf, quota_items, root_items}
+use Rattle.qg_commit.specs.Fresh.{AreFreshTrees, extent_items, fresh_nodes, fresh_quota, fresh_root, fresh_roots, fresh_slots, fresh_super, own_leaf, quota_items, root_items}
 use Rattle.qg_commit.specs.Mkfs.{HoldsFreshImage, IsFreshImage}
 use Rattle.qg_commit.proofs.FreshState.{before, counts, home, leaf_fits, leaf_format, runs, space, told, whole}
 use Rattle.qg_commit.proofs.FreshTrees.{extents_leaf, first_slots-IsDistinct, fresh_slots-IsDistinct, low_slot-is_slot, quotas_leaf, roots_leaf, superblock_is}
@@ -202,10 +202,10 @@ module _ (sizes : Sizes) (trees : OtherTrees) (served : is_served sizes ≡ true
     has_own : HoldsLayout trees.superblock image (before sizes served).layout
     has_own = (subst (λ (s : Super). IsThere s (own_leaf sizes)) (sym super_is) there.1.1.0, tt)
 
-    commits : IsCommitted trees (before sizes served) (fresh_counters sizes.nodesize) 1 (fresh_slots sizes) image
+    commits : IsCommitted trees (before sizes served) (fresh_quota sizes.nodesize) (fresh_slots sizes) image
     commits =
-        is_committed sizes (fresh_root (slot_at sizes 2)) (fresh_table sizes.nodesize (slot_at sizes 2))
-        (fresh_counters sizes.nodesize) 1 (fresh_slots sizes) trees (before sizes served) image (whole sizes served)
+        is_committed sizes (fresh_roots (slot_at sizes 2)) (fresh_table sizes.nodesize (slot_at sizes 2))
+        (fresh_quota sizes.nodesize) (fresh_slots sizes) trees (before sizes served) image (whole sizes served)
         (fresh_slots-IsDistinct sizes served) are (told sizes served table) has_laid has_own (runs sizes served)
         (space sizes served) (counts sizes served) (home sizes served)
 
@@ -215,8 +215,8 @@ module _ (sizes : Sizes) (trees : OtherTrees) (served : is_served sizes ≡ true
         let roots = are.root_tree.stands.reached in
         let extents = are.extent_tree.stands.reached in
         let quotas = are.quota_tree.stands.reached in
-        committed_others sizes (fresh_root (slot_at sizes 2)) (fresh_table sizes.nodesize (slot_at sizes 2))
-        (fresh_counters sizes.nodesize) 1 (fresh_slots sizes) trees (before sizes served) image (whole sizes served)
+        committed_others sizes (fresh_roots (slot_at sizes 2)) (fresh_table sizes.nodesize (slot_at sizes 2))
+        (fresh_quota sizes.nodesize) (fresh_slots sizes) trees (before sizes served) image (whole sizes served)
         (fresh_slots-IsDistinct sizes served) are (told sizes served table) has_laid has_own (runs sizes served)
         (space sizes served) (counts sizes served) (home sizes served)
         ∙ three_joined roots.those extents.those quotas.those root_leaf extent_leaf quota_leaf

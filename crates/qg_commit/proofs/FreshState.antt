@@ -1,10 +1,9 @@
 -- The state of which a fresh image is the first commit: the top-level subvolume has its empty leaf, nothing is held.
 use Rattle.std.proofs.Common.{◌≡◌, ℕ, ◌+◌, ◌<◌, ◌≤◌, Bool, true, false, inl, inr, List, [], ◌∷◌, Some, None, refl, sym, ap, subst, ◌∙◌, arith, lit<}
-use Rattle.std.specs.Prelude.{◌==◌, if◌then◌else◌, Contains, Result, Ok}
+use Rattle.std.specs.Prelude.{◌==◌, if◌then◌else◌, Contains, Result, Ok, is_some}
 use Rattle.std.proofs.lemmas.Bool.{cases_Bool, eq-eqb, eqb-true}
 use Rattle.std.proofs.lemmas.List.Elements.{All-nil}
 use Rattle.std.proofs.lemmas.Option.{same_Some}
-use Rattle.qg_num.specs.declared.counters.Counters.{Counters}
 use Rattle.qg_node.specs.declared.node.Node.{Node}
 use Rattle.qg_node.specs.Nodes.{is_ascending, used_bytes}
 use Rattle.qg_node.specs.NodeText.{IsNode}
@@ -34,6 +33,8 @@ use Rattle.qg_verdict.specs.ItemsUnder.{is_way, items_under}
 use Rattle.qg_verdict.specs.Verdict.{counts_failure, extent_set, space_failure}
 use Rattle.qg_verdict.specs.Walk.{deepest, node_failure, root_expected, walk_failure, way_failure}
 use Rattle.qg_machine.specs.Layout.{IsTreeOf, IsWhole, found_in, super_to_come}
+use Rattle.qg_state.specs.declared.quota.Quota.{Quota}
+use Rattle.qg_verdict.specs.OtherTrees.{subvolume_items}
 use Rattle.qg_refs.specs.declared.kept.Kept.{Kept}
 use Rattle.qg_refs.specs.Book.{full_in, what_in}
 use Rattle.qg_extents.specs.Fresh.{fresh_root as kept_root, fresh_table}
@@ -42,9 +43,9 @@ use Rattle.qg_extents.proofs.FreshRecords.{fresh-owed}
 use Rattle.qg_extents.proofs.Tables.{at_itself}
 use Rattle.qg_other_trees.specs.Holds.{AreRuns}
 use Rattle.qg_other_trees.specs.Sound.{committed}
-use Rattle.qg_other_trees.specs.Telling.{IsKnownExtent, IsKnownNode, IsStateOf, one_group}
+use Rattle.qg_other_trees.specs.Telling.{IsKnownExtent, IsKnownNode, IsStateOf}
 use Rattle.qg_other_trees.proofs.Owing.{owes_begins}
-use Rattle.qg_commit.specs.Fresh.{fresh_counters, fresh_root, own_leaf}
+use Rattle.qg_commit.specs.Fresh.{fresh_quota, fresh_roots, own_leaf}
 use Rattle.qg_commit.proofs.FreshTrees.{low_slot-is_slot}
 use Rattle.qg_commit.proofs.Slots.{node_size_bounds}
 
@@ -90,8 +91,8 @@ module _ (sizes : Sizes) (served : is_served sizes ≡ true) where
     held = record { nodes = []; others = []; extents = [] };
   }
 
-  abbrev counters : Counters
-  counters = fresh_counters sizes.nodesize
+  abbrev quota : Quota
+  quota = fresh_quota sizes.nodesize
 
   abbrev table : List (ℕ × Kept)
   table = fresh_table sizes.nodesize root
@@ -163,7 +164,7 @@ module _ (sizes : Sizes) (served : is_served sizes ≡ true) where
 
   -- ---- what is counted is right, and its leaf is at home
 
-  pub counts : counts_failure (layout_of before) (Some (one_group counters 1)) ≡ None
+  pub counts : counts_failure (layout_of before) (Some quota) ≡ None
   unfolding counts_failure referenced exclusive is_reached_outside reach_of_group members is_below leads reach reach_of_root pieces_of
   counts =
       let same : (sizes.nodesize == sizes.nodesize) ≡ true = eq-eqb sizes.nodesize sizes.nodesize refl in
@@ -201,19 +202,20 @@ module _ (sizes : Sizes) (served : is_served sizes ≡ true) where
 
     begins : (at : ℕ) (reference : Reference) → 0 < owed_count (layout_of before) at reference
         → is_nothing (what_at (layout_of before) at) ≡ false
-    begins = owes_begins before own whole refl served runs (low_slot-is_slot sizes 2 served (lit< tt), tt)
+    begins = owes_begins before whole served runs (low_slot-is_slot sizes 2 served (lit< tt), tt)
 
-    pub told : IsStateOf sizes 1 (fresh_root root) table counters 1 (committed [] before counters 1)
+    own_root : subvolume_items (committed [] before quota) ≡ fresh_roots root
+    unfolding subvolume_items
+    own_root = rw there refl
+
+    pub told : IsStateOf sizes 1 (fresh_roots root) table quota (committed [] before quota)
     told = record {
       some = omega arith;
       same_sizes = refl;
       same_generation = refl;
-      subvolume = own;
-      alone = refl;
-      node = own_leaf sizes;
-      there = there;
-      root_is = refl;
-      quota = refl;
+      there = (ap is_some there, tt);
+      roots_are = own_root;
+      quota_is = refl;
       table = is;
       known = record {
         owed = fresh-owed sizes root [] is;

@@ -26,8 +26,10 @@ use Rattle.qg_tree.specs.declared.building.Built.{Built}
 use Rattle.qg_extents.specs.Fresh.{fresh_table}
 use Rattle.qg_extents.specs.Written.{items_of_book}
 use Rattle.qg_other_trees.specs.declared.laying.OtherTrees.{OtherTrees}
-use Rattle.qg_other_trees.specs.Trees.{root_item_laid}
-use Rattle.qg_commit.specs.Fresh.{AreFreshTrees, extent_items, fresh_nodes, fresh_root, fresh_slots, fresh_super, own_leaf, quota_items, root_items}
+use Rattle.qg_other_trees.specs.Trees.{AreGroups, AreSubvolumes, nodes_of_trees, root_item_laid}
+use Rattle.qg_other_trees.proofs.Enough.{filled_quota, filled_roots}
+use Rattle.qg_other_trees.proofs.One.{one_named, one_told}
+use Rattle.qg_commit.specs.Fresh.{AreFreshTrees, extent_items, fresh_counters, fresh_nodes, fresh_quota, fresh_root, fresh_roots, fresh_slots, fresh_super, own_leaf, quota_items, root_items}
 use Rattle.qg_commit.proofs.Slots.{node_size_bounds}
 
 -- ---- the slots
@@ -113,14 +115,24 @@ one_filled nodesize (inr is) = rw is refl
 
 -- there are slots enough for the three
 pub fresh-enough : (sizes : Sizes) → is_served sizes ≡ true
-    → 5 * nodes_filled sizes.nodesize (items_bytes (items_of_book (fresh_table sizes.nodesize (slot_at sizes 2)))) + 13
+    → 5 * nodes_of_trees sizes.nodesize (fresh_table sizes.nodesize (slot_at sizes 2)) (fresh_roots (slot_at sizes 2))
+    (fresh_quota sizes.nodesize) + 3
     ≤ length (fresh_slots sizes)
 fresh-enough sizes served =
     let size = (SizesFit-is_served sizes served).node_size in
     let weighs = extent_items-bytes (slot_at sizes 2) in
     let filled : nodes_filled sizes.nodesize (items_bytes (extent_items (slot_at sizes 2))) ≡ 1 =
     ap (nodes_filled sizes.nodesize) weighs ∙ one_filled sizes.nodesize size in
-    omega (arith, filled)
+    let roots : nodes_filled sizes.nodesize 1392 ≡ 1 = filled_roots sizes.nodesize size in
+    let quota : nodes_filled sizes.nodesize 187 ≡ 1 = filled_quota sizes.nodesize size in
+    rw (filled, roots, quota) (omega arith)
+
+-- what they tell can be laid out
+pub fresh_subvolumes : (address : ℕ) → AreSubvolumes 1 (fresh_roots address)
+fresh_subvolumes address = one_named 1 (fresh_root address) refl (record { made = omega arith; copied = omega arith })
+
+pub fresh_groups : (nodesize : ℕ) → AreGroups 1 (5 ∷ []) (fresh_quota nodesize)
+fresh_groups nodesize = one_told 1 (fresh_counters nodesize) 1 (omega arith)
 
 -- ---- the three trees
 
@@ -175,8 +187,8 @@ module _ (sizes : Sizes) (trees : OtherTrees) (served : is_served sizes ≡ true
   roots_written : are.root_tree.items ≡ named_items
   roots_written =
       are.root_tree.told.written
-      ∙ ap (λ (root : RootItem). items_of_roots root (fresh_root (slot_at sizes 2)) (root_item_laid trees.quotas 1)) extents_root
-      ∙ ap (λ (root : RootItem). items_of_roots (fresh_root (slot_at sizes 1)) (fresh_root (slot_at sizes 2)) root) quotas_root
+      ∙ ap (λ (root : RootItem). items_of_roots root (fresh_roots (slot_at sizes 2)) (root_item_laid trees.quotas 1)) extents_root
+      ∙ ap (λ (root : RootItem). items_of_roots (fresh_root (slot_at sizes 1)) (fresh_roots (slot_at sizes 2)) root) quotas_root
 
   roots_light : items_bytes named_items ≤ capacity sizes.nodesize
   roots_light = omega (arith, wide, root_items-bytes (slot_at sizes 1) (slot_at sizes 2) (slot_at sizes 3))

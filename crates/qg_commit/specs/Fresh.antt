@@ -11,20 +11,26 @@ use Rattle.qg_items.specs.ItemText.{extent_text}
 use Rattle.qg_super.specs.declared.sizes.Sizes.{Sizes}
 use Rattle.qg_super.specs.declared.superblock.Super.{Super}
 use Rattle.qg_super.specs.Places.{slot_at}
+use Rattle.qg_state.specs.declared.quota.Quota.{Quota}
 use Rattle.qg_verdict.specs.IsFresh.{fresh_leaf}
-use Rattle.qg_contents.specs.Written.{items_of_roots, status_at, info_of, items_of_quota}
+use Rattle.qg_contents.specs.Written.{items_of_quota, items_of_roots, status_at}
 use Rattle.qg_extents.specs.Fresh.{fresh_table}
 use Rattle.qg_extents.specs.Written.{item_at}
 use Rattle.qg_other_trees.specs.declared.laying.OtherTrees.{OtherTrees}
+use Rattle.qg_other_trees.specs.Telling.{one_group}
 use Rattle.qg_other_trees.specs.Trees.{AreTrees}
 
 -- a tree of generation 1 whose root is a leaf at an address
 abbrev pub fresh_root : ℕ → RootItem
 fresh_root address = record { generation = 1; bytenr = address; last_snapshot = 0; refs = 1; level = 0 }
 
+-- the only subvolume, whose root is such a leaf
+abbrev pub fresh_roots : ℕ → List (ℕ × RootItem)
+fresh_roots address = (TOP_LEVEL, fresh_root address) ∷ []
+
 -- the root tree's leaf: the extent tree, the top-level subvolume and the quota tree
 abbrev pub root_items : ℕ → ℕ → ℕ → List Item
-root_items extents files quotas = items_of_roots (fresh_root extents) (fresh_root files) (fresh_root quotas)
+root_items extents files quotas = items_of_roots (fresh_root extents) (fresh_roots files) (fresh_root quotas)
 
 -- the extent tree's leaf: the record of the subvolume's root node at an address, a leaf of generation 1 that isn't
 -- full, with one reference; and that reference, which is the subvolume's
@@ -38,9 +44,13 @@ extent_items root =
 abbrev pub fresh_counters : ℕ → Counters
 fresh_counters nodesize = record { rfer = nodesize; excl = nodesize }
 
+-- its group alone, which has no limit
+abbrev pub fresh_quota : ℕ → Quota
+fresh_quota nodesize = one_group (fresh_counters nodesize) 1
+
 -- the quota tree's leaf: quota is on; the top-level subvolume's group counts its root node and has no limit
 abbrev pub quota_items : ℕ → List Item
-quota_items nodesize = items_of_quota (status_at 1) TOP_LEVEL (info_of 1 (fresh_counters nodesize))
+quota_items nodesize = items_of_quota (status_at 1) (fresh_quota nodesize).groups
 
 -- the superblock
 abbrev pub fresh_super : Sizes → ℕ → Super
@@ -77,5 +87,5 @@ fresh_slots sizes =
 -- third slot
 abbrev pub AreFreshTrees : Sizes → OtherTrees → Type 0
 AreFreshTrees sizes trees =
-    AreTrees sizes 1 (fresh_root (slot_at sizes 2)) (fresh_table sizes.nodesize (slot_at sizes 2))
-    (fresh_counters sizes.nodesize) 1 (fresh_slots sizes) trees
+    AreTrees sizes 1 (fresh_roots (slot_at sizes 2)) (fresh_table sizes.nodesize (slot_at sizes 2))
+    (fresh_quota sizes.nodesize) (fresh_slots sizes) trees

@@ -4,14 +4,15 @@ ghost use Rattle.qg_super.specs.Places.{is_served, slot_at};
 ghost use Rattle.qg_super.specs.SuperText.{is_super};
 ghost use Rattle.qg_extents.specs.Fresh.{fresh_table};
 ghost use Rattle.qg_extents.specs.Table.{IsTable};
-ghost use Rattle.qg_commit.specs.Fresh.{AreFreshTrees, fresh_nodes, fresh_slots, fresh_super, own_leaf};
+ghost use Rattle.qg_commit.specs.Fresh.{AreFreshTrees, fresh_nodes, fresh_quota, fresh_slots, fresh_super, own_leaf};
 
 use qg_extents::fresh_records;
 use qg_items::RootItem;
 use qg_items::tree::TOP_LEVEL;
 use qg_node::{Header, Items, Node};
-use qg_num::{Address, Counters, Generation, NoMemory, RootId};
+use qg_num::{Address, Counters, Generation, GroupId, NoMemory, RootId, Sequence};
 use qg_other_trees::{OtherTrees, Told, lay_other_trees};
+use qg_state::{Group, Quota};
 use qg_super::{SLOTS_BEGIN, Sizes};
 use std::alloc::Global;
 
@@ -69,6 +70,28 @@ pub fn lay_own_leaf(alloc: Global, sizes: Sizes) -> Node
     }
 }
 
+// Quota with the top-level subvolume's group alone, which counts its root node and has no limit.
+fn fresh_quota(alloc: Global, sizes: Sizes) -> Result<Quota, NoMemory>
+    ensures { IfOk result (λ quota. quota ≡ fresh_quota sizes.nodesize) }
+{
+    let counters = Counters {
+        rfer: sizes.nodesize,
+        excl: sizes.nodesize,
+    };
+    let group = Group {
+        counters,
+        max_rfer: None,
+        max_excl: None,
+        stamp: Generation::new(1),
+    };
+    let mut groups = Sequence::new(alloc);
+    groups.push((GroupId::from_number(TOP_LEVEL), group))?;
+    Ok(Quota {
+        groups,
+        pairs: Sequence::new(alloc),
+    })
+}
+
 /// The other trees of a fresh image: the root tree, the extent tree, with the record of the subvolume's leaf, and the
 /// quota tree, a leaf each, in the first, the second and the fourth slot (this project's own).
 pub fn lay_fresh(alloc: Global, sizes: Sizes) -> Result<OtherTrees, NoMemory>
@@ -90,15 +113,12 @@ pub fn lay_fresh(alloc: Global, sizes: Sizes) -> Result<OtherTrees, NoMemory>
         refs: 1,
         level: 0,
     };
-    let counters = Counters {
-        rfer: sizes.nodesize,
-        excl: sizes.nodesize,
-    };
+    let roots = [(RootId::new(TOP_LEVEL), root)];
+    let quota = fresh_quota(alloc, sizes)?;
     let told = Told {
-        root: &root,
+        roots: &roots,
         book: &book,
-        counters: &counters,
-        stamp: Generation::new(1),
+        quota: &quota,
     };
     let trees = lay_other_trees(alloc, sizes, Generation::new(1), &told, &slots(sizes))?;
     Ok(trees)

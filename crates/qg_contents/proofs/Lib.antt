@@ -5,3 +5,4 @@ mod FileBounds
 mod FileParts
 mod FileKeys
 pub mod FileTree
+pub mod Rising

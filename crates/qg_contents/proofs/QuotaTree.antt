@@ -1,81 +1,272 @@
 -- The items of the quota tree.
-use Rattle.std.proofs.Common.{◌≡◌, ℕ, ◌≤◌, ◌<◌, ◌^◌, true, [], ◌∷◌, map, length, refl, arith, lit<}
-use Rattle.std.specs.Prelude.{Some, All}
-use Rattle.std.specs.List.{filter_map, list_all}
+use Rattle.std.proofs.Common.{◌≡◌, ℕ, ◌+◌, ◌*◌, ◌≤◌, ◌<◌, ◌^◌, true, List, [], ◌∷◌, ◌++◌, map, length, take, get_or, refl, sym, ap, ◌∙◌, arith, lit<}
+use Rattle.std.specs.Prelude.{Option, Some, None, All, IfSome, nat_le}
+use Rattle.std.specs.List.{AllByRecursion, filter_map, list_all}
+use Rattle.std.specs.Ordering.{is_lt}
 use Rattle.std.proofs.lemmas.Bool.{eq-eqb, le-leb}
-use Rattle.std.proofs.lemmas.List.Elements.{All-from_recursion}
+use Rattle.std.proofs.lemmas.List.{append_assoc, map-append, take_more}
+use Rattle.std.proofs.lemmas.List.Elements.{All-append, All-cons, All-from_recursion, filter_map-append, recursion_from_All}
+use Rattle.std.proofs.lemmas.List.Folds.{list_all-append}
+use Rattle.std.proofs.lemmas.List.Sums.{sum_by-append, sum_by-cons}
+use Rattle.qg_num.specs.Key.{key_cmp}
 use Rattle.qg_node.specs.declared.item.Item.{Item}
 use Rattle.qg_node.specs.Fits.{ItemFits}
-use Rattle.qg_node.specs.Nodes.{is_ascending, ascends_from, items_bytes}
+use Rattle.qg_node.specs.Nodes.{is_ascending, ascends_from, item_bytes, items_bytes}
 use Rattle.qg_items.specs.declared.quota.QgroupStatus.{QgroupStatus}
-use Rattle.qg_items.specs.declared.quota.QgroupInfo.{QgroupInfo}
-use Rattle.qg_items.specs.Laws.{StatusFits, InfoFits}
+use Rattle.qg_items.specs.Laws.{StatusFits, InfoFits, LimitFits}
 use Rattle.qg_items.specs.ItemText.{status_text, info_text, limit_text}
 use Rattle.qg_items.proofs.QuotaBodies.{length-status_text, length-info_text, length-limit_text, status_read-status_text, info_read-info_text, limit_read-limit_text}
-use Rattle.qg_image.specs.declared.part.QuotaPart.TheVariants.{Status, Info, Limits}
+use Rattle.qg_image.specs.declared.part.QuotaPart.TheVariants.{Status}
 use Rattle.qg_image.specs.ItemMeaning.{quota_part}
+use Rattle.qg_parts.specs.Keys.{key_with}
+use Rattle.qg_state.specs.declared.quota.Group.{Group}
 use Rattle.qg_verdict.specs.declared.tree.Tree.TheVariants.{Quotas}
 use Rattle.qg_verdict.specs.Walk.{is_item_of}
-use Rattle.qg_contents.specs.Written.{item_under, status_at, no_limit, items_of_quota}
+use Rattle.qg_contents.specs.Writable.{AreWritableGroups, GroupFits}
+use Rattle.qg_contents.specs.Written.{info_of, info_part, item_of_info, item_of_limit, item_of_status, items_of_quota, limit_of, flag_of, limit_part, parts_of_quota, status_at}
 use Rattle.qg_contents.proofs.Bodies.{item-fits, status_text-AreBytes, info_text-AreBytes, limit_text-AreBytes}
+use Rattle.qg_contents.proofs.Rising.{Above, Rises, Rises-increasing, before_info, before_limit, both}
+
+-- ---- limits
+
+limits_fit : (max_rfer max_excl : Option ℕ) → IfSome max_rfer (λ most. most < 2 ^ 64) → IfSome max_excl (λ most. most < 2 ^ 64)
+    → LimitFits (limit_of max_rfer max_excl)
+limits_fit None None r e = record { flags = lit< tt; max_rfer = lit< tt; max_excl = lit< tt }
+limits_fit None (Some most) r e = record { flags = lit< tt; max_rfer = lit< tt; max_excl = e }
+limits_fit (Some most) None r e = record { flags = lit< tt; max_rfer = r; max_excl = lit< tt }
+limits_fit (Some most) (Some own) r e = record { flags = lit< tt; max_rfer = r; max_excl = e }
+
+known_flags : (max_rfer max_excl : Option ℕ) → nat_le (flag_of 1 max_rfer + flag_of 2 max_excl) 3 ≡ true
+known_flags None None = refl
+known_flags None (Some most) = refl
+known_flags (Some most) None = refl
+known_flags (Some most) (Some own) = refl
 
 -- ---- one by one
 
 status_told : (generation : ℕ) → generation < 2 ^ 64
-    → quota_part (item_under 0 240 0 (status_text (status_at generation))) ≡ Some (Status (status_at generation))
+    → quota_part (item_of_status (status_at generation)) ≡ Some (Status (status_at generation))
 unfolding quota_part
 status_told generation fits =
     let is : StatusFits (status_at generation) = record { generation = fits; flags = lit< tt; cursor = lit< tt } in
     rw (status_read-status_text (status_at generation) is) refl
 
-info_told : (group : ℕ) (info : QgroupInfo) → InfoFits info → quota_part (item_under 0 242 group (info_text info)) ≡ Some (Info group info)
+info_told : (entry : ℕ × Group) → GroupFits entry → quota_part (item_of_info entry) ≡ Some (info_part entry)
 unfolding quota_part
-info_told group info fits = rw (eq-eqb group group refl, info_read-info_text info fits) refl
+info_told entry is =
+    let fits : InfoFits (info_of entry.1.stamp entry.1.counters) =
+    record {
+      generation = is.counters.stamp;
+      rfer = is.counters.rfer;
+      rfer_cmpr = is.counters.rfer;
+      excl = is.counters.excl;
+      excl_cmpr = is.counters.excl;
+    } in
+    rw (eq-eqb entry.0 entry.0 refl, info_read-info_text (info_of entry.1.stamp entry.1.counters) fits) refl
 
-limit_told : (group : ℕ) → quota_part (item_under 0 244 group (limit_text no_limit)) ≡ Some (Limits group no_limit)
+limit_told : (entry : ℕ × Group) → GroupFits entry → quota_part (item_of_limit entry) ≡ Some (limit_part entry)
 unfolding quota_part
-limit_told group =
-    rw (eq-eqb group group refl, limit_read-limit_text no_limit (record { flags = lit< tt; max_rfer = lit< tt; max_excl = lit< tt })) refl
+limit_told entry is =
+    let limit = limit_of entry.1.max_rfer entry.1.max_excl in
+    let fits = limits_fit entry.1.max_rfer entry.1.max_excl is.limits.max_rfer is.limits.max_excl in
+    rw (eq-eqb entry.0 entry.0 refl, limit_read-limit_text limit fits, known_flags entry.1.max_rfer entry.1.max_excl) refl
 
--- ---- the three
-
-pub quota-told : (generation group : ℕ) (info : QgroupInfo) → generation < 2 ^ 64 → InfoFits info
-    → filter_map quota_part (items_of_quota (status_at generation) group info) ≡ Status (status_at generation) ∷ Info group info ∷ Limits group no_limit ∷ []
-quota-told generation group info fits info_fits =
-    rw (status_told generation fits, info_told group info info_fits, limit_told group) refl
-
-pub quota-allowed : (generation group : ℕ) (info : QgroupInfo) → generation < 2 ^ 64 → InfoFits info → info.generation ≤ generation
-    → list_all (is_item_of Quotas generation) (items_of_quota (status_at generation) group info) ≡ true
+status_allowed : (generation : ℕ) → generation < 2 ^ 64
+    → is_item_of Quotas generation (item_of_status (status_at generation)) ≡ true
 unfolding is_item_of
-quota-allowed generation group info fits info_fits by =
+status_allowed generation fits =
     let itself : generation ≤ generation = omega arith in
-    rw (
-      status_told generation fits,
-      info_told group info info_fits,
-      limit_told group,
-      le-leb generation generation itself,
-      eq-eqb generation generation refl,
-      le-leb info.generation generation by,
-    ) refl
+    rw (status_told generation fits, le-leb generation generation itself, eq-eqb generation generation refl) refl
 
-pub quota-ascending : (status : QgroupStatus) (group : ℕ) (info : QgroupInfo)
-    → is_ascending (map (λ item. item.key) (items_of_quota status group info)) ≡ true
-unfolding is_ascending ascends_from
-quota-ascending status group info = refl
+info_allowed : (generation : ℕ) (entry : ℕ × Group) → GroupFits entry → entry.1.stamp ≤ generation
+    → is_item_of Quotas generation (item_of_info entry) ≡ true
+unfolding is_item_of
+info_allowed generation entry is by = rw (info_told entry is, le-leb entry.1.stamp generation by) refl
 
-pub quota-short : (status : QgroupStatus) (group : ℕ) (info : QgroupInfo) → All (λ (item : Item). length item.body ≤ 1024) (items_of_quota status group info)
-quota-short status group info =
+limit_allowed : (generation : ℕ) (entry : ℕ × Group) → GroupFits entry → is_item_of Quotas generation (item_of_limit entry) ≡ true
+unfolding is_item_of
+limit_allowed generation entry is = rw (limit_told entry is) refl
+
+-- ---- any
+
+infos_told : (groups : List (ℕ × Group)) → AllByRecursion GroupFits groups
+    → filter_map quota_part (map item_of_info groups) ≡ map info_part groups
+infos_told [] fit = refl
+infos_told (entry ∷ groups) fit = rw (info_told entry fit.0, infos_told groups fit.1) refl
+
+limits_told : (groups : List (ℕ × Group)) → AllByRecursion GroupFits groups
+    → filter_map quota_part (map item_of_limit groups) ≡ map limit_part groups
+limits_told [] fit = refl
+limits_told (entry ∷ groups) fit = rw (limit_told entry fit.0, limits_told groups fit.1) refl
+
+infos_allowed : (generation : ℕ) (groups : List (ℕ × Group)) → AllByRecursion GroupFits groups
+    → AllByRecursion (λ entry. entry.1.stamp ≤ generation) groups
+    → list_all (is_item_of Quotas generation) (map item_of_info groups) ≡ true
+infos_allowed generation [] fit by = refl
+infos_allowed generation (entry ∷ groups) fit by =
+    both (is_item_of Quotas generation (item_of_info entry)) (list_all (is_item_of Quotas generation) (map item_of_info groups))
+    (info_allowed generation entry fit.0 by.0) (infos_allowed generation groups fit.1 by.1)
+
+limits_allowed : (generation : ℕ) (groups : List (ℕ × Group)) → AllByRecursion GroupFits groups
+    → list_all (is_item_of Quotas generation) (map item_of_limit groups) ≡ true
+limits_allowed generation [] fit = refl
+limits_allowed generation (entry ∷ groups) fit =
+    both (is_item_of Quotas generation (item_of_limit entry)) (list_all (is_item_of Quotas generation) (map item_of_limit groups))
+    (limit_allowed generation entry fit.0) (limits_allowed generation groups fit.1)
+
+limits_above : (n : ℕ) (groups : List (ℕ × Group)) → Above n groups
+    → ascends_from (key_with 0 244 n) (map (λ (item : Item). item.key) (map item_of_limit groups)) ≡ true
+unfolding ascends_from
+limits_above n [] above = refl
+limits_above n (entry ∷ groups) above =
+    both (is_lt (key_cmp (key_with 0 244 n) (key_with 0 244 entry.0)))
+    (ascends_from (key_with 0 244 entry.0) (map (λ (item : Item). item.key) (map item_of_limit groups)))
+    (before_limit n entry.0 above.0) (limits_above entry.0 groups above.1)
+
+-- limits stand behind all counters
+limits_behind : (n : ℕ) (groups : List (ℕ × Group)) → Rises groups
+    → ascends_from (key_with 0 242 n) (map (λ (item : Item). item.key) (map item_of_limit groups)) ≡ true
+unfolding ascends_from
+limits_behind n [] rises = refl
+limits_behind n (entry ∷ groups) rises = limits_above entry.0 groups rises
+
+infos_above : (n : ℕ) (groups : List (ℕ × Group)) (rest : List Item) → Above n groups
+    → ((m : ℕ) → ascends_from (key_with 0 242 m) (map (λ (item : Item). item.key) rest) ≡ true)
+    → ascends_from (key_with 0 242 n) (map (λ (item : Item). item.key) (map item_of_info groups ++ rest)) ≡ true
+unfolding ascends_from
+infos_above n [] rest above behind = behind n
+infos_above n (entry ∷ groups) rest above behind =
+    both (is_lt (key_cmp (key_with 0 242 n) (key_with 0 242 entry.0)))
+    (ascends_from (key_with 0 242 entry.0) (map (λ (item : Item). item.key) (map item_of_info groups ++ rest)))
+    (before_info n entry.0 above.0) (infos_above entry.0 groups rest above.1 behind)
+
+infos_short : (groups : List (ℕ × Group)) → AllByRecursion (λ (item : Item). length item.body ≤ 1024) (map item_of_info groups)
+infos_short [] = tt
+infos_short (entry ∷ groups) =
+    let first : length (info_text (info_of entry.1.stamp entry.1.counters)) ≤ 1024 =
+    omega (arith, length-info_text (info_of entry.1.stamp entry.1.counters)) in
+    (first, infos_short groups)
+
+limits_short : (groups : List (ℕ × Group)) → AllByRecursion (λ (item : Item). length item.body ≤ 1024) (map item_of_limit groups)
+limits_short [] = tt
+limits_short (entry ∷ groups) =
+    let first : length (limit_text (limit_of entry.1.max_rfer entry.1.max_excl)) ≤ 1024 =
+    omega (arith, length-limit_text (limit_of entry.1.max_rfer entry.1.max_excl)) in
+    (first, limits_short groups)
+
+infos_fit : (groups : List (ℕ × Group)) → AllByRecursion GroupFits groups → AllByRecursion ItemFits (map item_of_info groups)
+infos_fit [] fit = tt
+infos_fit (entry ∷ groups) fit =
+    let info = info_of entry.1.stamp entry.1.counters in
+    (item-fits 0 242 entry.0 (info_text info) (lit< tt) (lit< tt) fit.0.counters.number (info_text-AreBytes info), infos_fit groups fit.1)
+
+all_limits_fit : (groups : List (ℕ × Group)) → AllByRecursion GroupFits groups → AllByRecursion ItemFits (map item_of_limit groups)
+all_limits_fit [] fit = tt
+all_limits_fit (entry ∷ groups) fit =
+    let limit = limit_of entry.1.max_rfer entry.1.max_excl in
+    (item-fits 0 244 entry.0 (limit_text limit) (lit< tt) (lit< tt) fit.0.counters.number (limit_text-AreBytes limit), all_limits_fit groups fit.1)
+
+infos_weigh : (groups : List (ℕ × Group)) → items_bytes (map item_of_info groups) ≡ 65 * length groups
+infos_weigh [] = refl
+infos_weigh (entry ∷ groups) =
+    let first : item_bytes (item_of_info entry) ≡ 65 = omega (arith, length-info_text (info_of entry.1.stamp entry.1.counters)) in
+    omega (arith, first, infos_weigh groups, sum_by-cons item_bytes (item_of_info entry) (map item_of_info groups))
+
+limits_weigh : (groups : List (ℕ × Group)) → items_bytes (map item_of_limit groups) ≡ 65 * length groups
+limits_weigh [] = refl
+limits_weigh (entry ∷ groups) =
+    let first : item_bytes (item_of_limit entry) ≡ 65 =
+    omega (arith, length-limit_text (limit_of entry.1.max_rfer entry.1.max_excl)) in
+    omega (arith, first, limits_weigh groups, sum_by-cons item_bytes (item_of_limit entry) (map item_of_limit groups))
+
+-- ---- all
+
+pub quota-told : (generation : ℕ) (groups : List (ℕ × Group)) → generation < 2 ^ 64 → All GroupFits groups
+    → filter_map quota_part (items_of_quota (status_at generation) groups) ≡ parts_of_quota generation groups
+quota-told generation groups small fits =
+    let fit = recursion_from_All GroupFits groups fits in
+    let rest = filter_map-append quota_part (map item_of_info groups) (map item_of_limit groups) in
+    rw (status_told generation small, rest, infos_told groups fit, limits_told groups fit) refl
+
+pub quota-allowed : (generation : ℕ) (groups : List (ℕ × Group)) → generation < 2 ^ 64 → All GroupFits groups
+    → AreWritableGroups generation groups
+    → list_all (is_item_of Quotas generation) (items_of_quota (status_at generation) groups) ≡ true
+quota-allowed generation groups small fits are =
+    let fit = recursion_from_All GroupFits groups fits in
+    let by = recursion_from_All (λ entry. entry.1.stamp ≤ generation) groups are.stamped in
+    let infos = map item_of_info groups in
+    let limits = map item_of_limit groups in
+    let rest = list_all-append (is_item_of Quotas generation) infos limits
+    ∙ both (list_all (is_item_of Quotas generation) infos) (list_all (is_item_of Quotas generation) limits)
+    (infos_allowed generation groups fit by) (limits_allowed generation groups fit) in
+    both (is_item_of Quotas generation (item_of_status (status_at generation)))
+    (list_all (is_item_of Quotas generation) (infos ++ limits)) (status_allowed generation small) rest
+
+ascending_infos : (groups : List (ℕ × Group)) (rest : List Item) → Rises groups
+    → ((m : ℕ) → ascends_from (key_with 0 242 m) (map (λ (item : Item). item.key) rest) ≡ true)
+    → ascends_from (key_with 0 240 0) (map (λ (item : Item). item.key) rest) ≡ true
+    → ascends_from (key_with 0 240 0) (map (λ (item : Item). item.key) (map item_of_info groups ++ rest)) ≡ true
+unfolding ascends_from
+ascending_infos [] rest rises behind first = first
+ascending_infos (entry ∷ groups) rest rises behind first = infos_above entry.0 groups rest rises behind
+
+limits_first : (groups : List (ℕ × Group)) → Rises groups
+    → ascends_from (key_with 0 240 0) (map (λ (item : Item). item.key) (map item_of_limit groups)) ≡ true
+unfolding ascends_from
+limits_first [] rises = refl
+limits_first (entry ∷ groups) rises = limits_above entry.0 groups rises
+
+pub quota-ascending : (generation : ℕ) (status : QgroupStatus) (groups : List (ℕ × Group)) → AreWritableGroups generation groups
+    → is_ascending (map (λ (item : Item). item.key) (items_of_quota status groups)) ≡ true
+unfolding is_ascending
+quota-ascending generation status groups are =
+    let rises = Rises-increasing groups are.ascending in
+    ascending_infos groups (map item_of_limit groups) rises (λ m. limits_behind m groups rises) (limits_first groups rises)
+
+pub quota-short : (status : QgroupStatus) (groups : List (ℕ × Group))
+    → All (λ (item : Item). length item.body ≤ 1024) (items_of_quota status groups)
+quota-short status groups =
+    let IsShort : Item → Type 0 = λ (item : Item). length item.body ≤ 1024 in
     let first : length (status_text status) ≤ 1024 = omega (arith, length-status_text status) in
-    let second : length (info_text info) ≤ 1024 = omega (arith, length-info_text info) in
-    let third : length (limit_text no_limit) ≤ 1024 = omega (arith, length-limit_text no_limit) in
-    All-from_recursion (λ (item : Item). length item.body ≤ 1024) (items_of_quota status group info) (first, (second, (third, tt)))
+    let infos = All-from_recursion IsShort (map item_of_info groups) (infos_short groups) in
+    let limits = All-from_recursion IsShort (map item_of_limit groups) (limits_short groups) in
+    let rest = All-append IsShort (map item_of_info groups) (map item_of_limit groups) infos limits in
+    All-cons IsShort (item_of_status status) (map item_of_info groups ++ map item_of_limit groups) first rest
 
-pub quota-fit : (status : QgroupStatus) (group : ℕ) (info : QgroupInfo) → group < 2 ^ 64 → All ItemFits (items_of_quota status group info)
-quota-fit status group info small =
+pub quota-fit : (status : QgroupStatus) (groups : List (ℕ × Group)) → All GroupFits groups → All ItemFits (items_of_quota status groups)
+quota-fit status groups fits =
+    let fit = recursion_from_All GroupFits groups fits in
     let first = item-fits 0 240 0 (status_text status) (lit< tt) (lit< tt) (lit< tt) (status_text-AreBytes status) in
-    let second = item-fits 0 242 group (info_text info) (lit< tt) (lit< tt) small (info_text-AreBytes info) in
-    let third = item-fits 0 244 group (limit_text no_limit) (lit< tt) (lit< tt) small (limit_text-AreBytes no_limit) in
-    All-from_recursion ItemFits (items_of_quota status group info) (first, (second, (third, tt)))
+    let infos = All-from_recursion ItemFits (map item_of_info groups) (infos_fit groups fit) in
+    let limits = All-from_recursion ItemFits (map item_of_limit groups) (all_limits_fit groups fit) in
+    let rest = All-append ItemFits (map item_of_info groups) (map item_of_limit groups) infos limits in
+    All-cons ItemFits (item_of_status status) (map item_of_info groups ++ map item_of_limit groups) first rest
 
-pub quota-bytes : (status : QgroupStatus) (group : ℕ) (info : QgroupInfo) → items_bytes (items_of_quota status group info) ≡ 187
-quota-bytes status group info = simp (length-status_text, length-info_text, length-limit_text) refl
+pub quota-bytes : (status : QgroupStatus) (groups : List (ℕ × Group)) → items_bytes (items_of_quota status groups) ≡ 57 + 130 * length groups
+quota-bytes status groups =
+    let infos = map item_of_info groups in
+    let limits = map item_of_limit groups in
+    let first : item_bytes (item_of_status status) ≡ 57 = omega (arith, length-status_text status) in
+    omega (
+      arith,
+      first,
+      sum_by-cons item_bytes (item_of_status status) (infos ++ limits),
+      sum_by-append item_bytes infos limits,
+      infos_weigh groups,
+      limits_weigh groups,
+    )
+
+-- ---- one item more is put
+
+pub one_put : (f : ℕ × Group → Item) (front items more : List Item) (groups : List (ℕ × Group)) (i : ℕ) (entry : ℕ × Group)
+    → i < length groups → entry ≡ get_or groups i entry → items ≡ front ++ map f (take i groups) → more ≡ items ++ f entry ∷ []
+    → more ≡ front ++ map f (take (i + 1) groups)
+one_put f front items more groups i entry inside is before put =
+    let here : List (ℕ × Group) = entry ∷ [] in
+    let split : take (i + 1) groups ≡ take i groups ++ here =
+    take_more groups i entry inside ∙ ap (λ (e : ℕ × Group). take i groups ++ e ∷ []) (sym is) in
+    let mapped : map f (take (i + 1) groups) ≡ map f (take i groups) ++ f entry ∷ [] =
+    ap (map f) split ∙ map-append f (take i groups) here in
+    let last : List Item = f entry ∷ [] in
+    put ∙ ap (λ (all : List Item). all ++ last) before ∙ append_assoc front (map f (take i groups)) last
+    ∙ ap (λ (all : List Item). front ++ all) (sym mapped)

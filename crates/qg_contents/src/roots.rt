@@ -1,66 +1,121 @@
 // The items of the root tree.
-ghost use Rattle.std.specs.Prelude.{◌≡◌, ◌≤◌, ℕ, ◌∷◌, [], All, IfOk, IsTrue, length, map};
+ghost use Rattle.std.specs.Prelude.{◌≡◌, ◌≤◌, ◌+◌, ◌*◌, ◌++◌, ℕ, ◌∷◌, [], All, IfOk, OnOk, IsTrue, length, map, nat_lt, not, ◌&&◌, ◌||◌};
 ghost use Rattle.std.specs.List.{filter_map, list_all};
 ghost use Rattle.qg_node.specs.Fits.{ItemFits};
 ghost use Rattle.qg_node.specs.Nodes.{is_ascending, items_bytes};
-ghost use Rattle.qg_image.specs.ItemMeaning.{root_part};
+ghost use Rattle.qg_items.specs.Laws.{RootFits};
+ghost use Rattle.qg_image.specs.ItemMeaning.{root_part, is_subvolume_number};
 ghost use Rattle.qg_verdict.specs.Walk.{is_item_of};
 ghost use Rattle.qg_verdict.specs.declared.tree.Tree.TheVariants.{Roots};
-ghost use Rattle.qg_contents.specs.Writable.{IsRootBy, IsWritableRoot};
-ghost use Rattle.qg_contents.specs.Written.{item_of_root, items_of_roots};
+ghost use Rattle.qg_contents.specs.Writable.{AreWritableRoots, IsRootBy, IsWritableRoot};
+ghost use Rattle.qg_contents.specs.Written.{item_of_named, item_of_root, items_of_roots, roots_named, roots_beside};
 
 use crate::item::item_under;
 use qg_items::kind::ROOT_ITEM;
-use qg_items::tree::{EXTENT_TREE, QUOTA_TREE, TOP_LEVEL};
+use qg_items::tree::{EXTENT_TREE, QUOTA_TREE};
 use qg_items::{ROOT_ITEM_BYTES, RootItem, write_root};
 use qg_node::{Item, Items};
-use qg_num::NoMemory;
+use qg_num::{NoMemory, RootId};
 use std::alloc::{AllocError, Global};
 
-/// The items of the root tree of an image whose only subvolume is the top-level one: a ROOT_ITEM for the extent tree, one for that
-/// subvolume and one for the quota tree (on-disk format, ROOT_ITEM).
+/// The items of the root tree of an image with these subvolumes, ascending by number: a ROOT_ITEM for the extent tree, for each of
+/// them, and for the quota tree (on-disk format, ROOT_ITEM).
 pub fn root_items(
     alloc: Global,
     extents: &RootItem,
-    files: &RootItem,
+    subvolumes: &[(RootId, RootItem)],
     quotas: &RootItem,
 ) -> Result<Items, NoMemory>
     requires extents { IsWritableRoot extents.now }
-    requires files { IsWritableRoot files.now }
+    requires subvolumes { AreWritableRoots subvolumes.now }
     requires quotas { IsWritableRoot quotas.now }
-    ensures exact { IfOk result (λ items. items ≡ items_of_roots extents.now files.now quotas.now) }
-    ensures told { IfOk result (λ items. filter_map root_part items
-        ≡ (EXTENT_TREE, extents.now) ∷ (TOP_LEVEL, files.now) ∷ (QUOTA_TREE, quotas.now) ∷ []) }
+    ensures exact { IfOk result (λ items. items ≡ items_of_roots extents.now subvolumes.now quotas.now) }
+    ensures told { IfOk result (λ items. filter_map root_part items ≡ roots_named extents.now subvolumes.now quotas.now) }
     ensures allowed { IfOk result (λ items. (generation : ℕ)
-        → IsRootBy generation extents.now → IsRootBy generation files.now → IsRootBy generation quotas.now
+        → IsRootBy generation extents.now → All (λ entry. IsRootBy generation entry.1) subvolumes.now
+        → IsRootBy generation quotas.now
         → IsTrue (list_all (is_item_of Roots generation) items)) }
     ensures ascending { IfOk result (λ items. IsTrue (is_ascending (map (λ item. item.key) items))) }
     ensures short { IfOk result (λ items. All (λ item. length item.body ≤ 1024) items) }
     ensures fit { IfOk result (λ items. All ItemFits items) }
-    ensures weight { IfOk result (λ items. items_bytes items ≡ 1392) }
+    ensures weight { IfOk result (λ items. items_bytes items ≡ 464 * (length subvolumes.now + 2)) }
 {
-    Ok(items_of_roots(alloc, extents, files, quotas)?)
+    Ok(items_of_roots(alloc, extents, subvolumes, quotas)?)
 }
 
 fn items_of_roots(
     alloc: Global,
     extents: &RootItem,
-    files: &RootItem,
+    subvolumes: &[(RootId, RootItem)],
     quotas: &RootItem,
 ) -> Result<Items, AllocError>
-    ensures { IfOk result (λ items. items ≡ items_of_roots extents.now files.now quotas.now) }
+    requires { All (λ entry. IsTrue (is_subvolume_number entry.0)) subvolumes.now }
+    ensures exact { IfOk result (λ items. items ≡ items_of_roots extents.now subvolumes.now quotas.now) }
+    ensures fits { OnOk result (All (λ entry. RootFits entry.1) subvolumes.now) }
 {
     let mut items = Items::new(alloc);
     items.push(item_of_root(alloc, EXTENT_TREE, extents)?)?;
-    items.push(item_of_root(alloc, TOP_LEVEL, files)?)?;
-    items.push(item_of_root(alloc, QUOTA_TREE, quotas)?)?;
+    let mut named = false;
+    for subvolume in subvolumes {
+        let before = named;
+        named = is_named(before, subvolume.0);
+        put_roots(
+            alloc,
+            &mut items,
+            subvolume,
+            quotas,
+            stands_next(named, before),
+        )?;
+    }
+    if !named {
+        items.push(item_of_root(alloc, QUOTA_TREE, quotas)?)?;
+    }
     Ok(items)
+}
+
+// Whether the quota tree is named once this subvolume is, by whether it was before.
+fn is_named(before: bool, tree: RootId) -> bool
+    ensures { result ≡ (before || nat_lt QUOTA_TREE tree) }
+{
+    before || tree.value() > QUOTA_TREE
+}
+
+// Whether it stands next.
+fn stands_next(named: bool, before: bool) -> bool
+    ensures { result ≡ (named && not before) }
+{
+    named && !before
+}
+
+// Puts a subvolume's ROOT_ITEM at the end, behind that of the quota tree where this stands next.
+fn put_roots(
+    alloc: Global,
+    items: &mut Items,
+    subvolume: &(RootId, RootItem),
+    quotas: &RootItem,
+    first: bool,
+) -> Result<(), AllocError>
+    ensures ok { OnOk result (items.new ≡ items.old ++ map item_of_named (roots_beside first quotas.now subvolume.now)) }
+    ensures fits { OnOk result (RootFits subvolume.now.1) }
+{
+    if first {
+        items.push(item_of_root(alloc, QUOTA_TREE, quotas)?)?;
+    }
+    items.push(item_of_root(alloc, subvolume.0.value(), &subvolume.1)?)?;
+    Ok(())
 }
 
 // A tree's ROOT_ITEM.
 fn item_of_root(alloc: Global, tree: u64, root: &RootItem) -> Result<Item, AllocError>
-    ensures { IfOk result (λ item. item ≡ item_of_root tree root.now) }
+    ensures exact { IfOk result (λ item. item ≡ item_of_root tree root.now) }
+    ensures fits { RootFits root.now }
 {
+    // A proof knows a number's range once it is read.
+    let _generation = root.generation.value();
+    let _address = root.bytenr.value();
+    let _copied = root.last_snapshot.value();
+    let _references = root.refs;
+    let _level = root.level;
     let mut bytes = [0; ROOT_ITEM_BYTES];
     write_root(root, &mut bytes);
     item_under(alloc, tree, ROOT_ITEM, 0, &bytes)

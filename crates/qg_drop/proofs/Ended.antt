@@ -1,5 +1,5 @@
 -- Where a drop ends: with nothing open, what is left is the machine's state without the subvolume.
-use Rattle.std.proofs.Common.{◌≡◌, ◌≢◌, ℕ, ◌<◌, Bool, true, false, List, [], ◌∷◌, map, Option, Some, None, refl, sym, ap, subst, ◌∙◌, inl, inr}
+use Rattle.std.proofs.Common.{◌≡◌, ℕ, ◌<◌, Bool, true, false, List, [], ◌∷◌, map, Option, Some, None, refl, sym, ap, subst, ◌∙◌, inl, inr}
 use Rattle.std.specs.Prelude.{◌==◌, ◌||◌, not, is_none, is_some}
 use Rattle.std.specs.List.{AllByRecursion, Contains, filter, list_any}
 use Rattle.std.specs.List.Sorted.{IsStrictlyIncreasing}
@@ -351,7 +351,7 @@ module _ (land : Ground) (history : Option (List Event)) (book : TreeRefs) (stat
       ≡ Some (record { bytes = book.nodesize; level = Some level; generation = book.next })
       → is_some (fresh_at land.blocks.draft at) ≡ true
   unfolding generation_in
-  newer_node at level placed there known =
+  newer_node at _ placed there known =
       let its = left_there at placed there in
       let dated : (header_of placed.node).generation ≡ book.next =
       ap generation_in (sym (known_left at placed there) ∙ known) in

@@ -11,7 +11,7 @@ use Rattle.qg_state.specs.Reach.{is_reached}
 use Rattle.qg_state.specs.State.{Placed, State, layout_of}
 use Rattle.qg_machine.specs.Step.{without_subvolume}
 use Rattle.qg_cow.specs.Left.{case_of, leaving_gains, leaving_losses}
-use Rattle.qg_blocks.specs.Told.{IsBacked, held_at, told}
+use Rattle.qg_blocks.specs.Told.{IsBacked, held_at}
 use Rattle.qg_blocks.proofs.Telling.{held-told}
 use Rattle.qg_ground.specs.declared.ground.Ground.{Ground}
 use Rattle.qg_refs.specs.Book.{Book, IsBook}

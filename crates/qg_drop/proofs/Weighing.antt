@@ -1,5 +1,5 @@
 -- What a book weighs once a node was parted with.
-use Rattle.std.proofs.Common.{◌≡◌, ℕ, ◌-◌, ◌≤◌, List, Option, Some, None, arith, sym, ap, subst, ◌∙◌}
+use Rattle.std.proofs.Common.{◌≡◌, ℕ, ◌≤◌, List, Option, Some, None, arith, sym, ap, subst, ◌∙◌}
 use Rattle.qg_device.specs.History.{Event}
 use Rattle.std.specs.Option.{option_or}
 use Rattle.qg_node.specs.declared.node.Node.{Node}

@@ -80,14 +80,29 @@ pieces_fit generation from size (piece ∷ pieces) small least are placed stampe
     } in
     (fits, pieces_fit generation (piece_end piece) size pieces small least first.rest placed.1 stamped.1)
 
-file_names : (generation : ℕ) (file : ℕ × File) → generation < 2 ^ 64 → IsWritableFile file → IsFileBy generation file
-    → filter_map name_told (items_of_file file) ≡ names_of file.0 file.1.pieces
-file_names generation file small is by =
+file_fits : (generation : ℕ) (file : ℕ × File) → generation < 2 ^ 64 → IsWritableFile file → IsFileBy generation file
+    → AllByRecursion (λ piece. ExtentDataFits (extent_data_of piece)) file.1.pieces
+file_fits generation file small is by =
     let whole = WholeFile-is_file file.1 is.sound in
     let placed = recursion_from_All IsPlaced file.1.pieces is.placed in
     let stamped = recursion_from_All (λ (piece : Piece). piece.stamp ≤ generation) file.1.pieces by.stamped in
-    let fit = pieces_fit generation 0 file.1.size file.1.pieces small whole.least whole.pieces placed stamped in
-    rw (inode_names file.0 file.1) (pieces_name file.0 file.1.pieces fit)
+    pieces_fit generation 0 file.1.size file.1.pieces small whole.least whole.pieces placed stamped
+
+file_names : (generation : ℕ) (file : ℕ × File) → generation < 2 ^ 64 → IsWritableFile file → IsFileBy generation file
+    → filter_map name_told (items_of_file file) ≡ names_of file.0 file.1.pieces
+file_names generation file small is by =
+    rw (inode_names file.0 file.1) (pieces_name file.0 file.1.pieces (file_fits generation file small is by))
+
+each_tells : (ino : ℕ) (pieces : List Piece) → AllByRecursion (λ piece. ExtentDataFits (extent_data_of piece)) pieces
+    → AllByRecursion (λ piece. name_told (item_of_piece ino piece) ≡ Some (ino, piece)) pieces
+each_tells ino [] fit = tt
+each_tells ino (piece ∷ pieces) fit = (piece_names ino piece fit.0, each_tells ino pieces fit.1)
+
+-- the item of each piece of a file that can be written tells this piece
+pub tell-pieces : (generation : ℕ) (file : ℕ × File) → generation < 2 ^ 64 → IsWritableFile file
+    → IsFileBy generation file
+    → AllByRecursion (λ piece. name_told (item_of_piece file.0 piece) ≡ Some (file.0, piece)) file.1.pieces
+tell-pieces generation file small is by = each_tells file.0 file.1.pieces (file_fits generation file small is by)
 
 files_name : (generation : ℕ) (files : List (ℕ × File)) → generation < 2 ^ 64 → AllByRecursion IsWritableFile files
     → AllByRecursion (IsFileBy generation) files → named files ≡ names_by files

@@ -1,16 +1,21 @@
 -- How often a reference is there while pieces of a file are exchanged.
-use Rattle.std.proofs.Common.{◌≡◌, ℕ, ◌^◌, ◌<◌, ◌≤◌, List, ◌++◌, length, length-append, arith, sym, ap, subst}
+use Rattle.std.proofs.Common.{◌≡◌, ℕ, ◌^◌, ◌<◌, ◌≤◌, List, [], ◌∷◌, ◌++◌, length, Some, length-append, arith, sym, ap, subst}
+use Rattle.std.specs.List.{AllByRecursion}
 use Rattle.std.proofs.lemmas.List.{length-map}
+use Rattle.std.proofs.lemmas.List.Elements.{All-from_recursion}
 use Rattle.std.proofs.lemmas.List.Sums.{sum_by-append}
 use Rattle.qg_num.specs.declared.piece.Piece.{Piece}
 use Rattle.qg_image.specs.declared.file.File.{File}
 use Rattle.qg_image.specs.FilesOf.{pieces_bytes}
-use Rattle.qg_fs_tree.specs.Standing.{names_times}
-use Rattle.qg_rules.specs.Writable.{AreWritableFiles, IsWritableFile}
+use Rattle.qg_contents.specs.Written.{item_of_piece}
+use Rattle.qg_fs_tree.specs.Standing.{name_told, names_times}
+use Rattle.qg_rules.specs.Writable.{AreWritableFiles, IsFileBy, IsWritableFile}
 use Rattle.qg_rules.proofs.Pieces.{file_small}
 use Rattle.qg_exchange.specs.Exchange.{IsExchange}
 use Rattle.qg_exchange.specs.Named.{named, names_by, names_of}
 use Rattle.qg_exchange.proofs.Counts.{names-few, names-once, pieces-few}
+use Rattle.qg_exchange.proofs.Names.{tell-pieces}
+use Rattle.qg_file_edits.specs.Exchanging.{TellPieces}
 use Rattle.qg_file_edits.specs.Naming.{AreFewNames}
 use Rattle.qg_file_edits.proofs.Named.{times-both}
 
@@ -48,3 +53,25 @@ put-few owner ino file old gone put files are is exchange spelled at reference =
     subst (λ (names : List (ℕ × Piece)). names_times owner names at reference ≤ 268435456) (sym spelled)
     (names-few owner at reference files are) in
     omega (arith, both, once, long, part, most, few)
+
+-- ---- what the items of pieces that are put in tell
+
+all_behind : (P : Piece → Type 0) (front pieces : List Piece) → AllByRecursion P (front ++ pieces)
+    → AllByRecursion P pieces
+all_behind P [] pieces all = all
+all_behind P (piece ∷ front) pieces all = all_behind P front pieces all.1
+
+all_in_front : (P : Piece → Type 0) (pieces back : List Piece) → AllByRecursion P (pieces ++ back)
+    → AllByRecursion P pieces
+all_in_front P [] back all = tt
+all_in_front P (piece ∷ pieces) back all = (all.0, all_in_front P pieces back all.1)
+
+pub put-tell : (generation ino : ℕ) (file : File) (old gone put : List Piece) → generation < 2 ^ 64
+    → IsWritableFile (ino, file) → IsFileBy generation (ino, file) → IsExchange old file.pieces gone put
+    → TellPieces ino put
+put-tell generation ino file old gone put small is by exchange =
+    let Tells : Piece → Type 0 = λ piece. name_told (item_of_piece ino piece) ≡ Some (ino, piece) in
+    let all = subst (λ (xs : List Piece). AllByRecursion (λ piece. name_told (item_of_piece ino piece) ≡ Some (ino, piece))
+    xs) exchange.is (tell-pieces generation (ino, file) small is by) in
+    let front = all_in_front Tells (exchange.front ++ put) exchange.back all in
+    All-from_recursion Tells put (all_behind Tells exchange.front put front)

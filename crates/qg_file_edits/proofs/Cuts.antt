@@ -36,10 +36,10 @@ use Rattle.qg_file_edits.specs.declared.exchange.Exchange.{Exchange}
 use Rattle.qg_file_edits.specs.declared.inode.InodeEdit.{InodeEdit}
 use Rattle.qg_file_edits.specs.Changes.{IsCut, inode_cut}
 use Rattle.qg_file_edits.specs.Editing.{CanEditInode, after_inode}
-use Rattle.qg_file_edits.specs.Exchanging.{MakesFiles, after_exchange, exchanged}
+use Rattle.qg_file_edits.specs.Exchanging.{MakesFiles, TellPieces, after_exchange, exchanged}
 use Rattle.qg_file_edits.specs.Files.{pieces_of}
 use Rattle.qg_file_edits.specs.Naming.{AreFewNames, AreOfNamed}
-use Rattle.qg_file_edits.proofs.Counted.{file-bytes, gone-part, put-few}
+use Rattle.qg_file_edits.proofs.Counted.{file-bytes, gone-part, put-few, put-tell}
 use Rattle.qg_file_edits.proofs.Extents.{IsOfNamed, pieces-named}
 use Rattle.qg_file_edits.proofs.Files.{all-with, cut-by, cut-writable, file-found}
 use Rattle.qg_file_edits.proofs.Inodes.{inode-has}
@@ -93,6 +93,10 @@ module _ (generation ino size : ℕ) (file : File) (files : List (ℕ × File)) 
       both-lists (λ (xs ys : List (ℕ × Piece)). AreNamesExchanged xs ys (names_of ino cut) (names_of ino put))
       (names_by files) (names_by (with_value ino new files)) (named files) (named (with_value ino new files)) spelled
       spelled_new (names-exchanged ino new cut put files are.ascending exchange_of)
+
+  tell : TellPieces ino (before size (pieces_cut size file.pieces))
+  tell = put-tell generation ino new file.pieces cut put fits new_sound
+      (cut-by generation ino size file files there by) exchange
 
   known : AreOfNamed (named files) put
   known =
@@ -182,6 +186,7 @@ module _ (generation ino size : ℕ) (file : File) (files : List (ℕ × File)) 
           (sym is.new)
           (subst (λ (xs : List Piece). IsPermutation (names_of ino (xs ++ [])) (names_of ino put)) (sym named_is)
           (none-besides ino put)));
+      tell = subst (λ (xs : List Piece). TellPieces ino xs) (sym put_is) tell;
       known = subst (λ (xs : List Piece). AreOfNamed (named files) xs) (sym named_is) known;
       few = subst (λ (xs : List Piece). AreFewNames owner (names_of ino xs ++ named files)) (sym put_is)
           (put-few owner ino new file.pieces cut put files are new_sound exchange spelled);

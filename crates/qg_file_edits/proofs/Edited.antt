@@ -17,12 +17,12 @@ use Rattle.qg_heavier.specs.Heavier.{BookGetsHeavier, edit_bytes, name_new_bytes
 use Rattle.qg_heavier.proofs.Sums.{BookGetsHeavier-most, BookGetsHeavier-same, BookGetsHeavier-then}
 use Rattle.qg_fs_tree.specs.declared.fs_tree.FsTree.{FsTree}
 use Rattle.qg_fs_tree.specs.Standing.{IsEditedTo, IsSubvolume, Stands}
+use Rattle.qg_fs_tree.proofs.Own.{elsewhere-kept, elsewhere-moved, own-kept as reached-kept}
 use Rattle.qg_fs_tree.proofs.Made.{made-named as made-named_none, made-same, made-then as made-more}
-use Rattle.qg_fs_layout.proofs.Moved.{moves-itself, moves-then}
+use Rattle.qg_fs_layout.proofs.Moved.{held-kept, moves-itself, moves-then}
 use Rattle.qg_file_edits.specs.Editing.{AreMade, IsEditedBy}
 use Rattle.qg_file_edits.specs.Files.{LeavesHeld}
 use Rattle.qg_file_edits.specs.Naming.{AreNamed, KeepsNodes, StandsMoved}
-use Rattle.qg_file_edits.proofs.Kept.{taken-kept}
 
 -- a tree that stands has three levels above its leaves at most
 pub stands-low : (fs : FsTree) (history : Option (List Event)) (bytes : ℕ) (items : List Item) (names : List (ℕ × Piece))
@@ -60,8 +60,9 @@ pub edited-none : (fs : FsTree) (history : Option (List Event)) (items : List It
     → Stands fs history items names → IsEditedBy 0 0 fs fs history items names
 edited-none fs history items names stands = record {
   stands = stands;
-  moved = moves-itself fs history;
+  moved = moves-itself fs history items names stands;
   few = omega arith;
+  others = λ q there. there;
   free = omega arith;
   made = let none = made-same fs.land.space in omega (arith, none);
   heavier = BookGetsHeavier-most fs.refs fs.refs 0 (0 * edit_of fs + 0 * name_new_bytes) (omega arith)
@@ -75,7 +76,8 @@ pub edited-named : (added : ℕ) (old new : FsTree) (history : Option (List Even
 edited-named added old new history items names nodes heavier named = record {
   stands = named.stands;
   moved = named.moved;
-  few = let same = taken-kept old new nodes.tree in omega (arith, same);
+  few = let same = reached-kept old new history nodes.tree in omega (arith, same);
+  others = elsewhere-kept old new history nodes.tree;
   free = let same = nodes.slots in omega (arith, same);
   made = let none = made-named_none old new nodes.tree in omega (arith, none);
   heavier = BookGetsHeavier-most old.refs new.refs (added * name_new_bytes)
@@ -100,8 +102,11 @@ edited-once old new before after bytes left most items items_new names subvolume
         next = grows.stays.next;
         sizes = leaves.sizes;
         held_slots = leaves.held_slots;
+        kept = held-kept old.land new.land before old.tree.next new.tree.next subvolume.editable.drafted
+            leaves.subvolume.editable.drafted leaves.sizes leaves.held_slots;
       };
       few = omega (arith, low, few);
+      others = elsewhere-moved old new before edited.moves;
       free = omega (arith, low, count);
       made = omega (arith, low, come);
       heavier =
@@ -127,6 +132,7 @@ edited-then i j m n a b c history items items_new names names_new first later =
       stands = later.stands;
       moved = moves-then a b c history first.moved later.moved;
       few = omega (arith, few, few_later);
+      others = λ q there. first.others q (later.others q there);
       free = omega (arith, free, free_later);
       made = omega (arith, more, made, made_later);
       heavier =
@@ -150,6 +156,7 @@ edited-most i j m n old new history items names most more edited =
       stands = edited.stands;
       moved = edited.moved;
       few = omega (arith, few, most);
+      others = edited.others;
       free = omega (arith, free, most);
       made = omega (arith, made, most);
       heavier = BookGetsHeavier-most old.refs new.refs (i * edit_of old + m * name_new_bytes)

@@ -4,40 +4,32 @@ use Rattle.std.specs.Prelude.{OnOk}
 use Rattle.std.proofs.lemmas.Result.{on_ok_weaker}
 use Rattle.qg_device.specs.History.{Event}
 use Rattle.qg_num.specs.declared.fault.BlockFault.{BlockFault}
-use Rattle.qg_state.specs.declared.element.Element.{Element}
-use Rattle.qg_space.specs.Holding.{Holding}
 use Rattle.qg_ground.specs.declared.ground.Ground.{Ground}
 use Rattle.qg_descent.specs.Tree.{Root}
 use Rattle.qg_tree_edits.specs.Rooting.{Grows, LeavesBe}
 use Rattle.qg_fs_tree.specs.declared.fs_tree.FsTree.{FsTree}
-use Rattle.qg_fs_tree.specs.Standing.{IsSubvolume, KeepsTree, taken_slots}
+use Rattle.qg_fs_tree.specs.Standing.{IsSubvolume, KeepsTree}
 use Rattle.qg_file_edits.specs.Files.{LeavesHeld, StaysOwn}
 use Rattle.qg_file_edits.specs.Naming.{KeepsNodes}
 
 -- ---- a call that changes references and runs alone
 
 pub keeps-itself : (fs : FsTree) → KeepsTree fs fs
-keeps-itself fs = record { tree = refl; land = refl }
+keeps-itself fs = record { tree = refl; others = refl; land = refl }
 
 pub keeps-then : (a b c : FsTree) → KeepsTree a b → KeepsTree b c → KeepsTree a c
 keeps-then a b c first later = record {
   tree = later.tree ∙ first.tree;
+  others = later.others ∙ first.others;
   land = later.land ∙ ap (λ (land : Ground). record land { space = record land.space { runs = c.land.space.runs } })
       first.land;
 }
-
-taken_runs : (space : Holding) (runs : List Element) → taken_slots (record space { runs = runs }) ≡ taken_slots space
-unfolding taken_slots
-taken_runs space runs = refl
-
-pub taken-kept : (old new : FsTree) → KeepsTree old new → taken_slots new.land.space ≡ taken_slots old.land.space
-taken-kept old new keeps =
-    ap (λ (land : Ground). taken_slots land.space) keeps.land ∙ taken_runs old.land.space new.land.space.runs
 
 pub leaves-kept : (old new : FsTree) (history : Option (List Event)) (bytes : ℕ) → KeepsNodes old new
     → IsSubvolume old history bytes → LeavesHeld old new history history bytes bytes
 leaves-kept old new history bytes nodes subvolume = let keeps = nodes.tree in record {
   subvolume = nodes.subvolume history bytes subvolume;
+  others = keeps.others;
   node_sizes = ap (λ (land : Ground). land.blocks.draft.sizes) keeps.land;
   bound = ap (λ (land : Ground). land.blocks.bound) keeps.land;
   sizes = ap (λ (land : Ground). land.space.sizes) keeps.land;
@@ -57,9 +49,10 @@ own-kept old new nodes = let keeps = nodes.tree in record {
 
 pub leaves-edited : (old new : FsTree) (before after : Option (List Event)) (bytes left generation : ℕ)
     → LeavesBe old.land new.land before after bytes left generation → IsSubvolume new after left
-    → LeavesHeld old new before after bytes left
-leaves-edited old new before after bytes left generation leaves subvolume = record {
+    → new.others ≡ old.others → LeavesHeld old new before after bytes left
+leaves-edited old new before after bytes left generation leaves subvolume others = record {
   subvolume = subvolume;
+  others = others;
   node_sizes = leaves.rests.node_sizes;
   bound = leaves.rests.bound;
   sizes = leaves.rests.sizes;
@@ -97,6 +90,7 @@ pub leaves-then : (a b c : FsTree) (first second third : Option (List Event)) (b
     → LeavesHeld a c first third bytes left
 leaves-then a b c first second third bytes some left one two = record {
   subvolume = two.subvolume;
+  others = two.others ∙ one.others;
   node_sizes = two.node_sizes ∙ one.node_sizes;
   bound = two.bound ∙ one.bound;
   sizes = two.sizes ∙ one.sizes;

@@ -6,20 +6,23 @@ use Rattle.std.specs.Option.{option_to_list}
 use Rattle.std.proofs.Math.Nat.{mul-le-mul_right}
 use Rattle.qg_device.specs.History.{Event}
 use Rattle.qg_num.specs.declared.fault.BlockFault.{BlockFault}
+use Rattle.qg_num.specs.declared.piece.Piece.{Piece}
+use Rattle.qg_node.specs.declared.item.Item.{Item}
 use Rattle.qg_image.specs.declared.file.File.{File}
 use Rattle.qg_state.specs.Need.{file_copies}
 use Rattle.qg_rules.specs.Writable.{AreWritableFiles, IsFileBy}
 use Rattle.qg_contents.specs.Written.{items_of_file}
 use Rattle.qg_blocks.specs.Told.{BreaksNone}
 use Rattle.qg_space.specs.Holding.{free_slots}
+use Rattle.qg_ground.specs.Land.{IsDrafted}
 use Rattle.qg_extents.specs.Table.{IsTable}
 use Rattle.qg_exchange.specs.Named.{named}
 use Rattle.qg_heavier.specs.Heavier.{edit_bytes, name_new_bytes}
 use Rattle.qg_heavier.proofs.Sums.{BookGetsHeavier-most}
 use Rattle.qg_fs_tree.specs.declared.fs_tree.FsTree.{FsTree}
-use Rattle.qg_fs_tree.specs.Standing.{IsSubvolume, Stands, made_slots, taken_slots}
-use Rattle.qg_fs_tree.proofs.Leaf.{leaf-slots}
-use Rattle.qg_fs_tree.proofs.Made.{made-free, made-there}
+use Rattle.qg_fs_tree.specs.Standing.{IsSubvolume, Stands, made_slots, own_slots}
+use Rattle.qg_fs_tree.proofs.Made.{made-free}
+use Rattle.qg_fs_tree.proofs.Own.{leaf-own, made-own, taken-made}
 use Rattle.qg_file_edits.specs.Editing.{AreMade, IsEditedBy}
 use Rattle.qg_file_edits.specs.Files.{HoldsFiles, LeavesFiles}
 use Rattle.qg_file_edits.specs.declared.exchange.Exchange.{Exchange}
@@ -42,7 +45,7 @@ nine_most height pieces high = mul-le-mul_right (pieces + 3) (omega (arith, high
 nine_covered : (edits touched copies : ℕ) → edits ≤ touched → 9 * touched ≤ copies → 9 * edits ≤ copies
 nine_covered edits touched copies most many = omega (arith, most, many)
 
--- where it was one leaf, all that are there came but one
+-- where it was one leaf, it reached one slot, and reaches those that came
 leaf_covered : (edits touched copies taken there come : ℕ) → edits ≤ touched → 1 ≤ touched → 6 * touched ≤ copies
     → taken ≡ 1 → there ≤ taken + 5 * edits → come ≤ there → come ≤ copies
 leaf_covered edits touched copies taken there come most some many one few all =
@@ -59,27 +62,28 @@ come_covered (suc height) edits pieces taken there come most low few all each =
     (nine_most (suc height) pieces (omega arith)) in
     omega (arith, each, bound)
 
-covered : (edits touched copies : ℕ) → edits ≤ touched → 6 * touched ≤ copies → 5 * edits ≤ copies
-covered edits touched copies most many = omega (arith, most, many)
-
 -- what the clauses of a command say, by what its exchange did
 module _ (edits added pieces : ℕ) (old new : FsTree) (history : Option (List Event)) (files_new : List (ℕ × File))
     (reads reads_new : ℕ) (result : Result (Unit {0}) BlockFault) (most : edits ≤ pieces + 3) (names : added ≤ 2 * (pieces + 3))
     (made : AreMade edits added old new history (flat_map items_of_file files_new) (named files_new) reads reads_new result)
   where
-    pub left-files : (old.tree.height ≡ 0 → taken_slots old.land.space ≡ 1) → AreWritableFiles files_new
+    pub left-files : (items : List Item) (names : List (ℕ × Piece)) → Stands old history items names
+        → IsDrafted old.land old.tree.next → IsDrafted new.land new.tree.next → IsTable old.refs.refs
+        → OnOk result (IsTable new.refs.refs) → AreWritableFiles files_new
         → All (IsFileBy old.tree.next) files_new → OnOk result (LeavesFiles old new history files_new pieces)
-    left-files low are by = cases result made.done where
+    left-files items names_old stands drafted drafted_new table still are by = cases result made.done still where
+      low : old.tree.height ≡ 0 → own_slots old history ≡ 1
+      low = leaf-own old history items names_old stands drafted
+
       cases : (r : Result (Unit {0}) BlockFault)
           → OnOk r (IsEditedBy edits added old new history (flat_map items_of_file files_new) (named files_new))
-          → OnOk r (LeavesFiles old new history files_new pieces)
-      cases (Ok done) edited =
-          let few = edited.few in
-          let bound = covered edits (pieces + 3) (file_copies old.tree.height pieces) most
-          (copies_most old.tree.height pieces) in
-          let come = come_covered old.tree.height edits pieces (taken_slots old.land.space)
-          (taken_slots new.land.space) (made_slots old.land.space new.land.space) most low edited.few
-          (made-there old.land.space new.land.space) edited.made in
+          → OnOk r (IsTable new.refs.refs) → OnOk r (LeavesFiles old new history files_new pieces)
+      cases (Ok done) edited table_new =
+          let own = made-own old new history items (flat_map items_of_file files_new) names_old (named files_new) stands
+          drafted table edited.stands drafted_new table_new edited.others in
+          let come = come_covered old.tree.height edits pieces (own_slots old history) (own_slots new history)
+          (made_slots old.land.space new.land.space) most low edited.few own edited.made in
+          let taken = taken-made old.land.space new.land.space edited.moved.sizes in
           let left = made-free old.land.space new.land.space edited.moved.sizes edited.moved.held_slots in
           record {
             holds = record {
@@ -88,7 +92,7 @@ module _ (edits added pieces : ℕ) (old new : FsTree) (history : Option (List E
               by = subst (λ (next : ℕ). All (IsFileBy next) files_new) (sym edited.moved.next) by;
             };
             moved = edited.moved;
-            few = omega (arith, few, bound);
+            few = omega (arith, taken, come);
             made = come;
             free = omega (arith, left, come);
             heavier = BookGetsHeavier-most old.refs new.refs
@@ -97,7 +101,7 @@ module _ (edits added pieces : ℕ) (old new : FsTree) (history : Option (List E
                 (most_bytes (edit_bytes old.land.space.sizes.nodesize 3) edits (pieces + 3) added (2 * (pieces + 3)) most
                 names) edited.heavier;
           }
-      cases (Err fault) edited = tt
+      cases (Err fault) edited table_new = tt
 
     pub left-sound : (events : List Event) → history ≡ Some events
         → 10 * file_copies old.tree.height pieces ≤ free_slots old.land.space → BreaksNone result
@@ -120,12 +124,11 @@ module _ (pieces : ℕ) (old new : FsTree) (ino : ℕ) (change : Exchange) (hist
   all_made : AreMade told.edits (length (change.named ++ option_to_list change.new)) old new history (flat_map items_of_file files_new) (named files_new) reads reads_new result
   all_made = called told.edits files files_new holds.stands told.makes
 
-  pub done-files : (bytes : ℕ) → IsSubvolume old history bytes → IsTable old.refs.refs
-      → OnOk result (LeavesFiles old new history files_new pieces)
-  done-files bytes subvolume table =
+  pub done-files : (bytes : ℕ) → IsSubvolume old history bytes → IsTable old.refs.refs → IsDrafted new.land new.tree.next
+      → OnOk result (IsTable new.refs.refs) → OnOk result (LeavesFiles old new history files_new pieces)
+  done-files bytes subvolume table drafted_new still =
       left-files told.edits (length (change.named ++ option_to_list change.new)) pieces old new history files_new reads reads_new result told.most told.few all_made
-      (leaf-slots old history (flat_map items_of_file files) (named files) holds.stands subvolume.editable.drafted
-      table)
+      (flat_map items_of_file files) (named files) holds.stands subvolume.editable.drafted drafted_new table still
       told.writable told.by
 
   pub done-sound : (events : List Event) → history ≡ Some events

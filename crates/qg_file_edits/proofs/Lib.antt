@@ -2,6 +2,7 @@ pub mod Items
 pub mod Handed
 pub mod Kept
 pub mod Named
+pub mod Meanwhile
 pub mod Edited
 pub mod Once
 pub mod Stepped

@@ -26,7 +26,8 @@ use Rattle.qg_tree_refs.specs.declared.tree_refs.TreeRefs.{TreeRefs}
 use Rattle.qg_heavier.specs.Heavier.{BookGetsHeavier, name_bytes, name_new_bytes}
 use Rattle.qg_heavier.proofs.Sums.{BookGetsHeavier-most, BookGetsHeavier-same, BookGetsHeavier-then}
 use Rattle.qg_fs_tree.specs.declared.fs_tree.FsTree.{FsTree}
-use Rattle.qg_fs_tree.specs.Standing.{IsKnownExtent, IsSubvolume, KeepsTree, Stands, name_of, name_told, names_times}
+use Rattle.qg_fs_tree.specs.Standing.{IsKnownExtent, IsSubvolume, KeepsTree, Stands, extents_named, name_of, name_told, names_elsewhere, names_times}
+use Rattle.qg_fs_tree.proofs.Named.{own-extent}
 use Rattle.qg_fs_tree.proofs.Ordered.{stands-ordered}
 use Rattle.qg_fs_layout.proofs.Moved.{moves-itself, moves-then, names-move}
 use Rattle.qg_exchange.specs.Named.{names_of}
@@ -77,7 +78,7 @@ first_behind : (fs : FsTree) (history : Option (List Event)) (items : List Item)
 first_behind fs history items ino piece names stands =
     let known = All-head
     (λ (name : ℕ × Piece). IsKnownExtent fs.land.space.sizes fs.tree.next (book_of fs.refs.refs) name.1)
-    (ino, piece) names stands.known in
+    (ino, piece) (names ++ names_elsewhere fs history) stands.known in
     run_behind fs.land.space.sizes piece.extent piece.extent_bytes known.lies
 
 -- ---- one call
@@ -87,7 +88,7 @@ pub record CanName (fs : FsTree) (history : Option (List Event)) (bytes : ℕ) (
     (ino : ℕ) (piece : Piece) : Type 0 where
   pub subvolume : IsSubvolume fs history bytes
   pub stands : Stands fs history items names
-  pub among : Contains (map (λ name. extent_of name.1) names) (extent_of piece)
+  pub among : Contains (extents_named fs history names) (extent_of piece)
   pub few : names_times fs.tree.owner names piece.extent (name_of fs.tree.owner (ino, piece)).reference < 4294967295
 
 -- one that names it no more
@@ -130,7 +131,7 @@ names-none fs ino pieces = record {
   heavier = BookGetsHeavier-most fs.refs fs.refs 0 (length (take 0 pieces) * name_bytes) (omega arith)
       (BookGetsHeavier-same fs.refs);
   told = λ history bytes items names subvolume stands among few.
-      record { stands = stands; moved = moves-itself fs history };
+      record { stands = stands; moved = moves-itself fs history items names stands };
 }
 
 pub unnames-none : (fs : FsTree) (ino : ℕ) (pieces : List Piece) → UnnamesUpTo fs fs ino pieces 0
@@ -138,7 +139,7 @@ unnames-none fs ino pieces = record {
   nodes = nodes-itself fs;
   heavier = BookGetsHeavier-same fs.refs;
   told = λ history bytes items names subvolume stands covered.
-      record { stands = stands; moved = moves-itself fs history };
+      record { stands = stands; moved = moves-itself fs history items (names_of ino pieces ++ names) stands };
 }
 
 module _ (old mid : FsTree) (ino : ℕ) (pieces : List Piece) (i : ℕ) (piece : Piece) (at : IsAt pieces i piece) where
@@ -179,8 +180,9 @@ module _ (old mid : FsTree) (ino : ℕ) (pieces : List Piece) (i : ℕ) (piece :
       record {
         subvolume = so_far.nodes.subvolume history bytes subvolume;
         stands = before.stands;
-        among = subst (λ (xs : List Element). Contains xs (extent_of piece)) (sym (map-append extent front names))
-            (Contains-append_right (map extent front) (map extent names) (extent_of piece) known);
+        among = own-extent mid history (front ++ names) (extent_of piece)
+            (subst (λ (xs : List Element). Contains xs (extent_of piece)) (sym (map-append extent front names))
+            (Contains-append_right (map extent front) (map extent names) (extent_of piece) known));
         few = subst (λ (o : ℕ). names_times o (front ++ names) piece.extent (name_of o (ino, piece)).reference
             < 4294967295) (sym own) fewer;
       }

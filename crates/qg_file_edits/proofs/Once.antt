@@ -1,6 +1,7 @@
 -- One edit of an item, by a key and a body that are known.
 use Rattle.std.proofs.Common.{◌≡◌, ℕ, ◌+◌, ◌*◌, ◌≤◌, List, Option, Some, Result, sym, subst}
 use Rattle.std.specs.Prelude.{IsTrue, OnOk}
+use Rattle.std.specs.List.{filter_map}
 use Rattle.std.proofs.lemmas.Result.{on_ok_weaker}
 use Rattle.qg_device.specs.History.{Event}
 use Rattle.qg_num.specs.declared.fault.BlockFault.{BlockFault}
@@ -12,18 +13,20 @@ use Rattle.qg_space.specs.Holding.{free_slots}
 use Rattle.qg_edit.specs.Edits.{has_key, with_item, without_key}
 use Rattle.qg_tree_edits.specs.Rooting.{Grows, LeavesBe}
 use Rattle.qg_fs_tree.specs.declared.fs_tree.FsTree.{FsTree}
-use Rattle.qg_fs_tree.specs.Standing.{IsEditedTo, IsSubvolume, Stands}
+use Rattle.qg_fs_tree.specs.Standing.{IsEditedTo, IsSubvolume, Stands, name_told}
 use Rattle.qg_file_edits.specs.Editing.{AreMade}
 use Rattle.qg_file_edits.specs.Files.{LeavesHeld, StaysOwn}
+use Rattle.qg_file_edits.specs.Naming.{AreCovered}
 use Rattle.qg_file_edits.proofs.Edited.{made-once}
 use Rattle.qg_file_edits.proofs.Kept.{leaves-edited, own-grown}
 
 module _ (old new : FsTree) (before after : Option (List Event)) (bytes left reads reads_new : ℕ)
     (result : Result (Unit {0}) BlockFault) (subvolume : IsSubvolume old before bytes)
     (rests : LeavesBe old.land new.land before after bytes left old.tree.next) (still : IsSubvolume new after left)
+    (others : new.others ≡ old.others)
   where
     pub once-leaves : LeavesHeld old new before after bytes left
-    once-leaves = leaves-edited old new before after bytes left old.tree.next rests still
+    once-leaves = leaves-edited old new before after bytes left old.tree.next rests still others
 
     pub once-own : (most : ℕ) → OnOk result (Grows most old.tree new.tree old.land new.land)
         → OnOk result (StaysOwn old new)
@@ -62,18 +65,26 @@ module _ (old new : FsTree) (before after : Option (List Event)) (bytes left rea
           (made 0 (without_key key items) (removed here, grows, λ events known. sound events known here))
 
       pub once-put : (can : Key → Type 0) (key wanted : Key) (body text : List ℕ) → key ≡ wanted → body ≡ text
-          → (can key → OnOk result (IsEditedTo old new before (with_item (record { key = key; body = body }) items) names
+          → (can key
+          → AreCovered old.tree.owner (filter_map name_told (with_item (record { key = key; body = body }) items)) names
+          → OnOk result (IsEditedTo old new before (with_item (record { key = key; body = body }) items) names
           (old.tree.height + 2)))
           → OnOk result (Grows 1 old.tree new.tree old.land new.land)
           → ((events : List Event) → before ≡ Some events → can key
           → 3 * (old.tree.height + 2) ≤ free_slots old.land.space → BreaksNone result)
           → can wanted
+          → AreCovered old.tree.owner (filter_map name_told (with_item (record { key = wanted; body = text }) items))
+          names
           → AreMade 1 0 old new before (with_item (record { key = wanted; body = text }) items) names reads reads_new result
       unfolding MakesOnce
-      once-put can key wanted body text key_is body_is put grows sound may =
+      once-put can key wanted body text key_is body_is put grows sound may covered =
           let here = subst can (sym key_is) may in
+          let covered_here = subst (λ (k : Key). AreCovered old.tree.owner
+          (filter_map name_told (with_item (record { key = k; body = body }) items)) names) (sym key_is)
+          (subst (λ (b : List ℕ). AreCovered old.tree.owner
+          (filter_map name_told (with_item (record { key = wanted; body = b }) items)) names) (sym body_is) covered) in
           let made_here = made 1 (with_item (record { key = key; body = body }) items)
-          (put here, grows, λ events known. sound events known here) in
+          (put here covered_here, grows, λ events known. sound events known here) in
           subst (λ (k : Key). AreMade 1 0 old new before (with_item (record { key = k; body = text }) items) names reads
           reads_new result) key_is
           (subst (λ (b : List ℕ). AreMade 1 0 old new before (with_item (record { key = key; body = b }) items) names reads

@@ -1,5 +1,5 @@
 -- The phases of an exchange: pieces are named, items edited, and pieces named no more.
-use Rattle.std.proofs.Common.{◌≡◌, ℕ, ◌+◌, ◌*◌, List, ◌++◌, length, Option, Result, Ok, Err, arith, sym, subst}
+use Rattle.std.proofs.Common.{◌≡◌, ℕ, ◌+◌, ◌*◌, ◌≤◌, List, ◌++◌, length, Option, Result, Ok, Err, arith, sym, subst}
 use Rattle.std.specs.List.{filter_map, flat_map}
 use Rattle.std.specs.List.Sorted.{IsPermutation}
 use Rattle.std.specs.Prelude.{OnOk}
@@ -10,6 +10,7 @@ use Rattle.qg_device.specs.History.{Event}
 use Rattle.qg_num.specs.declared.fault.BlockFault.{BlockFault}
 use Rattle.qg_num.specs.declared.piece.Piece.{Piece}
 use Rattle.qg_node.specs.declared.item.Item.{Item}
+use Rattle.qg_items.specs.declared.extent.Reference.{Reference}
 use Rattle.qg_image.specs.declared.file.File.{File}
 use Rattle.qg_contents.specs.Written.{items_of_file}
 use Rattle.qg_exchange.specs.declared.step.Step.{Step}
@@ -20,13 +21,15 @@ use Rattle.qg_exchange.proofs.Applied.{makes-exchange}
 use Rattle.qg_exchange.proofs.Counts.{names-ordered}
 use Rattle.qg_heavier.specs.Heavier.{BookGetsHeavier, name_new_bytes}
 use Rattle.qg_fs_tree.specs.declared.fs_tree.FsTree.{FsTree}
-use Rattle.qg_fs_tree.specs.Standing.{IsSubvolume, Stands, name_told}
+use Rattle.qg_fs_tree.specs.Standing.{IsSubvolume, Stands, name_told, names_times}
 use Rattle.qg_fs_tree.proofs.Ordered.{stands-ordered}
 use Rattle.qg_file_edits.specs.declared.exchange.Exchange.{Exchange}
 use Rattle.qg_file_edits.specs.Editing.{AreMade, CanEditInode, IsEditedBy, after_inode}
-use Rattle.qg_file_edits.specs.Exchanging.{CanEditSo, MakesFiles, after_exchange, exchanged}
+use Rattle.qg_file_edits.specs.Exchanging.{AreCoveredThroughout, CanEditSo, CoversExchange, MakesFiles, after_exchange, exchanged}
+use Rattle.qg_file_edits.specs.Files.{StaysOwn}
 use Rattle.qg_file_edits.specs.Naming.{AreCovered, AreFewNames, AreNamed, AreOfNamed, KeepsNodes, StandsMoved}
 use Rattle.qg_file_edits.proofs.Edited.{edited-named, edited-then, made-failed, made-named, made-then}
+use Rattle.qg_file_edits.proofs.Meanwhile.{covered-throughout}
 use Rattle.qg_file_edits.proofs.Named.{times-both}
 
 -- ---- names
@@ -76,35 +79,44 @@ module _ (edits ino : ℕ) (change : Exchange) (steps : List Step) (old mid : Fs
   pub items-edited : (new : FsTree) (after : Option (List Event)) (reads_new : ℕ)
       (result : Result (Unit {0}) BlockFault) → after ≡ before
       → ((items : List Item) (names : List (ℕ × Piece)) → Stands old before items names → Applies ino steps items
+      → AreCoveredThroughout old.tree.owner ino steps items names
       → AreMade (length steps) 0 old mid before (after_steps ino steps items) names reads some (Ok tt))
       → ((items : List Item) (names : List (ℕ × Piece)) → Stands mid after items names
       → CanEditInode ino change.inode items
+      → AreCovered mid.tree.owner (filter_map name_told (after_inode ino change.inode items)) names
       → AreMade 1 0 mid new after (after_inode ino change.inode items) names some reads_new result)
-      → (items : List Item) (names : List (ℕ × Piece)) → Stands old before items names → CanEditSo edits ino change
+      → StaysOwn old mid → (items : List Item) (names : List (ℕ × Piece)) → Stands old before items names → CanEditSo edits ino change
       items
+      → CoversExchange old.tree.owner ino change items names
       → AreMade edits 0 old new before (after_exchange ino change items) names reads reads_new result
-  items-edited new after reads_new result same stepped followed items names stands can =
+  items-edited new after reads_new result same stepped followed own items names stands can covers =
       let makes = makes-exchange ino change.gone change.put steps items can.can are in
-      let first = stepped items names stands makes.applies in
+      let first = stepped items names stands makes.applies
+      (covered-throughout old.tree.owner ino change steps items names are covers) in
+      let last = subst (λ (o : ℕ). AreCovered o (filter_map name_told (after_exchange ino change items)) names)
+      (sym own.owner) covers.last in
       let left = exchanged ino change.gone change.put items in
       let edited = subst (λ (xs : List Item). IsEditedBy (length steps) 0 old mid before xs names) makes.made first.done
       in
       let here = subst (λ (h : Option (List Event)). Stands mid h left names) (sym same) edited.stands in
       let later = subst (λ (h : Option (List Event)). AreMade 1 0 mid new h (after_inode ino change.inode left) names some
-      reads_new result) same (followed left names here can.inode) in
+      reads_new result) same (followed left names here can.inode last) in
       made-then (length steps) 1 edits 0 0 0 old mid new before left (after_exchange ino change items) names names reads some
       reads_new result (can.short steps are) (omega arith) edited first.reads later
 
   -- or a step fails
   pub items-failed : (fault : BlockFault)
       → ((items : List Item) (names : List (ℕ × Piece)) → Stands old before items names → Applies ino steps items
+      → AreCoveredThroughout old.tree.owner ino steps items names
       → AreMade (length steps) 0 old mid before (after_steps ino steps items) names reads some (Err fault))
       → (items : List Item) (names : List (ℕ × Piece)) → Stands old before items names → CanEditSo edits ino change
       items
+      → CoversExchange old.tree.owner ino change items names
       → AreMade edits 0 old mid before (after_exchange ino change items) names reads some (Err fault)
-  items-failed fault stepped items names stands can =
+  items-failed fault stepped items names stands can covers =
       let makes = makes-exchange ino change.gone change.put steps items can.can are in
-      let failed = stepped items names stands makes.applies in
+      let failed = stepped items names stands makes.applies
+      (covered-throughout old.tree.owner ino change steps items names are covers) in
       let short = can.short steps are in
       made-failed (length steps) edits 0 0 old mid mid before (after_steps ino steps items) (after_exchange ino change
       items)
@@ -125,6 +137,37 @@ module _ (edits ino : ℕ) (change : Exchange) (files files_new : List (ℕ × F
       few-besides old.tree.owner ino (change.named ++ option_to_list change.new) change.put (named files) makes.put
       makes.few
 
+  -- they cover what the items tell while they are edited
+  besides_told : (owner at : ℕ) (reference : Reference)
+      → names_times owner (names_of ino change.put ++ named files) at reference
+      ≤ names_times owner (names_of ino (change.named ++ option_to_list change.new) ++ named files) at reference
+  besides_told owner at reference =
+      let put = times-both owner (names_of ino change.put) (named files) at reference in
+      let here = times-both owner (names_of ino (change.named ++ option_to_list change.new)) (named files) at reference in
+      let alike = names-ordered owner at reference (names_of ino (change.named ++ option_to_list change.new)) (names_of ino change.put)
+      makes.put in
+      omega (arith, put, here, alike)
+
+  last_told : (owner at : ℕ) (reference : Reference)
+      → names_times owner (named files_new) at reference
+      ≤ names_times owner (names_of ino (change.named ++ option_to_list change.new) ++ named files) at reference
+  last_told owner at reference =
+      let first = gone_first (names_of ino (change.named ++ option_to_list change.new)) (names_of ino change.put)
+      (names_of ino change.gone) (named files) (named files_new) makes.put makes.names in
+      let alike = names-ordered owner at reference (names_of ino (change.named ++ option_to_list change.new) ++ named files)
+      (names_of ino change.gone ++ named files_new) first in
+      let both = times-both owner (names_of ino change.gone) (named files_new) at reference in
+      omega (arith, alike, both)
+
+  covers : (owner : ℕ) → CoversExchange owner ino change (flat_map items_of_file files)
+      (names_of ino (change.named ++ option_to_list change.new) ++ named files)
+  covers owner = record {
+    tell = makes.tell;
+    besides = besides_told owner;
+    last = subst (λ (items : List Item). AreCovered owner (filter_map name_told items)
+        (names_of ino (change.named ++ option_to_list change.new) ++ named files)) (sym makes.made) (last_told owner);
+  }
+
   -- pieces are named
   pub first-named : (result : Result (Unit {0}) BlockFault)
       → ((items : List Item) (names : List (ℕ × Piece)) → Stands old before items names → AreOfNamed names change.named
@@ -141,11 +184,12 @@ module _ (edits ino : ℕ) (change : Exchange) (files files_new : List (ℕ × F
     pub then-edited : (edited : FsTree) (reads some : ℕ) (result : Result (Unit {0}) BlockFault)
         → ((items : List Item) (names : List (ℕ × Piece)) → Stands named_tree before items names
         → CanEditSo edits ino change items
+        → CoversExchange named_tree.tree.owner ino change items names
         → AreMade edits 0 named_tree edited before (after_exchange ino change items) names reads some result)
         → AreMade edits 0 named_tree edited before (flat_map items_of_file files_new) besides reads some result
     then-edited edited reads some result called =
         subst (λ (items : List Item). AreMade edits 0 named_tree edited before items besides reads some result) makes.made
-        (called (flat_map items_of_file files) besides first.stands makes.can)
+        (called (flat_map items_of_file files) besides first.stands makes.can (covers named_tree.tree.owner))
 
     -- and it fails
     pub edit-failed : (edited : FsTree) (reads some : ℕ) (fault : BlockFault)

@@ -40,10 +40,10 @@ use Rattle.qg_file_edits.specs.declared.found.Found.{Found}
 use Rattle.qg_file_edits.specs.declared.inode.InodeEdit.{InodeEdit}
 use Rattle.qg_file_edits.specs.Changes.{IsRangeChange, inode_put, nbytes_of}
 use Rattle.qg_file_edits.specs.Editing.{CanEditInode, after_inode, inode_key}
-use Rattle.qg_file_edits.specs.Exchanging.{MakesFiles, after_exchange, exchanged}
+use Rattle.qg_file_edits.specs.Exchanging.{MakesFiles, TellPieces, after_exchange, exchanged}
 use Rattle.qg_file_edits.specs.Files.{Finds, pieces_of}
 use Rattle.qg_file_edits.specs.Naming.{AreFewNames, AreOfNamed}
-use Rattle.qg_file_edits.proofs.Counted.{file-bytes, gone-part, put-few}
+use Rattle.qg_file_edits.proofs.Counted.{file-bytes, gone-part, put-few, put-tell}
 use Rattle.qg_file_edits.proofs.Extents.{IsOfNamed, pieces-named}
 use Rattle.qg_file_edits.proofs.Files.{all-with, old-sound, range-by, range-writable}
 use Rattle.qg_file_edits.proofs.Inodes.{inode-has}
@@ -161,6 +161,11 @@ module _ (generation ino from to : ℕ) (given : List Piece) (files : List (ℕ 
   few : (owner : ℕ) → AreFewNames owner (names_of ino put ++ named files)
   few owner = put-few owner ino range-file (pieces_of ino files) met put files are new_sound exchange spelled
 
+  tell : TellPieces ino (with_range from to given (pieces_met from to (pieces_of ino files)))
+  tell =
+      put-tell generation ino range-file (pieces_of ino files) met put fits new_sound
+      (range-by generation ino from to given files stamped by) exchange
+
   -- what rests beside the range names extents that are named
   pub range-rests_named : AreOfNamed (named files) (with_range from to [] met)
   range-rests_named =
@@ -259,6 +264,7 @@ module _ (generation ino from to : ℕ) (given : List Piece) (files : List (ℕ 
           (sym is.new)
           (subst (λ (xs : List Piece). IsPermutation (names_of ino (xs ++ option_to_list new)) (names_of ino put))
           (sym is.named) order));
+      tell = subst (λ (xs : List Piece). TellPieces ino xs) (sym put_is) tell;
       known = subst (λ (xs : List Piece). AreOfNamed (named files) xs) (sym is.named) known;
       few = subst (λ (xs : List Piece). AreFewNames owner (names_of ino xs ++ named files)) (sym put_is) (few owner);
     }

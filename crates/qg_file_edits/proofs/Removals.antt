@@ -15,7 +15,7 @@ use Rattle.qg_image.specs.Table.{value_at, without_key as without_value}
 use Rattle.qg_rules.specs.Writable.{AreWritableFiles, IsFileBy}
 use Rattle.qg_contents.specs.Written.{item_of_piece, items_of_file}
 use Rattle.qg_edit.specs.Edits.{without_key}
-use Rattle.qg_fs_tree.specs.Standing.{names_times}
+use Rattle.qg_fs_tree.specs.Standing.{name_told, names_times}
 use Rattle.qg_file_items.specs.FileEdits.{without_items}
 use Rattle.qg_file_items.proofs.Exchanged.{removes-file}
 use Rattle.qg_file_items.proofs.Tables.{writable-without}
@@ -31,7 +31,7 @@ use Rattle.qg_file_edits.specs.declared.exchange.Exchange.{Exchange}
 use Rattle.qg_file_edits.specs.declared.inode.InodeEdit.{InodeEdit}
 use Rattle.qg_file_edits.specs.Changes.{IsUnlinked}
 use Rattle.qg_file_edits.specs.Editing.{CanEditInode, after_inode, inode_key}
-use Rattle.qg_file_edits.specs.Exchanging.{MakesFiles, after_exchange, exchanged}
+use Rattle.qg_file_edits.specs.Exchanging.{MakesFiles, TellPieces, after_exchange, exchanged}
 use Rattle.qg_file_edits.specs.Naming.{AreFewNames, AreOfNamed}
 use Rattle.qg_file_edits.proofs.Extents.{IsOfNamed}
 use Rattle.qg_file_edits.proofs.Files.{by-without}
@@ -143,6 +143,8 @@ module _ (generation ino : ℕ) (file : File) (files : List (ℕ × File)) (ther
           change.named change.put is.named is.put
           (subst (λ (o : Option Piece). IsPermutation (names_of ino ([] ++ option_to_list o)) []) (sym is.new)
           (IsPermutation-refl []));
+      tell = subst (λ (xs : List Piece). TellPieces ino xs) (sym is.put)
+          (All-nil (λ (piece : Piece). name_told (item_of_piece ino piece) ≡ Some (ino, piece)));
       known = subst (λ (xs : List Piece). AreOfNamed (named files) xs) (sym is.named)
           (All-nil (IsOfNamed (named files)));
       few = subst (λ (xs : List Piece). AreFewNames owner (names_of ino xs ++ named files)) (sym is.put) (few owner);

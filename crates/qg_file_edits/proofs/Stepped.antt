@@ -1,5 +1,6 @@
 -- Steps on a file's items, one after the other.
 use Rattle.std.proofs.Common.{◌≡◌, ℕ, ◌+◌, ◌*◌, ◌<◌, ◌≤◌, List, [], ◌∷◌, ◌++◌, length, take, drop, Option, Ok, Err, arith, refl, sym, ap, subst, ◌∙◌}
+use Rattle.std.specs.List.{filter_map}
 use Rattle.qg_device.specs.History.{Event}
 use Rattle.qg_num.specs.declared.fault.BlockFault.{BlockFault}
 use Rattle.qg_num.specs.declared.piece.Piece.{Piece}
@@ -7,9 +8,11 @@ use Rattle.qg_node.specs.declared.item.Item.{Item}
 use Rattle.qg_exchange.specs.declared.step.Step.{Step}
 use Rattle.qg_exchange.specs.Applying.{Applies, CanApply, after_step, after_steps}
 use Rattle.qg_fs_tree.specs.declared.fs_tree.FsTree.{FsTree}
-use Rattle.qg_fs_tree.specs.Standing.{IsSubvolume, Stands}
+use Rattle.qg_fs_tree.specs.Standing.{IsSubvolume, Stands, name_told}
 use Rattle.qg_file_edits.specs.Editing.{AreMade, IsEditedBy}
+use Rattle.qg_file_edits.specs.Exchanging.{AreCoveredThroughout}
 use Rattle.qg_file_edits.specs.Files.{LeavesHeld, StaysOwn}
+use Rattle.qg_file_edits.specs.Naming.{AreCovered}
 use Rattle.qg_file_edits.proofs.Edited.{edited-most, edited-none, edited-then, made-failed, made-then}
 use Rattle.qg_file_edits.proofs.Items.{IsAt}
 use Rattle.qg_file_edits.proofs.Kept.{leaves-itself, leaves-then, own-itself, own-then}
@@ -39,7 +42,8 @@ pub record StepsUpTo (ino : ℕ) (steps : List Step) (count : ℕ) (old now : Fs
   pub own : StaysOwn old now
   pub later : faults ≤ faults_now
   pub told : (items : List Item) (names : List (ℕ × Piece)) → Stands old before items names
-      → Applies ino steps items → IsSteppedTo ino steps count old now before items names reads reads_now
+      → Applies ino steps items → AreCoveredThroughout old.tree.owner ino steps items names
+      → IsSteppedTo ino steps count old now before items names reads reads_now
 
 pub steps-none : (ino : ℕ) (steps : List Step) (fs : FsTree) (history : Option (List Event)) (bytes faults reads : ℕ)
     → IsSubvolume fs history bytes → StepsUpTo ino steps 0 fs fs history history bytes bytes faults faults reads reads
@@ -47,7 +51,7 @@ steps-none ino steps fs history bytes faults reads subvolume = record {
   leaves = leaves-itself fs history bytes subvolume;
   own = own-itself fs;
   later = omega arith;
-  told = λ items names stands applies.
+  told = λ items names stands applies named.
       record { edited = edited-none fs history items names stands; reads = omega arith };
 }
 
@@ -66,10 +70,21 @@ module _ (ino : ℕ) (steps : List Step) (i : ℕ) (step : Step) (at : IsAt step
   stepped items =
       ap (λ (all : List Step). after_steps ino all items) at.more ∙ steps-both ino (take i steps) (step ∷ []) items
 
+  -- what the items tell then is named
+  covered : (items : List Item) (names : List (ℕ × Piece)) → AreCoveredThroughout old.tree.owner ino steps items names
+      → AreCovered mid.tree.owner (filter_map name_told (after_step ino step (after_steps ino (take i steps) items)))
+      names
+  covered items names named =
+      subst (λ (o : ℕ). AreCovered o (filter_map name_told (after_step ino step (after_steps ino (take i steps) items)))
+      names) (sym so_far.own.owner)
+      (subst (λ (all : List Item). AreCovered old.tree.owner (filter_map name_told all) names) (stepped items)
+      (named (i + 1)))
+
   -- and then it is
   pub steps-more : (new : FsTree) (now : Option (List Event)) (size faults_new reads_new : ℕ)
       → LeavesHeld mid new after now left size → StaysOwn mid new → faults_now ≤ faults_new
       → ((items : List Item) (names : List (ℕ × Piece)) → Stands mid after items names → CanApply ino step items
+      → AreCovered mid.tree.owner (filter_map name_told (after_step ino step items)) names
       → AreMade 1 0 mid new after (after_step ino step items) names reads_now reads_new (Ok tt))
       → StepsUpTo ino steps (i + 1) old new before now bytes size faults faults_new reads reads_new
   steps-more new now size faults_new reads_new leaves own later told =
@@ -78,14 +93,16 @@ module _ (ino : ℕ) (steps : List Step) (i : ℕ) (step : Step) (at : IsAt step
         leaves = leaves-then old mid new before after now bytes left size so_far.leaves leaves;
         own = own-then old mid new so_far.own own;
         later = omega (arith, earlier, later);
-        told = λ items names stands applies.
-            let here = so_far.told items names stands applies in
+        told = λ items names stands applies named.
+            let here = so_far.told items names stands applies named in
             let items_here = after_steps ino (take i steps) items in
             let told_here = subst (λ (h : Option (List Event)). (items : List Item) (names : List (ℕ × Piece))
             → Stands mid h items names → CanApply ino step items
+            → AreCovered mid.tree.owner (filter_map name_told (after_step ino step items)) names
             → AreMade 1 0 mid new h (after_step ino step items) names reads_now reads_new (Ok tt)) so_far.leaves.history
             told in
-            let made = told_here items_here names here.edited.stands (can_step items applies) in
+            let made = told_here items_here names here.edited.stands (can_step items applies)
+            (covered items names named) in
             let edited = edited-then i 1 0 0 old mid new before items_here (after_step ino step items_here) names names
             here.edited made.done in
             let some = here.reads in
@@ -100,17 +117,21 @@ module _ (ino : ℕ) (steps : List Step) (i : ℕ) (step : Step) (at : IsAt step
   -- or the call gives up there
   pub steps-failed : (new : FsTree) (reads_new : ℕ) (fault : BlockFault) → i < length steps
       → ((items : List Item) (names : List (ℕ × Piece)) → Stands mid after items names → CanApply ino step items
+      → AreCovered mid.tree.owner (filter_map name_told (after_step ino step items)) names
       → AreMade 1 0 mid new after (after_step ino step items) names reads_now reads_new (Err fault))
       → (items : List Item) (names : List (ℕ × Piece)) → Stands old before items names → Applies ino steps items
+      → AreCoveredThroughout old.tree.owner ino steps items names
       → AreMade (length steps) 0 old new before (after_steps ino steps items) names reads reads_new (Err fault)
-  steps-failed new reads_new fault below told items names stands applies =
-      let here = so_far.told items names stands applies in
+  steps-failed new reads_new fault below told items names stands applies named =
+      let here = so_far.told items names stands applies named in
       let items_here = after_steps ino (take i steps) items in
       let told_here = subst (λ (h : Option (List Event)). (items : List Item) (names : List (ℕ × Piece))
       → Stands mid h items names → CanApply ino step items
+      → AreCovered mid.tree.owner (filter_map name_told (after_step ino step items)) names
       → AreMade 1 0 mid new h (after_step ino step items) names reads_now reads_new (Err fault)) so_far.leaves.history
       told in
-      let made = told_here items_here names here.edited.stands (can_step items applies) in
+      let made = told_here items_here names here.edited.stands (can_step items applies)
+      (covered items names named) in
       let failed = made-then i 1 (length steps) 0 0 0 old mid new before items_here (after_step ino step items_here) names
       names
       reads reads_now reads_new (Err fault) (omega (arith, below)) (omega arith) here.edited here.reads made in
@@ -123,9 +144,10 @@ pub steps-all : (ino : ℕ) (steps : List Step) (i : ℕ) (old new : FsTree) (be
     → take i steps ≡ steps
     → StepsUpTo ino steps i old new before after bytes left faults faults_now reads reads_now
     → (items : List Item) (names : List (ℕ × Piece)) → Stands old before items names → Applies ino steps items
+    → AreCoveredThroughout old.tree.owner ino steps items names
     → AreMade (length steps) 0 old new before (after_steps ino steps items) names reads reads_now (Ok tt)
-steps-all ino steps i old new before after bytes left faults faults_now reads reads_now past below whole so_far items names stands applies =
-    let here = so_far.told items names stands applies in
+steps-all ino steps i old new before after bytes left faults faults_now reads reads_now past below whole so_far items names stands applies named =
+    let here = so_far.told items names stands applies named in
     let some = here.reads in
     record {
       done = edited-most i (length steps) 0 0 old new before (after_steps ino steps items) names below (omega arith)

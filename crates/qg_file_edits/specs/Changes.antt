@@ -24,11 +24,15 @@ abbrev pub files_written : ℕ → ℕ → ℕ → ℕ → ℕ → List (ℕ × 
 files_written generation ino off len extent files =
     files_with generation ino off (off + len) (new_piece generation off len extent ∷ []) files
 
+-- a range of these pieces comes into the place of a range of a file
+abbrev pub files_cloned_from : ℕ → List Piece → ℕ → ℕ → ℕ → ℕ → List (ℕ × File) → List (ℕ × File)
+files_cloned_from generation pieces from len ino off files =
+    files_with generation ino off (off + len) (map (moved from off) (within from (from + len) pieces)) files
+
 -- a range of one file comes into the place of a range of another
 abbrev pub files_cloned : ℕ → ℕ → ℕ → ℕ → ℕ → ℕ → List (ℕ × File) → List (ℕ × File)
 files_cloned generation source from len ino off files =
-    files_with generation ino off (off + len) (map (moved from off) (within from (from + len) (pieces_of source files)))
-    files
+    files_cloned_from generation (pieces_of source files) from len ino off files
 
 abbrev pub files_cut : ℕ → ℕ → ℕ → File → List (ℕ × File) → List (ℕ × File)
 files_cut generation ino size file files = with_value ino (with_size generation size file) files

@@ -15,7 +15,7 @@ use Rattle.qg_space.specs.Holding.{free_slots}
 use Rattle.qg_edit.specs.Edits.{has_key, with_item, without_key}
 use Rattle.qg_heavier.specs.Heavier.{BookGetsHeavier, edit_bytes, name_new_bytes}
 use Rattle.qg_fs_tree.specs.declared.fs_tree.FsTree.{FsTree}
-use Rattle.qg_fs_tree.specs.Standing.{Stands, made_slots, taken_slots}
+use Rattle.qg_fs_tree.specs.Standing.{IsElsewhere, Stands, made_slots, own_slots}
 use Rattle.qg_fs_layout.specs.Laying.{IsMoved}
 use Rattle.qg_file_edits.specs.declared.inode.InodeEdit.{InodeEdit}
 use Rattle.qg_file_edits.specs.declared.inode.InodeEdit.TheVariants.{Insert, Replace, Remove}
@@ -44,14 +44,15 @@ CanEditInode ino Remove items = IsTrue (has_key (inode_key ino) items)
 -- ---- edits
 
 -- A tree stands with these items and names, as edits between two commits leave it, so many at most. It has three levels
--- above its leaves at most: so each edit takes at most five slots more than it gives back, leaves at most nine fewer
--- free, and takes at most nine that were not taken before. What the extent tree's items take grows by no more than so
--- many edits and so many names more bring
+-- above its leaves at most: so with each edit it reaches at most five slots more, at most nine fewer are free, and at
+-- most nine are taken that were not before. What the other trees reach they reached before. What the extent tree's items
+-- take grows by no more than so many edits and so many names more bring
 pub record IsEditedBy (edits added : ℕ) (old new : FsTree) (history : Option (List Event)) (items : List Item)
     (names : List (ℕ × Piece)) : Type 0 where
   pub stands : Stands new history items names
   pub moved : IsMoved old new history
-  pub few : taken_slots new.land.space ≤ taken_slots old.land.space + 5 * edits
+  pub few : own_slots new history ≤ own_slots old history + 5 * edits
+  pub others : (q : ℕ) → IsElsewhere new history q → IsElsewhere old history q
   pub free : free_slots old.land.space ≤ free_slots new.land.space + 9 * edits
   pub made : made_slots old.land.space new.land.space ≤ 9 * edits
   pub heavier : BookGetsHeavier old.refs new.refs

@@ -56,10 +56,11 @@ pub record LeavesFiles (old new : FsTree) (history : Option (List Event)) (files
 
 -- ---- over any disk
 
--- nodes and space are such as a tree is edited in; sizes, and what the last commit holds, stay, and the disk is not
--- written
+-- nodes and space are such as a tree is edited in; the other trees, sizes, and what the last commit holds, stay, and the
+-- disk is not written
 pub record LeavesHeld (old new : FsTree) (before after : Option (List Event)) (bytes left : ℕ) : Type 0 where
   pub subvolume : IsSubvolume new after left
+  pub others : new.others ≡ old.others
   pub node_sizes : new.land.blocks.draft.sizes ≡ old.land.blocks.draft.sizes
   pub bound : new.land.blocks.bound ≡ old.land.blocks.bound
   pub sizes : new.land.space.sizes ≡ old.land.space.sizes

@@ -1,14 +1,17 @@
 // Items of a file are put in, replaced and taken out, one after the other.
 ghost use Rattle.std.specs.Prelude.{ℕ, ◌≤◌, List, OnOk, IsTrue, length, not};
+ghost use Rattle.std.specs.List.{filter_map};
 ghost use Rattle.qg_device.specs.Cause.{HasCause};
 ghost use Rattle.qg_device.specs.History.{Event};
 ghost use Rattle.qg_num.specs.declared.piece.Piece.{Piece as PieceValue};
 ghost use Rattle.qg_node.specs.declared.item.Item.{Item as ItemValue};
 ghost use Rattle.qg_edit.specs.Edits.{has_key, with_item, without_key};
 ghost use Rattle.qg_exchange.specs.Applying.{Applies, CanApply, after_step, after_steps};
-ghost use Rattle.qg_fs_tree.specs.Standing.{IsSubvolume, Stands};
+ghost use Rattle.qg_fs_tree.specs.Standing.{IsSubvolume, Stands, name_told};
 ghost use Rattle.qg_file_edits.specs.Editing.{AreMade, CanEditInode, after_inode};
+ghost use Rattle.qg_file_edits.specs.Exchanging.{AreCoveredThroughout};
 ghost use Rattle.qg_file_edits.specs.Files.{LeavesHeld, StaysOwn};
+ghost use Rattle.qg_file_edits.specs.Naming.{AreCovered};
 
 use crate::inode::InodeEdit;
 use crate::texts::{inode_bytes, inode_key, piece_bytes, piece_key};
@@ -20,7 +23,7 @@ use qg_num::{BlockFault, Ino, Key, Steps};
 use std::alloc::Global;
 use std::sync::ledger::Ledger;
 
-/// Puts an item in its place. Its key must not be there.
+/// Puts an item in its place. Its key must not be there, and a piece that it tells is named.
 fn put_new<D: Disk, L: Ledger>(
     fs: &mut FsTree,
     alloc: Global,
@@ -33,6 +36,8 @@ fn put_new<D: Disk, L: Ledger>(
     requires short { length bytes.now ≤ 1024 }
     ensures told { (items : List ItemValue) (names : List (ℕ × PieceValue))
         → Stands fs.old (D.history disk.old) items names → IsTrue (not (has_key key items))
+        → AreCovered fs.old.tree.owner
+        (filter_map name_told (with_item (record { key = key; body = bytes.now }) items)) names
         → AreMade 1 0 fs.old fs.new (D.history disk.old) (with_item (record { key = key; body = bytes.now }) items) names
         reads.old reads.new result }
     ensures leaves { LeavesHeld fs.old fs.new (D.history disk.old) (D.history disk.new) (D.size disk.old)
@@ -44,7 +49,7 @@ fn put_new<D: Disk, L: Ledger>(
     fs.insert(alloc, disk, key, body, reads)
 }
 
-/// Gives the item with a key another body. The key must be there.
+/// Gives the item with a key another body. The key must be there, and a piece that the body tells is named.
 fn put_again<D: Disk, L: Ledger>(
     fs: &mut FsTree,
     alloc: Global,
@@ -57,6 +62,8 @@ fn put_again<D: Disk, L: Ledger>(
     requires short { length bytes.now ≤ 1024 }
     ensures told { (items : List ItemValue) (names : List (ℕ × PieceValue))
         → Stands fs.old (D.history disk.old) items names → IsTrue (has_key key items)
+        → AreCovered fs.old.tree.owner
+        (filter_map name_told (with_item (record { key = key; body = bytes.now }) items)) names
         → AreMade 1 0 fs.old fs.new (D.history disk.old) (with_item (record { key = key; body = bytes.now }) items) names
         reads.old reads.new result }
     ensures leaves { LeavesHeld fs.old fs.new (D.history disk.old) (D.history disk.new) (D.size disk.old)
@@ -100,6 +107,7 @@ fn take_step<D: Disk, L: Ledger>(
     requires { IsSubvolume fs.old (D.history disk.old) (D.size disk.old) }
     ensures told { (items : List ItemValue) (names : List (ℕ × PieceValue))
         → Stands fs.old (D.history disk.old) items names → CanApply ino step items
+        → AreCovered fs.old.tree.owner (filter_map name_told (after_step ino step items)) names
         → AreMade 1 0 fs.old fs.new (D.history disk.old) (after_step ino step items) names reads.old reads.new result }
     ensures leaves { LeavesHeld fs.old fs.new (D.history disk.old) (D.history disk.new) (D.size disk.old)
         (D.size disk.new) }
@@ -133,6 +141,7 @@ pub(crate) fn take_steps<D: Disk, L: Ledger>(
     requires { IsSubvolume fs.old (D.history disk.old) (D.size disk.old) }
     ensures told { (items : List ItemValue) (names : List (ℕ × PieceValue))
         → Stands fs.old (D.history disk.old) items names → Applies ino steps.now items
+        → AreCoveredThroughout fs.old.tree.owner ino steps.now items names
         → AreMade (length steps.now) 0 fs.old fs.new (D.history disk.old) (after_steps ino steps.now items) names
         reads.old reads.new result }
     ensures leaves { LeavesHeld fs.old fs.new (D.history disk.old) (D.history disk.new) (D.size disk.old)
@@ -158,6 +167,7 @@ pub(crate) fn edit_inode<D: Disk, L: Ledger>(
     requires { IsSubvolume fs.old (D.history disk.old) (D.size disk.old) }
     ensures told { (items : List ItemValue) (names : List (ℕ × PieceValue))
         → Stands fs.old (D.history disk.old) items names → CanEditInode ino edit items
+        → AreCovered fs.old.tree.owner (filter_map name_told (after_inode ino edit items)) names
         → AreMade 1 0 fs.old fs.new (D.history disk.old) (after_inode ino edit items) names reads.old reads.new result }
     ensures leaves { LeavesHeld fs.old fs.new (D.history disk.old) (D.history disk.new) (D.size disk.old)
         (D.size disk.new) }

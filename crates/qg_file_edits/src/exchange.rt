@@ -14,7 +14,7 @@ ghost use Rattle.qg_heavier.specs.Heavier.{BookGetsHeavier, name_new_bytes};
 ghost use Rattle.qg_fs_tree.specs.Standing.{IsSubvolume, Stands};
 ghost use Rattle.qg_files.specs.Apart.{AreApart};
 ghost use Rattle.qg_file_edits.specs.Editing.{AreMade};
-ghost use Rattle.qg_file_edits.specs.Exchanging.{CanEditSo, IsReadyFor, MakesFiles, after_exchange};
+ghost use Rattle.qg_file_edits.specs.Exchanging.{CanEditSo, CoversExchange, IsReadyFor, MakesFiles, after_exchange};
 ghost use Rattle.qg_file_edits.specs.Files.{LeavesHeld, StaysOwn};
 ghost use Rattle.qg_file_edits.specs.Naming.{AreFewNames, AreNamed, AreOfNamed, KeepsNodes};
 
@@ -61,6 +61,7 @@ pub(crate) fn make_exchange<D: Disk, L: Ledger>(
         → AreMade edits (length (change.now.named ++ option_to_list change.now.new)) fs.old fs.new (D.history disk.old) (flat_map items_of_file files_new) (named files_new)
         reads.old reads.new result }
     ensures table { IsTable fs.old.refs.refs }
+    ensures still { OnOk result (IsTable fs.new.refs.refs) }
     ensures leaves { LeavesHeld fs.old fs.new (D.history disk.old) (D.history disk.new) (D.size disk.old)
         (D.size disk.new) }
     ensures own { OnOk result (StaysOwn fs.old fs.new) }
@@ -69,7 +70,9 @@ pub(crate) fn make_exchange<D: Disk, L: Ledger>(
     let _ascending = fs.refs.refs().len();
     name_those_put(fs, ino, change)?;
     edit_items(fs, alloc, disk, ino, change, reads)?;
-    unname_each(fs, ino, change.gone.as_slice())
+    let unnamed = unname_each(fs, ino, change.gone.as_slice());
+    let _ascending_still = fs.refs.refs().len();
+    unnamed
 }
 
 /// The pieces that come name their extents.
@@ -103,6 +106,7 @@ fn edit_items<D: Disk, L: Ledger>(
     requires put { AreApart change.now.put }
     ensures told { (edits : ℕ) (items : List ItemValue) (names : List (ℕ × PieceValue))
         → Stands fs.old (D.history disk.old) items names → CanEditSo edits ino change.now items
+        → CoversExchange fs.old.tree.owner ino change.now items names
         → AreMade edits 0 fs.old fs.new (D.history disk.old) (after_exchange ino change.now items) names reads.old
         reads.new result }
     ensures leaves { LeavesHeld fs.old fs.new (D.history disk.old) (D.history disk.new) (D.size disk.old)

@@ -1,5 +1,5 @@
--- A tree that a commit has written is kept of the state that the commit leaves.
-use Rattle.std.proofs.Common.{◌≡◌, ℕ, ◌+◌, ◌≤◌, true, List, [], ◌∷◌, ◌++◌, map, Option, Some, None, refl, sym}
+-- Trees that a commit has written are kept of the state that the commit leaves.
+use Rattle.std.proofs.Common.{◌≡◌, ℕ, ◌+◌, ◌≤◌, true, List, ◌++◌, map, Option, Some, None, refl, sym}
 use Rattle.std.proofs.Common.{ap, subst, ◌∙◌, arith, ◌⊎◌, inl, inr}
 use Rattle.std.specs.Prelude.{◌↔◌, is_some}
 use Rattle.std.specs.List.{All, Contains, flat_map}
@@ -18,8 +18,10 @@ use Rattle.qg_super.specs.Places.{is_slot}
 use Rattle.qg_image.specs.declared.file.File.{File}
 use Rattle.qg_image.specs.Table.{keys_of, value_at}
 use Rattle.qg_state.specs.declared.element.Element.{Element}
+use Rattle.qg_state.specs.declared.quota.Quota.{Quota}
 use Rattle.qg_state.specs.Space.{present_extents}
-use Rattle.qg_state.specs.State.{Layout, Placed, State, Subvolume}
+use Rattle.qg_state.specs.State.{Placed, State, Subvolume}
+use Rattle.qg_state.proofs.Contained.{contains_later}
 use Rattle.qg_verdict.specs.ImageState.{addresses_of}
 use Rattle.qg_rules.specs.Writable.{IsFileBy}
 use Rattle.qg_contents.specs.Written.{items_of_file}
@@ -31,17 +33,18 @@ use Rattle.qg_refs.specs.declared.kept.Kept.{Kept}
 use Rattle.qg_tree_refs.specs.declared.tree_refs.TreeRefs.{TreeRefs}
 use Rattle.qg_weighed.specs.Laws.{IsRecorded}
 use Rattle.qg_fs_tree.specs.declared.fs_tree.FsTree.{FsTree}
-use Rattle.qg_fs_layout.specs.Laying.{IsLaidOutAlone}
-use Rattle.qg_fs_layout.proofs.Lists.{from-mapped, has-mapped}
+use Rattle.qg_fs_tree.proofs.Lists.{from-mapped, has-mapped}
+use Rattle.qg_fs_layout.specs.Laying.{IsLaidOut}
 use Rattle.qg_file_edits.specs.Files.{HoldsFiles}
-use Rattle.qg_standing.specs.Committing.{IsCommitted, StandsStill}
+use Rattle.qg_standing.specs.Committing.{IsCommitted, StandsStill, for_generation}
 use Rattle.qg_other_trees.specs.declared.laying.OtherTrees.{OtherTrees}
 use Rattle.qg_other_trees.specs.Sound.{committed}
 use Rattle.qg_other_trees.specs.Telling.{AreToldBy}
 use Rattle.qg_other_trees.specs.Trees.{nodes_laid}
-use Rattle.qg_fs_step.specs.Keeping.{IsKept, KeepsState}
+use Rattle.qg_fs_step.specs.Keeping.{HasFiles, IsKept, KeepsState, OthersHaveFiles, quota_after}
+use Rattle.qg_fs_step.proofs.Kept.{slot-laid, taken-told, whole}
+use Rattle.qg_fs_step.proofs.Runs.{runs-told}
 use Rattle.qg_fs_commit.specs.Committing.{KeepsCommit, LaysTree}
-use Rattle.qg_fs_step.proofs.Kept.{runs-told, slot-laid, taken-told, whole}
 use Rattle.qg_fs_commit.proofs.OtherNames.{names-others, same-recorded}
 
 later_file : (generation : ℕ) (file : ℕ × File) → IsFileBy generation file → IsFileBy (generation + 1) file
@@ -76,7 +79,7 @@ module _ (fs : FsTree) (history : Option (List Event)) (bytes : ℕ) (state : St
     back : Contains (keys_of state.layout) slot → Contains fs.land.space.slots slot
     back has =
         let entry = from-mapped (λ (e : ℕ × Placed). e.0) state.layout slot has in
-        let is = ap (λ (sizes : Sizes). is_slot sizes entry.0.0) (sym keeps.laid.laid.sizes)
+        let is = ap (λ (sizes : Sizes). is_slot sizes entry.0.0) (sym keeps.laid.sizes)
         ∙ slot-laid fs history bytes state mine files kept keeps entry.0 entry.1 in
         let value = value_of_entry state.layout entry.0
         (whole fs history bytes state mine files kept keeps).ascending entry.1 in
@@ -94,17 +97,20 @@ addresses_into nodes others moved slot has =
     (has-mapped (λ (n : Node). (header_of n).address) others node.0
     (Contains-permutation nodes others node.0 moved node.1))
 
--- ---- the tree
+-- ---- the trees
 
 module _ (old new : FsTree) (events later : List Event) (bytes : ℕ) (state : State) (mine : Subvolume)
-    (files : List (ℕ × File)) (root : RootItem) (counters : Counters) (stamp : ℕ) (slots : List ℕ)
+    (files : List (ℕ × File)) (roots : List (ℕ × RootItem)) (quota : Quota) (counters : ℕ → Counters) (slots : List ℕ)
     (trees : OtherTrees) (others : List Node)
-    (lays : LaysTree old events bytes state mine files root counters stamp slots trees)
-    (told : AreToldBy (committed others state counters stamp) slots trees others)
+    (lays : LaysTree old events bytes state mine files roots quota counters slots trees)
+    (told : AreToldBy (committed others state (quota_after old.tree.next counters quota)) slots trees others)
     (becomes : IsCommitted old new (map (λ node. (header_of node).address) (nodes_laid trees)))
     (still : StandsStill old new (Some events) (Some later) (flat_map items_of_file files) (named files)) where
+  abbrev quota_now : Quota
+  quota_now = quota_after old.tree.next counters quota
+
   abbrev after : State
-  after = committed others state counters stamp
+  after = committed others state quota_now
 
   next_is : new.tree.next ≡ old.tree.next + 1
   next_is = ap (λ (tree : Root). tree.next) becomes.tree
@@ -112,30 +118,45 @@ module _ (old new : FsTree) (events later : List Event) (bytes : ℕ) (state : S
   owner_is : new.tree.owner ≡ old.tree.owner
   owner_is = ap (λ (tree : Root). tree.owner) becomes.tree
 
-  address_is : new.tree.address ≡ old.tree.address
-  address_is = ap (λ (tree : Root). tree.address) becomes.tree
-
   book_is : new.refs.held ≡ old.refs.refs
   book_is = ap (λ (refs : TreeRefs). refs.held) becomes.refs
+
+  by_then : (its : List (ℕ × File)) → All (IsFileBy old.tree.next) its → All (IsFileBy new.tree.next) its
+  by_then its by = subst (λ (n : ℕ). All (IsFileBy n) its) (sym next_is)
+      (All-weaker (IsFileBy old.tree.next) (IsFileBy (old.tree.next + 1)) (later_file old.tree.next) its by)
 
   holds : HoldsFiles new (Some later) files
   holds = record {
     stands = still.stands;
     writable = lays.keeps.holds.writable;
-    by = subst (λ (n : ℕ). All (IsFileBy n) files) (sym next_is)
-        (All-weaker (IsFileBy old.tree.next) (IsFileBy (old.tree.next + 1)) (later_file old.tree.next) files
-        lays.keeps.holds.by);
+    by = by_then files lays.keeps.holds.by;
   }
 
-  laid_out : IsLaidOutAlone after mine new (Some later)
+  -- another tree has the files that it had
+  has_still : (was : Root) (subvolume : Subvolume) → Contains old.others.items was
+      → value_at was.owner state.subvolumes ≡ Some subvolume
+      → HasFiles new (Some later) (for_generation (old.tree.next + 1) was) subvolume.files
+  has_still was subvolume among there =
+      let has = lays.keeps.have was subvolume among there in
+      record {
+        items = still.each was (contains_later old.tree old.others.items was among) ∙ has.items;
+        writable = has.writable;
+        by = by_then subvolume.files has.by;
+      }
+
+  have : OthersHaveFiles after new (Some later)
+  have tree subvolume among there =
+      let among_old = subst (λ (list : List Root). Contains list tree) becomes.others among in
+      let was = from-mapped (for_generation (old.tree.next + 1)) old.others.items tree among_old in
+      let listed = ap (λ (t : Root). value_at t.owner state.subvolumes) was.2 ∙ there in
+      subst (λ (t : Root). HasFiles new (Some later) t subvolume.files) was.2
+      (has_still was.0 subvolume was.1 listed)
+
+  laid_out : IsLaidOut after new (Some later)
   laid_out = record {
-    laid = record {
-      sizes = lays.keeps.laid.laid.sizes ∙ sym becomes.sizes;
-      generation = ap (λ (n : ℕ). n + 1) lays.keeps.laid.laid.generation ∙ sym next_is;
-      layout = lays.keeps.laid.laid.layout ∙ ap (λ (layout : Layout). layout.nodes) (sym still.layout);
-      root = lays.keeps.laid.laid.root ∙ sym address_is;
-    };
-    alone = lays.keeps.laid.alone ∙ ap (λ (owner : ℕ). (owner, mine) ∷ []) (sym owner_is);
+    sizes = lays.keeps.laid.sizes ∙ sym becomes.sizes;
+    generation = ap (λ (n : ℕ). n + 1) lays.keeps.laid.generation ∙ sym next_is;
+    layout = lays.keeps.laid.layout ∙ sym still.layout;
   }
 
   -- ---- what the commit holds
@@ -180,20 +201,21 @@ module _ (old new : FsTree) (events later : List Event) (bytes : ℕ) (state : S
 
   recorded : IsRecorded after new.refs.held
   recorded = subst (λ (held : List (ℕ × Kept)). IsRecorded after held) (sym book_is)
-      (same-recorded old.land.space.sizes old.tree.next root old.refs.refs counters stamp slots trees lays.laid.laid
-      others told.moved after lays.kept.table refl)
+      (same-recorded old.land.space.sizes old.tree.next roots old.refs.refs quota_now slots trees lays.laid.laid others
+      told.moved after lays.kept.table refl)
 
   pub commit-kept : KeepsCommit new (Some later) after mine files
   commit-kept = record {
     keeps = record {
-      holds = holds;
-      laid = laid_out;
+      there = ap (λ (n : ℕ). value_at n state.subvolumes) owner_is ∙ lays.keeps.there;
       are = lays.keeps.are;
-      own = owner_is ∙ lays.keeps.own;
+      holds = holds;
+      have = have;
+      laid = laid_out;
       held_slots = held_slots;
       held_runs = held_runs;
     };
     recorded = recorded;
-    others = names-others old.land.space.sizes old.tree.next root old.refs.refs counters stamp slots trees
-        lays.laid.laid others told.moved after.held refl;
+    others = names-others old.land.space.sizes old.tree.next roots old.refs.refs quota_now slots trees lays.laid.laid
+        others told.moved after.held (keys_of state.subvolumes) refl lays.roots_are.numbers;
   }

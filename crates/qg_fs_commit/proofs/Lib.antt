@@ -1,6 +1,8 @@
 pub mod InOrder
-pub mod AtHome
+pub mod Said
 pub mod OtherNames
+pub mod Roots
+pub mod Counts
 pub mod SoundCommit
 pub mod CommitKept
 pub mod Short

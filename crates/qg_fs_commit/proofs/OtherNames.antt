@@ -1,46 +1,43 @@
 -- What the items of a commit's root, extent and quota trees name: those of the extent tree the book's records, the
--- others what one group has.
-use Rattle.std.proofs.Common.{◌≡◌, ℕ, Bool, true, false, List, [], ◌∷◌, ◌++◌, Option, Some, None, refl, sym, ap, subst}
-use Rattle.std.proofs.Common.{◌∙◌, inl, inr}
-use Rattle.std.specs.Prelude.{◌&&◌, ◌==◌, is_some, nat_le}
-use Rattle.std.specs.Bool.{then_some}
-use Rattle.std.specs.List.{Contains, filter_map, flat_map, list_all}
+-- others what its subvolumes and groups have.
+use Rattle.std.proofs.Common.{◌≡◌, ℕ, Bool, true, false, List, [], ◌∷◌, ◌++◌, map, length, Option, Some, None, refl}
+use Rattle.std.proofs.Common.{sym, ap, subst, ◌∙◌, inl, inr, arith}
+use Rattle.std.specs.Prelude.{◌&&◌, ◌||◌, ◌==◌, is_some}
+use Rattle.std.specs.List.{Contains, filter_map, flat_map, list_all, list_any}
 use Rattle.std.specs.List.Sorted.{IsPermutation}
-use Rattle.std.specs.Option.{option_and_then, option_map}
-use Rattle.std.proofs.lemmas.Bool.{and_parts, eqb-true, true≢false}
-use Rattle.std.proofs.lemmas.List.{append-nil}
+use Rattle.std.specs.Option.{option_map}
+use Rattle.std.proofs.lemmas.Bool.{and_parts, cases_Bool, eqb-true, true≢false}
+use Rattle.std.proofs.lemmas.List.{append-nil, length-append, length-map, map-append}
 use Rattle.std.proofs.lemmas.List.Elements.{Contains-append_cases, filter_map-append}
+use Rattle.std.proofs.lemmas.List.Folds.{list_any-append}
 use Rattle.std.proofs.lemmas.List.Sorted.{Contains-permutation, IsPermutation-append, IsPermutation-sym}
 use Rattle.std.proofs.lemmas.List.Sorted.{IsPermutation-trans}
 use Rattle.std.proofs.lemmas.Grind.{flat_map-append}
-use Rattle.qg_num.specs.declared.counters.Counters.{Counters}
 use Rattle.qg_node.specs.declared.item.Item.{Item}
 use Rattle.qg_node.specs.declared.node.Node.{Node}
 use Rattle.qg_node.specs.Nodes.{own_items}
-use Rattle.qg_items.specs.declared.kind.TheConstants.{QGROUP_INFO, QGROUP_LIMIT, QGROUP_STATUS, ROOT_ITEM}
-use Rattle.qg_items.specs.declared.quota.QgroupInfo.{QgroupInfo}
-use Rattle.qg_items.specs.declared.quota.QgroupLimit.{QgroupLimit}
+use Rattle.qg_items.specs.declared.kind.TheConstants.{ROOT_ITEM}
 use Rattle.qg_items.specs.declared.quota.QgroupStatus.{QgroupStatus}
 use Rattle.qg_items.specs.declared.root.RootItem.{RootItem}
-use Rattle.qg_items.specs.declared.tree.TheConstants.{EXTENT_TREE, QUOTA_TREE, TOP_LEVEL}
-use Rattle.qg_items.specs.ItemReading.{info_read, limit_read, root_read, status_read}
-use Rattle.qg_items.specs.ItemText.{info_text, limit_text, root_text, status_text}
+use Rattle.qg_items.specs.declared.tree.TheConstants.{EXTENT_TREE, QUOTA_TREE}
 use Rattle.qg_super.specs.declared.sizes.Sizes.{Sizes}
 use Rattle.qg_image.specs.declared.part.ExtentPart.{ExtentPart}
 use Rattle.qg_image.specs.declared.part.ExtentPart.TheVariants.{DataRecord, NodeRecord, Referenced}
 use Rattle.qg_image.specs.declared.part.QuotaPart.{QuotaPart}
-use Rattle.qg_image.specs.declared.part.QuotaPart.TheVariants as part
-use Rattle.qg_image.specs.ItemMeaning.{◌orelse◌, extent_part, first_some, is_keyed, is_status, is_subvolume_number}
-use Rattle.qg_image.specs.ItemMeaning.{quota_part, root_part, some_passes, when}
-use Rattle.qg_state.specs.Need.{held_records}
-use Rattle.qg_state.specs.Record.{Record, InfoOf, LimitOf, RootOf, Status, extent_record, quota_record, record_named}
-use Rattle.qg_state.specs.Record.{same_record}
+use Rattle.qg_image.specs.ItemMeaning.{extent_part, first_some, is_keyed, quota_part, root_part, some_passes, when}
+use Rattle.qg_image.specs.Table.{keys_of}
+use Rattle.qg_state.specs.declared.quota.Group.{Group}
+use Rattle.qg_state.specs.declared.quota.Quota.{Quota}
+use Rattle.qg_state.specs.Need.{held_records, quota_records}
+use Rattle.qg_state.specs.Record.{Record, InfoOf, LimitOf, RootOf, Status, RelationOf, extent_record, quota_record}
+use Rattle.qg_state.specs.Record.{record_named, same_record}
 use Rattle.qg_state.specs.State.{Committed, State}
 use Rattle.qg_state.proofs.Contained.{contains_cases, none_contained}
 use Rattle.qg_verdict.specs.Among.{node_among}
 use Rattle.qg_verdict.specs.declared.tree.Tree.TheVariants.{Extents}
 use Rattle.qg_verdict.specs.Walk.{is_item_of}
-use Rattle.qg_contents.specs.Written.{info_of, item_of_root, item_under, items_of_quota, items_of_roots, no_limit}
+use Rattle.qg_contents.specs.Written.{info_part, item_of_info, item_of_limit, item_of_named, item_of_status}
+use Rattle.qg_contents.specs.Written.{items_of_quota, items_of_roots, limit_part, parts_of_quota, roots_named}
 use Rattle.qg_contents.specs.Written.{status_at}
 use Rattle.qg_check.proofs.Found.{items_below-nodes}
 use Rattle.qg_owed.proofs.Passing.{all_at}
@@ -53,137 +50,200 @@ use Rattle.qg_weighed.specs.Weight.{records_in}
 use Rattle.qg_weighed.proofs.Distinct.{same_record_is}
 use Rattle.qg_weighed.proofs.Named.{said-recorded}
 use Rattle.qg_tree.specs.Build.{IsBuilt}
-use Rattle.qg_fs_layout.proofs.Lists.{from-flat, from-some, has-flat, made-some}
+use Rattle.qg_fs_tree.proofs.Lists.{from-flat, from-mapped, from-some, has-flat, made-some}
 use Rattle.qg_other_trees.specs.declared.laying.OtherTrees.{OtherTrees}
-use Rattle.qg_other_trees.specs.Trees.{AreTrees, nodes_laid}
-use Rattle.qg_fs_step.specs.Keeping.{NamesOthers, other_names}
+use Rattle.qg_other_trees.specs.Trees.{AreTrees, nodes_laid, root_item_laid}
+use Rattle.qg_fs_step.specs.Keeping.{NamesOthers}
+use Rattle.qg_fs_commit.proofs.Said.{IsOfQuota, all-said, any-both, any-mapped, any-with, both_of, infos-named}
+use Rattle.qg_fs_commit.proofs.Said.{limits-named, none-said, quotas-named, roots-named}
 
 -- ---- items of the root and the quota tree
 
-roots_say_none : (extents files quotas : RootItem) → filter_map extent_part (items_of_roots extents files quotas) ≡ []
+root_none : (entry : ℕ × RootItem) → extent_part (item_of_named entry) ≡ None
 unfolding extent_part
-roots_say_none extents files quotas = refl
+root_none entry = refl
 
-quotas_say_none : (status : QgroupStatus) (group : ℕ) (info : QgroupInfo)
-    → filter_map extent_part (items_of_quota status group info) ≡ []
-unfolding extent_part
-quotas_say_none status group info = refl
+roots_say_none : (extents : RootItem) (roots : List (ℕ × RootItem)) (quotas : RootItem)
+    → filter_map extent_part (items_of_roots extents roots quotas) ≡ []
+roots_say_none extents roots quotas = none-said extent_part (items_of_roots extents roots quotas) (λ item has.
+    let entry = from-mapped item_of_named (roots_named extents roots quotas) item has in
+    ap extent_part (sym entry.2) ∙ root_none entry.0)
 
-some_is : (a b : Record) → Some a ≡ Some b → b ≡ a
-some_is a b is = cc
+status_of_quota : (status : QgroupStatus) → IsOfQuota (item_of_status status)
+unfolding root_part extent_part
+status_of_quota status = record { root = refl; extent = refl }
 
--- what a ROOT_ITEM names, however its text is read
-root_by : (tree : ℕ) (read : Option RootItem) (one : Record)
-    → first_some (option_map (λ (entry : ℕ × RootItem). RootOf entry.0)
-    (option_and_then (λ (root : RootItem). then_some (root.refs == 1) (tree, root)) read) ∷ None ∷ None ∷ [])
-    ≡ Some one → one ≡ RootOf tree
-root_by tree None one is = absurd cc
-root_by tree (Some root) one is = told (root.refs == 1) is where
-  told : (counted : Bool) → first_some (option_map (λ (entry : ℕ × RootItem). RootOf entry.0)
-      (then_some counted (tree, root)) ∷ None ∷ None ∷ []) ≡ Some one → one ≡ RootOf tree
-  told true named = some_is (RootOf tree) one named
-  told false named = absurd cc
+info_of_quota : (entry : ℕ × Group) → IsOfQuota (item_of_info entry)
+unfolding root_part extent_part
+info_of_quota entry = record { root = refl; extent = refl }
 
-extents_root_names : (root : RootItem) (one : Record) → record_named (item_of_root EXTENT_TREE root) ≡ Some one
-    → one ≡ RootOf EXTENT_TREE
-unfolding record_named root_part extent_part quota_part
-extents_root_names root one is = root_by EXTENT_TREE (root_read (root_text root)) one is
+limit_of_quota : (entry : ℕ × Group) → IsOfQuota (item_of_limit entry)
+unfolding root_part extent_part
+limit_of_quota entry = record { root = refl; extent = refl }
 
-files_root_names : (root : RootItem) (one : Record) → record_named (item_of_root TOP_LEVEL root) ≡ Some one
-    → one ≡ RootOf TOP_LEVEL
-unfolding record_named root_part extent_part quota_part is_subvolume_number
-files_root_names root one is = root_by TOP_LEVEL (root_read (root_text root)) one is
-
-quotas_root_names : (root : RootItem) (one : Record) → record_named (item_of_root QUOTA_TREE root) ≡ Some one
-    → one ≡ RootOf QUOTA_TREE
-unfolding record_named root_part extent_part quota_part
-quotas_root_names root one is = root_by QUOTA_TREE (root_read (root_text root)) one is
-
--- what an item of the quota tree names, however its text is read
-status_by : (read : Option QgroupStatus) (one : Record)
-    → first_some (None ∷ None ∷ option_map quota_record
-    (option_and_then (λ (status : QgroupStatus). then_some (is_status status) (part.Status status)) read orelse None)
-    ∷ []) ≡ Some one → one ≡ Status
-status_by None one is = absurd cc
-status_by (Some status) one is = told (is_status status) is where
-  told : (on : Bool) → first_some (None ∷ None ∷ option_map quota_record (then_some on (part.Status status) orelse None)
-      ∷ []) ≡ Some one → one ≡ Status
-  told true named = some_is Status one named
-  told false named = absurd cc
-
-info_by : (group : ℕ) (read : Option QgroupInfo) (one : Record)
-    → first_some (None ∷ None ∷ option_map quota_record (option_map (part.Info group) read orelse None) ∷ [])
-    ≡ Some one → one ≡ InfoOf group
-info_by group None one is = absurd cc
-info_by group (Some info) one is = some_is (InfoOf group) one is
-
-limit_by : (group : ℕ) (read : Option QgroupLimit) (one : Record)
-    → first_some (None ∷ None ∷ option_map quota_record
-    (option_and_then (λ (limit : QgroupLimit). then_some (nat_le limit.flags 3) (part.Limits group limit)) read
-    orelse None) ∷ []) ≡ Some one → one ≡ LimitOf group
-limit_by group None one is = absurd cc
-limit_by group (Some limit) one is = told (nat_le limit.flags 3) is where
-  told : (few : Bool) → first_some (None ∷ None ∷ option_map quota_record
-      (then_some few (part.Limits group limit) orelse None) ∷ []) ≡ Some one → one ≡ LimitOf group
-  told true named = some_is (LimitOf group) one named
-  told false named = absurd cc
-
-status_names : (status : QgroupStatus) (one : Record)
-    → record_named (item_under 0 QGROUP_STATUS 0 (status_text status)) ≡ Some one → one ≡ Status
-unfolding record_named root_part extent_part quota_part
-status_names status one is = status_by (status_read (status_text status)) one is
-
-info_names : (info : QgroupInfo) (one : Record)
-    → record_named (item_under 0 QGROUP_INFO TOP_LEVEL (info_text info)) ≡ Some one → one ≡ InfoOf TOP_LEVEL
-unfolding record_named root_part extent_part quota_part
-info_names info one is = info_by TOP_LEVEL (info_read (info_text info)) one is
-
-limit_names : (one : Record) → record_named (item_under 0 QGROUP_LIMIT TOP_LEVEL (limit_text no_limit)) ≡ Some one
-    → one ≡ LimitOf TOP_LEVEL
-unfolding record_named root_part extent_part quota_part
-limit_names one is = limit_by TOP_LEVEL (limit_read (limit_text no_limit)) one is
-
--- ---- they are among those of one group
-
-abbrev IsOther : Record → Type 0
-IsOther one = is_among other_names one ≡ true
-
-as_named : (one other : Record) → one ≡ other → IsOther other → IsOther one
-as_named one other same is = subst (λ (r : Record). IsOther r) (sym same) is
-
-roots_name : (extents files quotas : RootItem) (item : Item) (one : Record)
-    → Contains (items_of_roots extents files quotas) item → record_named item ≡ Some one → IsOther one
-roots_name extents files quotas item one has is =
-    elim (contains_cases (item_of_root EXTENT_TREE extents)
-    (item_of_root TOP_LEVEL files ∷ item_of_root QUOTA_TREE quotas ∷ []) item has) [
-      | inl first ↦
-          as_named one (RootOf EXTENT_TREE) (extents_root_names extents one (ap record_named first ∙ is)) refl
-      | inr later ↦
-          elim (contains_cases (item_of_root TOP_LEVEL files) (item_of_root QUOTA_TREE quotas ∷ []) item later) [
-            | inl second ↦
-                as_named one (RootOf TOP_LEVEL) (files_root_names files one (ap record_named second ∙ is)) refl
-            | inr last ↦ elim (contains_cases (item_of_root QUOTA_TREE quotas) [] item last) [
-              | inl third ↦
-                  as_named one (RootOf QUOTA_TREE) (quotas_root_names quotas one (ap record_named third ∙ is)) refl
-              | inr none ↦ absurd (none_contained item none)
-            ]
-          ]
+of_quota : (status : QgroupStatus) (groups : List (ℕ × Group)) (item : Item)
+    → Contains (items_of_quota status groups) item → IsOfQuota item
+of_quota status groups item has =
+    elim (contains_cases (item_of_status status) (map item_of_info groups ++ map item_of_limit groups) item has) [
+      | inl first ↦ subst (λ (i : Item). IsOfQuota i) first (status_of_quota status)
+      | inr later ↦ elim (Contains-append_cases (map item_of_info groups) (map item_of_limit groups) item later) [
+        | inl info ↦
+            let entry = from-mapped item_of_info groups item info in
+            subst (λ (i : Item). IsOfQuota i) entry.2 (info_of_quota entry.0)
+        | inr limit ↦
+            let entry = from-mapped item_of_limit groups item limit in
+            subst (λ (i : Item). IsOfQuota i) entry.2 (limit_of_quota entry.0)
+      ]
     ]
 
-quotas_name : (status : QgroupStatus) (info : QgroupInfo) (item : Item) (one : Record)
-    → Contains (items_of_quota status TOP_LEVEL info) item → record_named item ≡ Some one → IsOther one
-quotas_name status info item one has is =
-    let limits : Item = item_under 0 QGROUP_LIMIT TOP_LEVEL (limit_text no_limit) in
-    let counts : Item = item_under 0 QGROUP_INFO TOP_LEVEL (info_text info) in
-    elim (contains_cases (item_under 0 QGROUP_STATUS 0 (status_text status)) (counts ∷ limits ∷ []) item has) [
-      | inl first ↦ as_named one Status (status_names status one (ap record_named first ∙ is)) refl
-      | inr later ↦ elim (contains_cases counts (limits ∷ []) item later) [
-        | inl second ↦ as_named one (InfoOf TOP_LEVEL) (info_names info one (ap record_named second ∙ is)) refl
-        | inr last ↦ elim (contains_cases limits [] item last) [
-          | inl third ↦ as_named one (LimitOf TOP_LEVEL) (limit_names one (ap record_named third ∙ is)) refl
-          | inr none ↦ absurd (none_contained item none)
+quotas_say_none : (status : QgroupStatus) (groups : List (ℕ × Group))
+    → filter_map extent_part (items_of_quota status groups) ≡ []
+quotas_say_none status groups = none-said extent_part (items_of_quota status groups)
+    (λ item has. (of_quota status groups item has).extent)
+
+-- what the root tree's items name, where each of them is read
+roots_name : (extents : RootItem) (roots : List (ℕ × RootItem)) (quotas : RootItem)
+    → filter_map root_part (items_of_roots extents roots quotas) ≡ roots_named extents roots quotas
+    → filter_map record_named (items_of_roots extents roots quotas)
+    ≡ map RootOf (keys_of (roots_named extents roots quotas))
+roots_name extents roots quotas said =
+    roots-named (items_of_roots extents roots quotas) (roots_named extents roots quotas)
+    (all-said root_part (items_of_roots extents roots quotas) (roots_named extents roots quotas)
+    (length-map (roots_named extents roots quotas) item_of_named) said)
+
+as_many : (groups : List (ℕ × Group)) → length (map item_of_info groups ++ map item_of_limit groups)
+    ≡ length (map info_part groups ++ map limit_part groups)
+as_many groups =
+    let items = length-append (map item_of_info groups) (map item_of_limit groups) in
+    let parts = length-append (map info_part groups) (map limit_part groups) in
+    let infos = length-map groups item_of_info in
+    let limits = length-map groups item_of_limit in
+    let info_parts = length-map groups info_part in
+    let limit_parts = length-map groups limit_part in
+    omega (arith, items, parts, infos, limits, info_parts, limit_parts)
+
+-- and the quota tree's
+quotas_name : (generation : ℕ) (groups : List (ℕ × Group))
+    → filter_map quota_part (items_of_quota (status_at generation) groups) ≡ parts_of_quota generation groups
+    → filter_map record_named (items_of_quota (status_at generation) groups)
+    ≡ Status ∷ (map InfoOf (keys_of groups) ++ map LimitOf (keys_of groups))
+quotas_name generation groups said =
+    let items = items_of_quota (status_at generation) groups in
+    let long : length items ≡ length (parts_of_quota generation groups) =
+    let behind = as_many groups in omega (arith, behind) in
+    quotas-named items (parts_of_quota generation groups) (of_quota (status_at generation) groups)
+    (all-said quota_part items (parts_of_quota generation groups) long said)
+    ∙ ap (λ (records : List Record). Status ∷ records)
+    (map-append quota_record (map info_part groups) (map limit_part groups)
+    ∙ (λ i. infos-named groups i ++ limits-named groups i))
+
+-- ---- what subvolumes and groups have
+
+-- what the root and the quota tree would name where these subvolumes and this quota are there
+abbrev pub names_of : List ℕ → Quota → List Record
+names_of subvolumes quota =
+    (RootOf EXTENT_TREE ∷ (map RootOf subvolumes ++ (RootOf QUOTA_TREE ∷ []))) ++ quota_records (Some quota)
+
+or_last : (a b c : Bool) → (a || (b || c)) ≡ (a || (c || (b || false)))
+or_last true b c = refl
+or_last false true true = refl
+or_last false true false = refl
+or_last false false true = refl
+or_last false false false = refl
+
+roots_alike : (extents quotas : RootItem) (roots : List (ℕ × RootItem)) (one : Record)
+    → is_among (map RootOf (keys_of (roots_named extents roots quotas))) one
+    ≡ is_among (RootOf EXTENT_TREE ∷ (map RootOf (keys_of roots) ++ (RootOf QUOTA_TREE ∷ []))) one
+roots_alike extents quotas roots one =
+    let test : ℕ → Bool = λ tree. same_record one (RootOf tree) in
+    any-mapped (same_record one) RootOf (keys_of (roots_named extents roots quotas))
+    ∙ ap (λ (b : Bool). test EXTENT_TREE || b) (any-with test QUOTA_TREE quotas roots)
+    ∙ or_last (test EXTENT_TREE) (test QUOTA_TREE) (list_any test (keys_of roots))
+    ∙ ap (λ (b : Bool). test EXTENT_TREE || (b || (test QUOTA_TREE || false)))
+    (sym (any-mapped (same_record one) RootOf (keys_of roots)))
+    ∙ ap (λ (b : Bool). test EXTENT_TREE || b)
+    (sym (list_any-append (same_record one) (map RootOf (keys_of roots)) (RootOf QUOTA_TREE ∷ [])))
+
+quotas_alike : (quota : Quota) (one : Record) → quota.pairs ≡ []
+    → is_among (Status ∷ (map InfoOf (keys_of quota.groups) ++ map LimitOf (keys_of quota.groups))) one
+    ≡ is_among (quota_records (Some quota)) one
+quotas_alike quota one alone =
+    let groups = keys_of quota.groups in
+    let related : ℕ × ℕ → List Record = λ pair. RelationOf pair.0 pair.1 ∷ RelationOf pair.1 pair.0 ∷ [] in
+    let test = same_record one in
+    ap (λ (b : Bool). test Status || b)
+    (list_any-append test (map InfoOf groups) (map LimitOf groups)
+    ∙ sym (any-both test groups)
+    ∙ ap (λ (records : List Record). list_any test records) (sym (append-nil (flat_map both_of groups)))
+    ∙ ap (λ (pairs : List (ℕ × ℕ)). list_any test (flat_map both_of groups ++ flat_map related pairs)) (sym alone))
+
+-- none of them is of the extent tree
+is_other : (records : List Record) → ((one : Record) → Contains records one → is_of_extents one ≡ false)
+    → (one : Record) → is_among records one ≡ true → is_of_extents one ≡ false
+is_other records each one among =
+    let found = one_passes (same_record one) records among in
+    ap is_of_extents (same_record_is one found.0 found.2) ∙ each found.0 found.1
+
+roots_other : (subvolumes : List ℕ) (one : Record)
+    → Contains (RootOf EXTENT_TREE ∷ (map RootOf subvolumes ++ (RootOf QUOTA_TREE ∷ []))) one
+    → is_of_extents one ≡ false
+roots_other subvolumes one has =
+    elim (contains_cases (RootOf EXTENT_TREE) (map RootOf subvolumes ++ (RootOf QUOTA_TREE ∷ [])) one has) [
+      | inl first ↦ ap is_of_extents (sym first)
+      | inr later ↦ elim (Contains-append_cases (map RootOf subvolumes) (RootOf QUOTA_TREE ∷ []) one later) [
+        | inl own ↦
+            let tree = from-mapped RootOf subvolumes one own in
+            ap is_of_extents (sym tree.2)
+        | inr last ↦ elim (contains_cases (RootOf QUOTA_TREE) [] one last) [
+          | inl same ↦ ap is_of_extents (sym same)
+          | inr none ↦ absurd (none_contained one none)
         ]
       ]
+    ]
+
+groups_other : (groups : List ℕ) (one : Record) → Contains (flat_map both_of groups) one → is_of_extents one ≡ false
+groups_other groups one has =
+    let group = from-flat both_of groups one has in
+    elim (contains_cases (InfoOf group.0) (LimitOf group.0 ∷ []) one group.2) [
+      | inl info ↦ ap is_of_extents (sym info)
+      | inr later ↦ elim (contains_cases (LimitOf group.0) [] one later) [
+        | inl limit ↦ ap is_of_extents (sym limit)
+        | inr none ↦ absurd (none_contained one none)
+      ]
+    ]
+
+pairs_other : (pairs : List (ℕ × ℕ)) (one : Record)
+    → Contains (flat_map (λ (pair : ℕ × ℕ). RelationOf pair.0 pair.1 ∷ RelationOf pair.1 pair.0 ∷ []) pairs) one
+    → is_of_extents one ≡ false
+pairs_other pairs one has =
+    let pair = from-flat (λ (pair : ℕ × ℕ). RelationOf pair.0 pair.1 ∷ RelationOf pair.1 pair.0 ∷ []) pairs one has in
+    elim (contains_cases (RelationOf pair.0.0 pair.0.1) (RelationOf pair.0.1 pair.0.0 ∷ []) one pair.2) [
+      | inl info ↦ ap is_of_extents (sym info)
+      | inr later ↦ elim (contains_cases (RelationOf pair.0.1 pair.0.0) [] one later) [
+        | inl limit ↦ ap is_of_extents (sym limit)
+        | inr none ↦ absurd (none_contained one none)
+      ]
+    ]
+
+quotas_other : (quota : Quota) (one : Record) → Contains (quota_records (Some quota)) one → is_of_extents one ≡ false
+quotas_other quota one has =
+    let related : List Record =
+    flat_map (λ (pair : ℕ × ℕ). RelationOf pair.0 pair.1 ∷ RelationOf pair.1 pair.0 ∷ []) quota.pairs in
+    elim (contains_cases Status (flat_map both_of (keys_of quota.groups) ++ related) one has) [
+      | inl first ↦ ap is_of_extents (sym first)
+      | inr later ↦ elim (Contains-append_cases (flat_map both_of (keys_of quota.groups)) related one later) [
+        | inl own ↦ groups_other (keys_of quota.groups) one own
+        | inr pair ↦ pairs_other quota.pairs one pair
+      ]
+    ]
+
+names_other : (subvolumes : List ℕ) (quota : Quota) (one : Record) → Contains (names_of subvolumes quota) one
+    → is_of_extents one ≡ false
+names_other subvolumes quota one has =
+    elim (Contains-append_cases (RootOf EXTENT_TREE ∷ (map RootOf subvolumes ++ (RootOf QUOTA_TREE ∷ [])))
+    (quota_records (Some quota)) one has) [
+      | inl root ↦ roots_other subvolumes one root
+      | inr group ↦ quotas_other quota one group
     ]
 
 -- ---- items of the extent tree
@@ -207,6 +267,9 @@ part_of_extents : (said : ExtentPart) → is_of_extents (extent_record said) ≡
 part_of_extents (DataRecord address bytes extent) = refl
 part_of_extents (NodeRecord address level extent) = refl
 part_of_extents (Referenced address reference count) = refl
+
+some_is : (a b : Record) → Some a ≡ Some b → b ≡ a
+some_is a b is = cc
 
 named_by : (root : Option (ℕ × RootItem)) (extent : Option ExtentPart) (quota : Option QuotaPart) (one : Record)
     → (is_some root ≡ true → extent ≡ None) → is_some extent ≡ true
@@ -268,8 +331,13 @@ in_order : (nodesize owner generation : ℕ) (items : List Item) (slots : List �
 in_order nodesize owner generation items slots nodes root level built =
     sym (items_below-nodes (node_among nodes) level root items built.reached.those built.held built.reached.under)
 
-module _ (sizes : Sizes) (generation : ℕ) (root : RootItem) (book : List (ℕ × Kept)) (counters : Counters) (stamp : ℕ)
-    (slots : List ℕ) (trees : OtherTrees) (are : AreTrees sizes generation root book counters stamp slots trees)
+or_without : (a b c : Bool) → b ≡ false → ((a || b) || c) ≡ (a || c)
+or_without true b c none = refl
+or_without false true c none = absurd (true≢false none)
+or_without false false c none = refl
+
+module _ (sizes : Sizes) (generation : ℕ) (roots : List (ℕ × RootItem)) (book : List (ℕ × Kept)) (quota : Quota)
+    (slots : List ℕ) (trees : OtherTrees) (are : AreTrees sizes generation roots book quota slots trees)
     (others : List Node) (moved : IsPermutation others (nodes_laid trees)) where
   abbrev roots_walked : List Node
   roots_walked = are.root_tree.stands.reached.those
@@ -300,25 +368,23 @@ module _ (sizes : Sizes) (generation : ℕ) (root : RootItem) (book : List (ℕ 
 
   items_walked : flat_map own_items walked ≡ all_items
   items_walked =
-      let roots = in_order _ _ _ are.root_tree.items _ trees.roots.nodes trees.roots.root trees.roots.level
+      let of_roots = in_order _ _ _ are.root_tree.items _ trees.roots.nodes trees.roots.root trees.roots.level
       are.root_tree.stands in
-      let extents = in_order _ _ _ are.extent_tree.items _ trees.extents.nodes trees.extents.root trees.extents.level
+      let of_extents = in_order _ _ _ are.extent_tree.items _ trees.extents.nodes trees.extents.root trees.extents.level
       are.extent_tree.stands in
-      let quotas = in_order _ _ _ are.quota_tree.items _ trees.quotas.nodes trees.quotas.root trees.quotas.level
+      let of_quotas = in_order _ _ _ are.quota_tree.items _ trees.quotas.nodes trees.quotas.root trees.quotas.level
       are.quota_tree.stands in
       flat_map-append own_items (roots_walked ++ extents_walked) quotas_walked
       ∙ ap (λ (items : List Item). items ++ flat_map own_items quotas_walked)
       (flat_map-append own_items roots_walked extents_walked)
-      ∙ (λ i. roots i ++ extents i ++ quotas i)
+      ∙ (λ i. of_roots i ++ of_extents i ++ of_quotas i)
 
   roots_say : filter_map extent_part are.root_tree.items ≡ []
-  roots_say =
-      ap (filter_map extent_part) are.root_tree.told.written ∙ roots_say_none _ root _
+  roots_say = ap (filter_map extent_part) are.root_tree.told.written ∙ roots_say_none _ roots _
 
   quotas_say : filter_map extent_part are.quota_tree.items ≡ []
   quotas_say =
-      ap (filter_map extent_part) are.quota_tree.told.written
-      ∙ quotas_say_none (status_at generation) TOP_LEVEL (info_of stamp counters)
+      ap (filter_map extent_part) are.quota_tree.told.written ∙ quotas_say_none (status_at generation) quota.groups
 
   all_say : filter_map extent_part (flat_map own_items walked) ≡ parts_of_book book
   all_say =
@@ -357,34 +423,72 @@ module _ (sizes : Sizes) (generation : ℕ) (root : RootItem) (book : List (ℕ 
 
   -- ---- and what its other items name
 
-  one_of_all : (item : Item) (one : Record) → Contains all_items item → record_named item ≡ Some one
-      → is_of_extents one ≡ false → IsOther one
-  one_of_all item one has is other =
-      elim (Contains-append_cases (are.root_tree.items ++ are.extent_tree.items) are.quota_tree.items item has) [
-        | inl front ↦ elim (Contains-append_cases are.root_tree.items are.extent_tree.items item front) [
-          | inl of_roots ↦
-              roots_name _ root _ item one
-              (subst (λ (items : List Item). Contains items item) are.root_tree.told.written of_roots) is
-          | inr of_extents ↦
-              let extents = extents_name generation are.extent_tree.items item one are.extent_tree.allowed of_extents is
-              in absurd (true≢false (sym extents ∙ other))
-        ]
-        | inr of_quotas ↦
-            quotas_name (status_at generation) (info_of stamp counters) item one
-            (subst (λ (items : List Item). Contains items item) are.quota_tree.told.written of_quotas) is
-      ]
+  abbrev extents_root : RootItem
+  extents_root = root_item_laid trees.extents generation
 
-  walk_names : (one : Record) → is_of_extents one ≡ false → is_among (records_of walked) one ≡ true → IsOther one
-  walk_names one other among =
-      let found = one_passes (same_record one) (records_of walked) among in
-      let same = same_record_is one found.0 found.2 in
-      let item = from-some record_named (flat_map own_items walked) found.0 found.1 in
-      let there = subst (λ (items : List Item). Contains items item.0) items_walked item.1 in
-      subst (λ (r : Record). IsOther r) (sym same)
-      (one_of_all item.0 found.0 there item.2 (ap is_of_extents (sym same) ∙ other))
+  abbrev quotas_root : RootItem
+  quotas_root = root_item_laid trees.quotas generation
 
-  pub names-others : (held : Committed) → held.others ≡ others → NamesOthers held
+  root_records_are : filter_map record_named are.root_tree.items
+      ≡ map RootOf (keys_of (roots_named extents_root roots quotas_root))
+  root_records_are =
+      ap (filter_map record_named) are.root_tree.told.written
+      ∙ roots_name extents_root roots quotas_root
+      (ap (filter_map root_part) (sym are.root_tree.told.written) ∙ are.root_tree.told.told)
+
+  quota_records_are : filter_map record_named are.quota_tree.items
+      ≡ Status ∷ (map InfoOf (keys_of quota.groups) ++ map LimitOf (keys_of quota.groups))
+  quota_records_are =
+      ap (filter_map record_named) are.quota_tree.told.written
+      ∙ quotas_name generation quota.groups
+      (ap (filter_map quota_part) (sym are.quota_tree.told.written) ∙ are.quota_tree.told.told)
+
+  extents_apart : (one : Record) → is_of_extents one ≡ false
+      → is_among (filter_map record_named are.extent_tree.items) one ≡ false
+  extents_apart one other = elim (cases_Bool (is_among (filter_map record_named are.extent_tree.items) one)) [
+    | inl among ↦
+        let found = one_passes (same_record one) (filter_map record_named are.extent_tree.items) among in
+        let item = from-some record_named are.extent_tree.items found.0 found.1 in
+        let extents = extents_name generation are.extent_tree.items item.0 found.0 are.extent_tree.allowed item.1
+        item.2 in
+        absurd (true≢false (sym extents ∙ ap is_of_extents (sym (same_record_is one found.0 found.2)) ∙ other))
+    | inr none ↦ none
+  ]
+
+  walk_parts : records_of walked
+      ≡ (filter_map record_named are.root_tree.items ++ filter_map record_named are.extent_tree.items)
+      ++ filter_map record_named are.quota_tree.items
+  walk_parts =
+      ap (filter_map record_named) items_walked
+      ∙ filter_map-append record_named (are.root_tree.items ++ are.extent_tree.items) are.quota_tree.items
+      ∙ ap (λ (records : List Record). records ++ filter_map record_named are.quota_tree.items)
+      (filter_map-append record_named are.root_tree.items are.extent_tree.items)
+
+  -- what is none of the extent tree's is among what subvolumes and groups have
+  walk_names : (one : Record) → is_of_extents one ≡ false → quota.pairs ≡ []
+      → is_among (records_of walked) one ≡ is_among (names_of (keys_of roots) quota) one
+  walk_names one other alone =
+      let test = same_record one in
+      let of_roots = filter_map record_named are.root_tree.items in
+      let of_extents = filter_map record_named are.extent_tree.items in
+      let of_quotas = filter_map record_named are.quota_tree.items in
+      let own = RootOf EXTENT_TREE ∷ (map RootOf (keys_of roots) ++ (RootOf QUOTA_TREE ∷ [])) in
+      ap (λ (records : List Record). list_any test records) walk_parts
+      ∙ list_any-append test (of_roots ++ of_extents) of_quotas
+      ∙ ap (λ (b : Bool). b || list_any test of_quotas) (list_any-append test of_roots of_extents)
+      ∙ or_without (list_any test of_roots) (list_any test of_extents) (list_any test of_quotas)
+      (extents_apart one other)
+      ∙ (λ i. list_any test (root_records_are i) || list_any test (quota_records_are i))
+      ∙ (λ i. roots_alike extents_root quotas_root roots one i || quotas_alike quota one alone i)
+      ∙ sym (list_any-append test own (quota_records (Some quota)))
+
+  pub names-others : (held : Committed) (subvolumes : List ℕ) → held.others ≡ others → keys_of roots ≡ subvolumes
+      → NamesOthers held (names_of subvolumes quota)
   unfolding held_records
-  names-others held is one other among =
-      walk_names one other
-      (sym (records_same one) ∙ sym (ap (λ (nodes : List Node). is_among (records_of nodes) one) is) ∙ among)
+  names-others held subvolumes is numbers = record {
+    others = is_other (names_of subvolumes quota) (names_other subvolumes quota);
+    same = λ one other.
+        ap (λ (nodes : List Node). is_among (records_of nodes) one) is ∙ records_same one
+        ∙ walk_names one other are.groups.alone
+        ∙ ap (λ (ns : List ℕ). is_among (names_of ns quota) one) numbers;
+  }

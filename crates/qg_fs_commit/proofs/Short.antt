@@ -7,7 +7,6 @@ use Rattle.std.specs.List.{All, Contains}
 use Rattle.std.proofs.lemmas.Bool.{and_parts, cases_Bool, cond-false, cond-true, leb-true}
 use Rattle.std.proofs.lemmas.List.Elements.{All-contains, Contains-append_cases, Contains-get_or}
 use Rattle.qg_num.specs.declared.piece.Piece.{Piece}
-use Rattle.qg_items.specs.declared.tree.TheConstants.{TOP_LEVEL}
 use Rattle.qg_super.specs.declared.sizes.Sizes.{Sizes}
 use Rattle.qg_super.specs.Places.{is_run}
 use Rattle.qg_image.specs.declared.file.File.{File}
@@ -26,28 +25,28 @@ use Rattle.qg_reach.specs.Fits.{first_fits}
 use Rattle.qg_reach.proofs.ExtentSets.{extent_set_same}
 use Rattle.qg_reach.proofs.SpaceRule.{Keeps-space}
 use Rattle.qg_space.proofs.Members.{filter_contains}
-use Rattle.qg_fs_layout.proofs.Extents.{present-one}
-use Rattle.qg_fs_layout.proofs.Lists.{from-mapped, from-some, has-flat, has-mapped}
+use Rattle.qg_fs_tree.proofs.Lists.{from-mapped, from-some, has-flat, has-mapped}
+use Rattle.qg_fs_layout.proofs.Extents.{in-present}
 use Rattle.qg_file_edits.specs.Changes.{files_cut, files_with}
-use Rattle.qg_file_edits.specs.Files.{pieces_of}
-use Rattle.qg_fs_commit.specs.Committing.{AreShort, LeavesShort}
+use Rattle.qg_fs_commit.specs.Committing.{AreShort, AreShortPieces, IsShort, LeavesShort}
 
 -- ---- pieces
 
-abbrev IsShort : Piece → Type 0
-IsShort piece = piece.extent_bytes ≤ longest_extent
+abbrev IsShortPiece : Piece → Type 0
+IsShortPiece piece = piece.extent_bytes ≤ longest_extent
 
 abbrev Short : List Piece → Type 0
-Short pieces = (piece : Piece) → Contains pieces piece → IsShort piece
+Short pieces = (piece : Piece) → Contains pieces piece → IsShortPiece piece
 
 all_of : {A : Type 0} (P : A → Type 0) (xs : List A) → ((x : A) → Contains xs x → P x) → All P xs
 all_of P xs each = λ k d below. each (get_or xs k d) (Contains-get_or xs k d below)
 
 -- a part of a piece names the same extent
-part_short : (test : Bool) (part piece : Piece) → then_some test part ≡ Some piece → IsShort part → IsShort piece
+part_short : (test : Bool) (part piece : Piece) → then_some test part ≡ Some piece → IsShortPiece part
+    → IsShortPiece piece
 part_short true part piece is short =
     let same : part ≡ piece = let e : Some part ≡ Some piece = is in cc in
-    subst (λ (p : Piece). IsShort p) same short
+    subst (λ (p : Piece). IsShortPiece p) same short
 part_short false part piece is short = let wrong : None ≡ Some piece = is in absurd cc
 
 before_short : (to : ℕ) (pieces : List Piece) → Short pieces → Short (before to pieces)
@@ -81,13 +80,16 @@ range_short from to given pieces short_given short piece has =
 moved_short : (from to : ℕ) (pieces : List Piece) → Short pieces → Short (map (moved from to) pieces)
 moved_short from to pieces short piece has =
     let found = from-mapped (moved from to) pieces piece has in
-    subst (λ (p : Piece). IsShort p) found.2 (short found.0 found.1)
+    subst (λ (p : Piece). IsShortPiece p) found.2 (short found.0 found.1)
 
-one_short : (piece : Piece) → IsShort piece → Short (piece ∷ [])
+one_short : (piece : Piece) → IsShortPiece piece → Short (piece ∷ [])
 one_short piece short other has = elim (contains_cases piece [] other has) [
-  | inl same ↦ subst (λ (p : Piece). IsShort p) same short
+  | inl same ↦ subst (λ (p : Piece). IsShortPiece p) same short
   | inr none ↦ absurd (none_contained other none)
 ]
+
+pieces_short : (pieces : List Piece) → AreShortPieces pieces → Short pieces
+pieces_short pieces short piece has = All-contains (λ (p : Piece). IsShortPiece p) pieces piece short has
 
 -- ---- files
 
@@ -97,12 +99,12 @@ Each files = (file : ℕ × File) → Contains files file → Short file.1.piece
 
 each_of : (files : List (ℕ × File)) → AreShort files → Each files
 each_of files short file has piece there =
-    All-contains (λ (p : Piece). IsShort p) file.1.pieces piece
-    (All-contains (λ (f : ℕ × File). All (λ p. IsShort p) f.1.pieces) files file short has) there
+    All-contains (λ (p : Piece). IsShortPiece p) file.1.pieces piece
+    (All-contains (λ (f : ℕ × File). All (λ p. IsShortPiece p) f.1.pieces) files file short has) there
 
 short_of : (files : List (ℕ × File)) → Each files → AreShort files
-short_of files each = all_of (λ (f : ℕ × File). All (λ p. IsShort p) f.1.pieces) files
-    (λ file has. all_of (λ (p : Piece). IsShort p) file.1.pieces (each file has))
+short_of files each = all_of (λ (f : ℕ × File). All (λ p. IsShortPiece p) f.1.pieces) files
+    (λ file has. all_of (λ (p : Piece). IsShortPiece p) file.1.pieces (each file has))
 
 found_short : (files : List (ℕ × File)) → Each files → (ino : ℕ) (o : Option File) → value_at ino files ≡ o
     → Short (pieces_or_none o)
@@ -165,14 +167,10 @@ short-left generation files short =
       written = λ ino off len extent few.
           with_short generation ino off (off + len) (new_piece generation off len extent ∷ []) files
           (one_short (new_piece generation off len extent) few) each;
-      cloned = λ source from len ino off.
-          let own = found_short files each source (value_at source files) refl in
-          with_short generation ino off (off + len)
-          (map (moved from off) (within from (from + len) (pieces_of source files))) files
-          (moved_short from off (within from (from + len) (pieces_of source files))
-          (before_short (from + len) (after from (pieces_of source files))
-          (after_short from (pieces_of source files) own)))
-          each;
+      cloned = λ pieces from len ino off given.
+          with_short generation ino off (off + len) (map (moved from off) (within from (from + len) pieces)) files
+          (moved_short from off (within from (from + len) pieces)
+          (before_short (from + len) (after from pieces) (after_short from pieces (pieces_short pieces given)))) each;
       cut = λ ino size file is.
           short_of (files_cut generation ino size file files)
           (put_short ino (with_size generation size file) files
@@ -200,16 +198,18 @@ each_fits sizes (first ∷ later) none x has =
       | inr behind ↦ each_fits sizes later keeps.rest x behind
     ]
 
-pub spaced-short : (sizes : Sizes) (state : State) (mine : Subvolume) → state.subvolumes ≡ (TOP_LEVEL, mine) ∷ []
-    → space_failure sizes (extent_set (present_extents state)) ≡ None → AreShort mine.files
-spaced-short sizes state mine alone none = short_of mine.files each where
-  each : Each mine.files
-  each file has piece there =
-      let own = has-mapped extent_of file.1.pieces piece there in
-      let listed = has-flat (λ (f : ℕ × File). map extent_of f.1.pieces) mine.files file (extent_of piece) has own in
-      let present = subst (λ (extents : List Element). Contains extents (extent_of piece))
-      (sym (present-one state TOP_LEVEL mine alone)) listed in
-      let fits = each_fits sizes (extent_set (present_extents state)) none (extent_of piece)
-      ((extent_set_same (present_extents state)).back (extent_of piece) present) in
-      leb-true piece.extent_bytes longest_extent
-      (and_parts (is_run sizes piece.extent piece.extent_bytes) (nat_le piece.extent_bytes longest_extent) fits).1
+pub spaced-short : (sizes : Sizes) (state : State) → space_failure sizes (extent_set (present_extents state)) ≡ None
+    → IsShort state
+spaced-short sizes state none =
+    all_of (λ (entry : ℕ × Subvolume). AreShort entry.1.files) state.subvolumes
+    (λ entry among. short_of entry.1.files (own entry among)) where
+      own : (entry : ℕ × Subvolume) → Contains state.subvolumes entry → Each entry.1.files
+      own entry among file has piece there =
+          let extent = has-mapped extent_of file.1.pieces piece there in
+          let listed = has-flat (λ (f : ℕ × File). map extent_of f.1.pieces) entry.1.files file (extent_of piece) has
+          extent in
+          let present = in-present state (extent_of piece) entry among listed in
+          let fits = each_fits sizes (extent_set (present_extents state)) none (extent_of piece)
+          ((extent_set_same (present_extents state)).back (extent_of piece) present) in
+          leb-true piece.extent_bytes longest_extent
+          (and_parts (is_run sizes piece.extent piece.extent_bytes) (nat_le piece.extent_bytes longest_extent) fits).1

@@ -1,4 +1,4 @@
-// A commit of a subvolume's tree that is kept of a state.
+// A commit of subvolumes' trees that are kept of a state.
 ghost use Rattle.qg_fs_commit.specs.CommitLaws.{
   RunsLieApart,
   ShortAreLeft,
@@ -15,9 +15,9 @@ pub fn tree_commit_is_sound()
     ensures apart { RunsLieApart }
 {}
 
-/// A law: a tree that a commit has written, and that stands still, is kept of the state that the commit leaves; the
-/// book is what that commit recorded. One that stands still, and of which nothing else has changed, is kept of the
-/// same state (this project's own).
+/// A law: trees that a commit has written, and that stand still, are kept of the state that the commit leaves; the book
+/// is what that commit recorded. Trees that stand still, and of which nothing else has changed, are kept of the same
+/// state (this project's own).
 pub fn tree_commit_is_kept()
     ensures kept { TreeCommitIsKept }
     ensures still { TreeIsKeptStill }

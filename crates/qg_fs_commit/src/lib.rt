@@ -1,5 +1,4 @@
-//! Laws: that a commit of a subvolume's tree leaves a sound image, and a tree that is kept of its state. It has no
-//! code.
+//! Laws: that a commit of subvolumes' trees leaves a sound image, and trees that are kept of its state. It has no code.
 #![tactic(auto)]
 
 mod committing;

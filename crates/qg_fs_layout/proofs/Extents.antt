@@ -1,11 +1,10 @@
 -- The extents that leaves name are those of the pieces of files.
-use Rattle.std.proofs.Common.{◌≡◌, ℕ, Bool, true, false, List, [], ◌∷◌, map, Option, Some, None, refl, sym, ap, subst, ◌∙◌, inl, inr}
+use Rattle.std.proofs.Common.{◌≡◌, ℕ, Bool, true, false, List, [], ◌∷◌, map, Option, Some, None, refl, sym, ap, subst, inl, inr}
 use Rattle.std.specs.Prelude.{◌&&◌, ◌==◌, is_some}
 use Rattle.std.specs.Bool.{then_some}
 use Rattle.std.specs.List.{Contains, flat_map, list_all}
 use Rattle.std.specs.Option.{option_and_then}
 use Rattle.std.proofs.lemmas.Bool.{and_parts, eq-eqb}
-use Rattle.std.proofs.lemmas.List.{append-nil}
 use Rattle.qg_num.specs.declared.piece.Piece.{Piece}
 use Rattle.qg_node.specs.declared.item.Item.{Item}
 use Rattle.qg_node.specs.declared.node.Node.{Node}
@@ -27,7 +26,7 @@ use Rattle.qg_state.proofs.Contained.{contains_cases, none_contained}
 use Rattle.qg_home.proofs.Reaching.{entry_of_value}
 use Rattle.qg_fs_tree.specs.Standing.{name_told, piece_in}
 use Rattle.qg_fs_layout.specs.Laying.{names_in}
-use Rattle.qg_fs_layout.proofs.Lists.{from-flat, from-mapped, from-some, has-flat, has-mapped, made-some}
+use Rattle.qg_fs_tree.proofs.Lists.{from-flat, from-mapped, from-some, has-flat, has-mapped, made-some}
 
 -- ---- the piece of an item
 
@@ -59,10 +58,10 @@ told_by part own ino piece is same = rw (is, same) refl
 
 -- ---- one node
 
-own_extent : (node : Node) (run : Element) → Contains (map extent_of (pieces_of node)) run
+pub own-extent : (node : Node) (run : Element) → Contains (map extent_of (pieces_of node)) run
     → (item : Item) × Contains (own_items node) item × TellsExtent item run
 unfolding pieces_of
-own_extent node run has =
+own-extent node run has =
     let piece = from-mapped extent_of (pieces_of node) run has in
     let item = from-some (λ (item : Item). option_and_then piece_of_part (file_part item)) (own_items node) piece.0
     piece.1 in
@@ -87,7 +86,7 @@ pub from-layout : (layout : Layout) (run : Element) → Contains (layout_extents
 unfolding layout_extents
 from-layout layout run has =
     let entry = from-flat (λ (entry : ℕ × Placed). map extent_of (pieces_of entry.1.node)) layout.nodes run has in
-    let item = own_extent entry.0.1.node run entry.2 in
+    let item = own-extent entry.0.1.node run entry.2 in
     (entry.0, entry.1, item.0, item.1, item.2)
 
 pub in-layout : (layout : Layout) (run : Element) (entry : ℕ × Placed) → Contains layout.nodes entry → (item : Item)
@@ -203,11 +202,17 @@ module _ (generation : ℕ) (items : List Item) (read : List (ℕ × File))
       has-flat (λ (file : ℕ × File). map extent_of file.1.pieces) read (tells.name.0, file) run listed
       (subst (λ (element : Element). Contains (map extent_of file.pieces) element) tells.is own)
 
--- the present extents of a state with one subvolume are those of its files
-pub present-one : (state : State) (owner : ℕ) (mine : Subvolume) → state.subvolumes ≡ (owner, mine) ∷ []
-    → present_extents state ≡ flat_map (λ (file : ℕ × File). map extent_of file.1.pieces) mine.files
+-- the present extents of a state are those of its subvolumes' files
+pub from-present : (state : State) (run : Element) → Contains (present_extents state) run
+    → (entry : ℕ × Subvolume) × Contains state.subvolumes entry
+    × Contains (flat_map (λ (file : ℕ × File). map extent_of file.1.pieces) entry.1.files) run
 unfolding present_extents
-present-one state owner mine alone =
-    ap (λ (table : List (ℕ × Subvolume)). flat_map (λ (entry : ℕ × Subvolume).
-    flat_map (λ (file : ℕ × File). map extent_of file.1.pieces) entry.1.files) table) alone
-    ∙ append-nil (flat_map (λ (file : ℕ × File). map extent_of file.1.pieces) mine.files)
+from-present state run has = from-flat (λ (entry : ℕ × Subvolume).
+    flat_map (λ (file : ℕ × File). map extent_of file.1.pieces) entry.1.files) state.subvolumes run has
+
+pub in-present : (state : State) (run : Element) (entry : ℕ × Subvolume) → Contains state.subvolumes entry
+    → Contains (flat_map (λ (file : ℕ × File). map extent_of file.1.pieces) entry.1.files) run
+    → Contains (present_extents state) run
+unfolding present_extents
+in-present state run entry there has = has-flat (λ (entry : ℕ × Subvolume).
+    flat_map (λ (file : ℕ × File). map extent_of file.1.pieces) entry.1.files) state.subvolumes entry run there has

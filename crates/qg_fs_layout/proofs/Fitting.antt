@@ -1,4 +1,4 @@
--- The nodes that a tree reaches fit where its items do: a pointer's key is that of an item, its generation its child's.
+-- The nodes that trees reach fit where their items do: a pointer's key is that of an item, its generation its child's.
 use Rattle.std.proofs.Common.{◌≡◌, ℕ, zero, suc, ◌^◌, ◌<◌, ◌≤◌, true, List, [], ◌∷◌, ◌++◌, Option, Some, None, arith, refl, sym, ap, subst, ◌∙◌, inl, inr}
 use Rattle.std.specs.Prelude.{◌==◌, ◌&&◌, nat_le, nat_lt, All, slice_get}
 use Rattle.std.specs.List.{AllByRecursion, Contains}
@@ -23,16 +23,16 @@ use Rattle.qg_state.proofs.Contained.{contains_here}
 use Rattle.qg_verdict.specs.declared.tree.Tree.TheVariants.{Files}
 use Rattle.qg_verdict.specs.Walk.{is_generation}
 use Rattle.qg_descent.specs.Branch.{AreBranches, IsBranch, IsMember, IsPointed}
-use Rattle.qg_descent.specs.Tree.{Reaches, super_of}
+use Rattle.qg_descent.specs.Tree.{Reaches, Root, super_of}
 use Rattle.qg_descent.proofs.Branches.{IsRow, branch-below, branch-first}
 use Rattle.qg_descent.proofs.Under.{BeginAt}
 use Rattle.qg_fs_tree.specs.declared.fs_tree.FsTree.{FsTree}
-use Rattle.qg_fs_tree.specs.Standing.{IsReached, IsSubvolume, Stands, nodes_of}
-use Rattle.qg_fs_layout.specs.Laying.{AreFit}
-use Rattle.qg_fs_layout.proofs.Lists.{all-contained}
+use Rattle.qg_fs_tree.specs.Standing.{IsSubvolume, Stands, items_in, nodes_of, trees_of}
+use Rattle.qg_fs_tree.proofs.Lists.{all-contained}
+use Rattle.qg_fs_tree.proofs.Lying.{IsToldAt, told-at}
 use Rattle.qg_fs_tree.proofs.Sound.{told-formed}
-use Rattle.qg_fs_layout.proofs.Told.{IsToldAt, told-at}
-use Rattle.qg_fs_layout.proofs.Trees.{branch}
+use Rattle.qg_fs_layout.specs.Laying.{AreFit, IsMet}
+use Rattle.qg_fs_layout.proofs.Trees.{branch, met-slot, next-same}
 
 -- ---- numbers
 
@@ -174,21 +174,29 @@ module _ (super : Super) (nodes : ℕ → Option Node) (last : super.generation 
 -- ---- as the law says it
 
 -- a slot's address fits
-reached_low : (fs : FsTree) (history : Option (List Event)) (bytes : ℕ) (items : List Item)
+met_low : (fs : FsTree) (history : Option (List Event)) (bytes : ℕ) (items : List Item)
     (names : List (ℕ × Piece)) → IsSubvolume fs history bytes → Stands fs history items names → (q : ℕ)
-    → IsReached fs history q → q < 2 ^ 64
-reached_low fs history bytes items names subvolume stands q reached =
+    → IsMet fs history q → q < 2 ^ 64
+met_low fs history bytes items names subvolume stands q met =
     let sizes = SizesFit-is_served fs.land.space.sizes subvolume.editable.drafted.sizes.served in
-    let ends = slot_ends fs.land.space.sizes q sizes (stands.placed q reached) in
+    let ends = slot_ends fs.land.space.sizes q sizes
+    (met-slot fs history bytes items names subvolume stands q met) in
     omega (arith, ends)
 
 pub nodes-fit : (fs : FsTree) (history : Option (List Event)) (bytes : ℕ) (items : List Item)
     (names : List (ℕ × Piece)) → IsSubvolume fs history bytes → Stands fs history items names
-    → fs.tree.next < 2 ^ 64 → All ItemFits items → AreFit fs history
-nodes-fit fs history bytes items names subvolume stands next fit q node reached is = record {
-  sound = told-formed fs.land history fs.tree.next subvolume.editable.drafted q node is;
-  fits = fits-under (super_of fs.tree fs.land.blocks.draft) (nodes_of fs history) next
-      (told-at fs.land history fs.tree.next subvolume.editable.drafted) fs.tree.height fs.tree.address items
-      (branch fs history bytes items names subvolume stands) (λ item has. All-contains ItemFits items item fit has)
-      (reached_low fs history bytes items names subvolume stands) q reached node is;
-}
+    → fs.tree.next < 2 ^ 64
+    → ((tree : Root) → Contains (trees_of fs) tree → All ItemFits (items_in fs history tree)) → AreFit fs history
+nodes-fit fs history bytes items names subvolume stands next fit q node met is =
+    let low = subst (λ (n : ℕ). n < 2 ^ 64)
+    (sym (next-same fs history bytes items names subvolume stands met.tree met.among)) next in
+    record {
+      sound = told-formed fs.land history fs.tree.next subvolume.editable.drafted q node is;
+      fits = fits-under (super_of met.tree fs.land.blocks.draft) (nodes_of fs history) low
+          (told-at fs.land history fs.tree.next subvolume.editable.drafted) met.tree.height met.tree.address
+          (items_in fs history met.tree)
+          (branch fs history bytes items names subvolume stands met.tree met.among)
+          (λ item has. All-contains ItemFits (items_in fs history met.tree) item (fit met.tree met.among) has)
+          (λ r reached. met_low fs history bytes items names subvolume stands r
+          (record { tree = met.tree; among = met.among; reached = reached })) q met.reached node is;
+    }

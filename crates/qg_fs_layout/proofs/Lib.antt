@@ -1,6 +1,5 @@
-pub mod Lists
 pub mod Nodes
-pub mod Told
+pub mod Roots
 pub mod Walks
 pub mod Trees
 pub mod Fitting
@@ -8,7 +7,7 @@ pub mod Files
 pub mod Reach
 pub mod Whole
 pub mod Moved
+pub mod Held
 pub mod Copied
-pub mod Leaves
 pub mod Extents
 pub mod Counted

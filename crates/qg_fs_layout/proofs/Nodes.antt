@@ -1,7 +1,7 @@
--- The nodes of a tree as a layout: a table by slot.
+-- The nodes of trees as a layout: a table by slot.
 use Rattle.std.proofs.Common.{◌≡◌, ℕ, zero, suc, ◌+◌, ◌-◌, ◌/◌, ◌<◌, ◌≤◌, Bool, true, false, List, [], ◌∷◌, length, get_or, Option, Some, None, arith, refl, sym, ap, subst, ◌∙◌, inl, inr}
 use Rattle.std.specs.Prelude.{IsTrue, nat_lt, if◌then◌else◌}
-use Rattle.std.specs.List.{Contains, cons_option, filter_map}
+use Rattle.std.specs.List.{Contains, cons_option, filter_map, list_any}
 use Rattle.std.specs.List.Sorted.{IsStrictlyIncreasing}
 use Rattle.std.specs.Option.{option_map}
 use Rattle.std.proofs.Math.Nat.{add-mul}
@@ -16,16 +16,17 @@ use Rattle.qg_image.specs.Table.{keys_of, value_at}
 use Rattle.qg_state.specs.State.{Placed, node_at}
 use Rattle.qg_state.proofs.Contained.{contains_cases, contains_here, contains_later, none_contained}
 use Rattle.qg_home.proofs.Reaching.{entry_of_value, value_of_entry}
+use Rattle.qg_space.proofs.Members.{one_passes, passes_one}
 use Rattle.qg_refs.specs.Book.{full_in}
 use Rattle.qg_extents.specs.Table.{book_of}
-use Rattle.qg_tree_edits.specs.Counting.{ways}
+use Rattle.qg_descent.specs.Tree.{Root}
 use Rattle.qg_tree_edits.proofs.Ways.{ways-some}
 use Rattle.qg_fs_tree.specs.declared.fs_tree.FsTree.{FsTree}
-use Rattle.qg_fs_tree.specs.Standing.{IsReached, every_slot, layout_in, nodes_of, placed_at}
+use Rattle.qg_fs_tree.specs.Standing.{IsReachedBy, every_slot, layout_in, nodes_of, placed_at, trees_of, ways_in}
 use Rattle.qg_fs_tree.proofs.Places.{slots_from}
 use Rattle.qg_fs_tree.proofs.Reached.{reached-some}
-use Rattle.qg_fs_layout.proofs.Lists.{from-some, made-some}
-use Rattle.qg_fs_layout.specs.Laying.{AreThoseReached, IsReachedAs, nodes_in}
+use Rattle.qg_fs_tree.proofs.Lists.{from-some, made-some}
+use Rattle.qg_fs_layout.specs.Laying.{AreThoseReached, IsMet, IsMetAs, nodes_in}
 
 -- ---- ascending numbers
 
@@ -114,9 +115,9 @@ module _ (sizes : Sizes) (some : 0 < sizes.nodesize) where
 
 -- ---- one slot
 
--- what is placed at an address is told there, where a way leads to it
-record IsPlacedAs (way at : ℕ) (told : Option Node) (full : Bool) (entry : ℕ × Placed) : Type 0 where
-  some : 0 < way
+-- what is placed at an address is told there, where it is met
+record IsPlacedAs (led : Bool) (at : ℕ) (told : Option Node) (full : Bool) (entry : ℕ × Placed) : Type 0 where
+  some : led ≡ true
   here : entry.0 ≡ at
   node : told ≡ Some entry.1.node
   mark : entry.1.full ≡ full
@@ -125,46 +126,66 @@ record IsPlacedAs (way at : ℕ) (told : Option Node) (full : Bool) (entry : ℕ
 abbrev entry_for : ℕ → Bool → Node → ℕ × Placed
 entry_for at full node = (at, record { node = node; full = full })
 
-placed_as : (way at : ℕ) (told : Option Node) (full : Bool) (entry : ℕ × Placed)
-    → (if nat_lt 0 way then option_map (entry_for at full) told else None) ≡ Some entry
-    → IsPlacedAs way at told full entry
-placed_as way at told full entry is = from (nat_lt 0 way) refl told refl is where
-  from : (led : Bool) → nat_lt 0 way ≡ led → (o : Option Node) → told ≡ o
-      → (if led then option_map (entry_for at full) o else None) ≡ Some entry → IsPlacedAs way at told full entry
-  from true led None none is = let wrong : None ≡ Some entry = is in cc
-  from true led (Some node) there is =
-      let same : entry_for at full node ≡ entry = let e : Some (entry_for at full node) ≡ Some entry = is in cc in
-      record {
-        some = ltb-true 0 way led;
-        here = ap (λ (e : ℕ × Placed). e.0) (sym same);
-        node = there ∙ ap (λ (e : ℕ × Placed). Some e.1.node) same;
-        mark = ap (λ (e : ℕ × Placed). e.1.full) (sym same);
-      }
-  from false led o there is = let wrong : None ≡ Some entry = is in cc
+placed_as : (led : Bool) (at : ℕ) (told : Option Node) (full : Bool) (entry : ℕ × Placed)
+    → (if led then option_map (entry_for at full) told else None) ≡ Some entry
+    → IsPlacedAs led at told full entry
+placed_as true at None full entry is = let wrong : None ≡ Some entry = is in cc
+placed_as true at (Some node) full entry is =
+    let same : entry_for at full node ≡ entry = let e : Some (entry_for at full node) ≡ Some entry = is in cc in
+    record {
+      some = refl;
+      here = ap (λ (e : ℕ × Placed). e.0) (sym same);
+      node = ap (λ (e : ℕ × Placed). Some e.1.node) same;
+      mark = ap (λ (e : ℕ × Placed). e.1.full) (sym same);
+    }
+placed_as false at told full entry is = let wrong : None ≡ Some entry = is in cc
 
-as_placed : (way at : ℕ) (told : Option Node) (full : Bool) (placed : Placed) → 0 < way → told ≡ Some placed.node
-    → placed.full ≡ full
-    → (if nat_lt 0 way then option_map (entry_for at full) told else None) ≡ Some (at, placed)
-as_placed way at told full placed some there mark =
-    ap (λ (b : Bool). if b then option_map (entry_for at full) told else None) (lt-ltb 0 way some)
+as_placed : (led : Bool) (at : ℕ) (told : Option Node) (full : Bool) (placed : Placed) → led ≡ true
+    → told ≡ Some placed.node → placed.full ≡ full
+    → (if led then option_map (entry_for at full) told else None) ≡ Some (at, placed)
+as_placed led at told full placed some there mark =
+    ap (λ (b : Bool). if b then option_map (entry_for at full) told else None) some
     ∙ ap (λ (o : Option Node). option_map (entry_for at full) o) there
     ∙ ap (λ (b : Bool). Some (entry_for at b placed.node)) (sym mark)
 
 -- ---- the layout
 
 module _ (fs : FsTree) (history : Option (List Event)) where
+  -- ways lead to an address in a tree
+  abbrev leads : ℕ → Root → Bool
+  leads q tree = nat_lt 0 (ways_in fs history tree q)
+
   pub nodes-are : nodes_in fs history ≡ filter_map (placed_at fs history) (every_slot fs.land.space.sizes)
   unfolding layout_in
   nodes-are = refl
 
+  pub tree-way : (tree : Root) (q : ℕ) → IsReachedBy fs history tree q → 0 < ways_in fs history tree q
+  tree-way tree q reaches = ways-some (nodes_of fs history) tree.height tree.address q reaches
+
+  pub way-tree : (tree : Root) (q : ℕ) → 0 < ways_in fs history tree q → IsReachedBy fs history tree q
+  way-tree tree q some = reached-some (nodes_of fs history) tree.height tree.address q some
+
+  met_some : (q : ℕ) → list_any (leads q) (trees_of fs) ≡ true → IsMet fs history q
+  met_some q led =
+      let found = one_passes (leads q) (trees_of fs) led in
+      record {
+        tree = found.0;
+        among = found.1;
+        reached = way-tree found.0 q (ltb-true 0 (ways_in fs history found.0 q) found.2);
+      }
+
+  some_met : (q : ℕ) → IsMet fs history q → list_any (leads q) (trees_of fs) ≡ true
+  some_met q met =
+      passes_one (leads q) (trees_of fs) met.tree met.among
+      (lt-ltb 0 (ways_in fs history met.tree q) (tree-way met.tree q met.reached))
+
   entry_as : (s : ℕ) (entry : ℕ × Placed) → placed_at fs history s ≡ Some entry
-      → IsPlacedAs (ways (nodes_of fs history) fs.tree.height fs.tree.address s) s (nodes_of fs history s)
-      (full_in (book_of fs.refs.refs s)) entry
-  entry_as s entry is = placed_as (ways (nodes_of fs history) fs.tree.height fs.tree.address s) s
+      → IsPlacedAs (list_any (leads s) (trees_of fs)) s (nodes_of fs history s) (full_in (book_of fs.refs.refs s)) entry
+  entry_as s entry is = placed_as (list_any (leads s) (trees_of fs)) s
       (nodes_of fs history s) (full_in (book_of fs.refs.refs s)) entry is
 
   pub reached-by : (q : ℕ) (placed : Placed) → value_at q (nodes_in fs history) ≡ Some placed
-      → IsReachedAs fs history q placed
+      → IsMetAs fs history q placed
   reached-by q placed is =
       let there = subst (λ (table : List (ℕ × Placed)). Contains table (q, placed)) nodes-are
       (entry_of_value q placed (nodes_in fs history) is) in
@@ -172,52 +193,47 @@ module _ (fs : FsTree) (history : Option (List Event)) where
       let there_as = entry_as found.0 (q, placed) found.2 in
       let same : found.0 ≡ q = sym there_as.here in
       record {
-        reached = subst (λ (s : ℕ). IsReached fs history s) same
-            (reached-some (nodes_of fs history) fs.tree.height fs.tree.address found.0 there_as.some);
+        met = subst (λ (s : ℕ). IsMet fs history s) same (met_some found.0 there_as.some);
         told = ap (nodes_of fs history) there_as.here ∙ there_as.node;
         full = there_as.mark ∙ ap (λ (s : ℕ). full_in (book_of fs.refs.refs s)) same;
       }
 
   module _ (some : 0 < fs.land.space.sizes.nodesize)
-      (slots : (q : ℕ) → IsReached fs history q → IsTrue (is_slot fs.land.space.sizes q)) where
+      (slots : (q : ℕ) → IsMet fs history q → IsTrue (is_slot fs.land.space.sizes q)) where
     pub nodes-ascend : IsStrictlyIncreasing (keys_of (nodes_in fs history))
     nodes-ascend = subst (λ (table : List (ℕ × Placed)). IsStrictlyIncreasing (keys_of table)) (sym nodes-are)
         (slots-ascend fs.land.space.sizes some (placed_at fs history) (λ s entry is. (entry_as s entry is).here))
 
-    pub value-reached : (q : ℕ) (placed : Placed) → IsReachedAs fs history q placed
+    pub value-reached : (q : ℕ) (placed : Placed) → IsMetAs fs history q placed
         → value_at q (nodes_in fs history) ≡ Some placed
     value-reached q placed is =
-        let way = ways-some (nodes_of fs history) fs.tree.height fs.tree.address q is.reached in
-        let entry = as_placed (ways (nodes_of fs history) fs.tree.height fs.tree.address q) q (nodes_of fs history q)
-        (full_in (book_of fs.refs.refs q)) placed way is.told is.full in
+        let entry = as_placed (list_any (leads q) (trees_of fs)) q (nodes_of fs history q)
+        (full_in (book_of fs.refs.refs q)) placed (some_met q is.met) is.told is.full in
         let has = made-some (placed_at fs history) (every_slot fs.land.space.sizes) q (q, placed)
-        (slot-there fs.land.space.sizes some q (slots q is.reached)) entry in
+        (slot-there fs.land.space.sizes some q (slots q is.met)) entry in
         value_of_entry (nodes_in fs history) (q, placed) nodes-ascend
         (subst (λ (table : List (ℕ × Placed)). Contains table (q, placed)) (sym nodes-are) has)
 
     told_by : (q : ℕ) (node : Node) (o : Option Placed) → value_at q (nodes_in fs history) ≡ o
         → option_map (λ (placed : Placed). placed.node) o ≡ Some node
-        → IsReached fs history q × (nodes_of fs history q ≡ Some node)
+        → IsMet fs history q × (nodes_of fs history q ≡ Some node)
     told_by q node None is there = absurd cc
     told_by q node (Some placed) is there =
         let same : placed.node ≡ node = cc in
         let found = reached-by q placed is in
-        (found.reached, found.told ∙ ap (λ (n : Node). Some n) same)
+        (found.met, found.told ∙ ap (λ (n : Node). Some n) same)
 
-    by_told : (q : ℕ) (node : Node) → IsReached fs history q × (nodes_of fs history q ≡ Some node)
+    by_told : (q : ℕ) (node : Node) → IsMet fs history q × (nodes_of fs history q ≡ Some node)
         → node_at (nodes_in fs history) q ≡ Some node
     by_told q node is =
         ap (option_map (λ (placed : Placed). placed.node))
         (value-reached q (record { node = node; full = full_in (book_of fs.refs.refs q) })
-        (record { reached = is.0; told = is.1; full = refl }))
+        (record { met = is.0; told = is.1; full = refl }))
 
     pub those-reached : AreThoseReached fs history
     those-reached = record {
       ascending = nodes-ascend;
       among = λ q placed. (reached-by q placed, value-reached q placed);
       told = λ q node. (told_by q node (value_at q (nodes_in fs history)) refl, by_told q node);
-      ways = λ q. (
-        ways-some (nodes_of fs history) fs.tree.height fs.tree.address q,
-        reached-some (nodes_of fs history) fs.tree.height fs.tree.address q,
-      );
+      ways = λ tree q. (tree-way tree q, way-tree tree q);
     }

@@ -1,118 +1,206 @@
--- A state whose layout is a tree that stands is whole.
-use Rattle.std.proofs.Common.{◌≡◌, ℕ, true, List, [], ◌∷◌, Option, Some, refl, sym, ap, subst, ◌∙◌}
-use Rattle.std.specs.Prelude.{map}
-use Rattle.std.specs.List.{AllByRecursion, Contains}
+-- A state whose layout is trees that stand is whole.
+use Rattle.std.proofs.Common.{◌≡◌, ℕ, true, List, map, Option, Some, arith, sym, ap, subst, ◌∙◌, inl, inr}
+use Rattle.std.specs.Prelude.{◌==◌, IsTrue}
+use Rattle.std.specs.List.{Contains, filter_map}
 use Rattle.std.specs.List.Sorted.{IsStrictlyIncreasing}
+use Rattle.std.proofs.lemmas.Bool.{eqb-true as number_is, or_cases}
+use Rattle.std.proofs.lemmas.List.Elements.{Contains-append_left}
 use Rattle.qg_device.specs.History.{Event}
 use Rattle.qg_num.specs.declared.piece.Piece.{Piece}
 use Rattle.qg_node.specs.declared.item.Item.{Item}
+use Rattle.qg_node.specs.declared.node.Node.{Node}
+use Rattle.qg_node.specs.Nodes.{own_items}
 use Rattle.qg_node.specs.NodeText.{IsNode}
 use Rattle.qg_super.specs.declared.sizes.Sizes.{Sizes}
-use Rattle.qg_image.specs.FilesOf.{files_of}
-use Rattle.qg_image.specs.Table.{keys_of}
-use Rattle.qg_machine.specs.Layout.{IsTreeOf, IsWhole}
+use Rattle.qg_super.specs.Places.{is_slot}
+use Rattle.qg_image.specs.Table.{keys_of, value_at}
+use Rattle.qg_machine.specs.Layout.{IsWhole}
 use Rattle.qg_machine.specs.Layout as machine
-use Rattle.qg_state.specs.Reach.{reaches}
-use Rattle.qg_state.specs.State.{Layout, Placed, State, Subvolume, layout_of, node_at}
+use Rattle.qg_state.specs.declared.element.Element.{Element}
+use Rattle.qg_state.specs.Reach.{extent_of, is_among, own_elements, pieces_of, reaches}
+use Rattle.qg_state.specs.State.{Placed, State, layout_of, node_at}
+use Rattle.qg_state.proofs.Contained.{contains_cases}
 use Rattle.qg_home.proofs.Reaching.{value_of_entry}
-use Rattle.qg_descent.specs.Tree.{Reaches}
+use Rattle.qg_verdict.specs.declared.tree.Tree.TheVariants.{Files}
+use Rattle.qg_ground.specs.Land.{IsDrafted}
+use Rattle.qg_descent.specs.Tree.{Reaches, Root, super_of}
+use Rattle.qg_descent.proofs.BranchFrames.{reach-same}
+use Rattle.qg_forest.proofs.Extents.{among-one}
 use Rattle.qg_fs_tree.specs.declared.fs_tree.FsTree.{FsTree}
-use Rattle.qg_fs_tree.specs.Standing.{IsReached, IsSubvolume, Stands, layout_in, nodes_of}
-use Rattle.qg_fs_layout.specs.Laying.{AreFit, IsLaidOutAlone, IsReachedAs, nodes_in}
-use Rattle.qg_fs_layout.proofs.Lists.{all-contained}
+use Rattle.qg_fs_tree.specs.Standing.{IsAtHome, IsReachedBy, IsSubvolume, Stands, items_in, name_of, name_told, names_elsewhere, nodes_of, trees_of}
+use Rattle.qg_fs_tree.proofs.Before.{name_apart, names_there}
+use Rattle.qg_fs_tree.proofs.Fixed.{elsewhere_name}
+use Rattle.qg_fs_tree.proofs.Leaves.{from-leaf}
+use Rattle.qg_fs_tree.proofs.Lists.{all-contained, made-some}
+use Rattle.qg_fs_tree.proofs.Lying.{told-at}
+use Rattle.qg_fs_tree.proofs.Nodes.{names-some, times-many}
+use Rattle.qg_fs_tree.proofs.Owings.{names_of}
+use Rattle.qg_fs_layout.specs.Laying.{AreFit, HaveFiles, IsLaidOut, IsMetAs}
+use Rattle.qg_fs_layout.proofs.Extents.{own-extent}
 use Rattle.qg_fs_layout.proofs.Nodes.{nodes-ascend, reached-by}
-use Rattle.qg_fs_layout.proofs.Reach.{is_reached-one, reach-on, reaches-one}
-use Rattle.qg_fs_layout.proofs.Told.{told-at}
-use Rattle.qg_fs_layout.proofs.Trees.{IsTreeOf-laid, drafted, laid-there, root-level, sized}
+use Rattle.qg_fs_layout.proofs.Reach.{in-reaches, is_reached-in, reach-on, reaches-in, reaches-root}
+use Rattle.qg_fs_layout.proofs.Roots.{root-tree}
+use Rattle.qg_fs_layout.proofs.Trees.{branch, drafted, entry-there, items-at_hand, laid-there, met-slot, nodes-laid, numbers-apart, root-level, roots-laid, sized, tree-value, trees-laid}
 
--- ---- the layout of a state with one subvolume
+module _ (fs : FsTree) (history : Option (List Event)) (bytes : ℕ) (items : List Item) (names : List (ℕ × Piece))
+    (subvolume : IsSubvolume fs history bytes) (stands : Stands fs history items names) where
+  abbrev fresh : IsDrafted fs.land fs.tree.next
+  fresh = drafted fs history bytes items names subvolume stands
 
-layout_alike : (a b : Layout) → a.nodesize ≡ b.nodesize → a.roots ≡ b.roots → a.nodes ≡ b.nodes → a ≡ b
-layout_alike a b size roots nodes =
-    ap (λ (n : ℕ). let layout : Layout = record a { nodesize = n } in layout) size
-    ∙ ap (λ (r : List (ℕ × ℕ)). let layout : Layout = record b { roots = r; nodes = a.nodes } in layout) roots
-    ∙ ap (λ (t : List (ℕ × Placed)). let layout : Layout = record b { nodes = t } in layout) nodes
+  -- ---- no piece that a tree tells begins in a slot
 
-module _ (fs : FsTree) (history : Option (List Event)) (state : State) (mine : Subvolume)
-    (alone : IsLaidOutAlone state mine fs history) where
-  pub root-alone : (layout_of state).roots ≡ (fs.tree.owner, fs.tree.address) ∷ []
-  root-alone =
-      ap (λ (table : List (ℕ × Subvolume)). map (λ (entry : ℕ × Subvolume). (entry.0, entry.1.root)) table) alone.alone
-      ∙ ap (λ (root : ℕ). (fs.tree.owner, root) ∷ []) alone.laid.root
+  -- each piece of the tree at hand is named
+  own_apart : (name : ℕ × Piece) (q : ℕ) → Contains (filter_map name_told items) name
+      → IsTrue (is_slot fs.land.space.sizes q) → name.1.extent ≡ q → ⊥
+  own_apart name q has slot same =
+      let reference = (name_of fs.tree.owner name).reference in
+      let told = names_there fs.tree.owner (filter_map name_told items) name has in
+      let within = stands.within name.1.extent reference in
+      let most = times-many (names_of fs.tree.owner names) name.1.extent reference in
+      let named = names-some fs.tree.owner names name.1.extent (omega (arith, told, within, most)) in
+      name_apart fs history items names stands fresh named.name q
+      (Contains-append_left names (names_elsewhere fs history) named.name named.among) slot (named.is ∙ same)
 
-  roots_in : (layout_in fs history).roots ≡ (fs.tree.owner, fs.tree.address) ∷ []
-  unfolding layout_in
-  roots_in = refl
+  -- nor one that a node tells that some tree reaches
+  told_apart : (tree : Root) → Contains (trees_of fs) tree → (at : ℕ) (node : Node) → IsReachedBy fs history tree at
+      → nodes_of fs history at ≡ Some node → (item : Item) → Contains (own_items node) item → (name : ℕ × Piece)
+      → name_told item ≡ Some name → (q : ℕ) → IsTrue (is_slot fs.land.space.sizes q) → name.1.extent ≡ q → ⊥
+  told_apart tree has at node reached there item own name told q slot same =
+      elim (contains_cases fs.tree fs.others.items tree has) [
+        | inl mine ↦
+            let among = from-leaf Files (super_of tree fs.land.blocks.draft) (nodes_of fs history) item tree.height
+            tree.address (items_in fs history tree) (branch fs history bytes items names subvolume stands tree has) at
+            reached node there own in
+            let here = subst (λ (t : Root). Contains (items_in fs history t) item) (sym mine) among in
+            let listed = subst (λ (xs : List Item). Contains xs item)
+            (items-at_hand fs history bytes items names subvolume stands) here in
+            own_apart name q (made-some name_told items item name listed told) slot same
+        | inr later ↦
+            name_apart fs history items names stands fresh name q
+            (elsewhere_name fs history items names stands fresh at node name
+            (record { tree = tree; among = later; reached = reached }) there
+            (made-some name_told (own_items node) item name own told)) slot same
+      ]
 
-  size_in : (layout_in fs history).nodesize ≡ fs.land.space.sizes.nodesize
-  unfolding layout_in
-  size_in = refl
+  module _ (state : State) (laid : IsLaidOut state fs history) where
+    there : (q : ℕ) (tree : Root) → Contains (trees_of fs) tree → IsReachedBy fs history tree q
+        → node_at state.layout q ≡ nodes_of fs history q
+    there q tree has reached = laid-there fs history bytes items names subvolume stands state laid q
+        (record { tree = tree; among = has; reached = reached })
 
-  -- it is the tree as a layout of its own
-  pub layout-laid : layout_of state ≡ layout_in fs history
-  layout-laid = layout_alike (layout_of state) (layout_in fs history)
-      (ap (λ (sizes : Sizes). sizes.nodesize) alone.laid.sizes ∙ sym size_in) (root-alone ∙ sym roots_in)
-      alone.laid.layout
+    -- what a tree reaches it reaches in the state's layout too
+    pub reaches-laid : (tree : Root) → Contains (trees_of fs) tree → (q : ℕ) → IsReachedBy fs history tree q
+        → Reaches (node_at state.layout) tree.height tree.address q
+    reaches-laid tree has q reached =
+        reach-on (nodes_of fs history) (node_at state.layout) tree.height tree.address
+        (λ r reaches. there r tree has reaches) q reached
 
-  module _ (bytes : ℕ) (items : List Item) (names : List (ℕ × Piece)) (subvolume : IsSubvolume fs history bytes)
-      (stands : Stands fs history items names) where
-    -- what the tree reaches is reached in the state's layout too
-    pub reaches-laid : (q : ℕ) → IsReached fs history q
-        → Reaches (node_at state.layout) fs.tree.height fs.tree.address q
-    reaches-laid q reached =
-        reach-on (nodes_of fs history) (node_at state.layout) fs.tree.height fs.tree.address
-        (laid-there fs history bytes items names subvolume stands state mine alone.laid) q reached
+    pub laid-reaches : (tree : Root) → Contains (trees_of fs) tree → (q : ℕ)
+        → Reaches (node_at state.layout) tree.height tree.address q → IsReachedBy fs history tree q
+    laid-reaches tree has q reached =
+        reach-same (nodes_of fs history) (node_at state.layout) tree.height tree.address
+        (λ r reaches. there r tree has reaches) q reached
 
-    pub node-laid : (q : ℕ) (placed : Placed) → IsReachedAs fs history q placed
+    pub node-laid : (q : ℕ) (placed : Placed) → IsMetAs fs history q placed
         → node_at state.layout q ≡ Some placed.node
     node-laid q placed its =
-        laid-there fs history bytes items names subvolume stands state mine alone.laid q its.reached ∙ its.told
+        laid-there fs history bytes items names subvolume stands state laid q its.met ∙ its.told
 
-    -- the subvolume reaches it
-    pub owner-reaches : (q : ℕ) (placed : Placed) → IsReachedAs fs history q placed
-        → reaches (layout_of state) fs.tree.owner q ≡ true
-    owner-reaches q placed its =
-        reaches-one (layout_of state) fs.tree.owner fs.tree.address fs.tree.height root-alone
-        (root-level fs history bytes items names subvolume stands state mine alone.laid) q placed.node
-        (reaches-laid q its.reached) (node-laid q placed its)
+    -- a subvolume reaches what its tree does
+    pub owner-reaches : (tree : Root) → Contains (trees_of fs) tree → (q : ℕ) → IsReachedBy fs history tree q
+        → reaches (layout_of state) tree.owner q ≡ true
+    owner-reaches tree has q reached =
+        let entry = entry-there fs history bytes items names subvolume stands q
+        (record { tree = tree; among = has; reached = reached }) in
+        reaches-in (layout_of state) tree.owner tree.address tree.height
+        (tree-value fs history bytes items names subvolume stands state laid tree has)
+        (root-level fs history bytes items names subvolume stands state laid tree has) q entry.0.node
+        (reaches-laid tree has q reached) (node-laid q entry.0 entry.1)
 
-    -- each entry is one of the tree
-    pub entry-laid : (entry : ℕ × Placed) → Contains state.layout entry → IsReachedAs fs history entry.0 entry.1
-    entry-laid entry has =
-        reached-by fs history entry.0 entry.1
-        (value_of_entry (nodes_in fs history) entry
-        (nodes-ascend fs history (sized fs history bytes items names subvolume stands) stands.placed)
-        (subst (λ (table : List (ℕ × Placed)). Contains table entry) alone.laid.layout has))
+    -- what a node of a tree is, or names, is reached by that tree, where it lies in a slot
+    slot_reached : (tree : Root) → Contains (trees_of fs) tree → (q at : ℕ) (node : Node)
+        → IsReachedBy fs history tree at → nodes_of fs history at ≡ Some node
+        → is_among q (own_elements state.sizes.nodesize at (Some node)) ≡ true
+        → IsTrue (is_slot fs.land.space.sizes q) → IsReachedBy fs history tree q
+    slot_reached tree has q at node reached told own slot =
+        elim (or_cases (at == q) (is_among q (map extent_of (pieces_of node))) own) [
+          | inl itself ↦ subst (λ (a : ℕ). IsReachedBy fs history tree a) (number_is at q itself) reached
+          | inr names_it ↦
+              let element = among-one q (map extent_of (pieces_of node)) names_it in
+              let item = own-extent node element.0 element.1 in
+              absurd (told_apart tree has at node reached told item.0 item.1 item.2.name item.2.told q slot
+              (ap (λ (e : Element). e.address) item.2.is ∙ element.2))
+        ]
+
+    told_laid : (tree : Root) → Contains (trees_of fs) tree → (at : ℕ) (node : Node) → IsReachedBy fs history tree at
+        → node_at state.layout at ≡ Some node → nodes_of fs history at ≡ Some node
+    told_laid tree has at node reached laid_so = sym (there at tree has reached) ∙ laid_so
+
+    -- and a slot that it reaches its tree does
+    pub owner-tree : (number q : ℕ) → reaches (layout_of state) number q ≡ true
+        → IsTrue (is_slot fs.land.space.sizes q) → IsAtHome fs history q number
+    owner-tree number q is slot =
+        let root = reaches-root (layout_of state) number q is in
+        let own = root-tree fs stands.ascending (numbers-apart fs history bytes items names subvolume stands) number
+        root.0 (ap (λ (table : List (ℕ × ℕ)). value_at number table)
+        (sym (roots-laid fs history bytes items names subvolume stands state laid)) ∙ root.1) in
+        let tree = own.tree in
+        let here : value_at number (layout_of state).roots ≡ Some tree.address =
+        root.1 ∙ ap (λ (n : ℕ). Some n) (sym own.root_is) in
+        let found = in-reaches (layout_of state) number tree.address tree.height here
+        (root-level fs history bytes items names subvolume stands state laid tree own.among) q is in
+        let reached = laid-reaches tree own.among found.0 found.2 in
+        record {
+          tree = tree;
+          among = own.among;
+          number = own.number_is;
+          reached = slot_reached tree own.among q found.0 found.1 reached
+              (told_laid tree own.among found.0 found.1 reached found.3) found.4 slot;
+        }
+
+    -- each entry is one of the trees
+    pub value-laid : (q : ℕ) (placed : Placed) → value_at q state.layout ≡ Some placed → IsMetAs fs history q placed
+    value-laid q placed is =
+        reached-by fs history q placed
+        (ap (λ (table : List (ℕ × Placed)). value_at q table)
+        (sym (nodes-laid fs history bytes items names subvolume stands state laid)) ∙ is)
+
+    pub layout-ascends : IsStrictlyIncreasing (keys_of state.layout)
+    layout-ascends = subst (λ (table : List (ℕ × Placed)). IsStrictlyIncreasing (keys_of table))
+        (sym (nodes-laid fs history bytes items names subvolume stands state laid))
+        (nodes-ascend fs history (sized fs history bytes items names subvolume stands)
+        (met-slot fs history bytes items names subvolume stands))
+
+    pub entry-laid : (entry : ℕ × Placed) → Contains state.layout entry → IsMetAs fs history entry.0 entry.1
+    entry-laid entry has = value-laid entry.0 entry.1 (value_of_entry state.layout entry layout-ascends has)
 
     entry_sound : AreFit fs history → (entry : ℕ × Placed) → Contains state.layout entry
         → machine.IsReached state entry
     entry_sound fit entry has =
         let its = entry-laid entry has in
-        let sound = fit entry.0 entry.1.node its.reached its.told in
+        let sound = fit entry.0 entry.1.node its.met its.told in
         record {
           node_of_format = subst (λ (n : ℕ). IsNode n entry.1.node)
-              (sym (ap (λ (sizes : Sizes). sizes.nodesize) alone.laid.sizes)) sound.sound;
+              (sym (ap (λ (sizes : Sizes). sizes.nodesize) laid.sizes)) sound.sound;
           fits = sound.fits;
-          placed = (told-at fs.land history fs.tree.next
-              (drafted fs history bytes items names subvolume stands) entry.0 entry.1.node its.told).placed;
-          reached = is_reached-one (layout_of state) fs.tree.owner fs.tree.address fs.tree.height root-alone
-              (root-level fs history bytes items names subvolume stands state mine alone.laid) entry.0 entry.1.node
-              (reaches-laid entry.0 its.reached) (node-laid entry.0 entry.1 its);
+          placed = (told-at fs.land history fs.tree.next fresh entry.0 entry.1.node its.told).placed;
+          reached = is_reached-in (layout_of state) its.met.tree.owner its.met.tree.address its.met.tree.height
+              (tree-value fs history bytes items names subvolume stands state laid its.met.tree its.met.among)
+              (root-level fs history bytes items names subvolume stands state laid its.met.tree its.met.among)
+              entry.0 entry.1.node (reaches-laid its.met.tree its.met.among entry.0 its.met.reached)
+              (node-laid entry.0 entry.1 its);
         }
 
-    pub IsWhole-laid : files_of fs.tree.next items ≡ Some mine.files → AreFit fs history → IsWhole state
+    pub IsWhole-laid : HaveFiles state fs history → AreFit fs history → IsWhole state
     IsWhole-laid files fit = record {
-      ascending = subst (λ (table : List (ℕ × Placed)). IsStrictlyIncreasing (keys_of table)) (sym alone.laid.layout)
-          (nodes-ascend fs history (sized fs history bytes items names subvolume stands) stands.placed);
-      trees = subst (λ (table : List (ℕ × Subvolume)). AllByRecursion (λ entry. IsTreeOf state entry.1) table)
-          (sym alone.alone)
-          (IsTreeOf-laid fs history bytes items names subvolume stands state mine alone.laid files, tt);
+      ascending = layout-ascends;
+      trees = trees-laid fs history bytes items names subvolume stands state laid files;
       reached = all-contained (machine.IsReached state) state.layout (entry_sound fit);
     }
 
 pub state-whole : (fs : FsTree) (history : Option (List Event)) (bytes : ℕ) (items : List Item)
-    (names : List (ℕ × Piece)) (state : State) (mine : Subvolume)
-    → IsSubvolume fs history bytes → Stands fs history items names → IsLaidOutAlone state mine fs history
-    → files_of fs.tree.next items ≡ Some mine.files → AreFit fs history → IsWhole state
-state-whole fs history bytes items names state mine subvolume stands alone files fit =
-    IsWhole-laid fs history state mine alone bytes items names subvolume stands files fit
+    (names : List (ℕ × Piece)) (state : State)
+    → IsSubvolume fs history bytes → Stands fs history items names → IsLaidOut state fs history
+    → HaveFiles state fs history → AreFit fs history → IsWhole state
+state-whole fs history bytes items names state subvolume stands laid files fit =
+    IsWhole-laid fs history bytes items names subvolume stands state laid files fit

@@ -1,6 +1,6 @@
--- A subvolume's tree, as it stands between two edits, and the layout of a state of the machine (this project's own).
--- Addresses are in bytes.
-use Rattle.std.specs.Prelude.{◌≡◌, ◌↔◌, ℕ, ◌<◌, List, [], ◌∷◌, Option, Some, None, Contains, IsTrue}
+-- The trees of subvolumes, as they stand between two edits, and the layout of a state of the machine (this project's
+-- own). Addresses are in bytes.
+use Rattle.std.specs.Prelude.{◌≡◌, ◌↔◌, ℕ, ◌<◌, List, Option, Some, None, Contains, IsTrue}
 use Rattle.std.specs.List.{filter_map, list_all, AllByRecursion}
 use Rattle.std.specs.List.Sorted.{IsStrictlyIncreasing}
 use Rattle.qg_device.specs.History.{Event}
@@ -13,6 +13,7 @@ use Rattle.qg_node.specs.NodeText.{IsNode}
 use Rattle.qg_items.specs.declared.extent.Reference.{Reference}
 use Rattle.qg_super.specs.declared.sizes.Sizes.{Sizes}
 use Rattle.qg_super.specs.Places.{is_run}
+use Rattle.qg_image.specs.FilesOf.{files_of}
 use Rattle.qg_image.specs.Table.{keys_of, value_at}
 use Rattle.qg_machine.specs.Layout.{KeepsNode, is_made_node, made_nodes}
 use Rattle.qg_state.specs.declared.element.Element.{Element}
@@ -21,32 +22,38 @@ use Rattle.qg_state.specs.Space.{present_extents}
 use Rattle.qg_state.specs.State.{Placed, State, Subvolume, layout_of, next_generation, node_at}
 use Rattle.qg_refs.specs.Book.{AgreesWithOwed, Book, full_in, what_in}
 use Rattle.qg_extents.specs.Table.{book_of}
-use Rattle.qg_tree_edits.specs.Counting.{ways}
+use Rattle.qg_descent.specs.Tree.{Root}
 use Rattle.qg_tree_refs.specs.Settled.{what_of}
 use Rattle.qg_fs_tree.specs.declared.fs_tree.FsTree.{FsTree}
-use Rattle.qg_fs_tree.specs.Standing.{IsReached, Moves, layout_in, name_told, nodes_of}
+use Rattle.qg_fs_tree.specs.Standing.{IsReachedBy, Moves, items_in, layout_in, name_told, nodes_of, trees_of, ways_in}
 
 -- ---- the nodes of the layout
 
--- the nodes that a tree reaches, each with its address
+-- the nodes that some tree reaches, each with its address
 abbrev pub nodes_in : FsTree → Option (List Event) → List (ℕ × Placed)
 nodes_in fs history = (layout_in fs history).nodes
 
--- a tree reaches an address, and this node is told there, with the mark that is kept of it
-pub record IsReachedAs (fs : FsTree) (history : Option (List Event)) (q : ℕ) (placed : Placed) : Type 0 where
-  pub reached : IsReached fs history q
+-- some tree reaches an address
+pub record IsMet (fs : FsTree) (history : Option (List Event)) (q : ℕ) : Type 0 where
+  pub tree : Root
+  pub among : Contains (trees_of fs) tree
+  pub reached : IsReachedBy fs history tree q
+
+-- some tree reaches an address, and this node is told there, with the mark that is kept of it
+pub record IsMetAs (fs : FsTree) (history : Option (List Event)) (q : ℕ) (placed : Placed) : Type 0 where
+  pub met : IsMet fs history q
   pub told : nodes_of fs history q ≡ Some placed.node
   pub full : placed.full ≡ full_in (book_of fs.refs.refs q)
 
--- The nodes of a tree as a layout are a table by address: what the tree reaches and is told there, and nothing else. It
--- reaches what ways lead to
+-- The nodes of the trees as a layout are a table by address: what some tree reaches and is told there, and nothing else.
+-- A tree reaches what ways lead to
 pub record AreThoseReached (fs : FsTree) (history : Option (List Event)) : Type 0 where
   pub ascending : IsStrictlyIncreasing (keys_of (nodes_in fs history))
   pub among : (q : ℕ) (placed : Placed)
-      → value_at q (nodes_in fs history) ≡ Some placed ↔ IsReachedAs fs history q placed
+      → value_at q (nodes_in fs history) ≡ Some placed ↔ IsMetAs fs history q placed
   pub told : (q : ℕ) (node : Node)
-      → node_at (nodes_in fs history) q ≡ Some node ↔ (IsReached fs history q × (nodes_of fs history q ≡ Some node))
-  pub ways : (q : ℕ) → IsReached fs history q ↔ 0 < ways (nodes_of fs history) fs.tree.height fs.tree.address q
+      → node_at (nodes_in fs history) q ≡ Some node ↔ (IsMet fs history q × (nodes_of fs history q ≡ Some node))
+  pub ways : (tree : Root) (q : ℕ) → IsReachedBy fs history tree q ↔ 0 < ways_in fs history tree q
 
 -- ---- nodes that fit
 
@@ -55,37 +62,36 @@ pub record IsFit (nodesize : ℕ) (node : Node) : Type 0 where
   pub sound : IsNode nodesize node
   pub fits : NodeFits node
 
--- so it is of each node that a tree reaches
+-- so it is of each node that some tree reaches
 abbrev pub AreFit : FsTree → Option (List Event) → Type 0
-AreFit fs history = (q : ℕ) (node : Node) → IsReached fs history q → nodes_of fs history q ≡ Some node
+AreFit fs history = (q : ℕ) (node : Node) → IsMet fs history q → nodes_of fs history q ≡ Some node
     → IsFit fs.land.space.sizes.nodesize node
 
 -- ---- the state
 
--- the layout of a state is a tree, as it stands, and it is one of a subvolume
-pub record IsLaidOut (state : State) (subvolume : Subvolume) (fs : FsTree) (history : Option (List Event)) : Type 0
-  where
-    pub sizes : state.sizes ≡ fs.land.space.sizes
-    pub generation : next_generation state ≡ fs.tree.next
-    pub layout : state.layout ≡ nodes_in fs history
-    pub root : subvolume.root ≡ fs.tree.address
+-- the layout of a state is the trees, as they stand: each subvolume has one of them
+pub record IsLaidOut (state : State) (fs : FsTree) (history : Option (List Event)) : Type 0 where
+  pub sizes : state.sizes ≡ fs.land.space.sizes
+  pub generation : next_generation state ≡ fs.tree.next
+  pub layout : layout_of state ≡ layout_in fs history
 
--- and there is no other subvolume
-pub record IsLaidOutAlone (state : State) (subvolume : Subvolume) (fs : FsTree) (history : Option (List Event)) : Type 0
-  where
-    pub laid : IsLaidOut state subvolume fs history
-    pub alone : state.subvolumes ≡ (fs.tree.owner, subvolume) ∷ []
+-- the items of each tree are those of its subvolume's files
+abbrev pub HaveFiles : State → FsTree → Option (List Event) → Type 0
+HaveFiles state fs history = (tree : Root) (subvolume : Subvolume) → Contains (trees_of fs) tree
+    → value_at tree.owner state.subvolumes ≡ Some subvolume
+    → files_of fs.tree.next (items_in fs history tree) ≡ Some subvolume.files
 
 -- ---- edits, one after the other
 
 -- What edits of a tree make of it between two commits: number, generation to come and sizes stay, and so does what the
--- last commit holds
+-- last commit holds, which is told as it was
 pub record IsMoved (old new : FsTree) (history : Option (List Event)) : Type 0 where
   pub moves : Moves old new history
   pub owner : new.tree.owner ≡ old.tree.owner
   pub next : new.tree.next ≡ old.tree.next
   pub sizes : new.land.space.sizes ≡ old.land.space.sizes
   pub held_slots : new.land.space.held_slots ≡ old.land.space.held_slots
+  pub kept : (q : ℕ) → Contains old.land.space.held_slots q → nodes_of new history q ≡ nodes_of old history q
 
 -- the last commit of a state holds these slots
 abbrev pub HoldsSlots : State → List ℕ → Type 0

@@ -1,4 +1,4 @@
-// What a subvolume's tree, as it stands between two edits, is in the state of the machine.
+// What subvolumes' trees, as they stand between two edits, are in the state of the machine.
 ghost use Rattle.qg_fs_layout.specs.Laws.{
   CommandsCopy,
   IsLow,
@@ -8,23 +8,24 @@ ghost use Rattle.qg_fs_layout.specs.Laws.{
   NodesFitByItems,
   OwedIsCounted,
   StateIsWhole,
-  TreeIsWalked,
+  TreesAreWalked,
 };
 
-/// A law: the nodes of a tree as a layout ascend by address, and are those that the tree reaches (this project's own).
+/// A law: the nodes of the trees as a layout ascend by address, and are those that some tree reaches (this project's
+/// own).
 pub fn nodes_are_those_reached()
     ensures reached { NodesAreThoseReached }
 {}
 
-/// A law: a tree that stands has eight levels at most, is walked in the state without a failure, and has the items of
-/// the subvolume's files (this project's own).
-pub fn tree_is_walked()
+/// A law: each tree that stands has eight levels at most, is walked in the state without a failure, and has the items
+/// of its subvolume's files (this project's own).
+pub fn trees_are_walked()
     ensures low { IsLow }
-    ensures walked { TreeIsWalked }
+    ensures walked { TreesAreWalked }
 {}
 
-/// A law: where each node that the tree reaches has a text, and its numbers fit their fields, the state's layout is
-/// that of its files. So they are where the tree's items fit, and items that are written for files do (this project's
+/// A law: where each node that some tree reaches has a text, and its numbers fit their fields, the state's layout is
+/// that of its files. So they are where the trees' items fit, and items that are written for files do (this project's
 /// own).
 pub fn state_is_whole()
     ensures items { NodesFitByItems }

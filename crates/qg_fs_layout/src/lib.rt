@@ -1,8 +1,8 @@
-//! Laws: what a subvolume's tree is in the state of the machine. It has no code.
+//! Laws: what subvolumes' trees are in the state of the machine. It has no code.
 #![tactic(auto)]
 
 mod laws;
 
 pub use laws::{
-    commands_copy, nodes_are_those_reached, owed_is_counted, state_is_whole, tree_is_walked,
+    commands_copy, nodes_are_those_reached, owed_is_counted, state_is_whole, trees_are_walked,
 };

@@ -1,7 +1,7 @@
--- What stands below the root of a tree whose walk over an image meets no failure: its nodes are found, and its items are
--- some that the tree may hold.
-use Rattle.std.proofs.Common.{◌≡◌, ℕ, zero, suc, ◌+◌, ◌-◌, ◌≤◌, Bool, true, false, List, [], ◌∷◌, ◌++◌, Option, Some, None}
-use Rattle.std.proofs.Common.{refl, sym, ap, subst, ◌∙◌, arith}
+-- What stands below the root of a tree whose walk over an image meets no failure: its nodes are found, and its items
+-- are some that the tree may hold, and ascend.
+use Rattle.std.proofs.Common.{◌≡◌, ℕ, zero, suc, ◌+◌, ◌-◌, ◌≤◌, Bool, true, false, List, [], ◌∷◌, ◌++◌, map, Option}
+use Rattle.std.proofs.Common.{Some, None, refl, sym, ap, subst, ◌∙◌, arith}
 use Rattle.std.specs.Prelude.{Result, Ok, Err, ◌==◌, slice_range}
 use Rattle.std.specs.List.{flat_map, list_all}
 use Rattle.std.proofs.lemmas.Bool.{and_from, eqb-true}
@@ -15,7 +15,7 @@ use Rattle.qg_node.specs.declared.item.Item.{Item}
 use Rattle.qg_node.specs.declared.pointer.Pointer.{Pointer}
 use Rattle.qg_node.specs.declared.node.Node.{Node}
 use Rattle.qg_node.specs.declared.node.Node.TheVariants.{Leaf, Inner}
-use Rattle.qg_node.specs.Nodes.{header_of, own_items, own_pointers}
+use Rattle.qg_node.specs.Nodes.{header_of, is_ascending, own_items, own_keys, own_pointers}
 use Rattle.qg_node.specs.NodeText.{IsLevelled}
 use Rattle.qg_node.specs.Reading.{node_read}
 use Rattle.qg_super.specs.declared.superblock.Super.{Super}
@@ -28,10 +28,14 @@ use Rattle.qg_verdict.specs.declared.tree.Tree.{Tree}
 use Rattle.qg_verdict.specs.Failure.{first_failure, unless}
 use Rattle.qg_verdict.specs.ImageState.{level_in, tree_items, tree_nodes}
 use Rattle.qg_verdict.specs.ItemsUnder.{is_way, items_under, nodes_of, nodes_under}
-use Rattle.qg_verdict.specs.Walk.{deepest, found_failure, in_slot, is_item_of, is_told, node_failure}
-use Rattle.qg_verdict.specs.Walk.{node_found, pointers_failure, shape_failure, tree_failure, walk_failure, way_failure}
+use Rattle.qg_verdict.specs.Walk.{deepest, found_failure, in_slot, is_item_of, is_told, node_failure, node_found}
+use Rattle.qg_verdict.specs.Walk.{pointers_failure, root_expected, shape_failure, tree_failure, walk_failure}
+use Rattle.qg_verdict.specs.Walk.{way_failure}
 use Rattle.qg_walk.specs.Standing.{expected_below}
 use Rattle.qg_walk.proofs.Failures.{first_none, neither, walk-passed}
+use Rattle.qg_descent.specs.Tree.{IsTree}
+use Rattle.qg_descent.proofs.BranchOrder.{ascends-under}
+use Rattle.qg_descent.proofs.Walked.{IsTree-walked}
 use Rattle.qg_fs_tree.proofs.Formed.{read-formed}
 use Rattle.qg_fs_layout.proofs.Walks.{walk-weaker}
 use Rattle.qg_fs_open.specs.Opening.{AreItemsOf}
@@ -44,13 +48,23 @@ slot_ok true at (Ok other) node is = let same : other ≡ node = cc in rw same r
 slot_ok true at (Err fault) node is = absurd cc
 slot_ok false at read node is = absurd cc
 
--- a node that is found is a leaf exactly at level 0
+-- a node that is found is a leaf exactly at level 0, and its keys ascend
+found_formed : (super : Super) (image : List ℕ) (at : ℕ) (node : Node) → node_found super image at ≡ Ok node
+    → IsLevelled node × (is_ascending (own_keys node) ≡ true)
+unfolding node_found
+found_formed super image at node is =
+    let bytes = slice_range image at (at + super.nodesize) in
+    let formed = read-formed at bytes node (slot_ok (is_slot (sizes_of super) at) at (node_read at bytes) node is) in
+    (formed.levelled, formed.ascending)
+
 found_levelled : (super : Super) (image : List ℕ) (at : ℕ) (node : Node) → node_found super image at ≡ Ok node
     → IsLevelled node
-unfolding node_found
-found_levelled super image at node is =
-    let bytes = slice_range image at (at + super.nodesize) in
-    (read-formed at bytes node (slot_ok (is_slot (sizes_of super) at) at (node_read at bytes) node is)).levelled
+found_levelled super image at node is = (found_formed super image at node is).0
+
+-- so do those of a node that is told
+some_ok : (found : Result Node Failure) (node : Node) → nodes_of (λ at. found) 0 ≡ Some node → found ≡ Ok node
+some_ok (Ok other) node is = let same : other ≡ node = cc in ap (λ (n : Node). Ok n) same
+some_ok (Err failure) node is = absurd cc
 
 low_level : (node : Node) → IsLevelled node → (header_of node).level ≤ deepest
 low_level (Leaf header items) levelled = omega (arith, levelled)
@@ -282,3 +296,17 @@ module _ (tree : Tree) (super : Super) (image : List ℕ) where
       stand = items_same ∙ under.stand ∙ ap (flat_map own_items) (sym nodes_same);
       held = ap (list_all (is_item_of tree super.generation)) items_same ∙ under.held;
     }
+
+    -- the keys of its items ascend
+    pub items-ascend : expected.from ≡ None → expected.to ≡ None
+        → is_ascending (map (λ item. item.key) (tree_items tree super image expected root)) ≡ true
+    items-ascend from to =
+        let level = level_in super image root in
+        let items = tree_items tree super image expected root in
+        let is : IsTree tree super (nodes_of (node_found super image)) level root items =
+        IsTree-walked tree super super (node_found super image) (nodes_of (node_found super image)) expected level root
+        items (λ at. refl) refl (omega arith) from to level_low root_level whole_walk items-walked in
+        ascends-under tree super (nodes_of (node_found super image))
+        (λ q node told. (found_formed super image q node (some_ok (node_found super image q) node told)).1)
+        level (root_expected (Some level) None) root items
+        (record { levelled = refl; walked = is.walked; items_are = is.items_are })

@@ -8,15 +8,14 @@ use Rattle.std.proofs.lemmas.Bool.{and_parts, cases_Bool, eq-eqb, eqb-true, fals
 use Rattle.std.proofs.lemmas.Bool.{and_from, lt-ltb, ltb-true, true≢false}
 use Rattle.std.proofs.lemmas.List.Folds.{list_any-append}
 use Rattle.std.proofs.lemmas.List.Sums.{sum_by-cons}
-use Rattle.qg_num.specs.declared.counters.Counters.{Counters}
 use Rattle.qg_items.specs.declared.extent.Reference.{Reference}
 use Rattle.qg_items.specs.declared.root.RootItem.{RootItem}
 use Rattle.qg_super.specs.declared.superblock.Super.{Super}
-use Rattle.qg_image.specs.declared.file.File.{File}
 use Rattle.qg_image.specs.declared.part.ExtentPart.{ExtentPart}
 use Rattle.qg_image.specs.declared.part.ExtentPart.TheVariants.{DataRecord, NodeRecord, Referenced}
 use Rattle.qg_image.specs.declared.part.QuotaPart.{QuotaPart}
 use Rattle.qg_image.specs.declared.part.QuotaPart.TheVariants as part
+use Rattle.qg_state.specs.declared.quota.Quota.{Quota}
 use Rattle.qg_state.specs.Need.{held_records}
 use Rattle.qg_state.specs.Owed.{Agrees, What, agrees_at, are_references, is_record, is_recorded_once}
 use Rattle.qg_state.specs.Owed.{owed_to, part_address, reference_told, what_at}
@@ -39,6 +38,7 @@ use Rattle.qg_weighed.proofs.Trees.{Are, none-named}
 use Rattle.qg_fs_tree.specs.declared.fs_tree.FsTree.{FsTree}
 use Rattle.qg_standing.specs.Opening.{IsOpened, IsSoundImage}
 use Rattle.qg_fs_open.specs.Opening.{HoldsCommit, HoldsOthers}
+use Rattle.qg_fs_open.specs.OpeningLaws.{OpenedIsRecorded}
 use Rattle.qg_fs_open.proofs.OtherRecords.{entry_record, records-there}
 
 -- ---- parts at one address
@@ -268,8 +268,7 @@ extents_other (told ∷ parts) = (extent_other told, extents_other parts)
 middle : (a b c : Bool) → a ≡ false → c ≡ false → ((a || b) || c) ≡ b
 middle a b c first last = rw (first, last) (or_none b)
 
-module _ (super : Super) (image : List ℕ) (counters : Counters) (stamp : ℕ)
-    (holds : HoldsOthers super image counters stamp) where
+module _ (super : Super) (image : List ℕ) (quota : Quota) (holds : HoldsOthers super image quota) where
   abbrev roots : List Record
   roots = map entry_record (roots_in super image)
 
@@ -282,7 +281,7 @@ module _ (super : Super) (image : List ℕ) (counters : Counters) (stamp : ℕ)
   pub among-held : (one : Record) → is_among (held_records (state_in super image).held) one
       ≡ ((is_among roots one || is_among extents one) || is_among quotas one)
   among-held one =
-      ap (λ (records : List Record). is_among records one) (records-there super image counters stamp holds)
+      ap (λ (records : List Record). is_among records one) (records-there super image quota holds)
       ∙ list_any-append (same_record one) (roots ++ extents) quotas
       ∙ ap (λ (b : Bool). b || is_among quotas one) (list_any-append (same_record one) roots extents)
 
@@ -294,10 +293,9 @@ module _ (super : Super) (image : List ℕ) (counters : Counters) (stamp : ℕ)
       (none-named false roots one (roots_other (roots_in super image)) of_extents)
       (none-named false quotas one (quotas_other (quota_parts super image)) of_extents)
 
-  pub opened-recorded : (fs : FsTree) (root : RootItem) (files : List (ℕ × File)) → IsTable fs.refs.refs
-      → IsSoundImage super image root files → IsOpened fs super image root → HoldsCommit fs super image
-      → IsRecorded (state_in super image) fs.refs.held
-  opened-recorded fs root files table sound opened commit =
+  book_recorded : (fs : FsTree) → IsTable fs.refs.refs → IsSoundImage super image → IsOpened fs super image
+      → HoldsCommit fs super image → IsRecorded (state_in super image) fs.refs.held
+  book_recorded fs table sound opened commit =
       let recorded_refs : IsRecorded (state_in super image) fs.refs.refs = record {
         kept = table;
         same = λ one of_extents.
@@ -307,3 +305,7 @@ module _ (super : Super) (image : List ℕ) (counters : Counters) (stamp : ℕ)
             ∙ sym (records-say fs.refs.refs one table);
       } in
       subst (λ (book : List (ℕ × Kept)). IsRecorded (state_in super image) book) (sym commit.book) recorded_refs
+
+pub opened-recorded : OpenedIsRecorded
+opened-recorded fs super image quota table sound opened commit holds =
+    book_recorded super image quota holds fs table sound opened commit

@@ -6,12 +6,12 @@ use Rattle.std.proofs.lemmas.Bool.{and_from, and_parts}
 use Rattle.std.proofs.lemmas.List.Concat.{flat_map-append}
 use Rattle.std.proofs.lemmas.List.Elements.{filter_map-append}
 use Rattle.std.proofs.lemmas.Option.{none-some}
-use Rattle.qg_num.specs.declared.counters.Counters.{Counters}
 use Rattle.qg_num.specs.declared.key.Key.{Key}
 use Rattle.qg_node.specs.declared.item.Item.{Item}
 use Rattle.qg_node.specs.declared.node.Node.{Node}
 use Rattle.qg_node.specs.Nodes.{own_items}
-use Rattle.qg_items.specs.declared.kind.TheConstants.{QGROUP_INFO, QGROUP_LIMIT, QGROUP_RELATION, QGROUP_STATUS, ROOT_ITEM}
+use Rattle.qg_items.specs.declared.kind.TheConstants.{QGROUP_INFO, QGROUP_LIMIT, QGROUP_RELATION, QGROUP_STATUS}
+use Rattle.qg_items.specs.declared.kind.TheConstants.{ROOT_ITEM}
 use Rattle.qg_items.specs.declared.root.RootItem.{RootItem}
 use Rattle.qg_items.specs.declared.tree.TheConstants.{EXTENT_TREE, QUOTA_TREE}
 use Rattle.qg_super.specs.declared.superblock.Super.{Super}
@@ -22,6 +22,7 @@ use Rattle.qg_image.specs.declared.part.QuotaPart.TheVariants as part
 use Rattle.qg_image.specs.ItemMeaning.{extent_part, extent_part_stamps, quota_part, root_part, some_passes}
 use Rattle.qg_parts.specs.Keys.{quota_key}
 use Rattle.qg_parts.proofs.Keys.{quota_keyed, root_keyed}
+use Rattle.qg_state.specs.declared.quota.Quota.{Quota}
 use Rattle.qg_state.specs.Need.{held_records}
 use Rattle.qg_state.specs.Record.{Record, RootOf, extent_record, quota_record, record_named}
 use Rattle.qg_verdict.specs.declared.tree.Tree.TheVariants.{Extents, Quotas, Roots}
@@ -37,10 +38,10 @@ some_of : {P : Type 0} (test : P → Bool) (o : Option P) → some_passes test o
 some_of test None passes = absurd cc
 some_of test (Some x) passes = (x, refl, passes)
 
-root_said : (generation : ℕ) (item : Item) → is_item_of Roots generation item ≡ true
+pub root-said : (generation : ℕ) (item : Item) → is_item_of Roots generation item ≡ true
     → (part : ℕ × RootItem) × (root_part item ≡ Some part)
 unfolding is_item_of
-root_said generation item may = let found = some_of _ (root_part item) may in (found.0, found.1)
+root-said generation item may = let found = some_of _ (root_part item) may in (found.0, found.1)
 
 extent_said : (generation : ℕ) (item : Item) → is_item_of Extents generation item ≡ true
     → (part : ExtentPart) × (extent_part item ≡ Some part) × (are_by generation (extent_part_stamps part) ≡ true)
@@ -152,8 +153,7 @@ pub extents-say : (super : Super) (image : List ℕ) (root : RootItem)
 unfolding extent_parts
 extents-say super image root named = rw named refl
 
-module _ (super : Super) (image : List ℕ) (counters : Counters) (stamp : ℕ)
-    (holds : HoldsOthers super image counters stamp) where
+module _ (super : Super) (image : List ℕ) (quota : Quota) (holds : HoldsOthers super image quota) where
   nodes_there : other_nodes super image ≡ root_nodes super image
       ++ nodes_of_root Extents super image holds.extent_root
       ++ nodes_of_root Quotas super image holds.quota_root
@@ -189,7 +189,7 @@ module _ (super : Super) (image : List ℕ) (counters : Counters) (stamp : ℕ)
 
   root_records_there : filter_map record_named (root_items super image) ≡ map entry_record (roots_in super image)
   root_records_there =
-      all_named root_part entry_record (is_item_of Roots super.generation) (root_said super.generation) root_names
+      all_named root_part entry_record (is_item_of Roots super.generation) (root-said super.generation) root_names
       (root_items super image) holds.roots.held
       ∙ ap (map entry_record) (sym roots_say)
 

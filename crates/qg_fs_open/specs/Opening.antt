@@ -1,9 +1,8 @@
--- What is known of an image that was just opened, and of the tree that is made of it (this project's own).
+-- What is known of an image that was just opened, and of the trees that are made of it (this project's own).
 --
 -- Addresses and lengths are in bytes.
 use Rattle.std.specs.Prelude.{◌≡◌, ◌↔◌, ◌⊎◌, ℕ, List, Some, IsTrue, All}
-use Rattle.std.specs.List.{Contains, flat_map, list_all}
-use Rattle.qg_num.specs.declared.counters.Counters.{Counters}
+use Rattle.std.specs.List.{AllByRecursion, Contains, flat_map, list_all, list_any}
 use Rattle.qg_bytes.specs.Fields.{IsBytes}
 use Rattle.qg_node.specs.declared.item.Item.{Item}
 use Rattle.qg_node.specs.declared.node.Node.{Node}
@@ -12,17 +11,18 @@ use Rattle.qg_items.specs.declared.root.RootItem.{RootItem}
 use Rattle.qg_items.specs.declared.tree.TheConstants.{EXTENT_TREE, QUOTA_TREE}
 use Rattle.qg_super.specs.declared.superblock.Super.{Super}
 use Rattle.qg_image.specs.declared.file.File.{File}
+use Rattle.qg_image.specs.FilesOf.{files_of}
 use Rattle.qg_image.specs.Table.{value_at}
 use Rattle.qg_state.specs.declared.element.Element.{Element}
+use Rattle.qg_state.specs.declared.quota.Quota.{Quota}
 use Rattle.qg_state.specs.State.{Subvolume}
 use Rattle.qg_verdict.specs.declared.tree.Tree.TheVariants.{Extents, Files, Quotas, Roots}
 use Rattle.qg_verdict.specs.declared.tree.Tree.{Tree}
 use Rattle.qg_verdict.specs.ImageState.{addresses_of, items_of_root, nodes_of_root, other_nodes, quota_parts}
-use Rattle.qg_verdict.specs.ImageState.{quota_told, root_items, root_nodes, roots_in}
-use Rattle.qg_verdict.specs.Verdict.{fits_quota}
+use Rattle.qg_verdict.specs.ImageState.{quota_told, root_items, root_nodes, roots_in, subvolume_roots}
+use Rattle.qg_verdict.specs.Verdict.{fits_quota, is_status_part}
 use Rattle.qg_verdict.specs.Walk.{is_item_of}
 use Rattle.qg_fs_tree.specs.declared.fs_tree.FsTree.{FsTree}
-use Rattle.qg_other_trees.specs.Telling.{one_group}
 
 -- What is kept of the last commit, where nothing was done since: the slots of its other trees' nodes and those of the
 -- present state, the runs of the present state, and the book of its references
@@ -32,22 +32,32 @@ pub record HoldsCommit (fs : FsTree) (super : Super) (image : List ℕ) : Type 0
   pub runs : (run : Element) → Contains fs.land.space.held_runs run ↔ Contains fs.land.space.runs run
   pub book : fs.refs.held ≡ fs.refs.refs
 
--- the bodies of the items of the subvolume's tree are bytes
+-- the bodies of the items of a subvolume's tree are bytes
 abbrev pub AreBytes : Super → List ℕ → RootItem → Type 0
 AreBytes super image root = All (λ item. IsBytes item.body) (items_of_root Files super image root)
+
+-- so it is of each subvolume's
+abbrev pub HasBytes : Super → List ℕ → Type 0
+HasBytes super image =
+    AllByRecursion (λ entry. AreBytes super image entry.1) (subvolume_roots (roots_in super image))
 
 -- the subvolume with these files and this ROOT_ITEM
 abbrev pub mine_opened : List (ℕ × File) → RootItem → Subvolume
 mine_opened files root = record { files = files; root = root.bytenr; last_snapshot = root.last_snapshot }
+
+-- the subvolume has this ROOT_ITEM in an image, and these files
+pub record IsOf (super : Super) (image : List ℕ) (sub : ℕ) (root : RootItem) (files : List (ℕ × File)) : Type 0 where
+  pub there : value_at sub (subvolume_roots (roots_in super image)) ≡ Some root
+  pub are : files_of super.generation (items_of_root Files super image root) ≡ Some files
 
 -- items of a tree stand in these nodes, and are some that the tree may hold in an image of this generation
 pub record AreItemsOf (tree : Tree) (generation : ℕ) (nodes : List Node) (items : List Item) : Type 0 where
   pub stand : items ≡ flat_map own_items nodes
   pub held : IsTrue (list_all (is_item_of tree generation) items)
 
--- What is known of the other trees of a sound image: their items are such, the quota tree's fit each other, and quota
--- has the top-level subvolume's group alone, without a limit
-pub record HoldsOthers (super : Super) (image : List ℕ) (counters : Counters) (stamp : ℕ) : Type 0 where
+-- What is known of the other trees of a sound image: their items are such, the quota tree's tell the state of quota and
+-- fit each other, and they tell this quota
+pub record HoldsOthers (super : Super) (image : List ℕ) (quota : Quota) : Type 0 where
   pub roots : AreItemsOf Roots super.generation (root_nodes super image) (root_items super image)
   pub extent_root : RootItem
   pub extents_named : value_at EXTENT_TREE (roots_in super image) ≡ Some extent_root
@@ -57,5 +67,6 @@ pub record HoldsOthers (super : Super) (image : List ℕ) (counters : Counters) 
   pub quotas_named : value_at QUOTA_TREE (roots_in super image) ≡ Some quota_root
   pub quotas : AreItemsOf Quotas super.generation (nodes_of_root Quotas super image quota_root)
       (items_of_root Quotas super image quota_root)
+  pub status : IsTrue (list_any is_status_part (quota_parts super image))
   pub fit : IsTrue (list_all (fits_quota (quota_parts super image)) (quota_parts super image))
-  pub alone : quota_told (quota_parts super image) ≡ one_group counters stamp
+  pub tell : quota_told (quota_parts super image) ≡ quota

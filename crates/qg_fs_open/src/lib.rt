@@ -1,4 +1,4 @@
-//! Laws: that the tree which is made of a sound image is kept of the state that the image stands for. It has no code.
+//! Laws: that the trees which are made of a sound image are kept of the state that the image stands for. It has no code.
 #![tactic(auto)]
 
 mod opening;

@@ -1,76 +1,89 @@
 -- A commit whose other trees tell the state that it leaves is one of the machine.
-use Rattle.std.proofs.Common.{◌≡◌, ℕ, Bool, true, List, [], ◌∷◌, Option, Some, None, refl, sym, ap, ◌∙◌, inl, inr}
-use Rattle.std.specs.Prelude.{◌==◌, ◌&&◌, not, if◌then◌else◌, All}
+use Rattle.std.proofs.Common.{◌≡◌, ℕ, Bool, true, false, List, [], ◌∷◌, map, Option, Some, refl, sym, ap, ◌∙◌, inl, inr}
+use Rattle.std.specs.Prelude.{◌⊎◌, ◌==◌, ◌&&◌, not, if◌then◌else◌, All}
 use Rattle.std.specs.List.{Contains, list_all, list_any}
 use Rattle.std.specs.Option.{option_map}
 use Rattle.std.proofs.lemmas.Bool.{and_from, and_parts, cases_Bool, cond-false, cond-true, eqb-true, or_left}
 use Rattle.std.proofs.lemmas.List.Elements.{All-contains}
 use Rattle.qg_num.specs.declared.counters.Counters.{Counters}
 use Rattle.qg_node.specs.declared.node.Node.{Node}
-use Rattle.qg_items.specs.declared.tree.TheConstants.{TOP_LEVEL}
 use Rattle.qg_super.specs.Places.{is_slot}
 use Rattle.qg_image.specs.Table.{has_key}
 use Rattle.qg_state.specs.declared.quota.Group.{Group}
 use Rattle.qg_state.specs.declared.quota.Quota.{Quota}
 use Rattle.qg_state.specs.Counts.{direct_count}
-use Rattle.qg_state.specs.Members.{hierarchy_of}
+use Rattle.qg_state.specs.Members.{Hierarchy, hierarchy_of}
 use Rattle.qg_state.specs.Space.{is_free_slot, present_extents}
-use Rattle.qg_state.specs.State.{State, layout_of, next_generation}
+use Rattle.qg_state.specs.State.{Layout, State, layout_of, next_generation}
 use Rattle.qg_state.proofs.Contained.{contains_here, contains_later}
 use Rattle.qg_verdict.specs.ImageState.{addresses_of, as_committed}
-use Rattle.qg_machine.specs.GroupChange.{recounted, same_counters}
+use Rattle.qg_machine.specs.GroupChange.{recounted, recounted_group, same_counters}
 use Rattle.qg_machine.specs.Layout.{is_other_slot}
 use Rattle.qg_machine.specs.Step.{Commits, settled}
 use Rattle.qg_other_trees.specs.declared.laying.OtherTrees.{OtherTrees}
 use Rattle.qg_other_trees.specs.Sound.{committed}
-use Rattle.qg_other_trees.specs.Telling.{AreToldBy, one_group}
+use Rattle.qg_other_trees.specs.Telling.{AreToldBy}
 use Rattle.qg_other_trees.specs.Trees.{stamp_after}
+use Rattle.qg_fs_step.specs.Keeping.{AreDirectCounts, group_after, quota_after}
 
 -- ---- the group
 
-abbrev group_entry : Counters → ℕ → ℕ × Group
-group_entry counters stamp =
-    (TOP_LEVEL, record { counters = counters; max_rfer = None; max_excl = None; stamp = stamp })
+-- a group is counted as the machine counts it
+group_is : (layout : Layout) (hierarchy : Hierarchy) (generation : ℕ) (counters : ℕ → Counters) (entry : ℕ × Group)
+    → counters entry.0 ≡ direct_count layout hierarchy entry.0
+    → recounted_group layout hierarchy generation entry ≡ group_after generation counters entry
+group_is layout hierarchy generation counters entry count =
+    ap (λ (c : Counters). if same_counters entry.1.counters c then entry
+    else (entry.0, record entry.1 { counters = c; stamp = generation })) (sym count)
+    ∙ entry_is (counters entry.0) (cases_Bool (same_counters entry.1.counters (counters entry.0))) where
+      entry_is : (new : Counters)
+          → (same_counters entry.1.counters new ≡ true) ⊎ (same_counters entry.1.counters new ≡ false)
+          → (if same_counters entry.1.counters new then entry
+          else (entry.0, record entry.1 { counters = new; stamp = generation }))
+          ≡ (
+            entry.0,
+            record entry.1 {
+              counters = new;
+              stamp = stamp_after entry.1.counters new entry.1.stamp generation;
+            },
+          )
+      entry_is new (inl same) =
+          let parts = and_parts (entry.1.counters.rfer == new.rfer) (entry.1.counters.excl == new.excl) same in
+          let rfer = eqb-true entry.1.counters.rfer new.rfer parts.0 in
+          let excl = eqb-true entry.1.counters.excl new.excl parts.1 in
+          let alike : entry.1.counters ≡ new = λ i. record { rfer = rfer i; excl = excl i } in
+          let stays : stamp_after entry.1.counters new entry.1.stamp generation ≡ entry.1.stamp =
+          cond-true _ _ _ same in
+          cond-true _ _ _ same
+          ∙ (λ i. (entry.0, record entry.1 { counters = alike i; stamp = sym stays i }))
+      entry_is new (inr differ) =
+          let goes : stamp_after entry.1.counters new entry.1.stamp generation ≡ generation =
+          cond-false _ _ _ differ in
+          cond-false _ _ _ differ
+          ∙ (λ i. (entry.0, record entry.1 { counters = new; stamp = sym goes i }))
 
-entry_is : (old new : Counters) (stamp generation : ℕ)
-    → (if same_counters old new then group_entry old stamp else group_entry new generation)
-    ≡ group_entry new (stamp_after old new stamp generation)
-entry_is old new stamp generation = elim (cases_Bool (same_counters old new)) [
-  | inl same ↦
-      let parts = and_parts (old.rfer == new.rfer) (old.excl == new.excl) same in
-      let rfer = eqb-true old.rfer new.rfer parts.0 in
-      let excl = eqb-true old.excl new.excl parts.1 in
-      let alike : old ≡ new = λ i. record { rfer = rfer i; excl = excl i } in
-      let stays : stamp_after old new stamp generation ≡ stamp = cond-true _ _ _ same in
-      cond-true _ _ _ same ∙ ap (λ (counters : Counters). group_entry counters stamp) alike
-      ∙ ap (λ (n : ℕ). group_entry new n) (sym stays)
-  | inr differ ↦
-      let goes : stamp_after old new stamp generation ≡ generation = cond-false _ _ _ differ in
-      cond-false _ _ _ differ ∙ ap (λ (n : ℕ). group_entry new n) (sym goes)
-]
+map_each : {A B : Type 0} (f g : A → B) (xs : List A) → ((x : A) → Contains xs x → f x ≡ g x) → map f xs ≡ map g xs
+map_each f g [] same = refl
+map_each {A} {B} f g (x ∷ xs) same =
+    ap (λ (y : B). y ∷ map f xs) (same x (contains_here x xs))
+    ∙ ap (λ (ys : List B). g x ∷ ys) (map_each f g xs (λ y has. same y (contains_later x xs y has)))
 
-abbrev quota_with : ℕ × Group → Quota
-quota_with entry = record { groups = entry ∷ []; pairs = [] }
-
-module _ (old : State) (counters_old counters : Counters) (stamp_old : ℕ)
-    (quota : old.quota ≡ Some (one_group counters_old stamp_old))
-    (count : counters
-    ≡ direct_count (layout_of old) (hierarchy_of (one_group counters_old stamp_old)) TOP_LEVEL) where
-  abbrev stamp : ℕ
-  stamp = stamp_after counters_old counters stamp_old (next_generation old)
-
-  recounted_is : recounted (layout_of old) (next_generation old) (one_group counters_old stamp_old)
-      ≡ one_group counters stamp
+module _ (old : State) (quota : Quota) (counters : ℕ → Counters) (is : old.quota ≡ Some quota)
+    (counts : AreDirectCounts old quota counters) where
+  recounted_is : recounted (layout_of old) (next_generation old) quota
+      ≡ quota_after (next_generation old) counters quota
   unfolding recounted
   recounted_is =
-      ap quota_with
-      (ap (λ (c : Counters). if same_counters counters_old c then group_entry counters_old stamp_old
-      else group_entry c (next_generation old)) (sym count)
-      ∙ entry_is counters_old counters stamp_old (next_generation old))
+      ap (λ (groups : List (ℕ × Group)). record quota { groups = groups })
+      (map_each (recounted_group (layout_of old) (hierarchy_of quota) (next_generation old))
+      (group_after (next_generation old) counters) quota.groups
+      (λ entry has. group_is (layout_of old) (hierarchy_of quota) (next_generation old) counters entry
+      (counts entry has)))
 
-  quota_is : option_map (recounted (layout_of old) (next_generation old)) old.quota ≡ Some (one_group counters stamp)
+  quota_is : option_map (recounted (layout_of old) (next_generation old)) old.quota
+      ≡ Some (quota_after (next_generation old) counters quota)
   quota_is =
-      ap (option_map (recounted (layout_of old) (next_generation old))) quota
+      ap (option_map (recounted (layout_of old) (next_generation old))) is
       ∙ ap (λ (q : Quota). Some q) recounted_is
 
   abbrev with_quota : List Node → Option Quota → State
@@ -91,7 +104,7 @@ module _ (old : State) (counters_old counters : Counters) (stamp_old : ℕ)
   settled_is others = refl
 
   pub committed-is : (others : List Node)
-      → committed others old counters stamp ≡ as_committed others (settled old)
+      → committed others old (quota_after (next_generation old) counters quota) ≡ as_committed others (settled old)
   committed-is others = ap (with_quota others) (sym quota_is) ∙ settled_is others
 
 -- ---- slots
@@ -109,19 +122,17 @@ each_true test (x ∷ xs) each =
     and_from (test x) (list_all test xs) (each x (contains_here x xs))
     (each_true test xs (λ y has. each y (contains_later x xs y has)))
 
-pub commit-of-machine : (old : State) (counters_old counters : Counters) (stamp_old : ℕ) (slots : List ℕ)
-    (trees : OtherTrees) (others : List Node) → old.quota ≡ Some (one_group counters_old stamp_old)
-    → counters ≡ direct_count (layout_of old) (hierarchy_of (one_group counters_old stamp_old)) TOP_LEVEL
+pub commit-of-machine : (old : State) (quota : Quota) (counters : ℕ → Counters) (slots : List ℕ) (trees : OtherTrees)
+    (others : List Node) → old.quota ≡ Some quota → AreDirectCounts old quota counters
     → All (λ slot. is_free_slot old slot ≡ true) slots
-    → AreToldBy (committed others old counters (stamp_after counters_old counters stamp_old (next_generation old)))
-    slots trees others
-    → Commits old (committed others old counters (stamp_after counters_old counters stamp_old (next_generation old)))
-commit-of-machine old counters_old counters stamp_old slots trees others quota count free told = record {
+    → AreToldBy (committed others old (quota_after (next_generation old) counters quota)) slots trees others
+    → Commits old (committed others old (quota_after (next_generation old) counters quota))
+commit-of-machine old quota counters slots trees others is counts free told = record {
   others = others;
   slots = each_true (is_other_slot old old) (addresses_of others)
       (λ at has. slot_other old at
       (All-contains (λ slot. is_free_slot old slot ≡ true) slots at free (told.within at has)));
   apart = told.apart;
   trees = told.tell;
-  committed = committed-is old counters_old counters stamp_old quota count others;
+  committed = committed-is old quota counters is counts others;
 }

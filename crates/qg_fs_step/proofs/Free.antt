@@ -1,4 +1,4 @@
--- What is free of a tree's space is free of the state that it is kept of.
+-- What is free of the trees' space is free of the state that they are kept of.
 use Rattle.std.proofs.Common.{◌≡◌, ℕ, Bool, true, false, List, [], ◌∷◌, ◌++◌, Option, Some, refl, sym, ap, ◌∙◌, inl}
 use Rattle.std.proofs.Common.{inr}
 use Rattle.std.specs.Prelude.{◌==◌, ◌&&◌, ◌||◌, not, is_some}
@@ -15,7 +15,8 @@ use Rattle.qg_space.specs.Holding.{Holding, free_slots, is_free_slot}
 use Rattle.qg_space.proofs.Agreements.{first_run-state, free_slots-state, is_free_run-state, is_free_slot-state}
 use Rattle.qg_fs_tree.specs.declared.fs_tree.FsTree.{FsTree}
 use Rattle.qg_fs_step.specs.Keeping.{IsKept, KeepsState, TellsSpace}
-use Rattle.qg_fs_step.proofs.Kept.{holding-told, taken-told}
+use Rattle.qg_fs_step.proofs.Kept.{taken-told}
+use Rattle.qg_fs_step.proofs.Runs.{holding-told}
 
 key_listed : {A : Type 0} (n : ℕ) (entries : List (ℕ × A))
     → has_key n entries ≡ list_any (λ slot. slot == n) (keys_of entries)

@@ -1,6 +1,12 @@
 pub mod Kept
+pub mod Numbers
+pub mod Named
+pub mod Runs
 pub mod Free
 pub mod Others
-pub mod Commit
-pub mod Counts
+pub mod OtherWeight
+pub mod Reach
 pub mod Followed
+pub mod Commit
+pub mod HeldTrees
+pub mod HeldStands

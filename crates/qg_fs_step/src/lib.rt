@@ -1,8 +1,9 @@
-//! Laws: that a subvolume's tree, as commands and commits leave it, makes the machine's steps. It has no code.
+//! Laws: that the trees of subvolumes, as commands and commits leave them, make the machine's steps. It has no code.
 #![tactic(auto)]
 
 mod laws;
 
 pub use laws::{
-    commit_is_one_of_the_machine, direct_counts, file_command_copies, numbers_are_the_trees,
+    commit_is_one_of_the_machine, file_command_copies, held_state_is_kept, numbers_are_the_trees,
+    reach_is_the_trees, state_is_held,
 };

@@ -1,5 +1,6 @@
 -- An edit of a tree that stands, as its contract says what was done: the tree stands then.
-use Rattle.std.proofs.Common.{◌≡◌, ℕ, ◌+◌, ◌<◌, ◌≤◌, List, Option, Some, None, refl, sym, subst, ◌∙◌}
+use Rattle.std.proofs.Common.{◌≡◌, ℕ, ◌+◌, ◌<◌, ◌≤◌, List, Option, Some, None, refl, sym, subst}
+use Rattle.std.specs.List.{filter_map}
 use Rattle.std.specs.Prelude.{IsOk, IsTrue, MatchOption, Result, Ok, Err}
 use Rattle.qg_device.specs.History.{Event}
 use Rattle.qg_num.specs.declared.piece.Piece.{Piece}
@@ -11,18 +12,19 @@ use Rattle.qg_super.specs.Places.{second_place}
 use Rattle.qg_verdict.specs.declared.tree.Tree.TheVariants.{Files}
 use Rattle.qg_verdict.specs.Walk.{is_owner}
 use Rattle.qg_blocks.specs.Told.{BreaksNone}
-use Rattle.qg_ground.specs.Changes.{IsOwnedBy}
 use Rattle.qg_ground.specs.Land.{IsDrafted, Rests}
 use Rattle.qg_ground.specs.Tellings.{Telling}
 use Rattle.qg_ground.proofs.Lands.{Rests-draft}
 use Rattle.qg_extents.specs.Table.{IsTable}
-use Rattle.qg_tree_edits.specs.Counting.{IsTreeTold, committed_at}
+use Rattle.qg_items.specs.declared.extent.Reference.{Reference}
+use Rattle.qg_tree_edits.specs.Counting.{IsTreeTold}
 use Rattle.qg_tree_edits.specs.Rooting.{IsReplaced, LeavesBe, StaysTree}
-use Rattle.qg_tree_edits.proofs.Committed.{committed-is}
 use Rattle.qg_tree_refs.specs.Following.{Follows}
 use Rattle.qg_tree_refs.specs.Settled.{IsSettled}
 use Rattle.qg_fs_tree.specs.declared.fs_tree.FsTree.{FsTree}
-use Rattle.qg_fs_tree.specs.Standing.{IsEditedTo, IsSubvolume, Stands}
+use Rattle.qg_fs_tree.specs.Standing.{IsEditedTo, IsSubvolume, Stands, name_told, names_times}
+use Rattle.qg_fs_tree.proofs.Owned.{AreOwned-after, ComesOf}
+use Rattle.qg_fs_tree.proofs.Beside.{own_ways}
 use Rattle.qg_fs_tree.proofs.Edited.{IsEditedTo-told, IsToldOf, fits-after}
 use Rattle.qg_fs_tree.proofs.Told.{true-told}
 
@@ -35,16 +37,16 @@ module _ (old new : FsTree) (history : Option (List Event)) (bytes : ℕ) (items
   drafted : IsDrafted old.land old.tree.next
   drafted = subvolume.editable.drafted
 
-  is_told : IsToldOf old new history tellings
+  is_told : IsToldOf old new history names tellings
   is_told = record {
     turns = told.turns;
     new_there = told.new;
     bare = told.bare;
-    truth = true-told old history items names stands drafted (committed_at old.land history)
-        (λ q node held is. committed-is old.land history q held ∙ is) tellings told.as_was told.down told.unheld;
+    truth = true-told old history items names stands drafted table tellings (own_ways old history) told.as_was told.down
+        told.unheld told.new;
     as_was = told.as_was;
     few_come = told.few_come;
-    few = told.few_made;
+    few_made = told.few_made;
   }
 
   -- no misfit was met
@@ -54,9 +56,13 @@ module _ (old new : FsTree) (history : Option (List Event)) (bytes : ℕ) (items
   module _ (later : Option (List Event)) (left most : ℕ)
       (replaced : IsReplaced Files old.tree new.tree old.land new.land history left_items)
       (leaves : LeavesBe old.land new.land history later bytes left old.tree.next)
-      (stays : StaysTree most old.tree new.tree) (owned : IsOwnedBy old.tree.owner old.land new.land)
+      (trees : new.others ≡ old.others)
+      (stays : StaysTree most old.tree new.tree) (comes : ComesOf old new)
       (settled : new.refs.misfit ≡ None → IsSettled new.refs new.land later)
-      (new_table : IsTable new.refs.refs) where
+      (new_table : IsTable new.refs.refs)
+      (within : (at : ℕ) (reference : Reference)
+      → names_times old.tree.owner (filter_map name_told left_items) at reference
+      ≤ names_times old.tree.owner names at reference) where
     pub IsEditedTo-called : IsEditedTo old new history left_items names (old.tree.height + 2)
     IsEditedTo-called =
         let rests = subst (λ (h : Option (List Event)). Rests old.land new.land h old.tree.next) leaves.history
@@ -64,7 +70,8 @@ module _ (old new : FsTree) (history : Option (List Event)) (bytes : ℕ) (items
         let settled_then = subst (λ (h : Option (List Event)). IsSettled new.refs new.land h) leaves.history
         (settled fits-called) in
         IsEditedTo-told old new history items left_items names tellings stands drafted table is_told follows replaced
-        rests stays.owner stays.next owned.each rests.runs settled_then new_table
+        rests trees stays.owner stays.next
+        (AreOwned-after old new history items left_items names stands drafted replaced comes) rests.runs settled_then within new_table
 
 -- ---- what stands over any disk
 

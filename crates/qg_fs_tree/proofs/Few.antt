@@ -1,33 +1,33 @@
--- How many slots the present state has, by ways to them.
-use Rattle.std.proofs.Common.{◌≡◌, ℕ, zero, suc, ◌+◌, ◌-◌, ◌*◌, ◌<◌, ◌≤◌, Bool, true, List, [], ◌∷◌, arith, refl, ap, inl, inr}
+-- How many slots the tree at hand reaches, by ways to them.
+use Rattle.std.proofs.Common.{◌≡◌, ℕ, zero, suc, ◌+◌, ◌-◌, ◌*◌, ◌<◌, ◌≤◌, List, [], ◌∷◌, Option, arith, refl, inl, inr}
 use Rattle.std.specs.Prelude.{◌⊎◌, cond, nat_lt}
 use Rattle.std.specs.List.{sum_by}
 use Rattle.std.proofs.lemmas.List.Sums.{sum_by-cons}
+use Rattle.qg_device.specs.History.{Event}
 use Rattle.qg_node.specs.Nodes.{header_of}
-use Rattle.qg_super.specs.Places.{is_slot}
-use Rattle.qg_space.specs.Holding.{Holding, has_slot}
 use Rattle.qg_ground.specs.Tellings.{Telling}
 use Rattle.qg_ground.specs.Tellings.Telling.{Copied, Made, Left}
 use Rattle.qg_tree_edits.specs.Counting.{IsTimely, Turns, gains, losses, made_in, one}
 use Rattle.qg_tree_edits.proofs.Ways.{one-here}
-use Rattle.qg_fs_tree.specs.Standing.{every_slot, taken_slots}
-use Rattle.qg_fs_tree.proofs.Places.{slots-same}
-use Rattle.qg_fs_tree.proofs.SlotSums.{IsOnce, over, over-alike, over-moved, over-none, over-one}
+use Rattle.qg_fs_tree.specs.declared.fs_tree.FsTree.{FsTree}
+use Rattle.qg_fs_tree.specs.Standing.{own_slots}
+use Rattle.qg_fs_tree.proofs.Beside.{own_ways, slots_of}
+use Rattle.qg_fs_tree.proofs.SlotSums.{IsOnce, over, over-alike, over-moved, over-none, over-one, sums-same}
 use Rattle.qg_fs_tree.proofs.Turned.{losses-few, turned_by}
 
--- as many as ways, where a slot is taken exactly where the one way leads to it
-taken_one : (w : ℕ) (has : Bool) → w ≤ 1 → has ≡ nat_lt 0 w → cond has 1 0 ≡ w * 1
-taken_one zero has most is = ap (λ (b : Bool). cond b 1 0) is
-taken_one (suc zero) has most is = ap (λ (b : Bool). cond b 1 0) is
-taken_one (suc (suc n)) has most is = absurd (omega (arith, most))
+-- 1 where the one way leads
+one_if_led : (w : ℕ) → w ≤ 1 → cond (nat_lt 0 w) 1 0 ≡ w * 1
+one_if_led zero most = refl
+one_if_led (suc zero) most = refl
+one_if_led (suc (suc n)) most = absurd (omega (arith, most))
 
-pub taken-ways : (holding : Holding) (w : ℕ → ℕ) → 0 < holding.sizes.nodesize → ((at : ℕ) → w at ≤ 1)
-    → ((at : ℕ) → is_slot holding.sizes at ≡ true → has_slot holding at ≡ nat_lt 0 (w at))
-    → taken_slots holding ≡ over (every_slot holding.sizes) w (λ s. 1)
-unfolding taken_slots
-taken-ways holding w some single has =
-    slots-same holding.sizes (λ (s : ℕ). cond (has_slot holding s) 1 0) (λ (s : ℕ). w s * 1) some
-    (λ at is. taken_one (w at) (has_slot holding at) (single at) (has at is))
+-- the tree at hand reaches as many slots as ways lead to
+pub own-ways : (fs : FsTree) (history : Option (List Event)) → ((at : ℕ) → own_ways fs history at ≤ 1)
+    → own_slots fs history ≡ over (slots_of fs) (own_ways fs history) (λ s. 1)
+unfolding own_slots
+own-ways fs history single =
+    sums-same (λ (s : ℕ). cond (nat_lt 0 (own_ways fs history s)) 1 0) (λ (s : ℕ). own_ways fs history s * 1)
+    (slots_of fs) (λ s. one_if_led (own_ways fs history s) (single s))
 
 module _ (slots : List ℕ) (IsPlace : ℕ → Type 0) (once : (at : ℕ) → IsPlace at → IsOnce slots at) where
   -- how many ways there are in all

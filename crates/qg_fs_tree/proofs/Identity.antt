@@ -17,6 +17,7 @@ use Rattle.qg_items.specs.declared.extent.Reference.{Reference}
 use Rattle.qg_super.specs.declared.superblock.Super.{Super}
 use Rattle.qg_verdict.specs.declared.tree.Tree.{Tree}
 use Rattle.qg_state.specs.Owed.{Owing}
+use Rattle.qg_cow.specs.Children.{keyed_children}
 use Rattle.qg_descent.specs.Branch.{AreBranches, IsBranch, IsPointed}
 use Rattle.qg_descent.specs.Tree.{Reaches}
 use Rattle.qg_descent.proofs.BranchApart.{branches-apart}
@@ -31,7 +32,11 @@ use Rattle.qg_fs_tree.specs.Standing.{name_of, name_told}
 use Rattle.qg_fs_tree.proofs.Keyed.{keyed-none, keyed-plus, keyed-same, keyed_ways}
 use Rattle.qg_fs_tree.proofs.Owings.{named_by, pointing, times-keyed}
 use Rattle.qg_fs_tree.proofs.SlotSums.{IsOnce, one-most, over, over-each, over-one, over-weights}
-use Rattle.qg_fs_tree.proofs.Turned.{keyed_in}
+
+-- what a node that is told would owe as one of an owner that is not full
+abbrev pub keyed_told : ℕ → Option Node → List Owing
+keyed_told owner None = []
+keyed_told owner (Some node) = keyed_children node owner
 
 -- ---- sums over a tree
 
@@ -84,13 +89,13 @@ named_append owner xs ys at reference =
 module _ (tree : Tree) (super : Super) (nodes : ℕ → Option Node) (owner at : ℕ) (reference : Reference) where
   -- what a node would owe
   abbrev owes : ℕ → ℕ
-  owes s = times (keyed_in owner (nodes s)) at reference
+  owes s = times (keyed_told owner (nodes s)) at reference
 
   owes_told : (from : ℕ) (node : Node) → nodes from ≡ Some node
       → owes from ≡ keyed_ways owner (pointing (own_pointers node)) at reference + times
       (named_by owner (own_items node)) at reference
   owes_told from node is =
-      ap (λ (o : Option Node). times (keyed_in owner o) at reference) is ∙ times-keyed node owner at reference
+      ap (λ (o : Option Node). times (keyed_told owner o) at reference) is ∙ times-keyed node owner at reference
 
   -- pointers, and the items under them
   branches_keyed : (level : ℕ)

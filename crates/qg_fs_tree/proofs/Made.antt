@@ -1,6 +1,6 @@
 -- Slots that the present state has and had not before: how many there are after an edit, and after one and another; and
 -- how many slots fewer are free.
-use Rattle.std.proofs.Common.{◌≡◌, ℕ, zero, suc, ◌+◌, ◌*◌, ◌<◌, ◌≤◌, Bool, true, false, List, [], ◌∷◌, ◌++◌, ◌==◌, arith, refl, sym, ap, ◌∙◌}
+use Rattle.std.proofs.Common.{◌≡◌, ℕ, zero, suc, ◌+◌, ◌*◌, ◌<◌, ◌≤◌, Bool, true, false, List, [], ◌∷◌, ◌==◌, arith, refl, sym, ap, ◌∙◌}
 use Rattle.std.specs.Prelude.{◌&&◌, ◌||◌, cond, nat_lt, not}
 use Rattle.std.specs.List.{list_any, sum_by}
 use Rattle.std.proofs.lemmas.Bool.{lt-ltb}
@@ -148,7 +148,7 @@ module _ (sizes : Sizes) where
       let last = sum_by-cons g (slot_at sizes from) (slots_from sizes (from + 1) count) in
       omega (arith, here, rest, first, last)
 
-  slots-less : (f g : ℕ → ℕ) → 0 < sizes.nodesize → ((at : ℕ) → is_slot sizes at ≡ true → f at ≤ g at)
+  pub slots-less : (f g : ℕ → ℕ) → 0 < sizes.nodesize → ((at : ℕ) → is_slot sizes at ≡ true → f at ≤ g at)
       → sum_by f (every_slot sizes) ≤ sum_by g (every_slot sizes)
   slots-less f g some less = less_from f g 0 sizes.slots
       (λ k low high. less (slot_at sizes k) (is_slot-slot_at sizes k some (omega (arith, high))))
@@ -162,14 +162,16 @@ turns-gain (telling ∷ tellings) w v turns q =
     let sum = sum_by-cons (λ (t : Telling). gains t q) telling tellings in
     omega (arith, rest, sum)
 
--- a slot that is new is one that a way leads to and none did
-new_one : (w v g : ℕ) (had has : Bool) → had ≡ nat_lt 0 w → has ≡ nat_lt 0 v → v ≤ w + g
+-- a slot that is new is one that a way leads to and none did; what is taken besides was taken before
+new_one : (w v g : ℕ) (there had has : Bool) → had ≡ (nat_lt 0 w || there) → has ≡ (nat_lt 0 v || there) → v ≤ w + g
     → cond (has && not had) 1 0 ≤ g * 1
-new_one w v g had false was is gained = omega arith
-new_one w v g true true was is gained = omega arith
-new_one zero zero g false true was is gained = let wrong : true ≡ false = is in cc
-new_one zero (suc v) g false true was is gained = omega (arith, gained)
-new_one (suc w) v g false true was is gained = let wrong : false ≡ true = was ∙ lt-ltb 0 (suc w) (omega arith) in cc
+new_one w v g there had false was is gained = omega arith
+new_one w v g there true true was is gained = omega arith
+new_one zero zero g true false true was is gained = absurd cc
+new_one zero zero g false false true was is gained = absurd cc
+new_one zero (suc v) g there false true was is gained = omega (arith, gained)
+new_one (suc w) v g there false true was is gained =
+    let wrong : false ≡ true = was ∙ ap (λ (b : Bool). b || there) (lt-ltb 0 (suc w) (omega arith)) in absurd cc
 
 module _ (slots : List ℕ) (IsPlace : ℕ → Type 0) (once : (at : ℕ) → IsPlace at → IsOnce slots at) where
   gained_by : (telling : Telling) → ((q : ℕ) → 0 < gains telling q → IsPlace q)
@@ -203,8 +205,9 @@ module _ (slots : List ℕ) (IsPlace : ℕ → Type 0) (once : (at : ℕ) → Is
       )
 
 module _ (old new : Holding) (w v : ℕ → ℕ) (tellings : List Telling) (some : 0 < new.sizes.nodesize)
-    (had : (at : ℕ) → is_slot new.sizes at ≡ true → has_slot old at ≡ nat_lt 0 (w at))
-    (has : (at : ℕ) → is_slot new.sizes at ≡ true → has_slot new at ≡ nat_lt 0 (v at))
+    (there : ℕ → Bool)
+    (had : (at : ℕ) → is_slot new.sizes at ≡ true → has_slot old at ≡ (nat_lt 0 (w at) || there at))
+    (has : (at : ℕ) → is_slot new.sizes at ≡ true → has_slot new at ≡ (nat_lt 0 (v at) || there at))
     (turns : Turns w tellings v) (IsPlace : ℕ → Type 0)
     (once : (at : ℕ) → IsPlace at → IsOnce (every_slot new.sizes) at)
     (placed : (q : ℕ) → 0 < sum_by (λ telling. gains telling q) tellings → IsPlace q) where
@@ -216,7 +219,7 @@ module _ (old new : Holding) (w v : ℕ → ℕ) (tellings : List Telling) (some
       let less : made_slots old new ≤ sum_by (λ (s : ℕ). gained s * 1) (every_slot new.sizes) =
       slots-less new.sizes (λ (s : ℕ). cond (has_slot new s && not (has_slot old s)) 1 0)
       (λ (s : ℕ). gained s * 1) some
-      (λ at is. new_one (w at) (v at) (gained at) (has_slot old at) (has_slot new at) (had at is) (has at is)
+      (λ at is. new_one (w at) (v at) (gained at) (there at) (has_slot old at) (has_slot new at) (had at is) (has at is)
       (turns-gain tellings w v turns at)) in
       let each : sum_by (λ (s : ℕ). gained s * 1) (every_slot new.sizes)
       ≡ sum_by (λ (t : Telling). over (every_slot new.sizes) (gains t) (λ (s : ℕ). 1)) tellings =

@@ -1,88 +1,148 @@
--- What an edit of a tree tells its book is true to the nodes with the full mark: the last commit holds them.
-use Rattle.std.proofs.Common.{◌≡◌, ℕ, suc, List, [], ◌∷◌, Option, Some, None, arith, refl}
-use Rattle.std.specs.Prelude.{Contains, if◌then◌else◌, is_some}
-use Rattle.std.specs.List.{All}
+-- What an edit of a tree tells its book is true to what is fixed: what both reach the last commit holds.
+use Rattle.std.proofs.Common.{◌≡◌, ℕ, suc, ◌<◌, Bool, true, false, List, [], ◌∷◌, ◌++◌, Option, Some, None, arith, refl, sym, ap, ◌∙◌, inl, inr}
+use Rattle.std.specs.Prelude.{◌⊎◌, ◌==◌, not, IsTrue, if◌then◌else◌, is_some}
+use Rattle.std.specs.List.{All, Contains, list_any, sum_by}
+use Rattle.std.proofs.lemmas.Bool.{and_parts, eq-eqb}
+use Rattle.std.proofs.lemmas.List.Elements.{Contains-append_left, Contains-append_right}
+use Rattle.std.proofs.lemmas.List.Sums.{sum_by-cons}
 use Rattle.qg_device.specs.History.{Event}
 use Rattle.qg_num.specs.declared.piece.Piece.{Piece}
 use Rattle.qg_node.specs.declared.item.Item.{Item}
 use Rattle.qg_node.specs.declared.node.Node.{Node}
 use Rattle.qg_node.specs.Nodes.{header_of}
 use Rattle.qg_blocks.specs.Told.{fresh_at}
+use Rattle.qg_super.specs.Places.{is_slot}
+use Rattle.qg_space.specs.Holding.{Holding, has_slot, is_free_slot}
+use Rattle.qg_space.proofs.Members.{one_passes, passes_one}
 use Rattle.qg_ground.specs.Land.{IsDrafted}
 use Rattle.qg_ground.specs.Tellings.{Telling}
 use Rattle.qg_ground.specs.Tellings.Telling.{Copied, Made, Left}
-use Rattle.qg_tree_edits.specs.Counting.{Downward, IsAsWas, IsDownward, IsUnheld, clean_at}
+use Rattle.qg_extents.specs.Table.{IsTable}
+use Rattle.qg_tree_edits.specs.Counting.{Downward, IsAsWas, IsDownward, IsUnheld, clean_at, committed_at, gains}
+use Rattle.qg_tree_edits.proofs.Committed.{committed-are}
+use Rattle.qg_tree_edits.proofs.Ways.{one-here, ways-some}
 use Rattle.qg_fs_tree.specs.declared.fs_tree.FsTree.{FsTree}
-use Rattle.qg_fs_tree.specs.Standing.{Stands, nodes_of}
-use Rattle.qg_fs_tree.proofs.Before.{full-clean, full-held, full-parts, full_in_tree}
-use Rattle.qg_fs_tree.proofs.Counts.{mark_of, ways_in}
-use Rattle.qg_fs_tree.proofs.Turned.{AreTrueTo, IsTrueTo, turned_by}
+use Rattle.qg_fs_tree.specs.Standing.{IsElsewhere, IsReached, Stands, nodes_of}
+use Rattle.qg_fs_tree.proofs.Before.{beside_parts, both-clean, foreign-clean, foreign_is, held}
+use Rattle.qg_fs_tree.proofs.Beside.{around_of, beside_in, foreign_in, own_ways}
+use Rattle.qg_fs_tree.proofs.Fixed.{taken-beside}
+use Rattle.qg_fs_tree.proofs.Turned.{AreTrueTo, Around, IsTrueTo, turned_by}
 
--- ---- one telling
+unless : (fresh : Bool) (o : Option Node) (node : Node) → (if fresh then None else o) ≡ Some node → o ≡ Some node
+unless true o node is = absurd cc
+unless false o node is = is
 
-none_never : (o : Option Node) → ((node : Node) → o ≡ Some node → ⊥) → o ≡ None
+none_never : {A : Type 0} (o : Option A) → ((x : A) → o ≡ Some x → ⊥) → o ≡ None
 none_never None never = refl
-none_never (Some node) never = absurd (never node refl)
+none_never (Some x) never = absurd (never x refl)
 
-one_node : (place : Option Node) (node other : Node) → place ≡ Some node → place ≡ Some other → other ≡ node
-one_node place node other is was = cc
+-- a slot that is free is not taken
+pub free-untaken : (holding : Holding) (q : ℕ) → is_free_slot holding q ≡ true → has_slot holding q ≡ true → ⊥
+unfolding is_free_slot
+free-untaken holding q free has =
+    let taken = list_any (λ (slot : ℕ). slot == q) (holding.slots ++ holding.held_slots) in
+    let parts = and_parts (is_slot holding.sizes q) (not taken) free in
+    let found = one_passes (λ (slot : ℕ). slot == q) holding.slots has in
+    let some = passes_one (λ (slot : ℕ). slot == q) (holding.slots ++ holding.held_slots) found.0
+    (Contains-append_left holding.slots holding.held_slots found.0 found.1) found.2 in
+    let wrong : not true ≡ true = ap not (sym some) ∙ parts.1 in
+    absurd cc
 
-module _ (full nodes clean : ℕ → Option Node) (slots : List ℕ)
-    (among : (q : ℕ) (node : Node) → full q ≡ Some node → nodes q ≡ Some node)
-    (kept : (q : ℕ) (node : Node) → full q ≡ Some node → clean q ≡ Some node)
-    (held : (q : ℕ) (node : Node) → full q ≡ Some node → Contains slots q) where
-  true_one : (telling : Telling) (w : ℕ → ℕ) → IsAsWas nodes telling → IsDownward clean telling w
-      → IsUnheld slots telling → IsTrueTo full w telling
-  true_one (Copied node copy) w as_was down unheld = (
-    λ other is. one_node (nodes (header_of node).address) node other as_was
-        (among (header_of node).address other is),
-    λ q parent is some child. down q parent (kept q parent is) some child,
-  )
-  true_one (Made address) w as_was down unheld = tt
-  true_one (Left node) w as_was down unheld = (
-    none_never (full (header_of node).address) (λ other is. unheld (held (header_of node).address other is)),
-    λ q parent is some child. down q parent (kept q parent is) some child,
-  )
-
-  -- and a list of them
-  pub true-all : (tellings : List Telling) (w : ℕ → ℕ) → All (IsAsWas nodes) tellings → Downward clean w tellings
-      → All (IsUnheld slots) tellings → AreTrueTo full w tellings
-  true-all [] w as_was down unheld = tt
-  true-all (telling ∷ tellings) w as_was down unheld =
-      let first : IsAsWas nodes telling = as_was 0 telling (omega arith) in
-      let apart : IsUnheld slots telling = unheld 0 telling (omega arith) in (
-        true_one telling w first down.0 apart,
-        true-all tellings (turned_by telling w) (λ i d inside. as_was (suc i) d (omega (arith, inside))) down.1
-            (λ i d inside. unheld (suc i) d (omega (arith, inside))),
-      )
-
--- ---- the full nodes of a tree
-
-unless_fresh : (fresh told : Option Node) (node : Node) → fresh ≡ None → told ≡ Some node
-    → (if is_some fresh then None else told) ≡ Some node
-unless_fresh None told node none is = is
-unless_fresh (Some mine) told node none is = cc
+-- and the last commit does not hold it
+pub free-unheld : (holding : Holding) (q : ℕ) → is_free_slot holding q ≡ true → Contains holding.held_slots q → ⊥
+unfolding is_free_slot
+free-unheld holding q free has =
+    let taken = list_any (λ (slot : ℕ). slot == q) (holding.slots ++ holding.held_slots) in
+    let parts = and_parts (is_slot holding.sizes q) (not taken) free in
+    let some = passes_one (λ (slot : ℕ). slot == q) (holding.slots ++ holding.held_slots) q
+    (Contains-append_right holding.slots holding.held_slots q has) (eq-eqb q q refl) in
+    let wrong : not true ≡ true = ap not (sym some) ∙ parts.1 in
+    absurd cc
 
 module _ (fs : FsTree) (history : Option (List Event)) (items : List Item) (names : List (ℕ × Piece))
-    (stands : Stands fs history items names) (drafted : IsDrafted fs.land fs.tree.next) where
-  pub full-told : (q : ℕ) (node : Node) → full_in_tree fs history q ≡ Some node → nodes_of fs history q ≡ Some node
-  full-told q node is = (full-parts (ways_in fs history q) (nodes_of fs history q) (mark_of fs q) node is).1
+    (stands : Stands fs history items names) (drafted : IsDrafted fs.land fs.tree.next)
+    (table : IsTable fs.refs.refs) where
+  abbrev around : Around
+  around = around_of fs history names
 
-  pub full-as_was : (q : ℕ) (node : Node) → full_in_tree fs history q ≡ Some node
-      → clean_at fs.land history q ≡ Some node
-  full-as_was q node is =
-      unless_fresh (fresh_at fs.land.blocks.draft q) (nodes_of fs history q) node
-      (full-clean fs history items names stands drafted q node is) (full-told q node is)
+  pub free-apart : (q : ℕ) → IsTrue (is_free_slot fs.land.space q) → IsElsewhere fs history q → ⊥
+  free-apart q free there =
+      free-untaken fs.land.space q free (taken-beside fs history items names stands drafted table q there)
 
-  -- what is told of the tree is true to them
-  pub true-told : (clean : ℕ → Option Node)
-      → ((q : ℕ) (node : Node) → Contains fs.land.space.held_slots q → nodes_of fs history q ≡ Some node
-      → clean q ≡ Some node)
-      → (tellings : List Telling) → All (IsAsWas (clean_at fs.land history)) tellings
-      → Downward clean (ways_in fs history) tellings → All (IsUnheld fs.land.space.held_slots) tellings
-      → AreTrueTo (full_in_tree fs history) (ways_in fs history) tellings
-  true-told clean committed tellings as_was down unheld =
-      true-all (full_in_tree fs history) (clean_at fs.land history) clean fs.land.space.held_slots full-as_was
-      (λ q node is. committed q node (full-held fs history items names stands drafted q node is) (full-told q node is))
-      (λ q node is. full-held fs history items names stands drafted q node is)
-      tellings (ways_in fs history) as_was down unheld
+  -- what is beside, and reached, or what is foreign, the last commit holds
+  beside_none : (q : ℕ) → 0 < own_ways fs history q → (Contains fs.land.space.held_slots q → ⊥)
+      → beside_in fs history q ≡ None
+  beside_none q way unheld = none_never (beside_in fs history q) (λ p is.
+      let there = (beside_parts fs history items names stands drafted q p is).0 in
+      unheld (held fs history items names stands drafted q way
+      (both-clean fs history items names stands drafted q way there)))
+
+  foreign_none : (q : ℕ) → (Contains fs.land.space.held_slots q → ⊥) → foreign_in fs history q ≡ None
+  foreign_none q unheld = none_never (foreign_in fs history q) (λ p is.
+      let parts = foreign_is fs history items names stands drafted q p is in
+      unheld (held fs history items names stands drafted q parts.0
+      (foreign-clean fs history items names stands drafted q p is)))
+
+  came_alone : (q : ℕ) → IsTrue (is_free_slot fs.land.space q) ⊎ IsReached fs history q
+      → (Contains fs.land.space.held_slots q → ⊥)
+      → beside_in fs history q ≡ None
+  came_alone q (inl free) unheld = none_never (beside_in fs history q) (λ p is.
+      free-apart q free (beside_parts fs history items names stands drafted q p is).0)
+  came_alone q (inr reaches) unheld =
+      beside_none q (ways-some (nodes_of fs history) fs.tree.height fs.tree.address q reaches) unheld
+
+  came_unclean : (q : ℕ) → (Contains fs.land.space.held_slots q → ⊥) → committed_at fs.land history q ≡ None
+  came_unclean q unheld = none_never (committed_at fs.land history q) (λ node is.
+      unheld (committed-are fs.land history fs.tree.next drafted q node is).0)
+
+  as_told : (q : ℕ) (node : Node) (o : Option Node) (other : Node) → o ≡ nodes_of fs history q
+      → clean_at fs.land history q ≡ Some node → nodes_of fs history q ≡ Some other
+      → other ≡ node
+  as_told q node o other same as_was is =
+      let told_is = unless (is_some (fresh_at fs.land.blocks.draft q)) (nodes_of fs history q) node as_was in
+      let both : Some other ≡ Some node = sym is ∙ told_is in
+      cc
+
+  true_one : (telling : Telling) (w : ℕ → ℕ) → IsAsWas (clean_at fs.land history) telling
+      → IsDownward (committed_at fs.land history) telling w
+      → IsUnheld fs.land.space.held_slots telling
+      → ((q : ℕ) → 0 < gains telling q → IsTrue (is_free_slot fs.land.space q) ⊎ IsReached fs history q)
+      → IsTrueTo around w telling
+  true_one (Copied node copy) w as_was down unheld new = record {
+    foreign = λ p is.
+        as_told (header_of node).address node (nodes_of fs history (header_of node).address) p.node refl as_was
+        (foreign_is fs history items names stands drafted (header_of node).address p is).1;
+    beside = λ p is.
+        as_told (header_of node).address node (nodes_of fs history (header_of node).address) p.node refl as_was
+        (beside_parts fs history items names stands drafted (header_of node).address p is).1;
+    down = down;
+    alone = came_alone copy (new copy (let here = one-here copy copy refl in omega (arith, here))) unheld;
+    unclean = came_unclean copy unheld;
+  }
+  true_one (Made address) w as_was down unheld new = record {
+    alone = came_alone address (new address (let here = one-here address address refl in omega (arith, here))) unheld;
+    unclean = came_unclean address unheld;
+  }
+  true_one (Left node) w as_was down unheld new = record {
+    foreign = λ way. foreign_none (header_of node).address unheld;
+    alone = λ way. beside_none (header_of node).address way unheld;
+    down = down;
+  }
+
+  -- and a list of them
+  pub true-told : (tellings : List Telling) (w : ℕ → ℕ) → All (IsAsWas (clean_at fs.land history)) tellings
+      → Downward (committed_at fs.land history) w tellings
+      → All (IsUnheld fs.land.space.held_slots) tellings
+      → ((q : ℕ) → 0 < sum_by (λ telling. gains telling q) tellings
+      → IsTrue (is_free_slot fs.land.space q) ⊎ IsReached fs history q)
+      → AreTrueTo around w tellings
+  true-told [] w as_was down unheld new = tt
+  true-told (telling ∷ tellings) w as_was down unheld new =
+      let first : IsAsWas (clean_at fs.land history) telling = as_was 0 telling (omega arith) in
+      let apart : IsUnheld fs.land.space.held_slots telling = unheld 0 telling (omega arith) in
+      let sum = λ (q : ℕ). sum_by-cons (λ (t : Telling). gains t q) telling tellings in (
+        true_one telling w first down.0 apart (λ q some. new q (let s = sum q in omega (arith, s, some))),
+        true-told tellings (turned_by telling w) (λ i d inside. as_was (suc i) d (omega (arith, inside))) down.1
+            (λ i d inside. unheld (suc i) d (omega (arith, inside)))
+            (λ q some. new q (let s = sum q in omega (arith, s, some))),
+      )

@@ -8,7 +8,7 @@ ghost use Rattle.qg_blocks.specs.Told.{BreaksNone};
 ghost use Rattle.qg_space.specs.Holding.{free_slots};
 ghost use Rattle.qg_edit.specs.Edits.{has_key, with_item, without_key};
 ghost use Rattle.qg_tree_edits.specs.Rooting.{Grows, LeavesBe};
-ghost use Rattle.qg_fs_tree.specs.Standing.{IsEditedTo, IsSubvolume, Stands};
+ghost use Rattle.qg_fs_tree.specs.Standing.{AreNamed, IsEditedTo, IsSubvolume, Stands};
 
 use crate::FsTree;
 use qg_disk::Disk;
@@ -21,7 +21,7 @@ use std::alloc::Global;
 use std::sync::ledger::Ledger;
 
 impl FsTree {
-    /// Puts an item in its place. Its key must not be there, and its body has at most 1024 bytes.
+    /// Puts an item in its place. Its key must not be there, its body has at most 1024 bytes, and a piece that it tells is named.
     ///
     /// It takes at most 2·height + 3 slots. Over a disk that tells, no `Image` comes where the subvolume stands, the key is not there and
     /// 3·(height + 2) slots are free. After an `Err` nothing of it is of use.
@@ -37,11 +37,13 @@ impl FsTree {
         requires short { length body ≤ 1024 }
         ensures inserted { (items : List ItemValue) (names : List (ℕ × PieceValue)) → Stands self.old (D.history disk.old) items names
             → IsTrue (not (has_key key items))
+            → AreNamed self.old.tree.owner (with_item (record { key = key; body = body }) items) names
             → OnOk result (IsEditedTo self.old self.new (D.history disk.old) (with_item (record { key = key; body = body }) items) names (self.old.tree.height + 2)) }
         ensures sound { (events : List Event) → D.history disk.old ≡ Some events → (items : List ItemValue) (names : List (ℕ × PieceValue))
             → Stands self.old (D.history disk.old) items names → IsTrue (not (has_key key items))
             → 3 * (self.old.tree.height + 2) ≤ free_slots self.old.land.space → BreaksNone result }
         ensures grows { OnOk result (Grows 1 self.old.tree self.new.tree self.old.land self.new.land) }
+        ensures others { self.new.others ≡ self.old.others }
         ensures subvolume { IsSubvolume self.new (D.history disk.new) (D.size disk.new) }
         ensures rests { LeavesBe self.old.land self.new.land (D.history disk.old) (D.history disk.new) (D.size disk.old) (D.size disk.new)
             self.old.tree.next }
@@ -64,7 +66,7 @@ impl FsTree {
         self.fitting()
     }
 
-    /// Gives the item with a key another body, of at most 1024 bytes. The key must be there. Else as [`FsTree::insert`].
+    /// Gives the item with a key another body, of at most 1024 bytes. The key must be there, and a piece that the body tells is named. Else as [`FsTree::insert`].
     pub fn replace<D: Disk, L: Ledger>(
         &mut self,
         alloc: Global,
@@ -77,11 +79,13 @@ impl FsTree {
         requires short { length body ≤ 1024 }
         ensures replaced { (items : List ItemValue) (names : List (ℕ × PieceValue)) → Stands self.old (D.history disk.old) items names
             → IsTrue (has_key key items)
+            → AreNamed self.old.tree.owner (with_item (record { key = key; body = body }) items) names
             → OnOk result (IsEditedTo self.old self.new (D.history disk.old) (with_item (record { key = key; body = body }) items) names (self.old.tree.height + 2)) }
         ensures sound { (events : List Event) → D.history disk.old ≡ Some events → (items : List ItemValue) (names : List (ℕ × PieceValue))
             → Stands self.old (D.history disk.old) items names → IsTrue (has_key key items)
             → 3 * (self.old.tree.height + 2) ≤ free_slots self.old.land.space → BreaksNone result }
         ensures grows { OnOk result (Grows 1 self.old.tree self.new.tree self.old.land self.new.land) }
+        ensures others { self.new.others ≡ self.old.others }
         ensures subvolume { IsSubvolume self.new (D.history disk.new) (D.size disk.new) }
         ensures rests { LeavesBe self.old.land self.new.land (D.history disk.old) (D.history disk.new) (D.size disk.old) (D.size disk.new)
             self.old.tree.next }
@@ -120,6 +124,7 @@ impl FsTree {
             → Stands self.old (D.history disk.old) items names → IsTrue (has_key key items)
             → 3 * (self.old.tree.height + 2) ≤ free_slots self.old.land.space → BreaksNone result }
         ensures grows { OnOk result (Grows 0 self.old.tree self.new.tree self.old.land self.new.land) }
+        ensures others { self.new.others ≡ self.old.others }
         ensures subvolume { IsSubvolume self.new (D.history disk.new) (D.size disk.new) }
         ensures rests { LeavesBe self.old.land self.new.land (D.history disk.old) (D.history disk.new) (D.size disk.old) (D.size disk.new)
             self.old.tree.next }

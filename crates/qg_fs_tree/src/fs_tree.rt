@@ -1,4 +1,4 @@
-// A subvolume's tree with what it lies in and what it owes.
+// The trees of subvolumes with what they lie in and what they owe.
 ghost use Rattle.std.specs.Prelude.{◌≡◌, ◌+◌, ◌*◌, ◌<◌, ◌≤◌, Err, IsOk, MatchOption, OnOk};
 ghost use Rattle.qg_num.specs.declared.fault.BlockFault.TheVariants.{Image};
 ghost use Rattle.qg_num.specs.declared.rule.Rule.TheVariants.{Refs, Shape};
@@ -9,11 +9,13 @@ use qg_ground::Ground;
 use qg_num::{BlockFault, Rule};
 use qg_tree_refs::TreeRefs;
 
-/// A subvolume's tree with all that its edits change (on-disk format, "B-tree" and "backreferences"): the nodes and the space that it lies
-/// in, and the references that it owes.
+/// The trees of an image's subvolumes, one of them at hand, with all that edits of it change (on-disk format, "B-tree" and
+/// "backreferences"): the nodes and the space that all lie in, and the references that they owe.
 #[derive(Drop)]
 pub struct FsTree {
     pub tree: Tree,
+    /// The trees of the other subvolumes, ascending by number.
+    pub others: Vec<Tree>,
     pub land: Ground,
     pub refs: TreeRefs,
 }

@@ -1,5 +1,5 @@
 // Pieces of files name extents, and name them no more.
-ghost use Rattle.std.specs.Prelude.{◌≡◌, ◌≢◌, ◌∷◌, ◌<◌, ◌≤◌, ◌*◌, ◌/◌, ℕ, ⊤, List, Option, Err, MatchResult, OnOk, IsTrue, map, true};
+ghost use Rattle.std.specs.Prelude.{◌≡◌, ◌≢◌, ◌∷◌, ◌<◌, ◌≤◌, ◌*◌, ◌/◌, ℕ, ⊤, List, Option, Err, MatchResult, OnOk, IsTrue, true};
 ghost use Rattle.std.specs.List.{Contains, filter_map};
 ghost use Rattle.qg_device.specs.History.{Event};
 ghost use Rattle.qg_num.specs.declared.piece.Piece.{Piece as PieceValue};
@@ -13,7 +13,7 @@ ghost use Rattle.qg_space.specs.Holding.{free_slots, has_run, is_free_run};
 ghost use Rattle.qg_refs.specs.Book.{full_in};
 ghost use Rattle.qg_extents.specs.Table.{book_of};
 ghost use Rattle.qg_heavier.specs.Heavier.{BookGetsHeavier, name_bytes, name_new_bytes};
-ghost use Rattle.qg_fs_tree.specs.Standing.{IsMisfitAt, IsSubvolume, KeepsTree, Stands, name_of, name_told, names_times};
+ghost use Rattle.qg_fs_tree.specs.Standing.{IsMisfitAt, IsSubvolume, KeepsTree, Stands, extents_named, name_of, name_told, names_times};
 
 use crate::FsTree;
 use qg_num::{Address, BlockFault, Ino, Piece, Rule};
@@ -51,19 +51,19 @@ impl FsTree {
             .has_run(piece.extent, piece.extent_bytes / SECTOR)
     }
 
-    /// A piece names its extent, which others name already: its run is taken.
+    /// A piece names its extent, which others name already, in this tree or in another: its run is taken.
     ///
     /// `Image` with `refs` comes where the extent has no reference or its run is not taken, and where this reference is there as often as one
     /// may be.
     pub fn name(&mut self, ino: Ino, piece: &Piece) -> Result<(), BlockFault>
         ensures named { (history : Option (List Event)) (bytes : ℕ) (items : List ItemValue) (names : List (ℕ × PieceValue))
             → IsSubvolume self.old history bytes → Stands self.old history items names
-            → Contains (map (λ name. extent_of name.1) names) (extent_of piece.now)
+            → Contains (extents_named self.old history names) (extent_of piece.now)
             → names_times self.old.tree.owner names piece.now.extent (name_of self.old.tree.owner (ino, piece.now)).reference < 4294967295
             → OnOk result (Stands self.new history items ((ino, piece.now) ∷ names)) }
         ensures sound { (history : Option (List Event)) (bytes : ℕ) (items : List ItemValue) (names : List (ℕ × PieceValue))
             → IsSubvolume self.old history bytes → Stands self.old history items names
-            → Contains (map (λ name. extent_of name.1) names) (extent_of piece.now)
+            → Contains (extents_named self.old history names) (extent_of piece.now)
             → names_times self.old.tree.owner names piece.now.extent (name_of self.old.tree.owner (ino, piece.now)).reference < 4294967295
             → BreaksNone result }
         ensures tree { KeepsTree self.old self.new }

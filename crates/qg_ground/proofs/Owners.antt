@@ -1,5 +1,5 @@
 -- Who owns the fresh nodes after calls on one node.
-use Rattle.std.proofs.Common.{◌≡◌, ◌≢◌, ℕ, List, refl, sym, ap, ◌∙◌, inl, inr}
+use Rattle.std.proofs.Common.{◌≡◌, ◌≢◌, ℕ, List, refl, sym, ap, subst, ◌∙◌, inl, inr}
 use Rattle.std.specs.Prelude.{Option, Some, None}
 use Rattle.std.proofs.lemmas.Bool.Decides.{eqb_tells}
 use Rattle.qg_device.specs.History.{Event}
@@ -15,47 +15,46 @@ use Rattle.qg_ground.proofs.Lands.{IsSome-is, fresh_at-told}
 
 -- ---- calls added up
 
--- an owner that was one of a fresh node
-pub HasOwner-after : (owner : ℕ) (old mid : Ground) (node : Node) → IsOwnedBy owner old mid → HasOwner owner mid node → HasOwner owner old node
-HasOwner-after owner old mid node first (inl own) = inl own
-HasOwner-after owner old mid node first (inr (from, was, there, same)) = elim (first.each from was there) [
+-- the owner that the fresh node at an address had
+has_owner-after : (owner : ℕ) (old mid : Ground) (at : ℕ) (node : Node) → IsOwnedBy owner old mid → HasOwner owner mid at node → HasOwner owner old at node
+has_owner-after owner old mid at node first (inl own) = inl own
+has_owner-after owner old mid at node first (inr (was, there, same)) = elim (first.each at was there) [
   | inl own ↦ inl (sym same ∙ own)
-  | inr before ↦ inr (before.0, before.1, before.2, before.3 ∙ same)
+  | inr before ↦ inr (before.0, before.1, before.2 ∙ same)
 ]
 
 pub IsOwnedBy-after : (owner : ℕ) (old mid new : Ground) → IsOwnedBy owner old mid → IsOwnedBy owner mid new → IsOwnedBy owner old new
 IsOwnedBy-after owner old mid new first second = record {
-  each = λ at node there. HasOwner-after owner old mid node first (second.each at node there);
+  each = λ at node there. has_owner-after owner old mid at node first (second.each at node there);
 }
 
 -- fresh nodes are as they were
 pub IsOwnedBy-draft : (owner : ℕ) (old new : Ground) → new.blocks.draft ≡ old.blocks.draft → IsOwnedBy owner old new
 IsOwnedBy-draft owner old new draft = record {
-  each = λ at node there. inr (at, node, sym (ap (λ (d : Draft). fresh_at d at) draft) ∙ there, refl);
+  each = λ at node there. inr (node, sym (ap (λ (d : Draft). fresh_at d at) draft) ∙ there, refl);
 }
 
 -- ---- one node
 
-same_owner : (owner : ℕ) (land : Ground) (node other : Node) → other ≡ node → HasOwner owner land node → HasOwner owner land other
-same_owner owner land node other is (inl own) = inl (ap (λ (n : Node). (header_of n).owner) is ∙ own)
-same_owner owner land node other is (inr (from, was, there, same)) =
-    inr (from, was, there, same ∙ sym (ap (λ (n : Node). (header_of n).owner) is))
+same_owner : (owner : ℕ) (land : Ground) (at now : ℕ) (other node : Node) → at ≡ now → other ≡ node → HasOwner owner land now node → HasOwner owner land at other
+same_owner owner land at now other node there is own =
+    subst (λ (a : ℕ). HasOwner owner land a other) (sym there) (subst (λ (n : Node). HasOwner owner land now n) (sym is) own)
 
 -- one is fresh at an address, and the others are as they were
 pub IsOwnedBy-one : (owner : ℕ) (old mid new : Ground) (now : ℕ) (node : Node) → IsOwnedBy owner old mid → fresh_at new.blocks.draft now ≡ Some node
-    → ((at : ℕ) → at ≢ now → fresh_at new.blocks.draft at ≡ fresh_at mid.blocks.draft at) → HasOwner owner old node → IsOwnedBy owner old new
+    → ((at : ℕ) → at ≢ now → fresh_at new.blocks.draft at ≡ fresh_at mid.blocks.draft at) → HasOwner owner old now node → IsOwnedBy owner old new
 IsOwnedBy-one owner old mid new now node first here others own = record {
   each = λ at other there. elim (eqb_tells at now) [
     | inl (equal, same) ↦
         let that : Some other ≡ Some node = sym there ∙ ap (λ (a : ℕ). fresh_at new.blocks.draft a) same ∙ here in
         let one : other ≡ node = cc in
-        same_owner owner old node other one own
+        same_owner owner old at now other node same one own
     | inr (unequal, differ) ↦ first.each at other (sym (others at differ) ∙ there)
   ];
 }
 
 -- one is put
-pub IsOwnedBy-put : (owner : ℕ) (old mid new : Ground) (now : ℕ) (node : Node) → IsOwnedBy owner old mid → Puts mid new now node → HasOwner owner old node
+pub IsOwnedBy-put : (owner : ℕ) (old mid new : Ground) (now : ℕ) (node : Node) → IsOwnedBy owner old mid → Puts mid new now node → HasOwner owner old now node
     → IsOwnedBy owner old new
 IsOwnedBy-put owner old mid new now node first puts own =
     IsOwnedBy-one owner old mid new now node first puts.here (λ at other. fresh_at-told mid.blocks.draft new.blocks.draft at (puts.others None at other)) own
@@ -64,12 +63,12 @@ node_at-owner : (node : Node) (address : ℕ) → (header_of (node_at address no
 node_at-owner (Leaf header items) address = refl
 node_at-owner (Inner header pointers) address = refl
 
-moved_owner : (owner : ℕ) (land : Ground) (now : ℕ) (node : Node) → HasOwner owner land node → HasOwner owner land (node_at now node)
+moved_owner : (owner : ℕ) (land : Ground) (now : ℕ) (node : Node) → HasOwner owner land now node → HasOwner owner land now (node_at now node)
 moved_owner owner land now node (inl own) = inl (node_at-owner node now ∙ own)
-moved_owner owner land now node (inr (from, was, there, same)) = inr (from, was, there, same ∙ sym (node_at-owner node now))
+moved_owner owner land now node (inr (was, there, same)) = inr (was, there, same ∙ sym (node_at-owner node now))
 
 -- one is made
-pub IsOwnedBy-made : (owner : ℕ) (old mid new : Ground) (now : ℕ) (node : Node) → IsOwnedBy owner old mid → Makes mid new now node → HasOwner owner old node
+pub IsOwnedBy-made : (owner : ℕ) (old mid new : Ground) (now : ℕ) (node : Node) → IsOwnedBy owner old mid → Makes mid new now node → HasOwner owner old now node
     → IsOwnedBy owner old new
 IsOwnedBy-made owner old mid new now node first makes own =
     IsOwnedBy-put owner old mid new now (node_at now node) first makes.puts (moved_owner owner old now node own)
@@ -95,10 +94,11 @@ IsOwnedBy-left owner old new at left = record {
     | inl (equal, same) ↦
         let here : fresh_at new.blocks.draft at ≡ Some node = sym (ap (λ (a : ℕ). fresh_at new.blocks.draft a) same) ∙ there in
         elim left.here [
-          | inl kept ↦ inr (at, node, sym kept ∙ here, refl)
+          | inl kept ↦ let was : fresh_at old.blocks.draft at ≡ Some node = sym kept ∙ here in
+              inr (node, ap (λ (a : ℕ). fresh_at old.blocks.draft a) same ∙ was, refl)
           | inr none ↦ let no : Some node ≡ None = sym here ∙ none in absurd cc
         ]
     | inr (unequal, differ) ↦
-        inr (q, node, sym (fresh_at-told old.blocks.draft new.blocks.draft q (left.others None q differ)) ∙ there, refl)
+        inr (node, sym (fresh_at-told old.blocks.draft new.blocks.draft q (left.others None q differ)) ∙ there, refl)
   ];
 }

@@ -54,14 +54,14 @@ pub record PutsFresh (old new : Ground) (now : ℕ) : Type 0 where
 
 -- ---- owners
 
--- a node has this owner, or the one of some fresh node
-abbrev pub HasOwner : ℕ → Ground → Node → Type 0
-HasOwner owner land node =
-    ((header_of node).owner ≡ owner) ⊎ ((from : ℕ) × (was : Node) × (fresh_at land.blocks.draft from ≡ Some was) × ((header_of was).owner ≡ (header_of node).owner))
+-- a node has this owner, or the one that the fresh node at the same address had
+abbrev pub HasOwner : ℕ → Ground → ℕ → Node → Type 0
+HasOwner owner land at node =
+    ((header_of node).owner ≡ owner) ⊎ ((was : Node) × (fresh_at land.blocks.draft at ≡ Some was) × ((header_of was).owner ≡ (header_of node).owner))
 
--- each fresh node has this owner, or one that some fresh node had before
+-- each fresh node has this owner, or the one that the fresh node at its address had before
 pub record IsOwnedBy (owner : ℕ) (old new : Ground) : Type 0 where
-  pub each : (at : ℕ) (node : Node) → fresh_at new.blocks.draft at ≡ Some node → HasOwner owner old node
+  pub each : (at : ℕ) (node : Node) → fresh_at new.blocks.draft at ≡ Some node → HasOwner owner old at node
 
 -- ---- slots in all
 

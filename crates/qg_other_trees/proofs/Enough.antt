@@ -1,6 +1,7 @@
 -- How many nodes small trees fill, and the superblock that leads to the trees.
-use Rattle.std.proofs.Common.{◌≡◌, ℕ, ◌-◌, ◌≤◌, ◌<◌, inl, inr, true, List, length, refl, ap, arith}
+use Rattle.std.proofs.Common.{◌≡◌, ℕ, ◌-◌, ◌+◌, ◌*◌, ◌≤◌, ◌<◌, inl, inr, true, List, length, refl, ap, arith}
 use Rattle.std.specs.Prelude.{◌^◌, nat_le, nat_lt}
+use Rattle.std.proofs.lemmas.Bool.{cases_Bool}
 use Rattle.std.proofs.lemmas.Bool.Decides.{nat_tests}
 use Rattle.qg_node.specs.declared.item.Item.{Item}
 use Rattle.qg_node.specs.declared.node.Node.{Node}
@@ -11,7 +12,7 @@ use Rattle.qg_super.specs.Places.{capacity, is_served}
 use Rattle.qg_super.specs.SuperText.{is_super}
 use Rattle.qg_state.specs.Need.{nodes_filled}
 use Rattle.qg_tree.specs.Build.{IsBuilt}
-use Rattle.qg_other_trees.specs.Trees.{superblock_laid}
+use Rattle.qg_other_trees.specs.Trees.{most_nodes, superblock_laid}
 
 -- ---- small trees
 
@@ -35,6 +36,27 @@ pub one_leaf : (nodesize owner generation : ℕ) (items : List Item) (slots : Li
 one_leaf nodesize owner generation items slots nodes root level size light is =
     let fits : items_bytes items ≤ capacity nodesize = omega (arith, light, roomy nodesize size) in
     ap (λ (own : List Node). length own) (is.single fits).alone
+
+-- ---- any trees
+
+-- a tree has no more nodes than its items can ask for
+pub few_nodes : (nodesize owner generation : ℕ) (items : List Item) (slots : List ℕ) (nodes : List Node) (root level : ℕ)
+    → IsBuilt nodesize owner generation items slots nodes root level → length nodes ≤ most_nodes nodesize (items_bytes items)
+few_nodes nodesize owner generation items slots nodes root level is =
+    elim (cases_Bool (nat_le (items_bytes items) (capacity nodesize))) [
+      | inl fits ↦
+          let light : items_bytes items ≤ capacity nodesize = grind (arith, nat_tests) in
+          let one : length nodes ≡ 1 = ap (λ (own : List Node). length own) (is.single light).alone in
+          rw fits (omega (arith, one))
+      | inr heavy ↦ rw heavy is.few
+    ]
+
+-- and that is no more than five times what they fill, and one
+pub most_filled : (nodesize bytes : ℕ) → most_nodes nodesize bytes ≤ 5 * nodes_filled nodesize bytes + 1
+most_filled nodesize bytes = elim (cases_Bool (nat_le bytes (capacity nodesize))) [
+  | inl fits ↦ rw fits (omega arith)
+  | inr heavy ↦ rw heavy (omega arith)
+]
 
 -- ---- the superblock
 

@@ -8,16 +8,15 @@ use Rattle.std.proofs.lemmas.Option.{same_Some}
 use Rattle.qg_node.specs.declared.node.Header.{Header}
 use Rattle.qg_node.specs.declared.node.Node.{Node}
 use Rattle.qg_node.specs.Nodes.{header_of}
-use Rattle.qg_items.specs.declared.tree.TheConstants.{TOP_LEVEL}
 use Rattle.qg_super.specs.Places.{is_served, is_slot}
 use Rattle.qg_image.specs.declared.part.ExtentPart.{ExtentPart}
 use Rattle.qg_image.specs.declared.part.ExtentPart.TheVariants.{DataRecord, NodeRecord, Referenced}
 use Rattle.qg_image.specs.Table.{value_at}
 use Rattle.qg_state.specs.Owed.{Agrees, What, agrees_at, are_references, is_record, is_recorded_once, node_flags, owed_to, what_at}
 use Rattle.qg_state.specs.Owed.What.{Block}
-use Rattle.qg_state.specs.State.{Layout, Placed, State, Subvolume, layout_of, node_at}
+use Rattle.qg_state.specs.State.{Layout, Placed, State, layout_of, node_at}
 use Rattle.qg_verdict.specs.ImageState.{is_full_record, placed}
-use Rattle.qg_machine.specs.Layout.{IsReached, IsTreeOf, IsWhole}
+use Rattle.qg_machine.specs.Layout.{IsReached, IsWhole}
 use Rattle.qg_reach.proofs.Layouts.{AgreeByAddress, layout_by, node_at-layout, node_at-layout_other}
 use Rattle.qg_extents.specs.Told.{parts_at, told_in, told_sum}
 use Rattle.qg_tree.specs.Row.{address_of}
@@ -97,16 +96,14 @@ none_mapped : (here : Option Placed) → option_map (λ (placed : Placed). place
 none_mapped None none = refl
 none_mapped (Some placed) none = absurd cc
 
-module _ (state : State) (whole : IsWhole state) (subvolume : Subvolume) (tree : IsTreeOf state subvolume)
-    (alone : state.subvolumes ≡ (TOP_LEVEL, subvolume) ∷ []) (served : is_served state.sizes ≡ true)
-    (runs : AreRuns state)
+module _ (state : State) (whole : IsWhole state) (served : is_served state.sizes ≡ true) (runs : AreRuns state)
     (slots : (q : ℕ) (placed : Placed) → value_at q state.layout ≡ Some placed → is_slot state.sizes q ≡ true)
     (parts : List ExtentPart) (agrees : Agrees (layout_of state) parts) where
   abbrev found : List Node
-  found = those state whole subvolume tree alone served runs slots
+  found = those state whole
 
   found_at : (node : Node) → Contains found node → node_at state.layout (address_of node) ≡ Some node
-  found_at node has = (finds state whole subvolume tree alone served runs slots).each node has
+  found_at node has = (finds state whole).each node has
 
   alike : AgreeByAddress found
   alike = record {
@@ -125,7 +122,7 @@ module _ (state : State) (whole : IsWhole state) (subvolume : Subvolume) (tree :
   same_some : (q : ℕ) (here : Placed) → value_at q state.layout ≡ Some here
       → value_at q (layout_by parts found) ≡ value_at q state.layout
   same_some q here there =
-      let has = met state whole subvolume tree alone served runs slots q here there in
+      let has = met state whole served runs slots q here there in
       let at = lies q here there in
       let node = subst (λ (a : ℕ). node_at (layout_by parts found) a ≡ Some here.node) at
       (node_at-layout parts found here.node alike has) in

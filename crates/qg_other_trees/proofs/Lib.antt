@@ -14,3 +14,5 @@ pub mod Tables
 pub mod LayoutSame
 pub mod Owing
 pub mod Sound
+mod Lists
+pub mod One

@@ -15,7 +15,6 @@ use Rattle.qg_node.specs.declared.node.Node.TheVariants.{Leaf, Inner}
 use Rattle.qg_node.specs.Nodes.{header_of, own_items, own_pointers}
 use Rattle.qg_items.specs.declared.extent.Reference.{Reference}
 use Rattle.qg_items.specs.declared.extent.Reference.TheVariants.{KeyedBlock}
-use Rattle.qg_items.specs.declared.tree.TheConstants.{TOP_LEVEL}
 use Rattle.qg_super.specs.Places.{is_served, is_slot}
 use Rattle.qg_image.specs.Below.{inner_pointers, joined, leaf_items, nodes_below}
 use Rattle.qg_image.specs.ItemMeaning.{file_part}
@@ -33,11 +32,10 @@ use Rattle.qg_check.proofs.Found.{first_below}
 use Rattle.qg_tree.proofs.Frame.{both}
 use Rattle.qg_other_trees.specs.Holds.{AreRuns}
 use Rattle.qg_other_trees.proofs.Bound.{owing_of, some_counted}
-use Rattle.qg_other_trees.proofs.MetNodes.{has_nodes, high, met, those}
-use Rattle.qg_other_trees.proofs.Found.{one_tree}
+use Rattle.qg_other_trees.proofs.MetNodes.{has_nodes, met_under}
 use Rattle.qg_other_trees.proofs.Slots.{contains_map, each_contained, one_flat_mapped, one_mapped, value_contained}
 use Rattle.qg_other_trees.proofs.Tables.{contained_value}
-use Rattle.qg_other_trees.proofs.Whole.{root_node, root_there}
+use Rattle.qg_other_trees.proofs.Whole.{level, nodes, root_node, root_there}
 
 -- ---- what begins
 
@@ -206,27 +204,18 @@ piece_owed header false (Some (PieceOf ino piece)) owing has = elim (contains_ca
 abbrev root_owing : ℕ × ℕ → Owing
 root_owing entry = record { address = entry.1; reference = KeyedBlock entry.0 }
 
-module _ (state : State) (whole : IsWhole state) (subvolume : Subvolume) (tree : IsTreeOf state subvolume)
-    (alone : state.subvolumes ≡ (TOP_LEVEL, subvolume) ∷ []) (served : is_served state.sizes ≡ true)
-    (runs : AreRuns state)
+module _ (state : State) (whole : IsWhole state) (served : is_served state.sizes ≡ true) (runs : AreRuns state)
     (slots : (q : ℕ) (placed : Placed) → value_at q state.layout ≡ Some placed → is_slot state.sizes q ≡ true) where
   abbrev layout : Layout
   layout = layout_of state
 
-  abbrev found : List Node
-  found = those state whole subvolume tree alone served runs slots
-
   root_begins : (entry : ℕ × ℕ) → Contains layout.roots entry → is_nothing (what_at layout entry.1) ≡ false
   root_begins entry has =
-      let roots : layout.roots ≡ (TOP_LEVEL, subvolume.root) ∷ [] =
-      ap (λ (subvolumes : List (ℕ × Subvolume)). map (λ (entry : ℕ × Subvolume). (entry.0, entry.1.root)) subvolumes) alone in
-      let one = subst (λ (list : List (ℕ × ℕ)). Contains list entry) roots has in
-      elim (contains_cases (TOP_LEVEL, subvolume.root) [] entry one) [
-        | inl is ↦
-            subst (λ (e : ℕ × ℕ). is_nothing (what_at layout e.1) ≡ false) is
-            (block_begins layout subvolume.root (root_node state whole subvolume tree) (root_there state whole subvolume tree))
-        | inr none ↦ absurd (none_contained entry none)
-      ]
+      let from = one_mapped (λ (entry : ℕ × Subvolume). (entry.0, entry.1.root)) state.subvolumes entry has in
+      let subvolume = from.0.1 in
+      let tree = each_contained (λ (entry : ℕ × Subvolume). IsTreeOf state entry.1) state.subvolumes from.0 whole.trees from.1 in
+      subst (λ (e : ℕ × ℕ). is_nothing (what_at layout e.1) ≡ false) from.2
+      (block_begins layout subvolume.root (root_node state whole subvolume tree) (root_there state whole subvolume tree))
 
   node_begins : (entry : ℕ × Placed) (owing : Owing) → Contains state.layout entry → Contains (owed_by_node entry.1) owing
       → is_nothing (what_at layout owing.address) ≡ false
@@ -236,15 +225,16 @@ module _ (state : State) (whole : IsWhole state) (subvolume : Subvolume) (tree :
       let node = placed.node in
       let child = λ (pointer : Pointer). owed_to_child (header_of node) placed.full pointer.child in
       let part = λ (item : Item). owed_by_part (header_of node) placed.full (file_part item) in
-      let one = met state whole subvolume tree alone served runs slots entry.0 placed
+      let one = met_under state whole served runs slots entry.0 placed
       (contained_value state.layout entry.0 placed whole.ascending has) in
       elim (Contains-append_cases (map child (own_pointers node)) (flat_map part (own_items node)) owing owes) [
         | inl to_child ↦
             let pointer = one_mapped child (own_pointers node) owing to_child in
             let at : pointer.0.child ≡ owing.address =
             sym (child_address (header_of node) placed.full pointer.0.child) ∙ ap (λ (o : Owing). o.address) pointer.2 in
-            let below = child_found (node_at state.layout) (high state whole subvolume tree alone served runs slots)
-            subvolume.root found node pointer.0 (has_nodes state whole subvolume tree alone served runs slots).below one pointer.1 in
+            let under = one.entry.1 in
+            let below = child_found (node_at state.layout) (level state whole under one.tree) under.root
+            (nodes state whole under one.tree) node pointer.0 (has_nodes state whole under one.tree).below one.one pointer.1 in
             subst (λ (q : ℕ). is_nothing (what_at layout q) ≡ false) at
             (block_begins layout pointer.0.child below.0 below.1)
         | inr to_extent ↦
@@ -278,14 +268,12 @@ module _ (state : State) (whole : IsWhole state) (subvolume : Subvolume) (tree :
       subst (λ (q : ℕ). is_nothing (what_at layout q) ≡ false) from.there (owing_begins from.owing from.has)
 
 -- where nodes lie in slots
-pub owes_begins : (state : State) (subvolume : Subvolume) → IsWhole state
-    → state.subvolumes ≡ (TOP_LEVEL, subvolume) ∷ [] → is_served state.sizes ≡ true
-    → AreRuns state
+pub owes_begins : (state : State) → IsWhole state → is_served state.sizes ≡ true → AreRuns state
     → AllByRecursion (λ entry. is_slot state.sizes entry.0 ≡ true) state.layout
     → (at : ℕ) (reference : Reference) → 0 < owed_count (layout_of state) at reference
     → is_nothing (what_at (layout_of state) at) ≡ false
-owes_begins state subvolume whole alone served runs slots at reference some =
-    owed_begins state whole subvolume (one_tree state subvolume whole alone) alone served runs
+owes_begins state whole served runs slots at reference some =
+    owed_begins state whole served runs
     (λ q placed there.
     each_contained (λ (entry : ℕ × Placed). is_slot state.sizes entry.0 ≡ true) state.layout (q, placed) slots
     (value_contained q state.layout placed there)) at reference some

@@ -2,19 +2,18 @@
 use Rattle.std.proofs.Common.{◌≡◌, ℕ, ◌+◌, ◌≤◌, Bool, true, false, cond, List, [], ◌∷◌, ◌++◌, map, length, get_or, not, refl, sym, ap, subst, ◌∙◌}
 use Rattle.std.specs.Bool.{then_some}
 use Rattle.std.specs.Prelude.{◌&&◌, ◌==◌, nat_le, nat_lt, unwrap_or, Option, Some, None, Ok, slice_range}
-use Rattle.std.specs.List.{All, IsDistinct, filter_map, find, flat_map, list_all}
+use Rattle.std.specs.List.{All, AllByRecursion, IsDistinct, filter_map, find, list_all}
 use Rattle.std.proofs.lemmas.Bool.{eq-eqb, le-leb}
 use Rattle.std.proofs.lemmas.List.{append-nil}
 use Rattle.std.proofs.lemmas.List.Elements.{All-contains, Contains-append_left, Contains-append_right, Contains-get_or}
 use Rattle.std.proofs.lemmas.Option.{same_Some}
-use Rattle.qg_num.specs.declared.counters.Counters.{Counters}
 use Rattle.qg_num.specs.declared.rule.Rule.{Rule}
 use Rattle.qg_num.specs.declared.rule.Rule.TheVariants as rule
 use Rattle.qg_node.specs.declared.item.Item.{Item}
 use Rattle.qg_node.specs.declared.node.Node.{Node}
 use Rattle.qg_node.specs.Nodes.{header_of}
 use Rattle.qg_items.specs.declared.root.RootItem.{RootItem}
-use Rattle.qg_items.specs.declared.tree.TheConstants.{ROOT_TREE, EXTENT_TREE, TOP_LEVEL, QUOTA_TREE}
+use Rattle.qg_items.specs.declared.tree.TheConstants.{ROOT_TREE, EXTENT_TREE, QUOTA_TREE}
 use Rattle.qg_super.specs.declared.sizes.Sizes.{Sizes}
 use Rattle.qg_super.specs.declared.superblock.Super.{Super}
 use Rattle.qg_super.specs.Places.{first_place, is_served, second_place, total_bytes}
@@ -36,27 +35,29 @@ use Rattle.qg_verdict.specs.declared.failure.Failure.{Failure}
 use Rattle.qg_verdict.specs.declared.tree.Tree.TheVariants.{Extents, Files, Quotas, Roots}
 use Rattle.qg_verdict.specs.Failure.{first_failure, unless}
 use Rattle.qg_verdict.specs.ImageState.{as_committed, extent_parts, items_of_root, layout_in, nodes_of_root, other_nodes, quota_in, quota_parts, quota_told, roots_in, state_in, subvolume_in, subvolume_roots, subvolumes_in, super_in, super_of}
-use Rattle.qg_verdict.specs.OtherTrees.{root_item_of, super_at}
+use Rattle.qg_verdict.specs.OtherTrees.{subvolume_items, super_at}
 use Rattle.qg_verdict.specs.Verdict.{IsSound, are_few, are_roots, counts_failure, extent_set, is_quota, most_subvolumes, places_failure, quota_failure, references_failure, root_failure, roots_failure, space_failure, subvolume_failure, together_failure}
 use Rattle.qg_verdict.specs.Walk.{node_found, root_expected, root_told, tree_failure}
 use Rattle.qg_machine.specs.Layout.{IsTreeOf, IsWhole}
 use Rattle.qg_reach.proofs.Layouts.{layout_by, layout_in-nodes}
-use Rattle.qg_check.specs.Trees.{AreNamed}
 use Rattle.qg_check.proofs.Verdicts.{image_failure_parts, rest_failure, verdict_some}
+use Rattle.qg_contents.specs.Written.{parts_of_quota, roots_named}
 use Rattle.qg_refs.specs.declared.kept.Kept.{Kept}
 use Rattle.qg_extents.specs.Written.{parts_of_book}
 use Rattle.qg_other_trees.specs.declared.laying.OtherTrees.{OtherTrees}
-use Rattle.qg_other_trees.specs.Holds.{AreRuns, HasCommit, HoldsLayout, IsToCome, IsTreeIn}
+use Rattle.qg_other_trees.specs.Holds.{AreRuns, HasCommit, HoldsLayout, IsToCome, IsTreeIn, nodes_of_roots}
 use Rattle.qg_other_trees.specs.Sound.{IsCommitted, KeepsRules, committed}
-use Rattle.qg_other_trees.specs.Telling.{IsStateOf, one_group}
-use Rattle.qg_other_trees.specs.Trees.{AreTrees, nodes_laid, quota_parts_laid, roots_laid, superblock_laid}
-use Rattle.qg_other_trees.proofs.Found.{one_tree}
+use Rattle.qg_other_trees.specs.Telling.{IsStateOf}
+use Rattle.qg_other_trees.specs.Trees.{AreTrees, nodes_laid, superblock_laid}
+use Rattle.qg_other_trees.proofs.Found.{item_of, items_are, items_of, those_found}
 use Rattle.qg_other_trees.proofs.LayoutSame.{layout_is}
+use Rattle.qg_other_trees.proofs.Lists.{quota_few, quota_keeps, quota_said, quotas_found, roots_keep, subvolumes_named}
+use Rattle.qg_other_trees.proofs.MetNodes.{those}
 use Rattle.qg_other_trees.proofs.Recorded.{book_agrees}
-use Rattle.qg_other_trees.proofs.Telling.{are_those, behind_extents, behind_quotas, extents_root, for_extents, for_quotas, for_roots, others, quota_laid_told, quotas_root}
+use Rattle.qg_other_trees.proofs.Telling.{are_those, behind_extents, behind_quotas, extents_root, for_extents, for_quotas, for_roots, others, quotas_root}
 use Rattle.qg_other_trees.proofs.TreesIn.{IsTreeIn-open, IsTreeIn-told, those_open, those_told}
-use Rattle.qg_other_trees.proofs.Walked.{in_slots, nodes_found, tree_in}
-use Rattle.qg_other_trees.proofs.Whole.{nodes, root_node, root_there}
+use Rattle.qg_other_trees.proofs.Walked.{in_slots, tree_in}
+use Rattle.qg_other_trees.proofs.Whole.{nodes}
 
 -- ---- parts of a list
 
@@ -118,21 +119,6 @@ read_served place bytes super read = (SuperFits-is_super super (super_writes_bac
 
 -- ---- what trees say
 
-named_laid : (extents files quotas : RootItem) → AreNamed (roots_laid extents files quotas) extents quotas files
-unfolding are_roots is_subvolume_number
-named_laid extents files quotas = record { are = refl; extent_tree = refl; quota_tree = refl; only = refl }
-
-quota_keeps : (generation : ℕ) (counters : Counters) (stamp : ℕ)
-    → is_quota (TOP_LEVEL ∷ []) (quota_parts_laid generation counters stamp) ≡ true
-unfolding is_quota is_subvolume_number
-quota_keeps generation counters stamp =
-    rw (eq-eqb counters.rfer counters.rfer refl, eq-eqb counters.excl counters.excl refl) refl
-
-quota_few : (generation : ℕ) (counters : Counters) (stamp : ℕ)
-    → are_few (quota_parts_laid generation counters stamp) ≡ true
-unfolding are_few
-quota_few generation counters stamp = refl
-
 then_passes : {A : Type 0} (a b : Bool) (x y : A) → then_some (a && b) x ≡ Some y → b ≡ true
 then_passes true true x y h = refl
 then_passes true false x y h = absurd cc
@@ -160,18 +146,18 @@ references_kept super image layout agree home = rw (agree, home) refl
 
 -- ---- the image
 
-module _ (sizes : Sizes) (root : RootItem) (book : List (ℕ × Kept)) (counters : Counters) (stamp : ℕ) (slots : List ℕ)
+module _ (sizes : Sizes) (roots : List (ℕ × RootItem)) (book : List (ℕ × Kept)) (quota : Quota) (slots : List ℕ)
     (trees : OtherTrees) (old : State) (image : List ℕ) (whole : IsWhole old)
     (differ : IsDistinct (λ a b. a == b) slots)
-    (are : AreTrees sizes (next_generation old) root book counters stamp slots trees)
-    (is : IsStateOf sizes (next_generation old) root book counters stamp (committed [] old counters stamp))
+    (are : AreTrees sizes (next_generation old) roots book quota slots trees)
+    (is : IsStateOf sizes (next_generation old) roots book quota (committed [] old quota))
     (has_given : HasCommit trees.superblock (nodes_laid trees) image)
     (holds_given : HoldsLayout trees.superblock image old.layout)
     (runs : AreRuns old) (space : space_failure old.sizes (extent_set (present_extents old)) ≡ None)
-    (counts : counts_failure (layout_of old) (Some (one_group counters stamp)) ≡ None)
+    (counts : counts_failure (layout_of old) (Some quota) ≡ None)
     (home : homeless (layout_of old) ≡ None) where
   abbrev state : State
-  state = committed [] old counters stamp
+  state = committed [] old quota
 
   abbrev generation : ℕ
   generation = next_generation old
@@ -195,12 +181,6 @@ module _ (sizes : Sizes) (root : RootItem) (book : List (ℕ × Kept)) (counters
   served : is_served old.sizes ≡ true
   served = read_served first_place (slice_range image first_place (first_place + 4096)) super has.first
 
-  abbrev own : Subvolume
-  own = is.subvolume
-
-  tree : IsTreeOf old own
-  tree = one_tree old own whole is.alone
-
   -- ---- the other trees
 
   abbrev IsThere : Node → Type 0
@@ -219,26 +199,26 @@ module _ (sizes : Sizes) (root : RootItem) (book : List (ℕ × Kept)) (counters
   quota_items = are.quota_tree.items
 
   abbrev named_extents : RootItem
-  named_extents = extents_root sizes generation root book counters stamp slots trees state differ are is
+  named_extents = extents_root sizes generation roots book quota slots trees state differ are is
 
   abbrev named_quotas : RootItem
-  named_quotas = quotas_root sizes generation root book counters stamp slots trees state differ are is
+  named_quotas = quotas_root sizes generation roots book quota slots trees state differ are is
 
   root_tree : IsTreeIn Roots super image (root_expected None None) super.root root_items trees.roots.nodes
   root_tree =
       IsTreeIn-open Roots super sizes.nodesize ROOT_TREE generation root_items
-      (behind_quotas sizes generation root book counters stamp slots trees state differ are is) trees.roots.nodes
+      (behind_quotas sizes generation roots book quota slots trees state differ are is) trees.roots.nodes
       trees.roots.root trees.roots.level
-      (for_roots sizes generation root book counters stamp slots trees state differ are is) image
+      (for_roots sizes generation roots book quota slots trees state differ are is) image
       (all_front IsThere trees.roots.nodes trees.extents.nodes found_first)
 
   root_order : root_tree.those ≡ are.root_tree.stands.reached.those
   unfolding root_tree
   root_order =
       those_open Roots super sizes.nodesize ROOT_TREE generation root_items
-      (behind_quotas sizes generation root book counters stamp slots trees state differ are is) trees.roots.nodes
+      (behind_quotas sizes generation roots book quota slots trees state differ are is) trees.roots.nodes
       trees.roots.root trees.roots.level
-      (for_roots sizes generation root book counters stamp slots trees state differ are is) image
+      (for_roots sizes generation roots book quota slots trees state differ are is) image
       (all_front IsThere trees.roots.nodes trees.extents.nodes found_first)
 
   extent_tree : IsTreeIn Extents super image (root_told named_extents) named_extents.bytenr extent_items
@@ -246,7 +226,7 @@ module _ (sizes : Sizes) (root : RootItem) (book : List (ℕ × Kept)) (counters
   extent_tree =
       IsTreeIn-told Extents super sizes.nodesize EXTENT_TREE generation extent_items slots trees.extents.nodes
       trees.extents.root trees.extents.level
-      (for_extents sizes generation root book counters stamp slots trees state differ are is) image
+      (for_extents sizes generation roots book quota slots trees state differ are is) image
       (all_back IsThere trees.roots.nodes trees.extents.nodes found_first)
 
   extent_order : extent_tree.those ≡ are.extent_tree.stands.reached.those
@@ -254,47 +234,54 @@ module _ (sizes : Sizes) (root : RootItem) (book : List (ℕ × Kept)) (counters
   extent_order =
       those_told Extents super sizes.nodesize EXTENT_TREE generation extent_items slots trees.extents.nodes
       trees.extents.root trees.extents.level
-      (for_extents sizes generation root book counters stamp slots trees state differ are is) image
+      (for_extents sizes generation roots book quota slots trees state differ are is) image
       (all_back IsThere trees.roots.nodes trees.extents.nodes found_first)
 
   quota_tree : IsTreeIn Quotas super image (root_told named_quotas) named_quotas.bytenr quota_items trees.quotas.nodes
   quota_tree =
       IsTreeIn-told Quotas super sizes.nodesize QUOTA_TREE generation quota_items
-      (behind_extents sizes generation root book counters stamp slots trees state differ are is) trees.quotas.nodes
+      (behind_extents sizes generation roots book quota slots trees state differ are is) trees.quotas.nodes
       trees.quotas.root trees.quotas.level
-      (for_quotas sizes generation root book counters stamp slots trees state differ are is) image
+      (for_quotas sizes generation roots book quota slots trees state differ are is) image
       (all_back IsThere (trees.roots.nodes ++ trees.extents.nodes) trees.quotas.nodes has.found)
 
   quota_order : quota_tree.those ≡ are.quota_tree.stands.reached.those
   unfolding quota_tree
   quota_order =
       those_told Quotas super sizes.nodesize QUOTA_TREE generation quota_items
-      (behind_extents sizes generation root book counters stamp slots trees state differ are is) trees.quotas.nodes
+      (behind_extents sizes generation roots book quota slots trees state differ are is) trees.quotas.nodes
       trees.quotas.root trees.quotas.level
-      (for_quotas sizes generation root book counters stamp slots trees state differ are is) image
+      (for_quotas sizes generation roots book quota slots trees state differ are is) image
       (all_back IsThere (trees.roots.nodes ++ trees.extents.nodes) trees.quotas.nodes has.found)
 
   -- ---- what they say
 
-  roots_said : roots_in super image ≡ roots_laid named_extents root named_quotas
+  roots_said : roots_in super image ≡ roots_named named_extents roots named_quotas
   unfolding roots_in
   roots_said = ap (λ (items : List Item). filter_map root_part items) root_tree.items_are ∙ are.root_tree.told.told
 
-  named : AreNamed (roots_in super image) named_extents named_quotas root
-  named =
-      subst (λ (roots : List (ℕ × RootItem)). AreNamed roots named_extents named_quotas root) (sym roots_said)
-      (named_laid named_extents root named_quotas)
+  extents_named : value_at EXTENT_TREE (roots_in super image) ≡ Some named_extents
+  extents_named = ap (value_at EXTENT_TREE) roots_said
+
+  quotas_named : value_at QUOTA_TREE (roots_in super image) ≡ Some named_quotas
+  quotas_named = ap (value_at QUOTA_TREE) roots_said ∙ quotas_found named_quotas roots
+
+  only : subvolume_roots (roots_in super image) ≡ roots
+  only = ap subvolume_roots roots_said ∙ subvolumes_named generation named_extents roots named_quotas are.subvolumes
+
+  roots_are : are_roots (roots_in super image) ≡ true
+  roots_are = ap are_roots roots_said ∙ roots_keep generation named_extents roots named_quotas are.subvolumes
 
   extents_said : extent_parts super image ≡ parts_of_book book
   unfolding extent_parts
   extents_said =
-      rw named.extent_tree
+      rw extents_named
       (ap (λ (items : List Item). filter_map extent_part items) extent_tree.items_are ∙ are.extent_tree.told.told)
 
-  quotas_said : quota_parts super image ≡ quota_parts_laid generation counters stamp
+  quotas_said : quota_parts super image ≡ parts_of_quota generation quota.groups
   unfolding quota_parts
   quotas_said =
-      rw named.quota_tree
+      rw quotas_named
       (ap (λ (items : List Item). filter_map quota_part items) quota_tree.items_are ∙ are.quota_tree.told.told)
 
   agrees : Agrees (layout_of old) (extent_parts super image)
@@ -302,40 +289,58 @@ module _ (sizes : Sizes) (root : RootItem) (book : List (ℕ × Kept)) (counters
       subst (λ (parts : List ExtentPart). Agrees (layout_of old) parts) (sym extents_said)
       (book_agrees (layout_of old) book is.table is.known)
 
-  -- ---- the subvolume's tree
+  -- ---- the subvolumes' trees
 
-  abbrev own_nodes : List Node
-  own_nodes = nodes old whole own tree
+  -- the nodes of the other trees don't matter for them
+  same_items : (held : List Node) → subvolume_items (committed held old quota) ≡ subvolume_items old
+  unfolding subvolume_items
+  same_items held = refl
 
-  abbrev at_root : Node
-  at_root = root_node old whole own tree
+  roots_of_old : roots ≡ items_of old whole old.subvolumes whole.trees
+  roots_of_old = sym is.roots_are ∙ same_items [] ∙ items_are old whole
 
-  root_is : root_item_of own at_root ≡ root
-  root_is =
-      ap (root_item_of own)
-      (same_Some at_root is.node (sym (root_there old whole own tree) ∙ is.there))
-      ∙ is.root_is
+  module _ (entry : ℕ × Subvolume) (tree : IsTreeOf old entry.1) where
+    abbrev named_root : RootItem
+    named_root = (item_of old whole entry tree).1
 
-  file_tree : IsTreeIn Files super image (root_told root) root.bytenr tree.items own_nodes
-  file_tree =
-      subst (λ (item : RootItem). IsTreeIn Files super image (root_told item) item.bytenr tree.items own_nodes) root_is
-      (tree_in old super image whole comes holds own tree)
+    file_tree : IsTreeIn Files super image (root_told named_root) named_root.bytenr tree.items (nodes old whole entry.1 tree)
+    file_tree = tree_in old super image whole comes holds entry.1 tree
 
-  file_nodes : nodes_of_root Files super image root ≡ own_nodes
-  file_nodes =
-      subst (λ (item : RootItem). nodes_of_root Files super image item ≡ own_nodes) root_is
-      (nodes_found old super image whole comes holds own tree)
+    fit : are_files (file_parts tree.items) ≡ true
+    fit = files_fit generation tree.items entry.1.files tree.files
 
-  fit : are_files (file_parts tree.items) ≡ true
-  fit = files_fit generation tree.items own.files tree.files
+    own_in : subvolume_in super image named_root ≡ entry.1
+    own_in =
+        let told : unwrap_or (files_of generation (items_of_root Files super image named_root)) [] ≡ entry.1.files =
+        ap (λ (items : List Item). unwrap_or (files_of generation items) []) file_tree.items_are
+        ∙ ap (λ (files : Option (List (ℕ × File))). unwrap_or files []) tree.files in
+        λ i. record { files = told i; root = entry.1.root; last_snapshot = entry.1.last_snapshot }
+
+    one_passes : subvolume_failure super image named_root ≡ None
+    one_passes =
+        let test = are_files (file_parts (items_of_root Files super image named_root)) in
+        both_none (tree_failure Files super image (root_told named_root) named_root.bytenr) (unless test rule.File named_root.bytenr)
+        file_tree.walked
+        (kept_so test rule.File named_root.bytenr
+        (ap (λ (items : List Item). are_files (file_parts items)) file_tree.items_are ∙ fit))
+
+  all_in : (subvolumes : List (ℕ × Subvolume)) (trees : AllByRecursion (λ entry. IsTreeOf old entry.1) subvolumes)
+      → map (λ entry. (entry.0, subvolume_in super image entry.1)) (items_of old whole subvolumes trees) ≡ subvolumes
+  all_in [] trees = refl
+  all_in (entry ∷ subvolumes) trees = rw (own_in entry trees.0, all_in subvolumes trees.1) refl
+
+  all_pass : (subvolumes : List (ℕ × Subvolume)) (trees : AllByRecursion (λ entry. IsTreeOf old entry.1) subvolumes)
+      → first_failure (map (λ entry. subvolume_failure super image entry.1) (items_of old whole subvolumes trees)) ≡ None
+  all_pass [] trees = refl
+  all_pass (entry ∷ subvolumes) trees = rw (one_passes entry trees.0) (all_pass subvolumes trees.1)
 
   -- ---- the state
 
-  others_in : other_nodes super image ≡ others sizes generation root book counters stamp slots trees state differ are is
+  others_in : other_nodes super image ≡ others sizes generation roots book quota slots trees state differ are is
   others_in =
       rw (
-        named.extent_tree,
-        named.quota_tree,
+        extents_named,
+        quotas_named,
         root_tree.nodes_are,
         extent_tree.nodes_are,
         quota_tree.nodes_are,
@@ -344,40 +349,28 @@ module _ (sizes : Sizes) (root : RootItem) (book : List (ℕ × Kept)) (counters
         quota_order,
       ) refl
 
-  own_in : subvolume_in super image root ≡ own
-  own_in =
-      let told : unwrap_or (files_of generation (items_of_root Files super image root)) [] ≡ own.files =
-      ap (λ (items : List Item). unwrap_or (files_of generation items) []) file_tree.items_are
-      ∙ ap (λ (files : Option (List (ℕ × File))). unwrap_or files []) tree.files in
-      let at : root.bytenr ≡ own.root = ap (λ (item : RootItem). item.bytenr) (sym root_is) in
-      let copied : root.last_snapshot ≡ own.last_snapshot = ap (λ (item : RootItem). item.last_snapshot) (sym root_is) in
-      λ i. record { files = told i; root = at i; last_snapshot = copied i }
-
   subvolumes_are : subvolumes_in super image ≡ old.subvolumes
   unfolding subvolumes_in
   subvolumes_are =
-      ap (λ (roots : List (ℕ × RootItem)). map (λ entry. (entry.0, subvolume_in super image entry.1)) roots) named.only
-      ∙ ap (λ (subvolume : Subvolume). (TOP_LEVEL, subvolume) ∷ []) own_in
-      ∙ sym is.alone
+      ap (λ (named : List (ℕ × RootItem)). map (λ entry. (entry.0, subvolume_in super image entry.1)) named) (only ∙ roots_of_old)
+      ∙ all_in old.subvolumes whole.trees
 
   layout_same : layout_in super image ≡ old.layout
   layout_same =
-      let nodes_are : flat_map (λ entry. nodes_of_root Files super image entry.1) (subvolume_roots (roots_in super image)) ≡ own_nodes =
-      ap (λ (roots : List (ℕ × RootItem)). flat_map (λ entry. nodes_of_root Files super image entry.1) roots) named.only
-      ∙ append-nil (nodes_of_root Files super image root) ∙ file_nodes in
+      let nodes_are : nodes_of_roots super image (subvolume_roots (roots_in super image)) ≡ those old whole =
+      ap (nodes_of_roots super image) (only ∙ sym is.roots_are ∙ same_items []) ∙ those_found old whole super image comes holds in
       layout_in-nodes super image
       ∙ ap (λ (list : List Node). layout_by (extent_parts super image) list) nodes_are
-      ∙ layout_is old whole own tree is.alone served runs (in_slots old super image whole comes holds)
-      (extent_parts super image) agrees
+      ∙ layout_is old whole served runs (in_slots old super image whole comes holds) (extent_parts super image) agrees
 
-  quota_same : quota_in super image ≡ Some (one_group counters stamp)
+  quota_same : quota_in super image ≡ Some quota
   quota_same =
-      rw named.quota_tree
+      rw quotas_named
       (ap (λ (parts : List QuotaPart). Some (quota_told parts)) quotas_said
-      ∙ ap (λ (quota : Quota). Some quota) (sym (quota_laid_told generation counters stamp)))
+      ∙ ap (λ (quota : Quota). Some quota) (sym (quota_said generation (keys_of roots) quota are.groups)))
 
-  abbrev those : List Node
-  those = others sizes generation root book counters stamp slots trees state differ are is
+  abbrev laid : List Node
+  laid = others sizes generation roots book quota slots trees state differ are is
 
   abbrev now : List Node → List (ℕ × Subvolume) → List (ℕ × Placed) → Option Quota → State
   now nodes subvolumes layout quota = as_committed nodes (record {
@@ -395,13 +388,13 @@ module _ (sizes : Sizes) (root : RootItem) (book : List (ℕ × Kept)) (counters
   unfolding state_in
   state_parts = refl
 
-  state_same : state_in super image ≡ committed those old counters stamp
+  state_same : state_in super image ≡ committed laid old quota
   state_same =
       state_parts
       ∙ ap (λ (list : List Node). now list (subvolumes_in super image) (layout_in super image) (quota_in super image)) others_in
-      ∙ ap (λ (list : List (ℕ × Subvolume)). now those list (layout_in super image) (quota_in super image)) subvolumes_are
-      ∙ ap (λ (list : List (ℕ × Placed)). now those old.subvolumes list (quota_in super image)) layout_same
-      ∙ ap (λ (quota : Option Quota). now those old.subvolumes old.layout quota) quota_same
+      ∙ ap (λ (list : List (ℕ × Subvolume)). now laid list (layout_in super image) (quota_in super image)) subvolumes_are
+      ∙ ap (λ (list : List (ℕ × Placed)). now laid old.subvolumes list (quota_in super image)) layout_same
+      ∙ ap (λ (quota : Option Quota). now laid old.subvolumes old.layout quota) quota_same
 
   layout_now : layout_of (state_in super image) ≡ layout_of old
   layout_now = ap layout_of state_same
@@ -413,46 +406,40 @@ module _ (sizes : Sizes) (root : RootItem) (book : List (ℕ × Kept)) (counters
       three_none (tree_failure Roots super image (root_expected None None) super.root)
       (unless (are_roots (roots_in super image)) rule.Root super.root)
       (unless (nat_le (length (subvolume_roots (roots_in super image))) most_subvolumes) rule.Limits super.root)
-      root_tree.walked (kept_so (are_roots (roots_in super image)) rule.Root super.root named.are)
+      root_tree.walked (kept_so (are_roots (roots_in super image)) rule.Root super.root roots_are)
       (kept_so (nat_le (length (subvolume_roots (roots_in super image))) most_subvolumes) rule.Limits super.root
-      (ap (λ (roots : List (ℕ × RootItem)). nat_le (length roots) most_subvolumes) named.only))
+      (ap (λ (named : List (ℕ × RootItem)). nat_le (length named) most_subvolumes) only
+      ∙ le-leb (length roots) most_subvolumes are.subvolumes.few))
 
   extents_pass : root_failure Extents super image (value_at EXTENT_TREE (roots_in super image)) ≡ None
-  extents_pass = ap (root_failure Extents super image) named.extent_tree ∙ extent_tree.walked
+  extents_pass = ap (root_failure Extents super image) extents_named ∙ extent_tree.walked
 
   quota_pass : quota_failure super image (roots_in super image) (Some named_quotas) ≡ None
   quota_pass =
       let parts = quota_parts super image in
       let subvolumes = keys_of (subvolume_roots (roots_in super image)) in
-      let only : subvolumes ≡ TOP_LEVEL ∷ [] = ap (λ (roots : List (ℕ × RootItem)). keys_of roots) named.only in
+      let named : subvolumes ≡ keys_of roots = ap (λ (list : List (ℕ × RootItem)). keys_of list) only in
       let keeps : is_quota subvolumes parts ≡ true =
-      ap (λ (subs : List ℕ). is_quota subs parts) only ∙ ap (is_quota (TOP_LEVEL ∷ [])) quotas_said
-      ∙ quota_keeps generation counters stamp in
+      ap (λ (subs : List ℕ). is_quota subs parts) named ∙ ap (is_quota (keys_of roots)) quotas_said
+      ∙ quota_keeps generation (keys_of roots) quota are.groups in
       three_none (tree_failure Quotas super image (root_told named_quotas) named_quotas.bytenr)
       (unless (is_quota subvolumes parts) rule.Quota named_quotas.bytenr)
       (unless (are_few parts) rule.Limits named_quotas.bytenr) quota_tree.walked
       (kept_so (is_quota subvolumes parts) rule.Quota named_quotas.bytenr keeps)
       (kept_so (are_few parts) rule.Limits named_quotas.bytenr
-      (ap are_few quotas_said ∙ quota_few generation counters stamp))
+      (ap are_few quotas_said ∙ quota_few generation (keys_of roots) quota are.groups))
 
   quotas_pass : quota_failure super image (roots_in super image) (value_at QUOTA_TREE (roots_in super image)) ≡ None
-  quotas_pass = ap (quota_failure super image (roots_in super image)) named.quota_tree ∙ quota_pass
-
-  subvolume_pass : subvolume_failure super image root ≡ None
-  subvolume_pass =
-      let test = are_files (file_parts (items_of_root Files super image root)) in
-      both_none (tree_failure Files super image (root_told root) root.bytenr) (unless test rule.File root.bytenr)
-      file_tree.walked
-      (kept_so test rule.File root.bytenr
-      (ap (λ (items : List Item). are_files (file_parts items)) file_tree.items_are ∙ fit))
+  quotas_pass = ap (quota_failure super image (roots_in super image)) quotas_named ∙ quota_pass
 
   subvolumes_pass : first_failure (map (λ entry. subvolume_failure super image entry.1) (subvolume_roots (roots_in super image)))
       ≡ None
   subvolumes_pass =
-      ap (λ (roots : List (ℕ × RootItem)). first_failure (map (λ entry. subvolume_failure super image entry.1) roots)) named.only
-      ∙ rw subvolume_pass refl
+      ap (λ (named : List (ℕ × RootItem)). first_failure (map (λ entry. subvolume_failure super image entry.1) named))
+      (only ∙ roots_of_old)
+      ∙ all_pass old.subvolumes whole.trees
 
-  present_now : present_extents (committed those old counters stamp) ≡ present_extents old
+  present_now : present_extents (committed laid old quota) ≡ present_extents old
   unfolding present_extents
   present_now = refl
 
@@ -503,25 +490,22 @@ module _ (sizes : Sizes) (root : RootItem) (book : List (ℕ × Kept)) (counters
       (roots_failure super image) (rest_failure super image) places_pass_here roots_pass rest
 
   -- the state with these nodes is one that the trees tell, too
-  is_now : IsStateOf sizes generation root book counters stamp (committed those old counters stamp)
+  is_now : IsStateOf sizes generation roots book quota (committed laid old quota)
   is_now = record {
     some = is.some;
     same_sizes = is.same_sizes;
     same_generation = is.same_generation;
-    subvolume = is.subvolume;
-    alone = is.alone;
-    node = is.node;
     there = is.there;
-    root_is = is.root_is;
-    quota = is.quota;
+    roots_are = same_items laid ∙ sym (same_items []) ∙ is.roots_are;
+    quota_is = is.quota_is;
     table = is.table;
     known = is.known;
   }
 
-  pub is_committed : IsCommitted trees old counters stamp slots image
+  pub is_committed : IsCommitted trees old quota slots image
   is_committed = record {
-    others = those;
-    told = are_those sizes generation root book counters stamp slots trees (committed those old counters stamp) differ are is_now;
+    others = laid;
+    told = are_those sizes generation roots book quota slots trees (committed laid old quota) differ are is_now;
     rules = subst (λ (s : Super). KeepsRules s image) (sym same_super) keeps;
     stands = record {
       sound = sound;

@@ -1,5 +1,5 @@
 -- Trees that were laid out one behind the other tell the state that they were laid out for.
-use Rattle.std.proofs.Common.{◌≡◌, ℕ, ◌≤◌, true, List, [], ◌∷◌, ◌++◌, map, length, drop, refl, sym, ap, subst, ◌∙◌, arith}
+use Rattle.std.proofs.Common.{◌≡◌, ℕ, ◌≤◌, true, List, ◌++◌, map, length, drop, refl, sym, ap, subst, ◌∙◌, arith}
 use Rattle.std.specs.Prelude.{◌==◌, nat_le, nat_lt, Contains, Some, None}
 use Rattle.std.specs.List.{AllByRecursion, IsDistinct, filter_map, list_all}
 use Rattle.std.specs.List.Sorted.{IsPermutation}
@@ -9,68 +9,49 @@ use Rattle.std.proofs.lemmas.List.{append_assoc}
 use Rattle.std.proofs.lemmas.List.Elements.{Contains-append_left}
 use Rattle.std.proofs.lemmas.List.Sorted.{Contains-permutation, IsPermutation-append, IsPermutation-append_comm, IsPermutation-map, IsPermutation-sym}
 use Rattle.std.proofs.lemmas.Map.Keys.{IsDistinct-IsPermutation}
-use Rattle.qg_num.specs.declared.counters.Counters.{Counters}
 use Rattle.qg_node.specs.declared.item.Item.{Item}
 use Rattle.qg_node.specs.declared.node.Node.{Node}
 use Rattle.qg_items.specs.declared.root.RootItem.{RootItem}
-use Rattle.qg_items.specs.declared.tree.TheConstants.{ROOT_TREE, EXTENT_TREE, TOP_LEVEL, QUOTA_TREE}
+use Rattle.qg_items.specs.declared.tree.TheConstants.{ROOT_TREE, EXTENT_TREE, QUOTA_TREE}
 use Rattle.qg_super.specs.declared.sizes.Sizes.{Sizes}
 use Rattle.qg_super.specs.declared.superblock.Super.{Super}
-use Rattle.qg_image.specs.ItemMeaning.{extent_part, is_subvolume_number, quota_part, root_part}
-use Rattle.qg_image.specs.Table.{value_at}
+use Rattle.qg_image.specs.ItemMeaning.{extent_part, quota_part, root_part}
+use Rattle.qg_image.specs.Table.{keys_of, value_at}
 use Rattle.qg_image.specs.declared.part.ExtentPart.{ExtentPart}
 use Rattle.qg_image.specs.declared.part.QuotaPart.{QuotaPart}
 use Rattle.qg_state.specs.declared.quota.Quota.{Quota}
-use Rattle.qg_state.specs.State.{State, Subvolume, layout_of, node_at}
+use Rattle.qg_state.specs.State.{State, layout_of}
 use Rattle.qg_state.specs.Owed.{Agrees}
 use Rattle.qg_verdict.specs.declared.tree.Tree.{Tree}
 use Rattle.qg_verdict.specs.declared.tree.Tree.TheVariants.{Extents, Quotas, Roots}
 use Rattle.qg_verdict.specs.ImageState.{addresses_of, quota_told, subvolume_roots}
-use Rattle.qg_verdict.specs.OtherTrees.{AreOtherTrees, IsOfFormat, IsTreeOfNodes, root_item_of, subvolume_items, super_at}
+use Rattle.qg_verdict.specs.OtherTrees.{AreOtherTrees, IsOfFormat, IsTreeOfNodes, subvolume_items, super_at}
 use Rattle.qg_verdict.specs.Walk.{is_generation, is_item_of, is_owner, root_expected, root_told}
+use Rattle.qg_contents.specs.Written.{roots_named}
 use Rattle.qg_refs.specs.declared.kept.Kept.{Kept}
 use Rattle.qg_tree.specs.declared.building.Built.{Built}
 use Rattle.qg_tree.specs.Row.{address_of}
 use Rattle.qg_tree.proofs.Frame.{AllByRecursion-append, IsDistinct-front}
 use Rattle.qg_other_trees.specs.declared.laying.OtherTrees.{OtherTrees}
-use Rattle.qg_other_trees.specs.Telling.{AreToldBy, IsStateOf, one_group}
-use Rattle.qg_other_trees.specs.Trees.{AreTrees, IsTreeOfItems, nodes_laid, quota_parts_laid, root_item_laid, roots_laid}
+use Rattle.qg_other_trees.specs.Telling.{AreToldBy, IsStateOf}
+use Rattle.qg_other_trees.specs.Trees.{AreTrees, IsTreeOfItems, nodes_laid, root_item_laid}
+use Rattle.qg_other_trees.proofs.Lists.{quota_said, quotas_found, subvolumes_named}
 use Rattle.qg_other_trees.proofs.Others.{format, tree_open, tree_told}
 use Rattle.qg_other_trees.proofs.Recorded.{book_agrees}
 use Rattle.qg_other_trees.proofs.Slots.{LieFirst, LieFirst-more, LieFirst-placed, contains_map, distinct-drop, flips, one_mapped, placed_apart}
 use Rattle.qg_other_trees.proofs.TreesIn.{IsBuiltFor}
 
--- ---- what the root and quota trees name
-
--- of the trees that the root tree names only the top-level subvolume's is a subvolume's
-pub one_subvolume : (extents files quotas : RootItem)
-    → subvolume_roots (roots_laid extents files quotas) ≡ (TOP_LEVEL, files) ∷ []
-unfolding is_subvolume_number
-one_subvolume extents files quotas = refl
-
-pub quota_laid_told : (generation : ℕ) (counters : Counters) (stamp : ℕ)
-    → one_group counters stamp ≡ quota_told (quota_parts_laid generation counters stamp)
-unfolding quota_told
-quota_laid_told generation counters stamp = refl
-
--- the only subvolume's ROOT_ITEM
-pub one_root : (state : State) (subvolume : Subvolume) (node : Node) → state.subvolumes ≡ (TOP_LEVEL, subvolume) ∷ []
-    → node_at state.layout subvolume.root ≡ Some node
-    → subvolume_items state ≡ (TOP_LEVEL, root_item_of subvolume node) ∷ []
-unfolding subvolume_items
-one_root state subvolume node alone there = rw (alone, there) refl
+-- ---- the trees
 
 pub generation_now : (generation : ℕ) → 1 ≤ generation → is_generation generation None generation ≡ true
 generation_now generation some =
     and_from (nat_lt 0 generation) (nat_le generation generation) (lt-ltb 0 generation (omega (arith, some)))
     (le-leb generation generation (omega arith))
 
--- ---- the trees
-
-module _ (sizes : Sizes) (generation : ℕ) (root : RootItem) (book : List (ℕ × Kept)) (counters : Counters) (stamp : ℕ)
+module _ (sizes : Sizes) (generation : ℕ) (roots : List (ℕ × RootItem)) (book : List (ℕ × Kept)) (quota : Quota)
     (slots : List ℕ) (trees : OtherTrees) (state : State) (differ : IsDistinct (λ a b. a == b) slots)
-    (are : AreTrees sizes generation root book counters stamp slots trees)
-    (is : IsStateOf sizes generation root book counters stamp state) where
+    (are : AreTrees sizes generation roots book quota slots trees)
+    (is : IsStateOf sizes generation roots book quota state) where
   -- the superblock of the state that leads to the root tree
   abbrev leads : Super
   leads = super_at state trees.roots.root
@@ -226,14 +207,12 @@ module _ (sizes : Sizes) (generation : ℕ) (root : RootItem) (book : List (ℕ 
   abbrev pub quotas_root : RootItem
   quotas_root = root_item_laid trees.quotas generation
 
-  named : filter_map root_part are.root_tree.items ≡ roots_laid extents_root root quotas_root
+  named : filter_map root_part are.root_tree.items ≡ roots_named extents_root roots quotas_root
   named = are.root_tree.told.told
 
   subvolumes : subvolume_roots (filter_map root_part are.root_tree.items) ≡ subvolume_items state
   subvolumes =
-      ap subvolume_roots named ∙ one_subvolume extents_root root quotas_root
-      ∙ ap (λ (own : RootItem). (TOP_LEVEL, own) ∷ []) (sym is.root_is)
-      ∙ sym (one_root state is.subvolume is.node is.alone is.there)
+      ap subvolume_roots named ∙ subvolumes_named generation extents_root roots quotas_root are.subvolumes ∙ sym is.roots_are
 
   agrees : Agrees (layout_of state) (filter_map extent_part are.extent_tree.items)
   agrees =
@@ -242,9 +221,9 @@ module _ (sizes : Sizes) (generation : ℕ) (root : RootItem) (book : List (ℕ 
 
   told : state.quota ≡ option_map (λ root. quota_told (filter_map quota_part are.quota_tree.items)) (Some quotas_root)
   told =
-      is.quota
+      is.quota_is
       ∙ ap (λ (quota : Quota). Some quota)
-      (quota_laid_told generation counters stamp
+      (quota_said generation (keys_of roots) quota are.groups
       ∙ ap (λ (parts : List QuotaPart). quota_told parts) (sym are.quota_tree.told.told))
 
   tell : AreOtherTrees state others
@@ -262,7 +241,7 @@ module _ (sizes : Sizes) (generation : ℕ) (root : RootItem) (book : List (ℕ 
     extents = extents_told;
     agrees = agrees;
     quota_root = Some quotas_root;
-    quotas_named = ap (value_at QUOTA_TREE) named;
+    quotas_named = ap (value_at QUOTA_TREE) named ∙ quotas_found quotas_root roots;
     quota_nodes = quota_those;
     quota_items = are.quota_tree.items;
     quotas = quotas_told;

@@ -1,10 +1,11 @@
 -- What an image holds after a commit (this project's own).
 use Rattle.std.specs.Prelude.{◌≡◌, ℕ, ◌≤◌, List, length, Some, None, Ok, Contains, IsTrue}
-use Rattle.std.specs.List.{All, AllByRecursion}
+use Rattle.std.specs.List.{All, AllByRecursion, flat_map}
 use Rattle.std.specs.List.Sorted.{IsPermutation}
 use Rattle.qg_node.specs.declared.item.Item.{Item}
 use Rattle.qg_node.specs.declared.node.Node.{Node}
 use Rattle.qg_node.specs.Nodes.{header_of}
+use Rattle.qg_items.specs.declared.root.RootItem.{RootItem}
 use Rattle.qg_super.specs.declared.superblock.Super.{Super}
 use Rattle.qg_super.specs.Places.{first_place, is_run, second_place, total_bytes}
 use Rattle.qg_super.specs.SuperText.{sizes_of}
@@ -21,7 +22,7 @@ use Rattle.qg_verdict.specs.declared.expected.Expected.{Expected}
 use Rattle.qg_verdict.specs.Walk.{node_found, root_told, tree_failure}
 use Rattle.qg_verdict.specs.OtherTrees.{root_item_of}
 use Rattle.qg_verdict.specs.ItemsUnder.{items_under, nodes_under}
-use Rattle.qg_verdict.specs.ImageState.{super_in, level_in, tree_items, tree_nodes}
+use Rattle.qg_verdict.specs.ImageState.{super_in, level_in, nodes_of_root, tree_items, tree_nodes}
 
 -- an image has this superblock at both places, is as long as it says, and has these nodes where they lie
 pub record HasCommit (super : Super) (nodes : List Node) (image : List ℕ) : Type 0 where
@@ -71,3 +72,7 @@ AreRuns state = (run : Element) → Contains (layout_extents (layout_of state)) 
 pub record AreThoseOf (layout : List (ℕ × Placed)) (nodes : List Node) : Type 0 where
   pub met : (at : ℕ) (placed : Placed) → value_at at layout ≡ Some placed → Contains nodes placed.node
   pub there : (node : Node) → Contains nodes node → node_at layout (header_of node).address ≡ Some node
+
+-- the nodes of the trees that have these ROOT_ITEMs in an image, all together
+abbrev pub nodes_of_roots : Super → List ℕ → List (ℕ × RootItem) → List Node
+nodes_of_roots super image roots = flat_map (λ entry. nodes_of_root Files super image entry.1) roots

@@ -1,12 +1,12 @@
 -- Which rules an image keeps that holds the trees of a commit, and the state that it stands for (this project's own).
 use Rattle.std.specs.Prelude.{◌≡◌, ℕ, List, [], length, map, Some, None}
-use Rattle.qg_num.specs.declared.counters.Counters.{Counters}
 use Rattle.qg_node.specs.declared.node.Node.{Node}
 use Rattle.qg_items.specs.declared.tree.TheConstants.{EXTENT_TREE, QUOTA_TREE}
 use Rattle.qg_super.specs.declared.superblock.Super.{Super}
 use Rattle.qg_super.specs.Places.{first_place, second_place}
 use Rattle.qg_super.specs.SuperText.{sizes_of}
 use Rattle.qg_image.specs.Table.{value_at}
+use Rattle.qg_state.specs.declared.quota.Quota.{Quota}
 use Rattle.qg_state.specs.Space.{present_extents}
 use Rattle.qg_state.specs.State.{State, layout_of, next_generation}
 use Rattle.qg_verdict.specs.declared.tree.Tree.TheVariants.{Extents}
@@ -15,17 +15,16 @@ use Rattle.qg_verdict.specs.ImageState.{as_committed, roots_in, state_in, subvol
 use Rattle.qg_verdict.specs.StateOf.{StateOf}
 use Rattle.qg_verdict.specs.Verdict.{counts_failure, extent_set, places_failure, quota_failure, references_failure, root_failure, roots_failure, space_failure, subvolume_failure}
 use Rattle.qg_other_trees.specs.declared.laying.OtherTrees.{OtherTrees}
-use Rattle.qg_other_trees.specs.Telling.{AreToldBy, one_group}
+use Rattle.qg_other_trees.specs.Telling.{AreToldBy}
 
--- the state that a commit leaves of this one, where its group then has these counters since a generation, and its other
--- trees have these nodes
-abbrev pub committed : List Node → State → Counters → ℕ → State
-committed others old counters stamp = as_committed others (record {
+-- the state that a commit leaves of this one, where its groups are then these, and its other trees have these nodes
+abbrev pub committed : List Node → State → Quota → State
+committed others old quota = as_committed others (record {
   sizes = old.sizes;
   generation = next_generation old;
   subvolumes = old.subvolumes;
   layout = old.layout;
-  quota = Some (one_group counters stamp);
+  quota = Some quota;
   pending = [];
   held = record { nodes = []; others = []; extents = [] };
 })
@@ -44,8 +43,8 @@ pub record KeepsRules (super : Super) (image : List ℕ) : Type 0 where
 
 -- An image breaks none of the rules, and stands for the state that a commit leaves, its other trees having the nodes that
 -- were laid out in these slots, each tree's in the order of its walk; and they tell that state
-pub record IsCommitted (trees : OtherTrees) (old : State) (counters : Counters) (stamp : ℕ) (slots image : List ℕ) : Type 0 where
+pub record IsCommitted (trees : OtherTrees) (old : State) (quota : Quota) (slots image : List ℕ) : Type 0 where
   pub others : List Node
-  pub told : AreToldBy (committed others old counters stamp) slots trees others
+  pub told : AreToldBy (committed others old quota) slots trees others
   pub rules : KeepsRules trees.superblock image
-  pub stands : StateOf image (committed others old counters stamp)
+  pub stands : StateOf image (committed others old quota)

@@ -1,6 +1,6 @@
 -- A state that the root, extent and quota trees of a commit tell (this project's own). Addresses and lengths are in
 -- bytes.
-use Rattle.std.specs.Prelude.{◌≡◌, ℕ, ◌<◌, ◌≤◌, false, List, [], ◌∷◌, ◌++◌, Option, Some, None, Contains, ◌==◌}
+use Rattle.std.specs.Prelude.{◌≡◌, ℕ, ◌<◌, ◌≤◌, false, List, [], ◌∷◌, ◌++◌, Option, Some, None, Contains, IsSome, ◌==◌}
 use Rattle.std.specs.List.{AllByRecursion, IsDistinct, filter_map}
 use Rattle.std.specs.List.Sorted.{IsPermutation}
 use Rattle.std.specs.Option.{option_map}
@@ -20,7 +20,7 @@ use Rattle.qg_state.specs.State.{Layout, Placed, State, Subvolume, layout_of, no
 use Rattle.qg_state.specs.Owed.{Agrees, is_nothing, layout_extents, owed_count, what_at}
 use Rattle.qg_verdict.specs.declared.tree.Tree.TheVariants.{Extents, Quotas, Roots}
 use Rattle.qg_verdict.specs.ImageState.{addresses_of, quota_told, subvolume_roots}
-use Rattle.qg_verdict.specs.OtherTrees.{AreOtherTrees, root_item_of, subvolume_items, super_at}
+use Rattle.qg_verdict.specs.OtherTrees.{AreOtherTrees, subvolume_items}
 use Rattle.qg_verdict.specs.Walk.{root_expected}
 use Rattle.qg_refs.specs.declared.kept.Kept.{Kept}
 use Rattle.qg_refs.specs.Book.{AgreesWithOwed, Book, full_in, what_in}
@@ -63,19 +63,20 @@ one_group counters stamp = record {
   pairs = [];
 }
 
--- a committed state with these sizes and this generation; its only subvolume has this ROOT_ITEM, its only group these
--- counters since a generation; and a table has the references to its nodes and data extents
-pub record IsStateOf (sizes : Sizes) (generation : ℕ) (root : RootItem) (book : List (ℕ × Kept)) (counters : Counters)
-    (stamp : ℕ) (state : State) : Type 0 where
+-- a subvolume's root node stands in a layout
+abbrev pub HasRoot : List (ℕ × Placed) → ℕ × Subvolume → Type 0
+HasRoot layout entry = IsSome (node_at layout entry.1.root)
+
+-- a committed state with these sizes and this generation; its subvolumes have these ROOT_ITEMs, and its quota is this;
+-- and a table has the references to its nodes and data extents
+pub record IsStateOf (sizes : Sizes) (generation : ℕ) (roots : List (ℕ × RootItem)) (book : List (ℕ × Kept)) (quota : Quota)
+    (state : State) : Type 0 where
   pub some : 1 ≤ generation
   pub same_sizes : sizes ≡ state.sizes
   pub same_generation : generation ≡ state.generation
-  pub subvolume : Subvolume
-  pub alone : state.subvolumes ≡ (TOP_LEVEL, subvolume) ∷ []
-  pub node : Node
-  pub there : node_at state.layout subvolume.root ≡ Some node
-  pub root_is : root_item_of subvolume node ≡ root
-  pub quota : state.quota ≡ Some (one_group counters stamp)
+  pub there : AllByRecursion (HasRoot state.layout) state.subvolumes
+  pub roots_are : subvolume_items state ≡ roots
+  pub quota_is : state.quota ≡ Some quota
   pub table : IsTable book
   pub known : Knows (layout_of state) (book_of book)
 

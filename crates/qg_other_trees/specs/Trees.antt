@@ -1,7 +1,8 @@
 -- The root, extent and quota trees of a commit, one behind the other in free slots (this project's own). Addresses and
 -- lengths are in bytes.
-use Rattle.std.specs.Prelude.{◌≡◌, ℕ, ◌+◌, ◌-◌, ◌*◌, ◌^◌, ◌<◌, ◌≤◌, List, [], ◌∷◌, ◌++◌, length, drop, ◌&&◌, ◌==◌, if◌then◌else◌, All, IsTrue}
+use Rattle.std.specs.Prelude.{◌≡◌, ℕ, ◌+◌, ◌-◌, ◌*◌, ◌^◌, ◌<◌, ◌≤◌, Bool, List, [], ◌++◌, length, drop, not, is_some, ◌&&◌, ◌||◌, ◌==◌, if◌then◌else◌, nat_le, All, IsTrue}
 use Rattle.std.specs.List.{IsDistinct, filter_map, list_all}
+use Rattle.std.specs.List.Sorted.{IsStrictlyIncreasing}
 use Rattle.qg_num.specs.declared.counters.Counters.{Counters}
 use Rattle.qg_node.specs.declared.item.Item.{Item}
 use Rattle.qg_node.specs.declared.node.Node.{Node}
@@ -10,18 +11,21 @@ use Rattle.qg_items.specs.declared.root.RootItem.{RootItem}
 use Rattle.qg_items.specs.declared.tree.TheConstants.{ROOT_TREE, EXTENT_TREE, TOP_LEVEL, QUOTA_TREE}
 use Rattle.qg_super.specs.declared.sizes.Sizes.{Sizes}
 use Rattle.qg_super.specs.declared.superblock.Super.{Super}
-use Rattle.qg_super.specs.Places.{is_served}
-use Rattle.qg_image.specs.declared.part.QuotaPart.{QuotaPart}
-use Rattle.qg_image.specs.declared.part.QuotaPart.TheVariants.{Status, Info, Limits}
-use Rattle.qg_image.specs.ItemMeaning.{extent_part, quota_part, root_part}
+use Rattle.qg_super.specs.Places.{capacity, is_served}
+use Rattle.qg_image.specs.ItemMeaning.{extent_part, is_subvolume_number, quota_part, root_part}
+use Rattle.qg_image.specs.Table.{has_key, keys_of}
+use Rattle.qg_state.specs.declared.quota.Group.{Group}
+use Rattle.qg_state.specs.declared.quota.Quota.{Quota}
 use Rattle.qg_state.specs.Need.{nodes_filled}
+use Rattle.qg_state.specs.Stage.{serves_groups, serves_subvolumes}
 use Rattle.qg_verdict.specs.declared.tree.Tree.{Tree}
 use Rattle.qg_verdict.specs.declared.tree.Tree.TheVariants.{Extents, Quotas, Roots}
+use Rattle.qg_verdict.specs.Verdict.{is_group_number, is_served_number, most_groups, most_subvolumes}
 use Rattle.qg_verdict.specs.Walk.{is_item_of}
 use Rattle.qg_tree.specs.declared.building.Built.{Built}
 use Rattle.qg_tree.specs.Build.{IsBuilt}
 use Rattle.qg_contents.specs.Writable.{IsRootBy}
-use Rattle.qg_contents.specs.Written.{info_of, items_of_quota, items_of_roots, no_limit, status_at}
+use Rattle.qg_contents.specs.Written.{items_of_quota, items_of_roots, parts_of_quota, roots_named, status_at}
 use Rattle.qg_refs.specs.declared.kept.Kept.{Kept}
 use Rattle.qg_extents.specs.Written.{items_of_book, parts_of_book}
 use Rattle.qg_other_trees.specs.declared.laying.OtherTrees.{OtherTrees}
@@ -35,20 +39,75 @@ pub record AreEnough (count : ℕ) (slots : List ℕ) : Type 0 where
   pub few : length slots ≤ 16128
   pub enough : count ≤ length slots
 
+-- Subvolumes that the root tree of this generation can name: no more than an image can have, ascending by number, the
+-- top-level one among them; each tree has one reference, and its ROOT_ITEM tells no later generation. As long as other
+-- subvolumes aren't served there is none
+pub record AreSubvolumes (generation : ℕ) (roots : List (ℕ × RootItem)) : Type 0 where
+  pub few : length roots ≤ most_subvolumes
+  pub ascending : IsStrictlyIncreasing (keys_of roots)
+  pub numbers : All (λ entry. IsTrue (is_subvolume_number entry.0)) roots
+  pub top_level : IsTrue (has_key TOP_LEVEL roots)
+  pub counted : All (λ entry. entry.1.refs ≡ 1) roots
+  pub by : All (λ entry. IsRootBy generation entry.1) roots
+  pub served : IsTrue (serves_subvolumes || list_all (λ entry. entry.0 == TOP_LEVEL) roots)
+
+-- a group that is served as long as not all are: its number is, and no limit is set
+abbrev pub is_plain_group : ℕ × Group → Bool
+is_plain_group entry = is_served_number entry.0 && not (is_some entry.1.max_rfer) && not (is_some entry.1.max_excl)
+
+-- Groups that the quota tree of this generation can tell beside these subvolumes: no more than an image can have,
+-- ascending by number; each one of level 0 is that of a number that a subvolume may have, each subvolume has its own, and
+-- no later commit changed their counters. There are no relations so far. As long as not all groups are served there are
+-- only the subvolumes' own that are, without limits
+pub record AreGroups (generation : ℕ) (subvolumes : List ℕ) (quota : Quota) : Type 0 where
+  pub few : length quota.groups ≤ most_groups
+  pub ascending : IsStrictlyIncreasing (keys_of quota.groups)
+  pub numbers : All (λ entry. IsTrue (is_group_number entry.0)) quota.groups
+  pub own : All (λ sub. IsTrue (has_key sub quota.groups)) subvolumes
+  pub stamped : All (λ entry. entry.1.stamp ≤ generation) quota.groups
+  pub alone : quota.pairs ≡ []
+  pub served : IsTrue (serves_groups || list_all is_plain_group quota.groups)
+
+-- what the items of the root tree take of leaves, in bytes, where there are so many subvolumes: a ROOT_ITEM of 464 for
+-- each, one for the extent tree and one for the quota tree
+abbrev pub root_tree_bytes : ℕ → ℕ
+root_tree_bytes subvolumes = 464 * (subvolumes + 2)
+
+-- what those of the quota tree take, where there are so many groups: a QGROUP_STATUS of 57, and for each group a
+-- QGROUP_INFO and a QGROUP_LIMIT of 65
+abbrev pub quota_tree_bytes : ℕ → ℕ
+quota_tree_bytes groups = 57 + 130 * groups
+
+-- the nodes that the items of the three trees fill, at the least
+abbrev pub nodes_of_trees : ℕ → List (ℕ × Kept) → List (ℕ × RootItem) → Quota → ℕ
+nodes_of_trees nodesize book roots quota =
+    nodes_filled nodesize (items_bytes (items_of_book book))
+    + nodes_filled nodesize (root_tree_bytes (length roots))
+    + nodes_filled nodesize (quota_tree_bytes (length quota.groups))
+
+-- the nodes of a tree whose items take so many bytes, at the most: those that fit in a leaf are one
+abbrev pub most_nodes : ℕ → ℕ → ℕ
+most_nodes nodesize bytes = if nat_le bytes (capacity nodesize) then 1 else 5 * nodes_filled nodesize bytes + 1
+
+-- the nodes of the three trees, at the most
+abbrev pub most_nodes_of_trees : ℕ → List (ℕ × Kept) → List (ℕ × RootItem) → Quota → ℕ
+most_nodes_of_trees nodesize book roots quota =
+    most_nodes nodesize (items_bytes (items_of_book book))
+    + most_nodes nodesize (root_tree_bytes (length roots))
+    + most_nodes nodesize (quota_tree_bytes (length quota.groups))
+
 -- three trees of this generation that tell this can be laid out in these slots, in an image of these sizes
 pub record CanBeLaid (sizes : Sizes) (generation : ℕ) (told : Told) (slots : List ℕ) : Type 0 where
   pub served : IsTrue (is_served sizes)
   -- there is a generation behind it, and it is one
   pub some : 1 ≤ generation
   pub early : generation < 2 ^ 64 - 1
-  -- the subvolume's tree has one reference
-  pub counted : told.root.now.refs ≡ 1
-  -- its ROOT_ITEM tells no later generation; nor does the last change of the counters, nor what is known of nodes and extents
-  pub by : IsRootBy generation told.root.now
-  pub stamp : told.stamp ≤ generation
+  -- the subvolumes and the groups; what is known of nodes and extents is of no later generation either
+  pub subvolumes : AreSubvolumes generation told.roots.now
+  pub groups : AreGroups generation (keys_of told.roots.now) told.quota.now
   pub known : All (λ entry. entry.1.what.generation ≤ generation) told.book.now
-  -- the slots are enough for the three trees
-  pub room : AreEnough (5 * nodes_filled sizes.nodesize (items_bytes (items_of_book told.book.now)) + 13) slots
+  -- the slots are enough for the three trees: a tree has five times the nodes that its items fill, and one more
+  pub room : AreEnough (5 * nodes_of_trees sizes.nodesize told.book.now told.roots.now told.quota.now + 3) slots
 
 -- ---- what the trees tell
 
@@ -65,24 +124,16 @@ abbrev pub root_item_laid : Built → ℕ → RootItem
 root_item_laid built generation =
     record { generation = generation; bytenr = built.root; last_snapshot = 0; refs = 1; level = built.level }
 
--- what the root tree names: the extent tree, the top-level subvolume and the quota tree
-abbrev pub roots_laid : RootItem → RootItem → RootItem → List (ℕ × RootItem)
-roots_laid extents files quotas = (EXTENT_TREE, extents) ∷ (TOP_LEVEL, files) ∷ (QUOTA_TREE, quotas) ∷ []
+-- the items of the root tree are the ROOT_ITEMs of the extent tree, the subvolumes and the quota tree, and are read as
+-- these
+pub record RootsTell (extents : RootItem) (roots : List (ℕ × RootItem)) (quotas : RootItem) (items : List Item) : Type 0 where
+  pub written : items ≡ items_of_roots extents roots quotas
+  pub told : filter_map root_part items ≡ roots_named extents roots quotas
 
--- what the quota tree says: the top-level subvolume's group has these counters since a generation, and no limit
-abbrev pub quota_parts_laid : ℕ → Counters → ℕ → List QuotaPart
-quota_parts_laid generation counters stamp =
-    Status (status_at generation) ∷ Info TOP_LEVEL (info_of stamp counters) ∷ Limits TOP_LEVEL no_limit ∷ []
-
--- the items of the root tree are the ROOT_ITEMs of the three, and are read as these
-pub record RootsTell (extents files quotas : RootItem) (items : List Item) : Type 0 where
-  pub written : items ≡ items_of_roots extents files quotas
-  pub told : filter_map root_part items ≡ roots_laid extents files quotas
-
--- the items of the quota tree are those of one group, with no limit, and are read as these
-pub record QuotaTells (generation : ℕ) (counters : Counters) (stamp : ℕ) (items : List Item) : Type 0 where
-  pub written : items ≡ items_of_quota (status_at generation) TOP_LEVEL (info_of stamp counters)
-  pub told : filter_map quota_part items ≡ quota_parts_laid generation counters stamp
+-- the items of the quota tree are those of groups without relations, and are read as these
+pub record QuotaTells (generation : ℕ) (quota : Quota) (items : List Item) : Type 0 where
+  pub written : items ≡ items_of_quota (status_at generation) quota.groups
+  pub told : filter_map quota_part items ≡ parts_of_quota generation quota.groups
 
 -- the items of the extent tree are those of a book, and are read as its records
 pub record ExtentsTell (book : List (ℕ × Kept)) (items : List Item) : Type 0 where
@@ -107,22 +158,23 @@ superblock_laid sizes generation root = record {
 }
 
 -- Three trees of this generation in an image of these sizes, one behind the other in the slots, with the superblock that
--- leads to them: of a subvolume with this ROOT_ITEM, of these references, and of a group with these counters since a
--- generation
-pub record AreTrees (sizes : Sizes) (generation : ℕ) (root : RootItem) (book : List (ℕ × Kept)) (counters : Counters)
-    (stamp : ℕ) (slots : List ℕ) (trees : OtherTrees) : Type 0 where
+-- leads to them: of subvolumes with these ROOT_ITEMs, of these references, and of these groups
+pub record AreTrees (sizes : Sizes) (generation : ℕ) (roots : List (ℕ × RootItem)) (book : List (ℕ × Kept)) (quota : Quota)
+    (slots : List ℕ) (trees : OtherTrees) : Type 0 where
+  pub subvolumes : AreSubvolumes generation roots
+  pub groups : AreGroups generation (keys_of roots) quota
   pub extent_tree : IsTreeOfItems Extents EXTENT_TREE sizes.nodesize generation (ExtentsTell book) slots trees.extents
-  pub quota_tree : IsTreeOfItems Quotas QUOTA_TREE sizes.nodesize generation (QuotaTells generation counters stamp)
+  pub quota_tree : IsTreeOfItems Quotas QUOTA_TREE sizes.nodesize generation (QuotaTells generation quota)
       (drop (length trees.extents.nodes) slots) trees.quotas
   pub root_tree : IsTreeOfItems Roots ROOT_TREE sizes.nodesize generation
-      (RootsTell (root_item_laid trees.extents generation) root (root_item_laid trees.quotas generation))
+      (RootsTell (root_item_laid trees.extents generation) roots (root_item_laid trees.quotas generation))
       (drop (length trees.quotas.nodes) (drop (length trees.extents.nodes) slots)) trees.roots
   pub leads : trees.superblock ≡ superblock_laid sizes generation trees.roots.root
 
 -- the trees that tell this
 abbrev pub AreTreesOf : Sizes → ℕ → Told → List ℕ → OtherTrees → Type 0
 AreTreesOf sizes generation told slots trees =
-    AreTrees sizes generation told.root.now told.book.now told.counters.now told.stamp slots trees
+    AreTrees sizes generation told.roots.now told.book.now told.quota.now slots trees
 
 -- the commit that changed the counters last
 abbrev pub stamp_after : Counters → Counters → ℕ → ℕ → ℕ

@@ -1,18 +1,15 @@
 // The root, extent and quota trees of a commit together.
-ghost use Rattle.std.specs.Prelude.{◌≡◌, ◌<◌, ◌≤◌, ◌+◌, ◌-◌, ◌*◌, ◌^◌, length, IfOk, IsTrue};
+ghost use Rattle.std.specs.Prelude.{◌≡◌, ◌<◌, ◌≤◌, ◌-◌, ◌^◌, length, IfOk, IsTrue};
 ghost use Rattle.qg_node.specs.NodeText.{IsNodeSize};
-ghost use Rattle.qg_node.specs.Nodes.{items_bytes};
 ghost use Rattle.qg_super.specs.Places.{is_served};
 ghost use Rattle.qg_super.specs.SuperText.{is_super};
-ghost use Rattle.qg_state.specs.Need.{nodes_filled};
-ghost use Rattle.qg_contents.specs.Writable.{IsRootBy, IsWritableRoot};
-ghost use Rattle.qg_extents.specs.Written.{items_of_book};
-ghost use Rattle.qg_other_trees.specs.Trees.{AreTreesOf, CanBeLaid, nodes_laid, stamp_after, superblock_laid};
+ghost use Rattle.qg_other_trees.specs.Trees.{AreTreesOf, CanBeLaid, most_nodes_of_trees, nodes_laid, stamp_after, superblock_laid};
 
-use crate::trees::{NamedRoots, extent_tree, quota_tree, root_of, root_tree};
+use crate::trees::{OwnRoots, extent_tree, quota_tree, root_of, root_tree};
 use qg_extents::Extents;
 use qg_items::RootItem;
-use qg_num::{Address, Counters, Generation, NoMemory};
+use qg_num::{Address, Counters, Generation, NoMemory, RootId};
+use qg_state::Quota;
 use qg_super::{Sizes, Super};
 use qg_tree::Built;
 use std::alloc::Global;
@@ -30,17 +27,15 @@ pub struct OtherTrees {
     pub roots: Built,
 }
 
-/// What these trees tell, as long as the only subvolume is the top-level one (this project's own).
+/// What these trees tell (this project's own).
 #[derive(Clone, Copy)]
 pub struct Told<'a> {
-    /// The subvolume's ROOT_ITEM: generation, address and level of its root node, as it is now.
-    pub root: &'a RootItem,
-    /// The references to its nodes and data extents.
+    /// The subvolumes' ROOT_ITEMs, ascending by number: generation, address and level of each root node, as it is now.
+    pub roots: &'a [(RootId, RootItem)],
+    /// The references to their nodes and data extents.
     pub book: &'a Extents,
-    /// The counters of its group, as they are to be stored, in bytes.
-    pub counters: &'a Counters,
-    /// The generation of the commit that last changed them.
-    pub stamp: Generation,
+    /// The groups, ascending by number: counters, limits and stamps as they are to be stored.
+    pub quota: &'a Quota,
 }
 
 /// The root, extent and quota trees of the generation `next` in an image of these sizes, and the superblock that leads to
@@ -59,40 +54,24 @@ pub fn lay_other_trees(
     ensures superblock { IfOk result (λ trees. IsTrue (is_super trees.superblock)) }
     ensures trees { IfOk result (λ trees. AreTreesOf sizes next told.now slots.now trees) }
     ensures few { IfOk result (λ trees. length (nodes_laid trees)
-        ≤ 5 * nodes_filled sizes.nodesize (items_bytes (items_of_book told.now.book.now)) + 3) }
+        ≤ most_nodes_of_trees sizes.nodesize told.now.book.now told.now.roots.now told.now.quota.now) }
 {
     let nodesize = node_size(sizes);
     let extents = extent_tree(alloc, nodesize, next, told.book, slots)?;
     let (_, slots) = slots.split_at(extents.nodes.len());
-    let quotas = quota_tree(alloc, nodesize, next, told.counters, told.stamp, slots)?;
+    let quotas = quota_tree(alloc, nodesize, next, told.quota, slots)?;
     let (_, slots) = slots.split_at(quotas.nodes.len());
-    let named = NamedRoots {
+    let own = OwnRoots {
         extents: root_of(&extents, next),
-        files: own_root(told.root, next),
         quotas: root_of(&quotas, next),
     };
-    let roots = root_tree(alloc, nodesize, next, &named, slots)?;
+    let roots = root_tree(alloc, nodesize, next, &own, told.roots, slots)?;
     Ok(OtherTrees {
         superblock: superblock_of(sizes, next, roots.root),
         extents,
         quotas,
         roots,
     })
-}
-
-// The subvolume's ROOT_ITEM, as it is told.
-fn own_root(root: &RootItem, next: Generation) -> RootItem
-    requires counted { root.now.refs ≡ 1 }
-    requires by { IsRootBy next root.now }
-    ensures value { result ≡ root.now }
-    ensures writable { IsWritableRoot result × IsRootBy next result }
-{
-    // A proof knows a number's range once it is read.
-    let _generation = root.generation.value();
-    let _address = root.bytenr.value();
-    let _copied = root.last_snapshot.value();
-    let _level = root.level;
-    *root
 }
 
 // The bytes of a node.

@@ -1,5 +1,5 @@
-//! The root, extent and quota trees of a commit, laid out in free slots, where the subvolume's tree stays as edits left
-//! it; and what state they tell.
+//! The root, extent and quota trees of a commit, laid out in free slots, where the subvolumes' trees stay as edits left
+//! them; and what state they tell.
 #![tactic(auto)]
 
 mod laws;

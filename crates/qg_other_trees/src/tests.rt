@@ -1,11 +1,13 @@
 // What no clause says: that the call succeeds. What the trees then have was worked out by hand.
-ghost use Rattle.std.specs.Prelude.{◌≡◌, [], ◌∷◌};
+ghost use Rattle.std.specs.Prelude.{◌≡◌, [], ◌∷◌, IfOk};
+ghost use Rattle.qg_other_trees.specs.Examples.{fresh_quota};
 
 use crate::{OtherTrees, Told, lay_other_trees, stamp_after};
 use qg_extents::fresh_records;
 use qg_items::RootItem;
 use qg_node::{Item, Node};
-use qg_num::{Address, Counters, Generation, NoMemory};
+use qg_num::{Address, Counters, Generation, GroupId, NoMemory, RootId, Sequence};
+use qg_state::{Group, Quota};
 use qg_super::Sizes;
 use qg_tree::Built;
 use std::alloc::Global;
@@ -41,6 +43,28 @@ fn slots() -> [Address; 18]
     ]
 }
 
+// Quota with the subvolume's group alone, which has no limit.
+fn one_group(alloc: Global) -> Result<Quota, NoMemory>
+    ensures { IfOk result (λ quota. quota ≡ fresh_quota) }
+{
+    let counters = Counters {
+        rfer: 4096,
+        excl: 4096,
+    };
+    let group = Group {
+        counters,
+        max_rfer: None,
+        max_excl: None,
+        stamp: Generation::new(1),
+    };
+    let mut groups = Sequence::new(alloc);
+    groups.push((GroupId::from_number(5), group))?;
+    Ok(Quota {
+        groups,
+        pairs: Sequence::new(alloc),
+    })
+}
+
 // The trees of the seventh generation, where the subvolume is as it was made.
 fn lay_seventh(alloc: Global) -> Result<OtherTrees, NoMemory> {
     let sizes = Sizes {
@@ -56,15 +80,12 @@ fn lay_seventh(alloc: Global) -> Result<OtherTrees, NoMemory> {
         refs: 1,
         level: 0,
     };
-    let counters = Counters {
-        rfer: 4096,
-        excl: 4096,
-    };
+    let roots = [(RootId::new(5), root)];
+    let quota = one_group(alloc)?;
     let told = Told {
-        root: &root,
+        roots: &roots,
         book: &book,
-        counters: &counters,
-        stamp: Generation::new(1),
+        quota: &quota,
     };
     lay_other_trees(alloc, sizes, Generation::new(7), &told, &slots())
 }

@@ -5,15 +5,27 @@ ghost use Rattle.qg_node.specs.Nodes.{items_bytes};
 ghost use Rattle.qg_items.specs.declared.tree.TheConstants.{EXTENT_TREE, QUOTA_TREE, ROOT_TREE, TOP_LEVEL};
 ghost use Rattle.qg_state.specs.Need.{nodes_filled};
 ghost use Rattle.qg_verdict.specs.declared.tree.Tree.TheVariants.{Extents as ExtentTree, Quotas, Roots};
-ghost use Rattle.qg_contents.specs.Writable.{IsRootBy, IsWritableRoot};
+ghost use Rattle.qg_contents.specs.Writable.{AreWritableGroups, IsRootBy, IsWritableRoot};
 ghost use Rattle.qg_extents.specs.Written.{items_of_book};
-ghost use Rattle.qg_other_trees.specs.Trees.{AreEnough, ExtentsTell, IsTreeOfItems, QuotaTells, RootsTell, root_item_laid};
+ghost use Rattle.qg_other_trees.specs.Trees.{
+  AreEnough,
+  AreSubvolumes,
+  ExtentsTell,
+  IsTreeOfItems,
+  QuotaTells,
+  RootsTell,
+  most_nodes,
+  quota_tree_bytes,
+  root_item_laid,
+  root_tree_bytes,
+};
 
 use qg_contents::{quota_items, root_items};
 use qg_extents::Extents;
 use qg_items::RootItem;
-use qg_items::tree::{EXTENT_TREE, QUOTA_TREE, ROOT_TREE, TOP_LEVEL};
-use qg_num::{Address, Counters, Generation, GroupId, NoMemory, RootId};
+use qg_items::tree::{EXTENT_TREE, QUOTA_TREE, ROOT_TREE};
+use qg_num::{Address, Generation, NoMemory, RootId};
+use qg_state::Quota;
 use qg_tree::{Built, build};
 use std::alloc::Global;
 
@@ -30,8 +42,7 @@ pub(crate) fn extent_tree(
     requires slots { AreEnough (5 * nodes_filled nodesize (items_bytes (items_of_book book.now)) + 1) slots.now }
     ensures tree { IfOk result (λ built.
         IsTreeOfItems ExtentTree EXTENT_TREE nodesize next (ExtentsTell book.now) slots.now built) }
-    ensures few { IfOk result (λ built. length built.nodes
-        ≤ 5 * nodes_filled nodesize (items_bytes (items_of_book book.now)) + 1) }
+    ensures few { IfOk result (λ built. length built.nodes ≤ most_nodes nodesize (items_bytes (items_of_book book.now))) }
 {
     let items = book.items(alloc)?;
     build(
@@ -44,29 +55,23 @@ pub(crate) fn extent_tree(
     )
 }
 
-// The quota tree, with the top-level subvolume's group alone: one leaf.
+// The quota tree, with these groups.
 pub(crate) fn quota_tree(
     alloc: Global,
     nodesize: u32,
     next: Generation,
-    counters: &Counters,
-    stamp: Generation,
+    quota: &Quota,
     slots: &[Address],
 ) -> Result<Built, NoMemory>
     requires size { IsNodeSize nodesize }
-    requires stamp { stamp ≤ next }
-    requires slots { AreEnough 6 slots.now }
+    requires groups { AreWritableGroups next quota.now.groups }
+    requires slots { AreEnough (5 * nodes_filled nodesize (quota_tree_bytes (length quota.now.groups)) + 1) slots.now }
     ensures tree { IfOk result (λ built.
-        IsTreeOfItems Quotas QUOTA_TREE nodesize next (QuotaTells next counters.now stamp) slots.now built) }
-    ensures one { IfOk result (λ built. length built.nodes ≡ 1) }
+        IsTreeOfItems Quotas QUOTA_TREE nodesize next (QuotaTells next quota.now) slots.now built) }
+    ensures few { IfOk result (λ built.
+        length built.nodes ≤ most_nodes nodesize (quota_tree_bytes (length quota.now.groups))) }
 {
-    let items = quota_items(
-        alloc,
-        next,
-        GroupId::from_number(TOP_LEVEL),
-        counters,
-        stamp,
-    )?;
+    let items = quota_items(alloc, next, quota)?;
     build(
         alloc,
         nodesize,
@@ -77,32 +82,33 @@ pub(crate) fn quota_tree(
     )
 }
 
-// The root tree, with the roots of the other two and the subvolume's: one leaf.
+// The root tree, with the roots of the other two and the subvolumes'.
 pub(crate) fn root_tree(
     alloc: Global,
     nodesize: u32,
     next: Generation,
-    roots: &NamedRoots,
+    own: &OwnRoots,
+    subvolumes: &[(RootId, RootItem)],
     slots: &[Address],
 ) -> Result<Built, NoMemory>
     requires size { IsNodeSize nodesize }
-    requires extents { IsWritableRoot roots.now.extents × IsRootBy next roots.now.extents }
-    requires files { IsWritableRoot roots.now.files × IsRootBy next roots.now.files }
-    requires quotas { IsWritableRoot roots.now.quotas × IsRootBy next roots.now.quotas }
-    requires slots { AreEnough 6 slots.now }
+    requires extents { IsWritableRoot own.now.extents × IsRootBy next own.now.extents }
+    requires subvolumes { AreSubvolumes next subvolumes.now }
+    requires quotas { IsWritableRoot own.now.quotas × IsRootBy next own.now.quotas }
+    requires slots { AreEnough (5 * nodes_filled nodesize (root_tree_bytes (length subvolumes.now)) + 1) slots.now }
     ensures tree { IfOk result (λ built. IsTreeOfItems Roots ROOT_TREE nodesize next
-        (RootsTell roots.now.extents roots.now.files roots.now.quotas) slots.now built) }
-    ensures one { IfOk result (λ built. length built.nodes ≡ 1) }
+        (RootsTell own.now.extents subvolumes.now own.now.quotas) slots.now built) }
+    ensures few { IfOk result (λ built.
+        length built.nodes ≤ most_nodes nodesize (root_tree_bytes (length subvolumes.now))) }
 {
-    let items = root_items(alloc, &roots.extents, &roots.files, &roots.quotas)?;
+    let items = root_items(alloc, &own.extents, subvolumes, &own.quotas)?;
     build(alloc, nodesize, RootId::new(ROOT_TREE), next, &items, slots)
 }
 
-// The ROOT_ITEMs of the trees that the root tree names.
+// The ROOT_ITEMs of the extent tree and the quota tree.
 #[derive(Clone, Copy)]
-pub(crate) struct NamedRoots {
+pub(crate) struct OwnRoots {
     pub extents: RootItem,
-    pub files: RootItem,
     pub quotas: RootItem,
 }
 

@@ -1,19 +1,22 @@
--- A tree that stands does so where the same is told.
-use Rattle.std.proofs.Common.{◌≡◌, ℕ, ◌+◌, ◌≤◌, List, [], ◌∷◌, length, Option, Some, None, arith, refl, sym, ap, subst, ◌∙◌, inl, inr}
-use Rattle.std.specs.Prelude.{◌⊎◌, ⊤, IsTrue, nat_lt, if◌then◌else◌}
-use Rattle.std.specs.List.{filter_map}
+-- Trees that stand do so where the same is told.
+use Rattle.std.proofs.Common.{◌≡◌, ℕ, ◌+◌, ◌≤◌, false, List, ◌∷◌, ◌++◌, length, get_or, map, Option, Some, None, arith, refl, sym, ap, subst, ◌∙◌, inl, inr}
+use Rattle.std.specs.Prelude.{◌⊎◌, ◌↔◌, ⊤, IsTrue, nat_lt, if◌then◌else◌}
+use Rattle.std.specs.List.{All, Contains, filter_map, flat_map, list_any}
 use Rattle.std.specs.Option.{option_map}
 use Rattle.qg_device.specs.History.{Event, Synced, Wrote, content}
 use Rattle.qg_num.specs.declared.piece.Piece.{Piece}
 use Rattle.qg_node.specs.declared.item.Item.{Item}
 use Rattle.qg_node.specs.declared.node.Node.{Node}
+use Rattle.qg_node.specs.Nodes.{header_of}
 use Rattle.qg_items.specs.declared.extent.Reference.{Reference}
 use Rattle.qg_super.specs.declared.sizes.Sizes.{Sizes}
 use Rattle.qg_super.specs.declared.superblock.Super.{Super}
 use Rattle.qg_super.specs.Places.{first_place, is_served, is_slot, second_place, slots_begin, total_bytes}
 use Rattle.qg_super.specs.SuperText.{super_text}
 use Rattle.qg_super.proofs.SuperTexts.{length-super_text}
+use Rattle.qg_image.specs.Below.{items_below}
 use Rattle.qg_state.specs.Owed.{owed_count}
+use Rattle.qg_state.specs.Reach.{extent_of}
 use Rattle.qg_state.specs.State.{Layout, Placed}
 use Rattle.qg_verdict.specs.declared.tree.Tree.TheVariants.{Files}
 use Rattle.qg_blocks.specs.Standing.{has_slot, standing}
@@ -22,10 +25,11 @@ use Rattle.qg_blocks.specs.Writing.{Keeps}
 use Rattle.qg_blocks.proofs.Written.{Keeps-fewer, Keeps-synced, Keeps-then, Keeps-wrote, told-keeps}
 use Rattle.qg_refs.specs.Book.{full_in}
 use Rattle.qg_extents.specs.Table.{book_of}
-use Rattle.qg_descent.specs.Tree.{IsTree, Reaches, super_of}
+use Rattle.qg_descent.specs.Tree.{IsTree, Reaches, Root, super_of}
 use Rattle.qg_tree_edits.specs.Counting.{ways}
+use Rattle.qg_tree_edits.specs.Rooting.{IsRooted}
 use Rattle.qg_fs_tree.specs.declared.fs_tree.FsTree.{FsTree}
-use Rattle.qg_fs_tree.specs.Standing.{IsReached, IsSubvolume, Stands, every_slot, layout_in, names_times, nodes_of}
+use Rattle.qg_fs_tree.specs.Standing.{IsAtHome, IsBeside, IsKnownExtent, IsReachedBy, IsSubvolume, Stands, every_slot, items_in, layout_in, name_told, names_elsewhere, names_times, nodes_of, roots_of, trees_of}
 use Rattle.qg_standing.specs.Committing.{StandsStill}
 use Rattle.qg_standing.specs.Knowing.{IsSameButClean}
 
@@ -34,20 +38,27 @@ use Rattle.qg_standing.specs.Knowing.{IsSameButClean}
 -- a slot's entry in a layout, and the layout, by what is told
 abbrev entry_over : FsTree → (ℕ → Option Node) → ℕ → Option (ℕ × Placed)
 entry_over fs nodes at =
-    if nat_lt 0 (ways nodes fs.tree.height fs.tree.address at)
+    if list_any (λ tree. nat_lt 0 (ways nodes tree.height tree.address at)) (trees_of fs)
     then option_map (λ node. (at, record { node = node; full = full_in (book_of fs.refs.refs at) })) (nodes at)
     else None
 
 abbrev layout_over : FsTree → (ℕ → Option Node) → Layout
 layout_over fs nodes = record {
   nodesize = fs.land.space.sizes.nodesize;
-  roots = (fs.tree.owner, fs.tree.address) ∷ [];
+  roots = roots_of fs;
   nodes = filter_map (entry_over fs nodes) (every_slot fs.land.space.sizes);
 }
 
--- a tree, with other clean nodes in memory
+-- trees, with other clean nodes in memory
 abbrev with_clean : FsTree → List (ℕ × Node) → FsTree
 with_clean fs clean = record fs { land = record fs.land { blocks = record fs.land.blocks { clean = clean } } }
+
+-- the items of a tree, where the same are told
+items_same : (a b : FsTree) (after before : Option (List Event)) (tree : Root)
+    → items_below (nodes_of a after) tree.height tree.address
+    ≡ items_below (nodes_of b before) tree.height tree.address
+    → items_in a after tree ≡ items_in b before tree
+items_same a b after before tree same = rw same refl
 
 -- ---- where the same is told
 
@@ -57,21 +68,53 @@ module _ (fs : FsTree) (clean : List (ℕ × Node)) (before after : Option (List
   maps_alike : nodes_of fs after ≡ nodes_of fs before
   maps_alike = λ i q. alike q i
 
-  reach_then : (q : ℕ) → IsReached fs before q → IsReached fs after q
-  reach_then q = subst (λ (nodes : ℕ → Option Node). Reaches nodes fs.tree.height fs.tree.address q) (sym maps_alike)
+  reach_then : (tree : Root) (q : ℕ) → IsReachedBy fs before tree q → IsReachedBy fs after tree q
+  reach_then tree q =
+      subst (λ (nodes : ℕ → Option Node). Reaches nodes tree.height tree.address q) (sym maps_alike)
 
-  reach_before : (q : ℕ) → IsReached fs after q → IsReached fs before q
-  reach_before q = subst (λ (nodes : ℕ → Option Node). Reaches nodes fs.tree.height fs.tree.address q) maps_alike
+  reach_before : (tree : Root) (q : ℕ) → IsReachedBy fs after tree q → IsReachedBy fs before tree q
+  reach_before tree q = subst (λ (nodes : ℕ → Option Node). Reaches nodes tree.height tree.address q) maps_alike
 
   layout_alike : layout_in (with_clean fs clean) after ≡ layout_in fs before
   unfolding layout_in
   layout_alike = ap (layout_over fs) maps_alike
 
-  tells_alike : IsTree Files (super_of fs.tree fs.land.blocks.draft) (nodes_of fs after) fs.tree.height fs.tree.address
-      items
-  tells_alike = subst
-      (λ (nodes : ℕ → Option Node). IsTree Files (super_of fs.tree fs.land.blocks.draft) nodes fs.tree.height
-      fs.tree.address items) (sym maps_alike) stands.rooted.tells
+  -- ---- each tree
+
+  each_alike : (tree : Root) → items_in (with_clean fs clean) after tree ≡ items_in fs before tree
+  each_alike tree = items_same (with_clean fs clean) fs after before tree
+      (ap (λ (nodes : ℕ → Option Node). items_below nodes tree.height tree.address) maps_alike)
+
+  rooted_alike : (tree : Root) (own : List Item) → IsRooted Files tree fs.land before own
+      → IsRooted Files tree (with_clean fs clean).land after own
+  rooted_alike tree own rooted = record {
+    tells = subst (λ (nodes : ℕ → Option Node). IsTree Files (super_of tree fs.land.blocks.draft) nodes tree.height
+        tree.address own) (sym maps_alike) rooted.tells;
+    apart = λ q free reached. rooted.apart q free (reach_before tree q reached);
+    short = rooted.short;
+  }
+
+  beside_alike : (tree : Root) → IsBeside fs before tree → IsBeside (with_clean fs clean) after tree
+  beside_alike tree was = record {
+    items = was.items;
+    rooted = rooted_alike tree was.items was.rooted;
+    next = was.next;
+    number = was.number;
+  }
+
+  -- ---- names
+
+  abbrev told_by : Option (List Event) → Root → List (ℕ × Piece)
+  told_by history tree = filter_map name_told (items_in fs history tree)
+
+  told_alike : told_by after ≡ told_by before
+  told_alike = λ i tree. ap (λ (xs : List Item). filter_map name_told xs) (each_alike tree) i
+
+  elsewhere_alike : names_elsewhere (with_clean fs clean) after ≡ names_elsewhere fs before
+  unfolding names_elsewhere
+  elsewhere_alike = ap (λ (told : Root → List (ℕ × Piece)). flat_map told fs.others.items) told_alike
+
+  -- ---- all of it
 
   counts_alike : (at : ℕ) (reference : Reference)
       → owed_count (layout_in fs before) at reference + names_times fs.tree.owner names at reference
@@ -80,20 +123,30 @@ module _ (fs : FsTree) (clean : List (ℕ × Node)) (before after : Option (List
       ap (λ (layout : Layout). owed_count layout at reference + names_times fs.tree.owner names at reference)
       (sym layout_alike)
 
+  home_alike : (tree : Root) (q : ℕ) (node : Node) → Contains (trees_of fs) tree → IsReachedBy fs after tree q
+      → nodes_of fs after q ≡ Some node → full_in (book_of fs.refs.refs q) ≡ false
+      → IsAtHome (with_clean fs clean) after q (header_of node).owner
+  home_alike tree q node has reached there bare =
+      let home = stands.home tree q node has (reach_before tree q reached) (sym (alike q) ∙ there) bare in
+      record {
+        tree = home.tree;
+        among = home.among;
+        number = home.number;
+        reached = reach_then home.tree q home.reached;
+      }
+
   stands_alike : Stands (with_clean fs clean) after items names
   stands_alike = record {
     book = record { owner = stands.book.owner; next = stands.book.next; nodesize = stands.book.nodesize };
-    rooted = record {
-      tells = tells_alike;
-      apart = λ q free reached. stands.rooted.apart q free (reach_before q reached);
-      short = stands.rooted.short;
-    };
-    placed = λ q reached. stands.placed q (reach_before q reached);
-    alone = λ q reached. stands.alone q (reach_before q reached);
-    home = λ q node reached there bare. stands.home q node (reach_before q reached) (sym (alike q) ∙ there) bare;
-    young = λ q reached some. stands.young q (reach_before q reached) some;
+    rooted = rooted_alike fs.tree items stands.rooted;
+    ascending = stands.ascending;
+    beside = λ i d inside. beside_alike (get_or fs.others.items i d) (stands.beside i d inside);
+    placed = λ tree q has reached. stands.placed tree q has (reach_before tree q reached);
+    home = home_alike;
+    young = λ tree q node has reached fresh. stands.young tree q node has (reach_before tree q reached) fresh;
     fits = stands.fits;
     counts = λ at reference. stands.counts at reference ∙ counts_alike at reference;
+    within = stands.within;
     few = stands.few;
     settled = record {
       slots = stands.settled.slots;
@@ -102,15 +155,20 @@ module _ (fs : FsTree) (clean : List (ℕ × Node)) (before after : Option (List
       newer = stands.settled.newer;
       clean = λ at node none there some. stands.settled.clean at node none (sym (alike at) ∙ there) some;
     };
-    known = stands.known;
-    runs = stands.runs;
+    known = subst (λ (others : List (ℕ × Piece)). All
+        (λ (name : ℕ × Piece). IsKnownExtent fs.land.space.sizes fs.tree.next (book_of fs.refs.refs) name.1)
+        (names ++ others)) (sym elsewhere_alike) stands.known;
+    runs = λ run. subst (λ (others : List (ℕ × Piece)). Contains fs.land.space.runs run
+        ↔ Contains (map (λ (name : ℕ × Piece). extent_of name.1) (names ++ others)) run) (sym elsewhere_alike)
+        (stands.runs run);
   }
 
   stands_over : StandsStill fs (with_clean fs clean) before after items names
   stands_over = record {
     stands = stands_alike;
-    reach = λ q. (reach_before q, reach_then q);
-    nodes = λ q reached. alike q;
+    reach = λ tree has q. (reach_before tree q, reach_then tree q);
+    each = λ tree has. each_alike tree;
+    nodes = λ q met. alike q;
     marks = λ q. refl;
     layout = layout_alike;
   }

@@ -1,32 +1,49 @@
--- What the book of a tree that stands knows: its root, and nothing of a generation past the one to come.
-use Rattle.std.proofs.Common.{◌≡◌, ◌≢◌, ℕ, ◌<◌, ◌≤◌, List, length, get_or, Option, Some, None, arith, refl, sym, ap, ◌∙◌, inl, inr}
-use Rattle.std.specs.Prelude.{All}
+-- What the book of trees that stand knows: the root of the one at hand, and nothing of a generation past the one to
+-- come.
+use Rattle.std.proofs.Common.{◌≡◌, ℕ, ◌<◌, ◌≤◌, List, ◌++◌, length, get_or, Option, Some, None, arith, refl, sym, ap, subst, ◌∙◌, inl, inr}
+use Rattle.std.specs.Prelude.{◌⊎◌, All}
+use Rattle.std.specs.List.{Contains, filter_map}
 use Rattle.std.proofs.lemmas.Bool.{cases_lt}
+use Rattle.std.proofs.lemmas.List.Elements.{Contains-append_left}
 use Rattle.qg_device.specs.History.{Event}
 use Rattle.qg_num.specs.declared.piece.Piece.{Piece}
 use Rattle.qg_node.specs.declared.item.Item.{Item}
 use Rattle.qg_node.specs.declared.node.Node.{Node}
-use Rattle.qg_node.specs.Nodes.{header_of}
+use Rattle.qg_node.specs.Nodes.{header_of, own_items}
+use Rattle.qg_items.specs.declared.extent.Reference.{Reference}
+use Rattle.qg_state.specs.declared.element.Element.{Element}
+use Rattle.qg_state.specs.Owed.{owed_count}
+use Rattle.qg_state.specs.State.{Placed}
+use Rattle.qg_state.proofs.Contained.{contains_cases, contains_here}
+use Rattle.qg_home.proofs.Reaching.{value_of_entry}
 use Rattle.qg_verdict.specs.declared.tree.Tree.TheVariants.{Files}
 use Rattle.qg_blocks.specs.Told.{fresh_at}
 use Rattle.qg_ground.specs.Land.{IsDrafted}
 use Rattle.qg_refs.specs.declared.kept.What.{What}
 use Rattle.qg_refs.specs.declared.kept.Kept.{Kept}
-use Rattle.qg_refs.specs.Book.{references_at, references_in, what_in}
+use Rattle.qg_refs.specs.Book.{references_in, what_in}
 use Rattle.qg_extents.specs.Table.{IsTable, book_of}
 use Rattle.qg_extents.proofs.Sayable.{entry-found}
-use Rattle.qg_descent.specs.Tree.{super_of}
+use Rattle.qg_descent.specs.Tree.{Root, super_of}
 use Rattle.qg_tree_refs.specs.Following.{references_to}
 use Rattle.qg_tree_refs.specs.Settled.{what_of}
-use Rattle.qg_tree_refs.proofs.Single.{length-total}
+use Rattle.qg_forest.proofs.Referring.{OwesChild, OwesRoot, OwesRun, counted-by, referred-counted}
 use Rattle.qg_fs_tree.specs.declared.fs_tree.FsTree.{FsTree}
-use Rattle.qg_fs_tree.specs.Standing.{IsSubvolume, Stands, nodes_of}
-use Rattle.qg_fs_tree.proofs.Before.{StandsFor-before, full_in_tree}
-use Rattle.qg_fs_tree.proofs.Counts.{names-apart, node-there, slots_of, ways_in}
-use Rattle.qg_fs_tree.proofs.Reached.{reached-some}
-use Rattle.qg_fs_tree.proofs.Turned.{total-is}
+use Rattle.qg_fs_tree.specs.Standing.{IsReachedBy, IsSubvolume, Stands, items_in, layout_in, name_of, name_told, names_elsewhere, names_times, nodes_of, roots_of, trees_of}
+use Rattle.qg_fs_tree.proofs.Before.{known_of, names_there}
+use Rattle.qg_fs_tree.proofs.Counts.{node-there}
+use Rattle.qg_fs_tree.proofs.Fixed.{elsewhere_name, tree_below}
+use Rattle.qg_fs_tree.proofs.Leaves.{from-leaf}
+use Rattle.qg_fs_tree.proofs.Lists.{made-some}
+use Rattle.qg_fs_tree.proofs.Nodes.{IsNamed, names-some, times-many}
+use Rattle.qg_fs_tree.proofs.Owings.{names_of}
+use Rattle.qg_fs_layout.specs.Laying.{IsMet, IsMetAs, nodes_in}
+use Rattle.qg_fs_layout.proofs.Extents.{own-extent}
+use Rattle.qg_fs_layout.proofs.Held.{met-referred}
 use Rattle.qg_fs_layout.proofs.Moved.{fresh-told}
-use Rattle.qg_fs_layout.proofs.Trees.{branch, root-reached, root-there}
+use Rattle.qg_fs_layout.proofs.Nodes.{nodes-ascend, reached-by}
+use Rattle.qg_fs_layout.proofs.Roots.{root-tree, roots-ascend}
+use Rattle.qg_fs_layout.proofs.Trees.{branch, items-at_hand, met-slot, next-same, numbers-apart, root-reached, root-there, sized, tree-stands}
 use Rattle.qg_standing.specs.Knowing.{KnowsRoot, generation_in}
 use Rattle.qg_standing.proofs.Later.{generation-low}
 
@@ -62,56 +79,166 @@ module _ (fs : FsTree) (history : Option (List Event)) (bytes : ℕ) (items : Li
 
   pub knows-root : KnowsRoot fs history
   knows-root =
-      let top = root-there fs history bytes items names subvolume stands in
-      let one = stands.alone fs.tree.address (root-reached fs history bytes items names subvolume stands) in
+      let has = contains_here fs.tree fs.others.items in
+      let top = root-there fs history bytes items names subvolume stands fs.tree has in
       record {
         node = top.0;
         told = top.1;
         level = top.2;
-        known = known-node fs.tree.address top.0 top.1 (omega (arith, one));
+        known = known-node fs.tree.address top.0 top.1
+            (met-referred fs history bytes items names subvolume stands fs.tree.address
+            (record {
+              tree = fs.tree;
+              among = has;
+              reached = root-reached fs history bytes items names subvolume stands fs.tree;
+            }));
       }
 
-  -- ---- generations
+  -- ---- where references lead
+
+  abbrev all_names : List (ℕ × Piece)
+  all_names = names ++ names_elsewhere fs history
+
+  -- to a piece that is named
+  own_named : (at : ℕ) (reference : Reference) → 0 < names_times fs.tree.owner names at reference
+      → IsNamed all_names at
+  own_named at reference some =
+      let most = times-many (names_of fs.tree.owner names) at reference in
+      let named = names-some fs.tree.owner names at (omega (arith, some, most)) in
+      record {
+        name = named.name;
+        among = Contains-append_left names (names_elsewhere fs history) named.name named.among;
+        is = named.is;
+      }
+
+  -- each piece that a node tells is named, or another tree tells it
+  told_named : (tree : Root) → Contains (trees_of fs) tree → (q : ℕ) (node : Node) → IsReachedBy fs history tree q
+      → nodes_of fs history q ≡ Some node → (item : Item) → Contains (own_items node) item → (name : ℕ × Piece)
+      → name_told item ≡ Some name → IsNamed all_names name.1.extent
+  told_named tree has q node reached there item own name told =
+      elim (contains_cases fs.tree fs.others.items tree has) [
+        | inl mine ↦
+            let among = from-leaf Files (super_of tree fs.land.blocks.draft) (nodes_of fs history) item tree.height
+            tree.address (items_in fs history tree) (branch fs history bytes items names subvolume stands tree has) q
+            reached node there own in
+            let here = subst (λ (t : Root). Contains (items_in fs history t) item) (sym mine) among in
+            let listed = subst (λ (xs : List Item). Contains xs item)
+            (items-at_hand fs history bytes items names subvolume stands) here in
+            let some = names_there fs.tree.owner (filter_map name_told items) name
+            (made-some name_told items item name listed told) in
+            let within = stands.within name.1.extent (name_of fs.tree.owner name).reference in
+            own_named name.1.extent (name_of fs.tree.owner name).reference (omega (arith, some, within))
+        | inr later ↦ record {
+          name = name;
+          among = elsewhere_name fs history items names stands drafted q node name
+              (record { tree = tree; among = later; reached = reached }) there
+              (made-some name_told (own_items node) item name own told);
+          is = refl;
+        }
+      ]
+
+  roots_are : (layout_in fs history).roots ≡ roots_of fs
+  unfolding layout_in
+  roots_are = refl
+
+  -- a root is one of a tree
+  root_met : (at : ℕ) → OwesRoot (layout_in fs history) at → IsMet fs history at
+  root_met at owes =
+      let apart = numbers-apart fs history bytes items names subvolume stands in
+      let there = value_of_entry (roots_of fs) owes.entry (roots-ascend fs stands.ascending apart)
+      (subst (λ (table : List (ℕ × ℕ)). Contains table owes.entry) roots_are owes.has) in
+      let root = root-tree fs stands.ascending apart owes.entry.0 owes.entry.1 there in
+      record {
+        tree = root.tree;
+        among = root.among;
+        reached = subst (λ (a : ℕ). IsReachedBy fs history root.tree a) (root.root_is ∙ owes.here)
+            (root-reached fs history bytes items names subvolume stands root.tree);
+      }
+
+  entry_met : (entry : ℕ × Placed) → Contains (nodes_in fs history) entry → IsMetAs fs history entry.0 entry.1
+  entry_met entry has = reached-by fs history entry.0 entry.1
+      (value_of_entry (nodes_in fs history) entry
+      (nodes-ascend fs history (sized fs history bytes items names subvolume stands)
+      (met-slot fs history bytes items names subvolume stands)) has)
+
+  child_met : (at : ℕ) → OwesChild (layout_in fs history) at → IsMet fs history at
+  child_met at owes =
+      let its = entry_met owes.entry owes.has in
+      record {
+        tree = its.met.tree;
+        among = its.met.among;
+        reached = tree_below fs history items names stands drafted its.met.tree
+            (tree-stands fs history bytes items names subvolume stands its.met.tree its.met.among) owes.entry.0 at
+            owes.entry.1.node its.met.reached its.told owes.leads;
+      }
+
+  run_named : (at : ℕ) → OwesRun (layout_in fs history) at → IsNamed all_names at
+  run_named at owes =
+      let its = entry_met owes.entry owes.has in
+      let item = own-extent owes.entry.1.node owes.run owes.names in
+      let named = told_named its.met.tree its.met.among owes.entry.0 owes.entry.1.node its.met.reached its.told item.0
+      item.1 item.2.name item.2.told in
+      record {
+        name = named.name;
+        among = named.among;
+        is = named.is ∙ ap (λ (e : Element). e.address) item.2.is ∙ owes.here;
+      }
+
+  owed_leads : (at : ℕ) (reference : Reference) → 0 < owed_count (layout_in fs history) at reference
+      → IsMet fs history at ⊎ IsNamed all_names at
+  owed_leads at reference some = elim (counted-by (layout_in fs history) at reference some) [
+    | inl root ↦ inl (root_met at root)
+    | inr (inl child) ↦ inl (child_met at child)
+    | inr (inr run) ↦ inr (run_named at run)
+  ]
 
   module _ (table : IsTable fs.refs.refs) where
-    -- what no piece names is a node that is reached
-    unnamed_low : (at : ℕ) (what : What) → what_in (book_of fs.refs.refs at) ≡ Some what
-        → ((i : ℕ) (d : ℕ × Piece) → i < length names → (get_or names i d).1.extent ≢ at)
-        → what.generation ≤ fs.tree.next
-    unnamed_low at what known apart =
-        let book = book_of fs.refs.refs in
-        let some = some_kept (book at) what known (table.book.some at) in
-        let few = length-total (references_at book at) (table.book.sound at) in
-        let counted = StandsFor-before fs history items names stands drafted table in
-        let all = total-is fs.tree.owner names (slots_of fs) book (ways_in fs history) (full_in_tree fs history)
-        counted.counts at in
-        let unnamed = names-apart fs.tree.owner names at apart in
-        let way : 0 < ways_in fs history at = omega (arith, some, few, all, unnamed) in
-        let node = node-there fs history items stands.rooted drafted at way in
+    -- to what some tree reaches, or to such a piece
+    pub leads : (at : ℕ) → 0 < references_to (book_of fs.refs.refs) at → IsMet fs history at ⊎ IsNamed all_names at
+    leads at some =
+        let counted = referred-counted (book_of fs.refs.refs) table.book at some in
+        let there = counted.1 in
+        let counts = stands.counts at counted.0 in
+        elim (cases_lt 0 (names_times fs.tree.owner names at counted.0)) [
+          | inl named ↦ inr (own_named at counted.0 named)
+          | inr none ↦ owed_leads at counted.0 (omega (arith, there, counts, none))
+        ]
+
+    -- ---- generations
+
+    -- of a node that is reached
+    met_low : (at : ℕ) (what : What) → what_in (book_of fs.refs.refs at) ≡ Some what
+        → 0 < references_to (book_of fs.refs.refs) at → IsMet fs history at → what.generation ≤ fs.tree.next
+    met_low at what known some met =
+        let tree = met.tree in
+        let own = tree-stands fs history bytes items names subvolume stands tree met.among in
+        let node = node-there fs history tree own.items own.rooted own.drafted at met.reached in
         let dates : (header_of node.0).generation ≡ what.generation =
         ap generation_in (sym (known-node at node.0 node.1 some) ∙ known) in
-        let reached = reached-some (nodes_of fs history) fs.tree.height fs.tree.address at way in
-        let low = generation-low Files (super_of fs.tree fs.land.blocks.draft) (nodes_of fs history) fs.tree.height
-        fs.tree.address items (branch fs history bytes items names subvolume stands) at reached node.0 node.1 in
-        omega (arith, dates, low)
+        let low = generation-low Files (super_of tree fs.land.blocks.draft) (nodes_of fs history) tree.height
+        tree.address (items_in fs history tree) (branch fs history bytes items names subvolume stands tree met.among)
+        at met.reached node.0 node.1 in
+        let next = next-same fs history bytes items names subvolume stands tree met.among in
+        omega (arith, dates, low, next)
 
-    -- what one names is of no later generation either
-    named_early : (at : ℕ) (what : What) → what_in (book_of fs.refs.refs at) ≡ Some what
-        → fs.tree.next < what.generation → (i : ℕ) (d : ℕ × Piece) → i < length names
-        → (get_or names i d).1.extent ≢ at
-    named_early at what known past i d inside same =
-        let extent = stands.known i d inside in
+    -- and of an extent that a piece names
+    named_low : (at : ℕ) (what : What) → what_in (book_of fs.refs.refs at) ≡ Some what → IsNamed all_names at
+        → what.generation ≤ fs.tree.next
+    named_low at what known named =
+        let extent = known_of fs history items names stands drafted named.name named.among in
         let is : extent.generation ≡ what.generation =
-        ap generation_in (sym extent.known ∙ ap (λ (a : ℕ). what_in (book_of fs.refs.refs a)) same ∙ known) in
+        ap generation_in (sym extent.known ∙ ap (λ (a : ℕ). what_in (book_of fs.refs.refs a)) named.is ∙ known) in
         let date = extent.dated in
-        omega (arith, is, date, past)
+        omega (arith, is, date)
 
     pub known-low : (at : ℕ) (what : What) → what_in (book_of fs.refs.refs at) ≡ Some what
         → what.generation ≤ fs.tree.next
-    known-low at what known = elim (cases_lt fs.tree.next what.generation) [
-      | inl past ↦ unnamed_low at what known (named_early at what known past)
-      | inr early ↦ early
-    ]
+    known-low at what known =
+        let some = some_kept (book_of fs.refs.refs at) what known (table.book.some at) in
+        elim (leads at some) [
+          | inl met ↦ met_low at what known some met
+          | inr named ↦ named_low at what known named
+        ]
 
     each_low : All (λ (entry : ℕ × Kept). entry.1.what.generation ≤ fs.tree.next) fs.refs.refs
     each_low i d inside =

@@ -4,12 +4,13 @@ pub mod Dated
 pub mod Alike
 pub mod Reread
 pub mod Still
+pub mod Renewed
 pub mod Besides
 pub mod Listed
 pub mod Recorded
 pub mod Short
-pub mod Few
 pub mod Opened
 pub mod OpenedLayout
 pub mod OpenedBook
 pub mod OpenedStands
+pub mod Alone

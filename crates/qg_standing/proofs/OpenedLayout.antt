@@ -1,22 +1,19 @@
--- The tree of an image that was just opened, as a layout: it is that of the state which the image stands for.
-use Rattle.std.proofs.Common.{◌≡◌, ℕ, ◌<◌, Bool, List, [], ◌∷◌, map, Some, refl, sym, ap, subst, ◌∙◌}
+-- The trees of an image that was just opened, as a layout: it is that of the state which the image stands for.
+use Rattle.std.proofs.Common.{◌≡◌, ℕ, ◌<◌, Bool, List, [], ◌∷◌, map, Option, Some, refl, sym, ap, subst, ◌∙◌}
 use Rattle.std.specs.List.{Contains}
 use Rattle.std.specs.List.Sorted.{IsStrictlyIncreasing}
-use Rattle.std.proofs.lemmas.List.{append-nil}
+use Rattle.std.specs.Option.{option_map}
 use Rattle.qg_device.specs.History.{Event, content}
 use Rattle.qg_node.specs.declared.node.Node.{Node}
 use Rattle.qg_node.specs.Nodes.{header_of}
 use Rattle.qg_items.specs.declared.root.RootItem.{RootItem}
-use Rattle.qg_items.specs.declared.tree.TheConstants.{TOP_LEVEL}
 use Rattle.qg_super.specs.declared.sizes.Sizes.{Sizes}
 use Rattle.qg_super.specs.declared.superblock.Super.{Super}
 use Rattle.qg_image.specs.Table.{keys_of, value_at}
-use Rattle.qg_image.specs.declared.file.File.{File}
 use Rattle.qg_image.specs.declared.part.ExtentPart.{ExtentPart}
-use Rattle.qg_state.specs.State.{Layout, Placed, layout_of}
+use Rattle.qg_state.specs.State.{Layout, Placed, Subvolume, layout_of, node_at}
 use Rattle.qg_state.proofs.Contained.{contains_here, contains_later}
-use Rattle.qg_verdict.specs.declared.tree.Tree.TheVariants.{Files}
-use Rattle.qg_verdict.specs.ImageState.{extent_parts, nodes_of_root, state_in, subvolumes_in}
+use Rattle.qg_verdict.specs.ImageState.{extent_parts, roots_in, state_in, subvolume_in, subvolume_roots, subvolumes_in}
 use Rattle.qg_reach.proofs.Layouts.{AgreeByAddress, layout_by, layout_in-nodes}
 use Rattle.qg_home.proofs.Reaching.{entry_of_value, value_of_entry}
 use Rattle.qg_owed.proofs.NumberSets.{same_ascending}
@@ -25,14 +22,15 @@ use Rattle.qg_extents.specs.Table.{book_of}
 use Rattle.qg_space.proofs.Marks.{SlotsFit-is_served}
 use Rattle.qg_descent.specs.Tree.{Root}
 use Rattle.qg_fs_tree.specs.declared.fs_tree.FsTree.{FsTree}
-use Rattle.qg_fs_tree.specs.Standing.{IsReached, layout_in, nodes_of}
-use Rattle.qg_fs_layout.specs.Laying.{IsReachedAs, nodes_in}
-use Rattle.qg_fs_layout.proofs.Lists.{from-mapped, has-mapped}
+use Rattle.qg_fs_tree.specs.Standing.{layout_in, nodes_of, roots_of}
+use Rattle.qg_fs_tree.proofs.Lists.{from-mapped, has-mapped}
+use Rattle.qg_fs_layout.specs.Laying.{IsMet, IsMetAs, nodes_in}
 use Rattle.qg_fs_layout.proofs.Nodes.{nodes-ascend, reached-by, value-reached}
+use Rattle.qg_fs_layout.proofs.Roots.{root-tree, roots-ascend, tree-root}
 use Rattle.qg_gathered.proofs.Laid.{IsLaid, entry_of, laid}
 use Rattle.qg_gathered.proofs.Sorted.{ascends_of}
-use Rattle.qg_standing.specs.Opening.{IsOpened, IsSoundImage}
-use Rattle.qg_standing.proofs.Opened.{drafted-there, lies-opened, listed-there, placed-opened, reached-listed}
+use Rattle.qg_standing.specs.Opening.{IsOpened, IsSoundImage, opened_nodes, opened_tree}
+use Rattle.qg_standing.proofs.Opened.{drafted-there, entry-tree, lies-opened, listed-there, node-met, other-number, others-ascend, placed-opened, reached-listed, tree-entry}
 use Rattle.qg_standing.proofs.Recorded.{node-mark}
 
 -- tables of the same keys, whose entries at a key are one
@@ -49,6 +47,44 @@ pairs_same {A} (x ∷ xs) (y ∷ ys) same each =
     (λ a b has also. each a b (contains_later x xs a has) (contains_later y ys b also)) in
     ap (λ (z : ℕ × A). z ∷ xs) first ∙ ap (λ (zs : List (ℕ × A)). y ∷ zs) rest
 
+-- tables that ascend and have the same entries
+tables_same : {A : Type 0} (xs ys : List (ℕ × A)) → IsStrictlyIncreasing (keys_of xs)
+    → IsStrictlyIncreasing (keys_of ys) → ((x : ℕ × A) → Contains xs x → Contains ys x)
+    → ((y : ℕ × A) → Contains ys y → Contains xs y) → xs ≡ ys
+tables_same {A} xs ys up up_too into back =
+    pairs_same xs ys
+    (same_ascending (keys_of xs) (keys_of ys) (ascends_of (keys_of xs) up) (ascends_of (keys_of ys) up_too)
+    (record { into = λ q has. keys_on xs ys into q has; back = λ q has. keys_on ys xs back q has })) each where
+      keys_on : (from to : List (ℕ × A)) → ((x : ℕ × A) → Contains from x → Contains to x) → (q : ℕ)
+          → Contains (keys_of from) q → Contains (keys_of to) q
+      keys_on from to on q has =
+          let entry = from-mapped (λ (e : ℕ × A). e.0) from q has in
+          subst (λ (n : ℕ). Contains (keys_of to) n) entry.2
+          (has-mapped (λ (e : ℕ × A). e.0) to entry.0 (on entry.0 entry.1))
+
+      each : (x y : ℕ × A) → Contains xs x → Contains ys y → x.0 ≡ y.0 → x ≡ y
+      each x y has also same =
+          let mine = value_of_entry xs x up has in
+          let its = value_of_entry xs y up (back y also) in
+          let e : Some x.1 ≡ Some y.1 = sym mine ∙ ap (λ (n : ℕ). value_at n xs) same ∙ its in
+          let value : x.1 ≡ y.1 = cc in
+          ap (λ (n : ℕ). (n, x.1)) same ∙ ap (λ (v : A). (y.0, v)) value
+
+-- numbers with the roots that ROOT_ITEMs tell
+abbrev pub root_told_by : ℕ × RootItem → ℕ × ℕ
+root_told_by entry = (entry.0, entry.1.bytenr)
+
+subvolume_roots_are : (super : Super) (image : List ℕ) (entries : List (ℕ × RootItem))
+    → map (λ (e : ℕ × Subvolume). (e.0, e.1.root)) (map (λ entry. (entry.0, subvolume_in super image entry.1)) entries)
+    ≡ map root_told_by entries
+subvolume_roots_are super image [] = refl
+subvolume_roots_are super image (entry ∷ entries) =
+    ap (λ (table : List (ℕ × ℕ)). root_told_by entry ∷ table) (subvolume_roots_are super image entries)
+
+told_keys : (entries : List (ℕ × RootItem)) → keys_of (map root_told_by entries) ≡ keys_of entries
+told_keys [] = refl
+told_keys (entry ∷ entries) = ap (λ (numbers : List ℕ). entry.0 ∷ numbers) (told_keys entries)
+
 -- the keys of entries that are made of nodes
 keys_made : (parts : List ExtentPart) (nodes : List Node) → keys_of (map (entry_of parts) nodes)
     ≡ map (λ node. (header_of node).address) nodes
@@ -61,42 +97,43 @@ layout_alike a b size roots nodes =
     ∙ ap (λ (r : List (ℕ × ℕ)). let layout : Layout = record b { roots = r; nodes = a.nodes } in layout) roots
     ∙ ap (λ (t : List (ℕ × Placed)). let layout : Layout = record b { nodes = t } in layout) nodes
 
-module _ (fs : FsTree) (super : Super) (events : List Event) (root : RootItem) (files : List (ℕ × File))
-    (sound : IsSoundImage super (content events) root files) (opened : IsOpened fs super (content events) root) where
+module _ (fs : FsTree) (super : Super) (events : List Event) (sound : IsSoundImage super (content events))
+    (opened : IsOpened fs super (content events)) where
   abbrev pub listed : List Node
-  listed = nodes_of_root Files super (content events) root
+  listed = opened_nodes super (content events)
+
+  abbrev pub roots : List (ℕ × RootItem)
+  roots = subvolume_roots (roots_in super (content events))
 
   abbrev pub layout : Layout
   layout = layout_of (state_in super (content events))
 
-  alike : AgreeByAddress (nodes_of_root Files super (content events) root)
+  alike : AgreeByAddress (opened_nodes super (content events))
   alike = record {
     agree = λ a b has also same.
-        let first = (listed-there fs super events root files sound opened a has).is in
-        let second = (listed-there fs super events root files sound opened b also).is in
+        let first = (listed-there fs super events sound opened a has).is in
+        let second = (listed-there fs super events sound opened b also).is in
         let e : Some a ≡ Some b = sym first ∙ ap (λ (q : ℕ). nodes_of fs (Some events) q) same ∙ second in
         cc;
   }
 
   laid_is : (layout_of (state_in super (content events))).nodes
-      ≡ layout_by (extent_parts super (content events)) (nodes_of_root Files super (content events) root)
+      ≡ layout_by (extent_parts super (content events)) (opened_nodes super (content events))
   unfolding state_in
-  laid_is =
-      layout_in-nodes super (content events)
-      ∙ (rw sound.only (ap (layout_by (extent_parts super (content events)))
-      (append-nil (nodes_of_root Files super (content events) root))))
+  laid_is = layout_in-nodes super (content events)
 
-  pub roots-are : (layout_of (state_in super (content events))).roots ≡ (TOP_LEVEL, root.bytenr) ∷ []
+  pub roots-are : (layout_of (state_in super (content events))).roots
+      ≡ map root_told_by (subvolume_roots (roots_in super (content events)))
   unfolding state_in subvolumes_in
-  roots-are = rw sound.only refl
+  roots-are = subvolume_roots_are super (content events) (subvolume_roots (roots_in super (content events)))
 
   size_is : (layout_of (state_in super (content events))).nodesize ≡ super.nodesize
   unfolding state_in
   size_is = refl
 
-  by_address : IsLaid (extent_parts super (content events)) (nodes_of_root Files super (content events) root)
-      (layout_by (extent_parts super (content events)) (nodes_of_root Files super (content events) root))
-  by_address = laid (extent_parts super (content events)) (nodes_of_root Files super (content events) root) alike
+  by_address : IsLaid (extent_parts super (content events)) (opened_nodes super (content events))
+      (layout_by (extent_parts super (content events)) (opened_nodes super (content events)))
+  by_address = laid (extent_parts super (content events)) (opened_nodes super (content events)) alike
 
   made_is : (layout_of (state_in super (content events))).nodes
       ≡ map (entry_of (extent_parts super (content events))) by_address.sorted
@@ -107,7 +144,7 @@ module _ (fs : FsTree) (super : Super) (events : List Event) (root : RootItem) (
   -- an entry of the state's layout is that of a node that the tree reaches
   pub record IsEntry (entry : ℕ × Placed) : Type 0 where
     pub here : (header_of entry.1.node).address ≡ entry.0
-    pub reached : IsReached fs (Some events) entry.0
+    pub met : IsMet fs (Some events) entry.0
     pub is : nodes_of fs (Some events) entry.0 ≡ Some entry.1.node
 
   pub entry-is : (entry : ℕ × Placed) → Contains (layout_of (state_in super (content events))).nodes entry
@@ -115,18 +152,18 @@ module _ (fs : FsTree) (super : Super) (events : List Event) (root : RootItem) (
   entry-is entry has =
       let made = from-mapped (entry_of (extent_parts super (content events))) by_address.sorted entry
       (subst (λ (table : List (ℕ × Placed)). Contains table entry) made_is has) in
-      let there = listed-there fs super events root files sound opened made.0 (by_address.same.into made.0 made.1) in
-      subst IsEntry made.2 (record { here = refl; reached = there.reached; is = there.is })
+      let there = listed-there fs super events sound opened made.0 (by_address.same.into made.0 made.1) in
+      subst IsEntry made.2 (record { here = refl; met = there.met; is = there.is })
 
   some_slots : 0 < fs.land.space.sizes.nodesize
   some_slots = (SlotsFit-is_served fs.land.space.sizes
-      (drafted-there fs super events root files sound opened).sizes.served).some
+      (drafted-there fs super events sound opened).sizes.served).some
 
   own_ascend : IsStrictlyIncreasing (keys_of (nodes_in fs (Some events)))
-  own_ascend = nodes-ascend fs (Some events) some_slots (placed-opened fs super events root files sound opened)
+  own_ascend = nodes-ascend fs (Some events) some_slots (placed-opened fs super events sound opened)
 
   own_entry : (entry : ℕ × Placed) → Contains (nodes_in fs (Some events)) entry
-      → IsReachedAs fs (Some events) entry.0 entry.1
+      → IsMetAs fs (Some events) entry.0 entry.1
   own_entry entry has = reached-by fs (Some events) entry.0 entry.1
       (value_of_entry (nodes_in fs (Some events)) entry own_ascend has)
 
@@ -137,9 +174,9 @@ module _ (fs : FsTree) (super : Super) (events : List Event) (root : RootItem) (
   key_into q has =
       let entry = from-mapped (λ (entry : ℕ × Placed). entry.0) (nodes_in fs (Some events)) q has in
       let its = own_entry entry.0 entry.1 in
-      let lies = lies-opened fs super events root files sound opened entry.0.0 entry.0.1.node its.told in
+      let lies = lies-opened fs super events sound opened entry.0.0 entry.0.1.node its.told in
       let among = by_address.same.back entry.0.1.node
-      (reached-listed fs super events root files sound opened entry.0.0 its.reached entry.0.1.node its.told) in
+      (reached-listed fs super events sound opened entry.0.0 its.met entry.0.1.node its.told) in
       subst (λ (a : ℕ). Contains (map (λ (node : Node). (header_of node).address) by_address.sorted) a)
       (lies ∙ entry.2)
       (has-mapped (λ (node : Node). (header_of node).address) by_address.sorted entry.0.1.node among)
@@ -148,12 +185,12 @@ module _ (fs : FsTree) (super : Super) (events : List Event) (root : RootItem) (
       → Contains (keys_of (nodes_in fs (Some events))) q
   key_back q has =
       let node = from-mapped (λ (node : Node). (header_of node).address) by_address.sorted q has in
-      let there = listed-there fs super events root files sound opened node.0
+      let there = listed-there fs super events sound opened node.0
       (by_address.same.into node.0 node.1) in
       let address = (header_of node.0).address in
       let placed_so : Placed = record { node = node.0; full = full_in (book_of fs.refs.refs address) } in
-      let value = value-reached fs (Some events) some_slots (placed-opened fs super events root files sound opened)
-      address placed_so (record { reached = there.reached; told = there.is; full = refl }) in
+      let value = value-reached fs (Some events) some_slots (placed-opened fs super events sound opened)
+      address placed_so (record { met = there.met; told = there.is; full = refl }) in
       subst (λ (a : ℕ). Contains (keys_of (nodes_in fs (Some events))) a) node.2
       (has-mapped (λ (entry : ℕ × Placed). entry.0) (nodes_in fs (Some events)) (address, placed_so)
       (entry_of_value address placed_so (nodes_in fs (Some events)) value))
@@ -199,11 +236,63 @@ module _ (fs : FsTree) (super : Super) (events : List Event) (root : RootItem) (
   unfolding layout_in
   size_in = refl
 
-  roots_in : (layout_in fs (Some events)).roots ≡ (fs.tree.owner, fs.tree.address) ∷ []
+  roots_in_layout : (layout_in fs (Some events)).roots ≡ roots_of fs
   unfolding layout_in
-  roots_in = refl
+  roots_in_layout = refl
+
+  -- ---- roots
+
+  abbrev others_up : IsStrictlyIncreasing (map (λ (other : Root). other.owner) fs.others.items)
+  others_up = others-ascend fs super events sound opened
+
+  own_up : IsStrictlyIncreasing (keys_of (roots_of fs))
+  own_up = roots-ascend fs others_up (other-number fs super events sound opened)
+
+  told_up : IsStrictlyIncreasing
+      (keys_of (map root_told_by (subvolume_roots (roots_in super (content events)))))
+  told_up = subst (λ (numbers : List ℕ). IsStrictlyIncreasing numbers)
+      (sym (told_keys (subvolume_roots (roots_in super (content events))))) sound.ascending
+
+  root_into : (x : ℕ × ℕ) → Contains (roots_of fs) x
+      → Contains (map root_told_by (subvolume_roots (roots_in super (content events)))) x
+  root_into x has =
+      let root = root-tree fs others_up (other-number fs super events sound opened) x.0 x.1
+      (value_of_entry (roots_of fs) x own_up has) in
+      let entry = tree-entry fs super events sound opened root.tree root.among in
+      let pair : root_told_by entry.0 ≡ (x.0, x.1) = ap (λ (tree : Root). (tree.owner, tree.address)) entry.2
+      ∙ ap (λ (n : ℕ). (n, root.tree.address)) root.number_is ∙ ap (λ (a : ℕ). (x.0, a)) root.root_is in
+      subst (λ (e : ℕ × ℕ). Contains (map root_told_by (subvolume_roots (roots_in super (content events)))) e) pair
+      (has-mapped root_told_by (subvolume_roots (roots_in super (content events))) entry.0 entry.1)
+
+  root_back : (y : ℕ × ℕ) → Contains (map root_told_by (subvolume_roots (roots_in super (content events)))) y
+      → Contains (roots_of fs) y
+  root_back y has =
+      let entry = from-mapped root_told_by (subvolume_roots (roots_in super (content events))) y has in
+      let tree = opened_tree super entry.0 in
+      subst (λ (e : ℕ × ℕ). Contains (roots_of fs) e) entry.2
+      (entry_of_value tree.owner tree.address (roots_of fs)
+      (tree-root fs others_up (other-number fs super events sound opened) tree
+      (entry-tree fs super events sound opened entry.0 entry.1)))
+
+  pub roots-opened : roots_of fs ≡ (layout_of (state_in super (content events))).roots
+  roots-opened =
+      tables_same (roots_of fs) (map root_told_by (subvolume_roots (roots_in super (content events)))) own_up told_up
+      root_into root_back
+      ∙ sym roots-are
 
   pub layout-opened : layout_in fs (Some events) ≡ layout_of (state_in super (content events))
   layout-opened = layout_alike (layout_in fs (Some events)) (layout_of (state_in super (content events)))
       (size_in ∙ ap (λ (sizes : Sizes). sizes.nodesize) opened.sizes ∙ sym size_is)
-      (roots_in ∙ ap (λ (r : Root). (r.owner, r.address) ∷ []) opened.tree ∙ sym roots-are) nodes-opened
+      (roots_in_layout ∙ roots-opened) nodes-opened
+
+  -- what some tree reaches is told in the state's layout
+  pub node-laid : (q : ℕ) → IsMet fs (Some events) q
+      → node_at (layout_of (state_in super (content events))).nodes q ≡ nodes_of fs (Some events) q
+  node-laid q met =
+      let node = node-met fs super events sound opened q met in
+      let placed_so : Placed = record { node = node.0; full = full_in (book_of fs.refs.refs q) } in
+      ap (λ (table : List (ℕ × Placed)). node_at table q) (sym nodes-opened)
+      ∙ ap (λ (o : Option Placed). option_map (λ (p : Placed). p.node) o)
+      (value-reached fs (Some events) some_slots (placed-opened fs super events sound opened) q placed_so
+      (record { met = met; told = node.1; full = refl }))
+      ∙ sym node.1

@@ -1,60 +1,56 @@
--- The tree of a sound image that was just opened stands.
-use Rattle.std.proofs.Common.{◌≡◌, ℕ, zero, suc, ◌+◌, ◌<◌, List, Option, Some, None, arith, refl, sym, ap, ◌∙◌, inr}
-use Rattle.std.specs.Prelude.{IsSome, IsTrue, nat_lt}
-use Rattle.std.specs.List.{filter_map}
-use Rattle.std.proofs.lemmas.Bool.{false_from_ne_true}
+-- The trees of a sound image that was just opened stand.
+use Rattle.std.proofs.Common.{◌≡◌, ℕ, ◌+◌, ◌<◌, Bool, true, false, List, get_or, Option, Some, None, arith, refl, sym, ap, subst, ◌∙◌, inr}
+use Rattle.std.specs.Prelude.{IsTrue, nat_lt}
+use Rattle.std.specs.List.{Contains, filter_map}
+use Rattle.std.proofs.lemmas.Bool.{lt-ltb, ltb-true}
 use Rattle.qg_device.specs.History.{Event, content}
 use Rattle.qg_node.specs.declared.item.Item.{Item}
 use Rattle.qg_node.specs.declared.node.Node.{Node}
 use Rattle.qg_node.specs.Nodes.{header_of}
 use Rattle.qg_items.specs.declared.extent.Reference.{Reference}
 use Rattle.qg_items.specs.declared.root.RootItem.{RootItem}
+use Rattle.qg_items.specs.declared.tree.TheConstants.{TOP_LEVEL}
 use Rattle.qg_super.specs.declared.sizes.Sizes.{Sizes}
 use Rattle.qg_super.specs.declared.superblock.Super.{Super}
 use Rattle.qg_super.specs.Places.{is_slot}
-use Rattle.qg_image.specs.declared.file.File.{File}
 use Rattle.qg_state.specs.Owed.{owed_count}
+use Rattle.qg_state.proofs.Contained.{contains_later}
 use Rattle.qg_verdict.specs.declared.tree.Tree.TheVariants.{Files}
-use Rattle.qg_verdict.specs.ImageState.{extent_parts, items_of_root}
+use Rattle.qg_verdict.specs.ImageState.{extent_parts, items_of_root, roots_in, subvolume_roots}
 use Rattle.qg_blocks.specs.Told.{fresh_at}
 use Rattle.qg_space.specs.Holding.{has_slot}
 use Rattle.qg_space.proofs.Members.{Contains-has_slot}
 use Rattle.qg_refs.specs.declared.kept.What.{What}
-use Rattle.qg_refs.specs.Book.{count_at, references_at, what_in}
+use Rattle.qg_refs.specs.Book.{count_at, what_in}
 use Rattle.qg_extents.specs.Table.{IsTable, book_of}
 use Rattle.qg_descent.specs.Tree.{Root}
+use Rattle.qg_tree_edits.specs.Rooting.{IsRooted}
 use Rattle.qg_tree_refs.specs.declared.tree_refs.TreeRefs.{TreeRefs}
 use Rattle.qg_tree_refs.specs.Following.{references_to}
 use Rattle.qg_tree_refs.specs.Settled.{IsSettled, what_of}
-use Rattle.qg_tree_refs.proofs.Counted.{many}
-use Rattle.qg_tree_refs.proofs.Single.{length-total}
 use Rattle.qg_fs_tree.specs.declared.fs_tree.FsTree.{FsTree}
-use Rattle.qg_fs_tree.specs.Standing.{Stands, layout_in, name_told, names_times, nodes_of}
-use Rattle.qg_fs_tree.proofs.Counts.{ways_in}
-use Rattle.qg_fs_tree.proofs.Owings.{names_of}
-use Rattle.qg_fs_tree.proofs.Renamed.{told-slot}
-use Rattle.qg_fs_layout.specs.Laying.{names_in}
+use Rattle.qg_fs_tree.specs.Standing.{IsBeside, Stands, layout_in, name_told, names_times, nodes_of}
+use Rattle.qg_fs_tree.proofs.Before.{index_among}
+use Rattle.qg_fs_layout.specs.Laying.{IsMet, names_in}
 use Rattle.qg_standing.specs.Opening.{IsOpened, IsSoundImage, StandsOpened}
-use Rattle.qg_standing.proofs.Opened.{drafted-there, no-fresh-opened, placed-opened, reached-slot, rooted-opened, slot-reached}
-use Rattle.qg_standing.proofs.OpenedBook.{alone-opened, extents-opened, few-opened, home-opened, known-opened, none-opened, owed-opened, reached-opened, runs-opened, total-opened, unnamed-opened, way-opened}
+use Rattle.qg_standing.proofs.Opened.{items-opened, met-slot, next-opened, no-fresh-opened, other-number, others-ascend, placed-opened, rooted-opened, slot-met, slot-opened, tree-entry}
+use Rattle.qg_standing.proofs.OpenedBook.{extents-opened, few-opened, home-opened, known-opened, met-referred, owed-opened, referred-met, rooted-hand, runs-opened}
 use Rattle.qg_standing.proofs.OpenedLayout.{layout-opened}
 use Rattle.qg_standing.proofs.Dated.{told-low}
-
-not_some : (o : Option Node) → o ≡ None → IsSome o → ⊥
-not_some None none some = absurd cc
-not_some (Some node) none some = cc
 
 none_some : {A : Type 0} (o : Option A) (x : A) → o ≡ None → o ≡ Some x → ⊥
 none_some o x none some = let wrong : None ≡ Some x = sym none ∙ some in cc
 
-module _ (fs : FsTree) (super : Super) (events : List Event) (root : RootItem) (files : List (ℕ × File))
-    (table : IsTable fs.refs.refs) (sound : IsSoundImage super (content events) root files)
-    (opened : IsOpened fs super (content events) root) where
-  abbrev items : List Item
-  items = items_of_root Files super (content events) root
+both_same : (a b : Bool) → (a ≡ true → b ≡ true) → (b ≡ true → a ≡ true) → a ≡ b
+both_same true true on back = refl
+both_same true false on back = sym (on refl)
+both_same false true on back = back refl
+both_same false false on back = refl
 
+module _ (fs : FsTree) (super : Super) (events : List Event) (table : IsTable fs.refs.refs)
+    (sound : IsSoundImage super (content events)) (opened : IsOpened fs super (content events)) where
   owner_is : fs.refs.tree ≡ fs.tree.owner
-  owner_is = ap (λ (refs : TreeRefs). refs.tree) opened.refs ∙ ap (λ (r : Root). r.owner) (sym opened.tree)
+  owner_is = ap (λ (refs : TreeRefs). refs.tree) opened.refs ∙ sym opened.number
 
   next_is : fs.refs.next ≡ super.generation + 1
   next_is = ap (λ (refs : TreeRefs). refs.next) opened.refs
@@ -62,39 +58,24 @@ module _ (fs : FsTree) (super : Super) (events : List Event) (root : RootItem) (
   size_is : fs.refs.nodesize ≡ super.nodesize
   size_is = ap (λ (refs : TreeRefs). refs.nodesize) opened.refs
 
-  known_node : (at : ℕ) (node : Node) → 0 < ways_in fs (Some events) at → nodes_of fs (Some events) at ≡ Some node
+  known_node : (at : ℕ) (node : Node) → IsMet fs (Some events) at → nodes_of fs (Some events) at ≡ Some node
       → what_in (book_of fs.refs.refs at) ≡ Some (what_of fs.refs.nodesize (header_of node).generation node)
-  known_node at node way is =
-      known-opened fs super events root files table sound opened at
-      (reached-opened fs super events root files table sound opened at way) node is
+  known_node at node met is =
+      known-opened fs super events table sound opened at met node is
       ∙ ap (λ (n : ℕ). Some (what_of n (header_of node).generation node)) (sym size_is)
 
   -- ---- what is settled
 
   slots_there : (at : ℕ) → IsTrue (is_slot fs.land.space.sizes at)
       → has_slot fs.land.space at ≡ nat_lt 0 (references_to (book_of fs.refs.refs) at)
-  slots_there at slot = from (ways_in fs (Some events) at) refl where
-    from : (n : ℕ) → ways_in fs (Some events) at ≡ n
-        → has_slot fs.land.space at ≡ nat_lt 0 (references_to (book_of fs.refs.refs) at)
-    from zero none =
-        false_from_ne_true (has_slot fs.land.space at) (λ has.
-        let reached = slot-reached fs super events root files sound opened at
-        ((Contains-has_slot fs.land.space at).0 has) in
-        let some = way-opened fs super events root files table sound opened at reached in
-        omega (arith, none, some))
-        ∙ sym (ap (λ (n : ℕ). nat_lt 0 n) (none-opened fs super events root files table sound opened at slot none))
-    from (suc n) some =
-        let reached = reached-opened fs super events root files table sound opened at (omega (arith, some)) in
-        (Contains-has_slot fs.land.space at).1 (reached-slot fs super events root files sound opened at reached)
-        ∙ sym (ap (λ (n : ℕ). nat_lt 0 n) (alone-opened fs super events root files table sound opened at reached))
-
-  -- some reference leads there, so a way or a piece does
-  some_there : (at : ℕ) → 0 < references_to (book_of fs.refs.refs) at
-      → 0 < ways_in fs (Some events) at + many (names_of fs.tree.owner (names_in items)) at
-  some_there at some =
-      let few = length-total (references_at (book_of fs.refs.refs) at) (table.book.sound at) in
-      let all = total-opened fs super events root files table sound opened at in
-      omega (arith, some, few, all)
+  slots_there at slot =
+      both_same (has_slot fs.land.space at) (nat_lt 0 (references_to (book_of fs.refs.refs) at))
+      (λ has. lt-ltb 0 (references_to (book_of fs.refs.refs) at)
+      (met-referred fs super events table sound opened at
+      (slot-met fs super events sound opened at ((Contains-has_slot fs.land.space at).0 has))))
+      (λ some. (Contains-has_slot fs.land.space at).1
+      (met-slot fs super events sound opened at (referred-met fs super events table sound opened at slot
+      (ltb-true 0 (references_to (book_of fs.refs.refs) at) some))))
 
   none_newer : (at level : ℕ) → what_in (book_of fs.refs.refs at)
       ≡ Some (record { bytes = fs.refs.nodesize; level = Some level; generation = fs.refs.next }) → ⊥
@@ -109,57 +90,77 @@ module _ (fs : FsTree) (super : Super) (events : List Event) (root : RootItem) (
       → 0 < references_to (book_of fs.refs.refs) at
       → what_in (book_of fs.refs.refs at) ≡ Some (what_of fs.refs.nodesize (header_of node).generation node)
   clean_there at node is some =
-      let slot = told-slot fs.land (Some events) fs.tree.next
-      (drafted-there fs super events root files sound opened) at node is in
-      let there = some_there at some in
-      let unnamed = unnamed-opened fs super events root files table sound opened at slot in
-      known_node at node (omega (arith, there, unnamed)) is
+      known_node at node
+      (referred-met fs super events table sound opened at (slot-opened fs super events sound opened at node is) some) is
 
   settled_there : IsSettled fs.refs fs.land (Some events)
   settled_there = record {
     slots = slots_there;
     written = λ at has. inr (opened.held_slots at ((Contains-has_slot fs.land.space at).0 has));
     fresh = λ at node there. absurd (none_some (fresh_at fs.land.blocks.draft at) node
-        (no-fresh-opened fs super (content events) root opened at) there);
+        (no-fresh-opened fs super (content events) opened at) there);
     newer = λ at level known. absurd (none_newer at level known);
     clean = λ at node none is some. clean_there at node is some;
   }
 
+  -- ---- the others
+
+  beside_there : (tree : Root) → Contains fs.others.items tree → IsBeside fs (Some events) tree
+  beside_there tree has =
+      let entry = tree-entry fs super events sound opened tree (contains_later fs.tree fs.others.items tree has) in
+      record {
+        items = items_of_root Files super (content events) entry.0.1;
+        rooted = subst (λ (t : Root). IsRooted Files t fs.land (Some events)
+            (items_of_root Files super (content events) entry.0.1)) entry.2
+            (rooted-opened fs super events sound opened entry.0 entry.1);
+        next = sym (ap (λ (t : Root). t.next) entry.2) ∙ sym (next-opened fs super (content events) opened);
+        number = other-number fs super events sound opened tree has;
+      }
+
   -- ---- all of it
 
-  counts_there : (at : ℕ) (reference : Reference) → count_at (book_of fs.refs.refs) at reference
-      + names_times fs.tree.owner (filter_map name_told items) at reference
-      ≡ owed_count (layout_in fs (Some events)) at reference
-      + names_times fs.tree.owner (names_in items) at reference
-  counts_there at reference =
-      let owed = owed-opened fs super events root files table sound opened at reference in
-      ap (λ (n : ℕ). n + names_times fs.tree.owner (filter_map name_told items) at reference) owed
+  module _ (root : RootItem) (top : Contains (subvolume_roots (roots_in super (content events))) (TOP_LEVEL, root))
+    where
+      abbrev items : List Item
+      items = items_of_root Files super (content events) root
 
-  stands_there : Stands fs (Some events) items (names_in items)
-  stands_there = record {
-    book = record {
-      owner = owner_is;
-      next = next_is ∙ ap (λ (r : Root). r.next) (sym opened.tree);
-      nodesize = size_is ∙ ap (λ (sizes : Sizes). sizes.nodesize) (sym opened.sizes);
-    };
-    rooted = rooted-opened fs super events root files sound opened;
-    placed = placed-opened fs super events root files sound opened;
-    alone = alone-opened fs super events root files table sound opened;
-    home = home-opened fs super events root files table sound opened;
-    young = λ q reached some. absurd (not_some (fresh_at fs.land.blocks.draft q)
-        (no-fresh-opened fs super (content events) root opened q) some);
-    fits = ap (λ (refs : TreeRefs). refs.misfit) opened.refs;
-    counts = counts_there;
-    few = few-opened fs super events root files table sound opened;
-    settled = settled_there;
-    known = extents-opened fs super events root files table sound opened;
-    runs = runs-opened fs super events root files table sound opened;
-  }
+      counts_there : (at : ℕ) (reference : Reference) → count_at (book_of fs.refs.refs) at reference
+          + names_times fs.tree.owner (filter_map name_told items) at reference
+          ≡ owed_count (layout_in fs (Some events)) at reference
+          + names_times fs.tree.owner (names_in items) at reference
+      counts_there at reference =
+          let owed = owed-opened fs super events table sound opened at reference in
+          ap (λ (n : ℕ). n + names_times fs.tree.owner (filter_map name_told items) at reference) owed
 
-pub stands-opened : (fs : FsTree) (super : Super) (events : List Event) (root : RootItem) (files : List (ℕ × File))
-    → IsTable fs.refs.refs → IsSoundImage super (content events) root files
-    → IsOpened fs super (content events) root → StandsOpened fs super events root
-stands-opened fs super events root files table sound opened = record {
-  stands = stands_there fs super events root files table sound opened;
-  layout = layout-opened fs super events root files sound opened;
+      stands_there : Stands fs (Some events) (items_of_root Files super (content events) root)
+          (names_in (items_of_root Files super (content events) root))
+      stands_there = record {
+        book = record {
+          owner = owner_is;
+          next = next_is ∙ sym (next-opened fs super (content events) opened);
+          nodesize = size_is ∙ ap (λ (sizes : Sizes). sizes.nodesize) (sym opened.sizes);
+        };
+        rooted = rooted-hand fs super events table sound opened root top;
+        ascending = others-ascend fs super events sound opened;
+        beside = λ i d inside. beside_there (get_or fs.others.items i d) (index_among fs.others.items i d inside);
+        placed = λ tree q has reached. placed-opened fs super events sound opened q
+            (record { tree = tree; among = has; reached = reached });
+        home = home-opened fs super events table sound opened;
+        young = λ tree q node has reached fresh. absurd (none_some (fresh_at fs.land.blocks.draft q) node
+            (no-fresh-opened fs super (content events) opened q) fresh);
+        fits = ap (λ (refs : TreeRefs). refs.misfit) opened.refs;
+        counts = counts_there;
+        within = λ at reference. omega arith;
+        few = few-opened fs super events table sound opened root top;
+        settled = settled_there;
+        known = extents-opened fs super events table sound opened root top;
+        runs = runs-opened fs super events table sound opened root top;
+      }
+
+pub stands-opened : (fs : FsTree) (super : Super) (events : List Event) → IsTable fs.refs.refs
+    → IsSoundImage super (content events) → IsOpened fs super (content events) → StandsOpened fs super events
+stands-opened fs super events table sound opened = record {
+  stands = stands_there fs super events table sound opened;
+  each = items-opened fs super events sound opened;
+  layout = layout-opened fs super events sound opened;
 }

@@ -14,11 +14,11 @@ use Rattle.qg_fs_tree.specs.Standing.{nodes_of}
 use Rattle.qg_fs_layout.proofs.Moved.{fresh-told}
 use Rattle.qg_standing.specs.Committing.{IsCommitted, WritesTree}
 
-pub no-fresh : (old new : FsTree) (others : List ℕ) → IsCommitted old new others → (q : ℕ)
+pub no-fresh : (old new : FsTree) (besides : List ℕ) → IsCommitted old new besides → (q : ℕ)
     → fresh_at new.land.blocks.draft q ≡ None
-no-fresh old new others committed q = ap (λ (draft : Draft). fresh_at draft q) committed.draft
+no-fresh old new besides committed q = ap (λ (draft : Draft). fresh_at draft q) committed.draft
 
-module _ (old new : FsTree) (others : List ℕ) (events later : List Event) (committed : IsCommitted old new others)
+module _ (old new : FsTree) (besides : List ℕ) (events later : List Event) (committed : IsCommitted old new besides)
     (writes : WritesTree old (Some events) (Some later)) where
   -- all is read
   read_now : (q : ℕ) → nodes_of new (Some later) q
@@ -26,7 +26,7 @@ module _ (old new : FsTree) (others : List ℕ) (events later : List Event) (com
   unfolding told
   read_now q =
       ap (λ (o : Option Node). told_or o new.land.blocks.draft.sizes (Some later) q)
-      (no-fresh old new others committed q)
+      (no-fresh old new besides committed q)
       ∙ ap (λ (draft : Draft). result_ok (standing draft.sizes (content later) q)) committed.draft
 
   fresh_now : (q : ℕ) (node : Node) → fresh_at old.land.blocks.draft q ≡ Some node

@@ -1,5 +1,5 @@
-// What a commit makes of a subvolume's tree.
-ghost use Rattle.std.specs.Prelude.{◌≡◌, ◌+◌, ◌^◌, ◌<◌, ◌≤◌, ℕ, List, Option, Some, IsTrue, OnErr, OnOk};
+// What a commit makes of subvolumes' trees.
+ghost use Rattle.std.specs.Prelude.{◌≡◌, ◌+◌, ◌^◌, ◌<◌, ◌≤◌, ℕ, List, Option, Some, IsTrue, OnErr, OnOk, map};
 ghost use Rattle.std.specs.List.{list_all};
 ghost use Rattle.qg_device.specs.History.{Event};
 ghost use Rattle.qg_num.specs.declared.piece.Piece.{Piece};
@@ -7,8 +7,8 @@ ghost use Rattle.qg_node.specs.declared.item.Item.{Item};
 ghost use Rattle.qg_blocks.specs.Told.{IsBacked};
 ghost use Rattle.qg_blocks.specs.Writing.{AreWritten, Keeps};
 ghost use Rattle.qg_space.specs.Holding.{is_free_slot};
-ghost use Rattle.qg_fs_tree.specs.Standing.{IsSubvolume, Stands};
-ghost use Rattle.qg_standing.specs.Committing.{IsCommitted, StandsStill, WritesTree};
+ghost use Rattle.qg_fs_tree.specs.Standing.{CanTurn, IsSubvolume, Stands};
+ghost use Rattle.qg_standing.specs.Committing.{IsCommitted, StandsStill, WritesTree, for_generation};
 
 use crate::slots::hold_besides;
 use qg_descent::Tree;
@@ -16,9 +16,25 @@ use qg_disk::Disk;
 use qg_fs_tree::FsTree;
 use qg_num::{Address, Generation, NoMemory};
 
-/// A commit has written the fresh nodes to the disk: they are clean from now on, and the tree stands for the generation
-/// to come. The commit holds the slots of the present state, and `others` besides, where the other trees lie. It is
-/// done whole, or memory is refused and nothing changes.
+/// The tree stands for the generation `next` to come.
+fn for_generation(tree: &Tree, next: Generation) -> Tree
+    ensures { result ≡ for_generation next tree.now }
+{
+    Tree::at(tree.root(), tree.height(), tree.owner(), next)
+}
+
+/// Trees stand for the generation `next` to come.
+fn stand_for(trees: &mut [Tree], next: Generation)
+    ensures { trees.new ≡ map (for_generation next) trees.old }
+{
+    for tree in trees.iter_mut() {
+        *tree = for_generation(tree, next);
+    }
+}
+
+/// A commit has written the fresh nodes to the disk: they are clean from now on, and the trees stand for the generation
+/// to come. The commit holds the slots of the present state, and `others` besides, where the root, extent and quota
+/// trees lie. It is done whole, or memory is refused and nothing changes.
 pub fn committed<D: Disk>(fs: &mut FsTree, disk: &D, others: &[Address]) -> Result<(), NoMemory>
     requires backed { IsBacked fs.old.land.blocks (D.history disk.now) }
     requires written { AreWritten fs.old.land.blocks.draft (D.history disk.now) }
@@ -28,6 +44,7 @@ pub fn committed<D: Disk>(fs: &mut FsTree, disk: &D, others: &[Address]) -> Resu
     ensures subvolume { (before : Option (List Event)) (bytes : ℕ) → IsSubvolume fs.old before bytes
         → bytes ≤ D.size disk.now
         → OnOk result (IsSubvolume fs.new (D.history disk.now) (D.size disk.now)) }
+    ensures turns { CanTurn fs.old → OnOk result (CanTurn fs.new) }
     ensures stands { (events : List Event) (bytes : ℕ) (items : List Item) (names : List (ℕ × Piece))
         → IsSubvolume fs.old (Some events) bytes → Stands fs.old (Some events) items names
         → WritesTree fs.old (Some events) (D.history disk.now) → (later : List Event)
@@ -40,6 +57,7 @@ pub fn committed<D: Disk>(fs: &mut FsTree, disk: &D, others: &[Address]) -> Resu
     fs.refs.recorded(next)?;
     hold_besides(&mut fs.land.space, others);
     fs.land.blocks.written(disk);
-    fs.tree = Tree::at(fs.tree.root(), fs.tree.height(), fs.tree.owner(), next);
+    fs.tree = for_generation(&fs.tree, next);
+    stand_for(fs.others.as_mut_slice(), next);
     Ok(())
 }

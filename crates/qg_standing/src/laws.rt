@@ -1,5 +1,7 @@
-// When a subvolume's tree stands, and what its book knows then.
+// When subvolumes' trees stand, and what their book knows then.
 ghost use Rattle.qg_standing.specs.Laws.{
+  CanTurnOpened,
+  CanTurnStill,
   IsSubvolumeAlike,
   IsSubvolumeOpened,
   IsSubvolumeStill,
@@ -13,19 +15,21 @@ ghost use Rattle.qg_standing.specs.Laws.{
   SyncsKeepSlots,
 };
 
-/// A law: a tree that a commit has written stands as it stood, for the generation to come (this project's own).
+/// A law: trees that a commit has written stand as they stood, for the generation to come (this project's own).
 pub fn commit_leaves_it()
     ensures subvolume { IsSubvolumeStill }
+    ensures turns { CanTurnStill }
     ensures stands { StandsOnceCommitted }
 {}
 
 /// A law: what is made of a sound image that was just opened stands (this project's own).
 pub fn opening_makes_it()
     ensures subvolume { IsSubvolumeOpened }
+    ensures turns { CanTurnOpened }
     ensures stands { StandsOnceOpened }
 {}
 
-/// A law: a tree that stands does so where the same is told, whatever clean nodes are in memory (this project's own).
+/// A law: trees that stand do so where the same is told, whatever clean nodes are in memory (this project's own).
 pub fn reading_leaves_it()
     ensures subvolume { IsSubvolumeAlike }
     ensures stands { StandsWhereToldAlike }
@@ -38,7 +42,8 @@ pub fn superblocks_keep_slots()
     ensures written { SuperblocksKeepSlots }
 {}
 
-/// A law: what the book of a tree that stands knows of its root, and of generations (this project's own).
+/// A law: what the book of trees that stand knows of the root of the one at hand, and of generations (this project's
+/// own).
 pub fn its_book_knows()
     ensures root { StandingKnowsRoot }
     ensures early { StandingKnowsNoLater }

@@ -1,4 +1,4 @@
-//! A subvolume's tree once an image was opened, and once a commit has written it: it stands.
+//! Subvolumes' trees once an image was opened, and once a commit has written them: they stand.
 #![tactic(auto)]
 
 mod committing;

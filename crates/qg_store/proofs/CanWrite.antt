@@ -1,5 +1,5 @@
 -- The trees of a plan can be laid out, and written with the fresh nodes; and how far a commit came that did not end.
-use Rattle.std.proofs.Common.{◌≡◌, ℕ, ◌+◌, ◌*◌, ◌≤◌, ◌^◌, List, Option, Some, inl, inr, sym, ap, subst, ◌∙◌, arith}
+use Rattle.std.proofs.Common.{◌≡◌, ℕ, ◌+◌, ◌*◌, ◌≤◌, ◌^◌, List, Option, Some, inl, inr, sym, subst, ◌∙◌, arith}
 use Rattle.std.specs.Prelude.{◌⊎◌, All, IfErr, IsTrue, Result}
 use Rattle.std.proofs.lemmas.List.Elements.{recursion_from_All}
 use Rattle.std.proofs.lemmas.Result.{IfErr-weaker}
@@ -11,8 +11,8 @@ use Rattle.qg_super.specs.declared.sizes.Sizes.{Sizes}
 use Rattle.qg_super.specs.Places.{is_served, is_slot}
 use Rattle.qg_super.specs.SuperText.{sizes_of}
 use Rattle.qg_super.proofs.Served.{SuperFits-is_super}
-use Rattle.qg_state.specs.Need.{nodes_filled}
-use Rattle.qg_contents.specs.Writable.{IsRootBy}
+use Rattle.qg_image.specs.Table.{keys_of}
+use Rattle.qg_state.specs.declared.quota.Quota.{Quota}
 use Rattle.qg_refs.specs.declared.kept.Kept.{Kept as Reference}
 use Rattle.qg_refs.specs.Counts.{Ascend}
 use Rattle.qg_extents.specs.Table.{IsTable}
@@ -23,14 +23,14 @@ use Rattle.qg_weighed.specs.Weight.{weight_of}
 use Rattle.qg_weighed.proofs.Law.{no-less}
 use Rattle.qg_other_trees.specs.declared.laying.OtherTrees.{OtherTrees}
 use Rattle.qg_other_trees.specs.declared.laying.Told.{Told}
-use Rattle.qg_other_trees.specs.Trees.{AreEnough, CanBeLaid}
+use Rattle.qg_other_trees.specs.Trees.{AreEnough, AreGroups, AreSubvolumes, CanBeLaid, nodes_of_trees}
 use Rattle.qg_other_trees.proofs.Weight.{records_weigh}
 use Rattle.qg_tree_commit.specs.Writing.{AreWritable, IsLaying, StopsLaying}
 use Rattle.qg_store.specs.declared.kept.Kept.{Kept}
 use Rattle.qg_store.specs.declared.planning.Plan.{Plan}
 use Rattle.qg_store.specs.Committing.{IsPlanOf, LaysSoFar}
 use Rattle.qg_store.specs.Keeping.{IsFitted}
-use Rattle.qg_store.proofs.CanLay.{room, root-counted, root-early, stamp-early}
+use Rattle.qg_store.proofs.CanLay.{plan-named, plan-told, room}
 use Rattle.qg_store.proofs.Planned.{slots-lie}
 
 -- the items of a book take no more than it takes with what the last commit recorded
@@ -43,9 +43,9 @@ book-light held refs is =
     let least = no-less held refs in
     subst (λ (n : ℕ). n ≤ weight_of held refs) (sym weigh) least
 
--- slots are enough for a book in an image of these sizes
-abbrev HaveRoom : Sizes → List (ℕ × Reference) → List ℕ → Type 0
-HaveRoom sizes book slots = AreEnough (5 * nodes_filled sizes.nodesize (items_bytes (items_of_book book)) + 13) slots
+-- slots are enough for three trees in an image of these sizes
+abbrev HaveRoom : Sizes → List (ℕ × Reference) → List (ℕ × RootItem) → Quota → List ℕ → Type 0
+HaveRoom sizes book roots quota slots = AreEnough (5 * nodes_of_trees sizes.nodesize book roots quota + 3) slots
 
 abbrev KnowsBy : ℕ → List (ℕ × Reference) → Type 0
 KnowsBy generation book = All (λ entry. entry.1.what.generation ≤ generation) book
@@ -55,10 +55,9 @@ pub record TellsPlan (kept : Kept) (plan : Plan) (sizes : Sizes) (next : ℕ) (t
     : Type 0 where
   pub sizes_are : sizes ≡ sizes_of kept.superblock
   pub next_is : next ≡ kept.fs.tree.next
-  pub root : told.root.now ≡ plan.root
+  pub roots : told.roots.now ≡ plan.roots
   pub book : told.book.now ≡ kept.fs.refs.refs
-  pub counters : told.counters.now ≡ plan.counters
-  pub stamp : told.stamp ≡ plan.stamp
+  pub quota : told.quota.now ≡ plan.quota
   pub slots_are : slots ≡ plan.slots
 
 -- fresh nodes can be written
@@ -85,39 +84,40 @@ slots-there kept plan fits is sizes slots same are =
 module _ (kept : Kept) (plan : Plan) (fits : IsFitted kept) (is : IsPlanOf kept plan) where
   module _ (sizes : Sizes) (next : ℕ) (told : Told) (slots : List ℕ)
       (tells : TellsPlan kept plan sizes next told slots) where
-    root-by : IsRootBy next told.root.now
-    root-by =
-        subst (λ (root : RootItem). IsRootBy next root) (sym tells.root)
-        (subst (λ (generation : ℕ). IsRootBy generation plan.root) (sym tells.next_is) (root-early kept plan fits is))
+    named-by : AreSubvolumes next told.roots.now
+    named-by =
+        subst (λ (T : Type 0). T) (λ i. AreSubvolumes (sym tells.next_is i) (sym tells.roots i))
+        (plan-named kept plan fits is)
+
+    told-by : AreGroups next (keys_of told.roots.now) told.quota.now
+    told-by =
+        subst (λ (T : Type 0). T)
+        (λ i. AreGroups (sym tells.next_is i) (keys_of (sym tells.roots i)) (sym tells.quota i))
+        (plan-told kept plan fits is)
 
     knows-by : KnowsBy next told.book.now
     knows-by =
         subst (λ (book : List (ℕ × Reference)). KnowsBy next book) (sym tells.book)
         (subst (λ (generation : ℕ). KnowsBy generation kept.fs.refs.refs) (sym tells.next_is) is.earlier)
 
-    has-room : HaveRoom sizes told.book.now slots
+    has-room : HaveRoom sizes told.book.now told.roots.now told.quota.now slots
     has-room =
-        let here = room kept plan fits is (book-light kept.fs.refs.held kept.fs.refs.refs is.table) in
-        let in_slots = subst (λ (list : List ℕ). HaveRoom (sizes_of kept.superblock) kept.fs.refs.refs list)
-        (sym tells.slots_are) here in
-        let of_book = subst (λ (book : List (ℕ × Reference)). HaveRoom (sizes_of kept.superblock) book slots)
-        (sym tells.book) in_slots in
-        subst (λ (s : Sizes). HaveRoom s told.book.now slots) (sym tells.sizes_are) of_book
+        subst (λ (T : Type 0). T)
+        (λ i. HaveRoom (sym tells.sizes_are i) (sym tells.book i) (sym tells.roots i) (sym tells.quota i)
+        (sym tells.slots_are i))
+        (room kept plan fits is (book-light kept.fs.refs.held kept.fs.refs.refs is.table))
 
     pub can-be-laid : kept.superblock.generation ≤ 2 ^ 63 → CanBeLaid sizes next told slots
     can-be-laid early =
         let next_is = tells.next_is in
         let after = fits.next in
-        let stamp_is = tells.stamp in
-        let stamp = stamp-early kept plan fits is in
         record {
           served = subst (λ (s : Sizes). IsTrue (is_served s)) (sym tells.sizes_are)
               (SuperFits-is_super kept.superblock fits.superblock).served;
           some = omega (arith, next_is, after);
           early = omega (arith, next_is, after, early);
-          counted = ap (λ (root : RootItem). root.refs) tells.root ∙ root-counted kept plan fits is;
-          by = root-by;
-          stamp = omega (arith, next_is, stamp_is, stamp);
+          subvolumes = named-by;
+          groups = told-by;
           known = knows-by;
           room = has-room;
         }
@@ -126,14 +126,13 @@ module _ (kept : Kept) (plan : Plan) (fits : IsFitted kept) (is : IsPlanOf kept 
 module _ (kept : Kept) (plan : Plan) (sizes : Sizes) (next : ℕ) (told : Told) (slots : List ℕ)
     (tells : TellsPlan kept plan sizes next told slots) where
   laying-so : (trees : OtherTrees)
-      → IsLaying sizes next told.root.now told.book.now told.counters.now told.stamp slots kept.fs.land.blocks.draft
-      trees
-      → IsLaying (sizes_of kept.superblock) kept.fs.tree.next plan.root kept.fs.refs.refs plan.counters plan.stamp
-      plan.slots kept.fs.land.blocks.draft trees
+      → IsLaying sizes next told.roots.now told.book.now told.quota.now slots kept.fs.land.blocks.draft trees
+      → IsLaying (sizes_of kept.superblock) kept.fs.tree.next plan.roots kept.fs.refs.refs plan.quota plan.slots
+      kept.fs.land.blocks.draft trees
   laying-so trees laid =
       subst (λ (T : Type 0). T)
-      (λ i. IsLaying (tells.sizes_are i) (tells.next_is i) (tells.root i) (tells.book i) (tells.counters i)
-      (tells.stamp i) (tells.slots_are i) kept.fs.land.blocks.draft trees) laid
+      (λ i. IsLaying (tells.sizes_are i) (tells.next_is i) (tells.roots i) (tells.book i) (tells.quota i)
+      (tells.slots_are i) kept.fs.land.blocks.draft trees) laid
 
   so-far : (events : List Event) (history : Option (List Event))
       → StopsLaying sizes next told slots kept.fs.land.blocks.draft events history

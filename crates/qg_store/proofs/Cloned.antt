@@ -13,17 +13,17 @@ use Rattle.qg_extents.specs.Table.{IsTable}
 use Rattle.qg_fs_tree.specs.declared.fs_tree.FsTree.{FsTree}
 use Rattle.qg_file_edits.specs.Changes.{files_cloned}
 use Rattle.qg_file_edits.specs.Files.{LeavesFiles, LeavesHeld, pieces_of}
-use Rattle.qg_fs_step.proofs.Others.{changes-told}
 use Rattle.qg_store.specs.declared.kept.Kept.{Kept}
 use Rattle.qg_store.specs.Answering.{Answered}
 use Rattle.qg_store.specs.Editing.{clone_refusal, slots_refusal}
 use Rattle.qg_store.specs.Keeping.{IsKept, IsKeptOf, need_of}
 use Rattle.qg_store.proofs.Known.{no-limit}
 use Rattle.qg_store.proofs.Refused.{early-clone, late-clone}
+use Rattle.qg_store.proofs.Changed.{clone-top, short-pieces}
 use Rattle.qg_store.proofs.Leaves.{follows-edit}
 use Rattle.qg_fs_commit.proofs.Short.{short-left}
 use Rattle.qg_store.proofs.Stepped.{Follows, IsLate, change_to, does_edit, does_nothing, edited}
-use Rattle.qg_store.proofs.Stepped.{late-refusal, tree-kept}
+use Rattle.qg_store.proofs.Stepped.{late-refusal}
 
 -- it is refused
 pub refuses-clone : (kept : Kept) (state : State) (history : Option (List Event))
@@ -50,8 +50,7 @@ module _ (kept : Kept) (state : State) (history : Option (List Event)) (bytes in
   is-late = record {
     late = late-clone state TOP_LEVEL ino off len TOP_LEVEL to_ino to_off passes
         (no-limit kept state history keeps TOP_LEVEL state.sizes.nodesize);
-    change = (changes-told kept.fs history bytes state keeps.mine keeps.files
-        (tree-kept kept state history bytes fits keeps table) keeps.keeps).clone ino off len to_ino to_off
+    change = clone-top kept state history bytes fits keeps table ino off len to_ino to_off
         ∙ ap (λ (n : ℕ). Some (change_to files_now amount n)) (sym touched);
   }
 
@@ -83,4 +82,5 @@ module _ (kept : Kept) (state : State) (history : Option (List Event)) (bytes in
       (follows-edit kept fs history after bytes left state files_now pieces fits keeps table
       (subst (λ (k : Kept). IsTable k.fs.refs.refs) is table_new) held
       (subst (λ (n : ℕ). LeavesFiles kept.fs fs history files_now n) (sym touched) leaves)
-      ((short-left kept.fs.tree.next keeps.files keeps.short).cloned ino off len to_ino to_off) enough) held.history)
+      ((short-left kept.fs.tree.next keeps.files keeps.short).cloned (pieces_of ino keeps.files) off len to_ino to_off
+      (short-pieces keeps.files ino keeps.short)) enough) held.history)

@@ -69,7 +69,7 @@ commit_step old new reply some early commits is =
 -- the generation is that of the last commit
 pub generation-kept : (kept : Kept) (state : State) (history : Option (List Event)) → IsFitted kept
     → IsKeptOf kept state history → state.generation ≡ kept.superblock.generation
-generation-kept kept state history fits keeps = omega (arith, keeps.keeps.laid.laid.generation, fits.next)
+generation-kept kept state history fits keeps = omega (arith, keeps.keeps.laid.generation, fits.next)
 
 pub does_idle : (kept : Kept) (state : State) (history : Option (List Event)) → IsFitted kept
     → IsKeptOf kept state history → kept.pending ≡ 0

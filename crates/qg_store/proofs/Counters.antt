@@ -7,10 +7,11 @@ use Rattle.qg_super.specs.Places.{sector}
 use Rattle.qg_super.specs.SuperText.{sizes_of}
 use Rattle.qg_super.proofs.Served.{SizesFit, SizesFit-is_served, SuperFits-is_super}
 use Rattle.qg_num.specs.declared.counters.Counters.{Counters}
-use Rattle.qg_fs_step.specs.Keeping.{counters_of}
 use Rattle.qg_space.specs.Holding.{Holding, taken_slots as slots_counted}
 use Rattle.qg_fs_tree.specs.Standing.{taken_slots}
+use Rattle.qg_other_trees.specs.Trees.{stamp_after}
 use Rattle.qg_store.specs.declared.kept.Kept.{Kept}
+use Rattle.qg_store.specs.Committing.{counters_now, counters_of, group_now}
 use Rattle.qg_store.specs.Keeping.{IsFitted}
 
 -- the slots that a space counts are those that a tree has taken
@@ -59,3 +60,12 @@ counters-are kept nodesize slots bytes same count runs =
     ≡ kept.superblock.nodesize * taken_slots kept.fs.land.space + bytes_of kept.fs.land.space.runs =
     λ i. same i * (count ∙ taken-same kept.fs.land.space) i + runs i in
     ap counted all
+
+-- the group with these counters, and the stamp that they make
+pub group-is : (kept : Kept) (counters : Counters) (stamp next : ℕ) → counters ≡ counters_now kept
+    → next ≡ kept.fs.tree.next → stamp ≡ stamp_after kept.group.counters counters kept.group.stamp next
+    → record kept.group { counters = counters; stamp = stamp } ≡ group_now kept
+group-is kept counters stamp next are same is =
+    let stamped : stamp ≡ stamp_after kept.group.counters (counters_now kept) kept.group.stamp kept.fs.tree.next =
+    is ∙ (λ i. stamp_after kept.group.counters (are i) kept.group.stamp (same i)) in
+    λ i. record kept.group { counters = are i; stamp = stamped i }

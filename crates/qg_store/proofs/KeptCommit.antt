@@ -15,9 +15,9 @@ use Rattle.qg_store.specs.Keeping.{IsFitted}
 use Rattle.qg_store.proofs.WhereLaid.{same-slots, within}
 
 -- the slots of the other trees may be named otherwise
-committed-so : (old new : FsTree) (others named : List ℕ) → IsCommitted old new others
-    → ((slot : ℕ) → Contains others slot ↔ Contains named slot) → IsCommitted old new named
-committed-so old new others named is same = record {
+committed-so : (old new : FsTree) (besides named : List ℕ) → IsCommitted old new besides
+    → ((slot : ℕ) → Contains besides slot ↔ Contains named slot) → IsCommitted old new named
+committed-so old new besides named is same = record {
   draft = is.draft;
   bound = is.bound;
   sizes = is.sizes;
@@ -29,6 +29,7 @@ committed-so old new others named is same = record {
   runs = is.runs;
   held_runs = is.held_runs;
   tree = is.tree;
+  others = is.others;
   refs = is.refs;
 }
 
@@ -41,8 +42,8 @@ module _ (kept : Kept) (plan : Plan) (trees : OtherTrees) (laid : IsLaidBy kept 
   count-laid = length trees.extents.nodes + length trees.quotas.nodes + length trees.roots.nodes
 
   pub count-within : count-laid ≤ length plan.slots
-  count-within = within (sizes_of kept.superblock) kept.fs.tree.next plan.root kept.fs.refs.refs plan.counters plan.stamp
-      plan.slots trees laid.laid
+  count-within = within (sizes_of kept.superblock) kept.fs.tree.next plan.roots kept.fs.refs.refs plan.quota plan.slots
+      trees laid.laid
 
   -- the slots in front, told by the number of each tree's nodes
   pub front-told : (given front : List ℕ) (extents quotas roots : ℕ) → front ≡ take (extents + quotas + roots) given
@@ -57,5 +58,5 @@ module _ (kept : Kept) (plan : Plan) (trees : OtherTrees) (laid : IsLaidBy kept 
   committed-laid old new front is committed =
       committed-so old new (take count-laid plan.slots) (map (λ node. (header_of node).address) (nodes_laid trees))
       (subst (IsCommitted old new) is committed)
-      (same-slots (sizes_of kept.superblock) kept.fs.tree.next plan.root kept.fs.refs.refs plan.counters plan.stamp
-      plan.slots trees laid.laid)
+      (same-slots (sizes_of kept.superblock) kept.fs.tree.next plan.roots kept.fs.refs.refs plan.quota plan.slots trees
+      laid.laid)

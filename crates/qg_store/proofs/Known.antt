@@ -48,11 +48,8 @@ none_over state counters stamp sub n quota =
 module _ (kept : Kept) (state : State) (history : Option (List Event)) (keeps : IsKeptOf kept state history) where
   -- ---- its only subvolume
 
-  pub only : state.subvolumes ≡ (TOP_LEVEL, keeps.mine) ∷ []
-  only = keeps.keeps.laid.alone ∙ ap (λ (owner : ℕ). (owner, keeps.mine) ∷ []) keeps.keeps.own
-
   mine-there : value_at TOP_LEVEL state.subvolumes ≡ Some keeps.mine
-  mine-there = ap (λ (table : List (ℕ × Subvolume)). value_at TOP_LEVEL table) only
+  mine-there = ap (λ (table : List (ℕ × Subvolume)). value_at TOP_LEVEL table) keeps.only
 
   pub files-known : files_in_sub state TOP_LEVEL ≡ keeps.files
   files-known = rw mine-there keeps.keeps.are
@@ -61,11 +58,11 @@ module _ (kept : Kept) (state : State) (history : Option (List Event)) (keeps : 
   file-known ino = ap (λ (table : List (ℕ × File)). value_at ino table) files-known
 
   has-top : has_subvolume state TOP_LEVEL ≡ true
-  has-top = ap (λ (table : List (ℕ × Subvolume)). has_key TOP_LEVEL table) only
+  has-top = ap (λ (table : List (ℕ × Subvolume)). has_key TOP_LEVEL table) keeps.only
 
   has-other : (sub : ℕ) → (sub ≡ TOP_LEVEL → ⊥) → has_subvolume state sub ≡ false
   has-other sub other =
-      ap (λ (table : List (ℕ × Subvolume)). has_key sub table) only
+      ap (λ (table : List (ℕ × Subvolume)). has_key sub table) keeps.only
       ∙ ap (λ (o : Option Subvolume). is_some o)
       (cond-false (TOP_LEVEL == sub) (Some keeps.mine) None (ne_eqb TOP_LEVEL sub (λ is. other (sym is))))
 

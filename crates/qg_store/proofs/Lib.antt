@@ -2,6 +2,7 @@ pub mod Looked
 pub mod Known
 pub mod Refused
 pub mod Stepped
+pub mod Changed
 pub mod Touched
 pub mod Leaves
 pub mod Edited
@@ -29,10 +30,10 @@ pub mod WhereLaid
 pub mod KnownBook
 pub mod KeptCommit
 pub mod CommitKeeps
+pub mod OneCounts
 pub mod CommitDone
 pub mod CommitOver
 pub mod Counters
-pub mod Alike
 pub mod ShortRead
 pub mod Opened
 pub mod Repaired

@@ -21,15 +21,18 @@ use Rattle.qg_blocks.specs.Told.{fresh_at}
 use Rattle.qg_ground.proofs.Editing.{ArePlaced-drafted}
 use Rattle.qg_descent.specs.Way.{HasRead, IsReadable}
 use Rattle.qg_fs_tree.specs.declared.fs_tree.FsTree.{FsTree}
-use Rattle.qg_fs_tree.specs.Standing.{IsSubvolume, Stands, layout_in}
+use Rattle.qg_fs_tree.specs.Standing.{IsSubvolume, Stands}
 use Rattle.qg_inodes.specs.Told.{TellsFiles}
+use Rattle.qg_exchange.specs.Named.{named}
 use Rattle.qg_file_edits.specs.Files.{HoldsFiles}
-use Rattle.qg_fs_layout.specs.Laying.{nodes_in}
+use Rattle.qg_standing.specs.Committing.{StandsStill}
+use Rattle.qg_standing.proofs.Alike.{stands-alike}
 use Rattle.qg_space.specs.Holding.{free_slots}
 use Rattle.qg_weighed.specs.Laws.{IsRecorded}
 use Rattle.qg_other_trees.specs.Telling.{one_group}
 use Rattle.qg_state.specs.State.{State, Subvolume}
 use Rattle.qg_fs_step.specs.Keeping.{KeepsState}
+use Rattle.qg_fs_commit.proofs.KeptStill.{kept-still}
 use Rattle.qg_store.specs.declared.kept.Kept.{Kept}
 use Rattle.qg_store.specs.Editing.{HasLooked}
 use Rattle.qg_store.specs.Keeping.{IsFitted, IsKept, IsKeptOf, SameButClean, commit_need}
@@ -80,6 +83,7 @@ fitted-blocks kept blocks same fits = record {
   no_max_rfer = fits.no_max_rfer;
   no_max_excl = fits.no_max_excl;
   own = fits.own;
+  none = fits.none;
   next = fits.next;
   sizes = fits.sizes;
   drafted = record {
@@ -113,38 +117,21 @@ tells-files fs history files holds near = record {
   are = file_items-told fs.tree.next files holds.writable near holds.by;
 }
 
--- a tree, with other clean nodes in memory
+-- trees, with other clean nodes in memory
 abbrev with_clean : FsTree → List (ℕ × Node) → FsTree
 with_clean fs clean = record fs { land = record fs.land { blocks = record fs.land.blocks { clean = clean } } }
 
-stands-clean : (fs : FsTree) (clean : List (ℕ × Node)) (history : Option (List Event)) (items : List Item)
-    (names : List (ℕ × Piece)) → Stands fs history items names → Stands (with_clean fs clean) history items names
-unfolding layout_in
-stands-clean fs clean history items names stands = record {
-  book = record { owner = stands.book.owner; next = stands.book.next; nodesize = stands.book.nodesize };
-  rooted = record { tells = stands.rooted.tells; apart = stands.rooted.apart; short = stands.rooted.short };
-  placed = stands.placed;
-  alone = stands.alone;
-  home = stands.home;
-  young = stands.young;
-  fits = stands.fits;
-  counts = stands.counts;
-  few = stands.few;
-  settled = record {
-    slots = stands.settled.slots;
-    written = stands.settled.written;
-    fresh = stands.settled.fresh;
-    newer = stands.settled.newer;
-    clean = stands.settled.clean;
-  };
-  known = stands.known;
-  runs = stands.runs;
-}
+-- they stand still
+still-clean : (fs : FsTree) (clean : List (ℕ × Node)) (history : Option (List Event)) (items : List Item)
+    (names : List (ℕ × Piece)) → Stands fs history items names
+    → StandsStill fs (with_clean fs clean) history history items names
+still-clean fs clean history items names stands =
+    stands-alike fs (with_clean fs clean) history history items names refl (λ q. refl) stands
 
 holds-clean : (fs : FsTree) (clean : List (ℕ × Node)) (history : Option (List Event)) (files : List (ℕ × File))
     → HoldsFiles fs history files → HoldsFiles (with_clean fs clean) history files
 holds-clean fs clean history files holds = record {
-  stands = stands-clean fs clean history _ _ holds.stands;
+  stands = (still-clean fs clean history (flat_map items_of_file files) (named files) holds.stands).stands;
   writable = holds.writable;
   by = holds.by;
 }
@@ -190,30 +177,12 @@ looked-back old new before after bytes left looked = record {
 
 -- ---- where it is kept of a state
 
-laid-clean : (fs : FsTree) (clean : List (ℕ × Node)) (history : Option (List Event))
-    → nodes_in (with_clean fs clean) history ≡ nodes_in fs history
-unfolding layout_in
-laid-clean fs clean history = refl
-
 keeps-clean : (fs : FsTree) (clean : List (ℕ × Node)) (history : Option (List Event)) (state : State) (mine : Subvolume)
     (files : List (ℕ × File)) → KeepsState fs history state mine files
     → KeepsState (with_clean fs clean) history state mine files
-keeps-clean fs clean history state mine files keeps = record {
-  holds = holds-clean fs clean history files keeps.holds;
-  laid = record {
-    laid = record {
-      sizes = keeps.laid.laid.sizes;
-      generation = keeps.laid.laid.generation;
-      layout = keeps.laid.laid.layout ∙ sym (laid-clean fs clean history);
-      root = keeps.laid.laid.root;
-    };
-    alone = keeps.laid.alone;
-  };
-  are = keeps.are;
-  own = keeps.own;
-  held_slots = keeps.held_slots;
-  held_runs = keeps.held_runs;
-}
+keeps-clean fs clean history state mine files keeps =
+    kept-still fs (with_clean fs clean) history history state mine files refl refl refl
+    (still-clean fs clean history (flat_map items_of_file files) (named files) keeps.holds.stands) keeps
 
 module _ (old new : Kept) (before after : Option (List Event)) (bytes left : ℕ) (state : State)
     (looked : HasLooked old new before after bytes left) (keeps : IsKeptOf old state before) where
@@ -248,6 +217,7 @@ module _ (old new : Kept) (before after : Option (List Event)) (bytes left : ℕ
     files = keeps.files;
     mine = keeps.mine;
     keeps = state-looked;
+    only = keeps.only;
     short = keeps.short;
     copied = copied-looked;
     quota = quota-looked;

@@ -2,24 +2,27 @@
 use Rattle.std.proofs.Common.{◌≡◌, ℕ, ◌+◌, ◌≤◌, Bool, true, false, List, [], ◌∷◌, ◌++◌, length, map, Option, Some, None, append-nil}
 use Rattle.std.proofs.Common.{refl, sym, ap, subst, ◌∙◌, inl, inr, arith}
 use Rattle.std.specs.Prelude.{◌↔◌, ◌&&◌, ◌||◌, ◌==◌, nat_le, IsTrue, Result, Ok, Err, IfOk, IsErrAnd}
-use Rattle.std.specs.List.{Contains, flat_map}
+use Rattle.std.specs.List.{AllByRecursion, Contains, flat_map}
 use Rattle.std.proofs.lemmas.List.Elements.{Contains-append_cases, Contains-append_left, Contains-append_right}
 use Rattle.qg_device.specs.History.{Event, content}
+use Rattle.qg_node.specs.declared.node.Node.{Node}
 use Rattle.qg_items.specs.declared.root.RootItem.{RootItem}
 use Rattle.qg_items.specs.declared.tree.TheConstants.{TOP_LEVEL}
 use Rattle.qg_super.specs.declared.superblock.Super.{Super}
 use Rattle.qg_super.specs.Places.{is_served, total_bytes}
 use Rattle.qg_super.specs.SuperText.{is_super, sizes_of}
 use Rattle.qg_image.specs.declared.file.File.{File}
+use Rattle.qg_image.specs.Table.{value_at}
 use Rattle.qg_state.specs.declared.element.Element.{Element}
-use Rattle.qg_state.specs.declared.quota.Group.{Group}
 use Rattle.qg_state.specs.declared.quota.Quota.{Quota}
 use Rattle.qg_state.specs.Reach.{extent_of}
 use Rattle.qg_state.specs.Space.{present_extents}
 use Rattle.qg_state.specs.State.{State, Subvolume}
-use Rattle.qg_verdict.specs.ImageState.{extent_parts, quota_in, state_in, super_of}
+use Rattle.qg_verdict.specs.declared.tree.Tree.TheVariants.{Files}
+use Rattle.qg_verdict.specs.ImageState.{addresses_of, extent_parts, nodes_of_root, quota_in, state_in, super_of}
 use Rattle.qg_verdict.specs.StateOf.{StateOf}
 use Rattle.qg_verdict.specs.Verdict.{extent_set}
+use Rattle.qg_reach.specs.Sets.{HaveSame}
 use Rattle.qg_reach.proofs.ExtentSets.{extent_set_same}
 use Rattle.qg_blocks.specs.Held.{nothing_fresh, slots_of}
 use Rattle.qg_refs.specs.declared.kept.Kept.{Kept as Reference}
@@ -29,10 +32,12 @@ use Rattle.qg_weighed.specs.Laws.{IsRecorded}
 use Rattle.qg_tree_refs.specs.TreeBook.{TreeBook}
 use Rattle.qg_check.specs.declared.image.Image.{Image}
 use Rattle.qg_check.specs.IsImage.{IsEditable, IsImage}
-use Rattle.qg_standing.specs.Opening.{IsOpened, IsSoundImage}
+use Rattle.qg_descent.specs.Tree.{Root}
+use Rattle.qg_standing.specs.Opening.{IsOpened, IsSoundImage, opened_nodes}
+use Rattle.qg_standing.proofs.Alone.{alone-others, alone-tree}
 use Rattle.qg_other_trees.specs.Telling.{one_group}
-use Rattle.qg_fs_step.specs.Keeping.{KeepsState, NamesOthers}
-use Rattle.qg_fs_open.specs.Opening.{HoldsCommit, HoldsOthers, mine_opened}
+use Rattle.qg_fs_step.specs.Keeping.{KeepsState, NamesOthers, other_names}
+use Rattle.qg_fs_open.specs.Opening.{AreBytes, HasBytes, HoldsCommit, HoldsOthers, IsOf, mine_opened}
 use Rattle.qg_fs_commit.specs.Committing.{AreShort}
 use Rattle.qg_fs_open.proofs.OpenedKept.{opened-kept}
 use Rattle.qg_fs_open.proofs.OpenedNames.{opened-names}
@@ -42,8 +47,9 @@ use Rattle.qg_store.specs.declared.kept.Kept.{Kept}
 use Rattle.qg_store.specs.Keeping.{IsKeptOf}
 use Rattle.qg_store.proofs.ShortRead.{files-short}
 
--- What is made of an image: the tree at its root, for the generation to come, no node fresh; the slots of its nodes,
--- which the last commit holds besides those of the other trees; the runs that its files name; and its book, held too
+-- What is made of an image: the tree at its root, for the generation to come, and no other beside it; no node fresh;
+-- the slots of its nodes, which the last commit holds besides those of the other trees; the runs that its files name;
+-- and its book, held too
 pub record IsMadeOf (kept : Kept) (image : Image) : Type 0 where
   pub superblock : kept.superblock ≡ image.superblock
   pub root : kept.root ≡ image.root
@@ -55,6 +61,7 @@ pub record IsMadeOf (kept : Kept) (image : Image) : Type 0 where
     owner = TOP_LEVEL;
     next = image.superblock.generation + 1;
   }
+  pub none : kept.fs.others.items ≡ []
   pub draft : kept.fs.land.blocks.draft ≡ nothing_fresh (slots_of image.superblock.nodesize image.superblock.slots)
   pub sizes : kept.fs.land.space.sizes ≡ sizes_of image.superblock
   pub slots : (slot : ℕ) → Contains kept.fs.land.space.slots slot ↔ Contains image.nodes slot
@@ -91,14 +98,6 @@ served_slots super is =
     (((super.nodesize == 4096) && nat_le super.slots 16128) || ((super.nodesize == 16384) && nat_le super.slots 4032))
     (nat_le 64 super.slots) (nat_le 16 super.sectors) (nat_le super.sectors 16777216) is
 
--- the only group has no limit
-pub counted_one : (quota : Quota) (group : Group) → quota ≡ record { groups = (TOP_LEVEL, group) ∷ []; pairs = [] }
-    → group.max_rfer ≡ None → group.max_excl ≡ None → quota ≡ one_group group.counters group.stamp
-counted_one quota group is rfer excl =
-    let unlimited : group ≡ record group { max_rfer = None; max_excl = None } =
-    λ i. record group { max_rfer = rfer i; max_excl = excl i } in
-    is ∙ ap (λ (one : Group). record { groups = (TOP_LEVEL, one) ∷ []; pairs = [] }) unlimited
-
 same_super : (super chosen : Super) (found : Option Super) → found ≡ Some super → found ≡ Some chosen → chosen ≡ super
 same_super super chosen found is other = cc
 
@@ -117,9 +116,8 @@ present_there state mine are =
 pub image-long : (image : Image) (bytes : List ℕ) → IsTrue (is_super image.superblock) → IsImage bytes image
     → total_bytes (sizes_of image.superblock) ≤ length bytes
 image-long image bytes fits is =
-    let sound : IsSoundImage image.superblock bytes image.root is.kept.files =
-    image-known image.superblock bytes is.sound is.chosen image.root is.kept.only is.kept.files fits is.kept.told
-    is.kept.agrees is.kept.home in
+    let sound : IsSoundImage image.superblock bytes =
+    image-known image.superblock bytes is.sound is.chosen fits is.kept.agrees is.kept.home in
     sound.long
 
 module _ (kept : Kept) (image : Image) (made : IsMadeOf kept image) (fits : IsEditable image)
@@ -132,10 +130,9 @@ module _ (kept : Kept) (image : Image) (made : IsMadeOf kept image) (fits : IsEd
 
   -- ---- the tree
 
-  sound : IsSoundImage image.superblock (content events) image.root files
+  sound : IsSoundImage image.superblock (content events)
   sound =
-      image-known image.superblock (content events) is.sound is.chosen image.root is.kept.only files fits.superblock
-      is.kept.told is.kept.agrees is.kept.home
+      image-known image.superblock (content events) is.sound is.chosen fits.superblock is.kept.agrees is.kept.home
 
   runs_are : kept.fs.land.space.runs ≡ extent_set (present_extents state)
   runs_are = made.runs ∙ is.kept.extents
@@ -154,14 +151,30 @@ module _ (kept : Kept) (image : Image) (made : IsMadeOf kept image) (fits : IsEd
   held_are : kept.fs.refs.held ≡ image.book
   held_are = ap (λ (book : TreeBook). book.held) made.refs
 
-  opened : IsOpened kept.fs image.superblock (content events) image.root
+  owner_is : kept.fs.tree.owner ≡ TOP_LEVEL
+  owner_is = ap (λ (tree : Root). tree.owner) made.tree
+
+  -- the nodes of all subvolumes are those of the only one
+  nodes_are : opened_nodes image.superblock (content events)
+      ≡ nodes_of_root Files image.superblock (content events) image.root
+  nodes_are =
+      ap (λ (roots : List (ℕ × RootItem)).
+      flat_map (λ entry. nodes_of_root Files image.superblock (content events) entry.1) roots) is.kept.only
+      ∙ append-nil (nodes_of_root Files image.superblock (content events) image.root)
+
+  nodes_have : HaveSame image.nodes (addresses_of (opened_nodes image.superblock (content events)))
+  nodes_have = subst (λ (nodes : List Node). HaveSame image.nodes (addresses_of nodes)) (sym nodes_are) is.kept.nodes
+
+  opened : IsOpened kept.fs image.superblock (content events)
   opened = record {
-    tree = made.tree;
+    tree = alone-tree image.superblock (content events) image.root is.kept.only kept.fs.tree made.tree;
+    number = owner_is;
+    others = alone-others image.superblock (content events) image.root is.kept.only kept.fs.others.items made.none;
     draft = made.draft;
     sizes = made.sizes;
     slots = λ slot. (
-      λ has. is.kept.nodes.into slot ((made.slots slot).0 has),
-      λ has. (made.slots slot).1 (is.kept.nodes.back slot has),
+      λ has. nodes_have.into slot ((made.slots slot).0 has),
+      λ has. (made.slots slot).1 (nodes_have.back slot has),
     );
     held_slots = λ slot has.
         (made.held_slots slot).1 (Contains-append_right image.others image.nodes slot ((made.slots slot).0 has));
@@ -205,9 +218,17 @@ module _ (kept : Kept) (image : Image) (made : IsMadeOf kept image) (fits : IsEd
     book = held_are ∙ sym refs_are;
   }
 
+  have_bytes : HasBytes image.superblock (content events)
+  have_bytes = subst
+      (λ (roots : List (ℕ × RootItem)). AllByRecursion
+      (λ entry. AreBytes image.superblock (content events) entry.1) roots) (sym is.kept.only) (is.kept.bodies, tt)
+
+  is_of : IsOf image.superblock (content events) kept.fs.tree.owner image.root files
+  is_of = record { there = λ i. value_at (owner_is i) (is.kept.only i); are = is.kept.told }
+
   state_there : KeepsState kept.fs (Some events) state (mine_opened files image.root) files
   state_there =
-      opened-kept kept.fs image.superblock events image.root files table_there sound opened commit is.kept.bodies
+      opened-kept kept.fs image.superblock events image.root files table_there sound opened commit have_bytes is_of
 
   -- ---- the other trees
 
@@ -216,32 +237,35 @@ module _ (kept : Kept) (image : Image) (made : IsMadeOf kept image) (fits : IsEd
       sym (quota_there image.superblock (content events)) ∙ ap (λ (s : State). s.quota) is.kept.state
       ∙ ap (λ (quota : Quota). Some quota) made.counted
 
-  others : HoldsOthers image.superblock (content events) kept.group.counters kept.group.stamp
-  others =
-      others-known image.superblock (content events) is.sound is.chosen kept.group.counters kept.group.stamp counted
+  abbrev quota : Quota
+  quota = one_group kept.group.counters kept.group.stamp
+
+  others : HoldsOthers image.superblock (content events) quota
+  others = others-known image.superblock (content events) is.sound is.chosen quota counted
 
   recorded : IsRecorded state kept.fs.refs.held
   recorded =
-      opened-recorded image.superblock (content events) kept.group.counters kept.group.stamp others kept.fs image.root
-      files table_there sound opened commit
+      opened-recorded kept.fs image.superblock (content events) quota table_there sound opened commit others
 
-  named : NamesOthers state.held
-  named =
-      opened-names image.superblock (content events) image.root kept.group.counters kept.group.stamp is.kept.only
-      others
+  named : NamesOthers state.held (other_names state)
+  named = opened-names image.superblock (content events) quota counted others
 
   -- ---- what is kept
+
+  only : state.subvolumes ≡ (TOP_LEVEL, mine_opened files image.root) ∷ []
+  only = ap (λ (s : State). s.subvolumes) is.kept.state
 
   short : AreShort files
   short =
       files-short (sizes_of image.superblock) files (present_extents state)
-      (present_there state (mine_opened files image.root) (ap (λ (s : State). s.subvolumes) is.kept.state)) sound.space
+      (present_there state (mine_opened files image.root) only) sound.space
 
   kept_there : IsKeptOf kept state (Some events)
   kept_there = record {
     files = files;
     mine = mine_opened files image.root;
     keeps = state_there;
+    only = only;
     short = short;
     copied = ap (λ (root : RootItem). root.last_snapshot) (sym made.root);
     quota = quota_there image.superblock (content events) ∙ counted;

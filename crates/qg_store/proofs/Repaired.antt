@@ -9,7 +9,8 @@ use Rattle.qg_super.specs.Places.{first_place, is_served, second_place, total_by
 use Rattle.qg_super.specs.SuperText.{is_super, same_super, sizes_of}
 use Rattle.qg_super.proofs.Served.{SuperFits-is_super}
 use Rattle.qg_image.specs.declared.file.File.{File}
-use Rattle.qg_state.specs.State.{Layout, State, Subvolume}
+use Rattle.qg_state.specs.State.{State, Subvolume}
+use Rattle.qg_state.proofs.Contained.{contains_later}
 use Rattle.qg_contents.specs.Written.{items_of_file}
 use Rattle.qg_blocks.specs.Writing.{Keeps}
 use Rattle.qg_blocks.proofs.Written.{Keeps-then}
@@ -34,18 +35,21 @@ module _ (fs : FsTree) (before after : Option (List Event)) (state : State) (min
 
   state-told : KeepsState fs after state mine files
   state-told = record {
-    holds = record { stands = still.stands; writable = keeps.holds.writable; by = keeps.holds.by };
-    laid = record {
-      laid = record {
-        sizes = keeps.laid.laid.sizes;
-        generation = keeps.laid.laid.generation;
-        layout = keeps.laid.laid.layout ∙ ap (λ (layout : Layout). layout.nodes) (sym still.layout);
-        root = keeps.laid.laid.root;
-      };
-      alone = keeps.laid.alone;
-    };
+    there = keeps.there;
     are = keeps.are;
-    own = keeps.own;
+    holds = record { stands = still.stands; writable = keeps.holds.writable; by = keeps.holds.by };
+    have = λ tree subvolume among there.
+        let has = keeps.have tree subvolume among there in
+        record {
+          items = still.each tree (contains_later fs.tree fs.others.items tree among) ∙ has.items;
+          writable = has.writable;
+          by = has.by;
+        };
+    laid = record {
+      sizes = keeps.laid.sizes;
+      generation = keeps.laid.generation;
+      layout = keeps.laid.layout ∙ sym still.layout;
+    };
     held_slots = keeps.held_slots;
     held_runs = keeps.held_runs;
   }
@@ -58,6 +62,7 @@ kept-told kept before after state alike keeps = record {
   files = keeps.files;
   mine = keeps.mine;
   keeps = state-told kept.fs before after state keeps.mine keeps.files alike keeps.keeps;
+  only = keeps.only;
   short = keeps.short;
   copied = keeps.copied;
   quota = keeps.quota;

@@ -14,16 +14,16 @@ use Rattle.qg_extents.specs.Table.{IsTable}
 use Rattle.qg_fs_tree.specs.declared.fs_tree.FsTree.{FsTree}
 use Rattle.qg_file_edits.specs.Changes.{files_cut}
 use Rattle.qg_file_edits.specs.Files.{LeavesFiles, LeavesHeld}
-use Rattle.qg_fs_step.proofs.Others.{changes-told}
 use Rattle.qg_store.specs.declared.kept.Kept.{Kept}
 use Rattle.qg_store.specs.Answering.{Answered}
 use Rattle.qg_store.specs.Editing.{size_refusal, slots_refusal}
 use Rattle.qg_store.specs.Keeping.{IsKept, IsKeptOf, need_of}
 use Rattle.qg_store.proofs.Refused.{early-size, late-size}
+use Rattle.qg_store.proofs.Changed.{changes-top}
 use Rattle.qg_store.proofs.Leaves.{follows-edit}
 use Rattle.qg_fs_commit.proofs.Short.{short-left}
 use Rattle.qg_store.proofs.Stepped.{Follows, IsLate, change_to, does_edit, does_nothing, edited}
-use Rattle.qg_store.proofs.Stepped.{late-refusal, tree-kept}
+use Rattle.qg_store.proofs.Stepped.{late-refusal}
 
 -- it is refused
 pub refuses-size : (kept : Kept) (state : State) (history : Option (List Event)) (sub ino size : ℕ)
@@ -44,8 +44,7 @@ module _ (kept : Kept) (state : State) (history : Option (List Event)) (bytes su
   pub is-late : IsLate state (Truncate TOP_LEVEL ino size) files_now 0 pieces
   is-late = record {
     late = late-size state TOP_LEVEL ino size passes;
-    change = (changes-told kept.fs history bytes state keeps.mine keeps.files
-        (tree-kept kept state history bytes fits keeps table) keeps.keeps).cut ino size file there
+    change = (changes-top kept state history bytes fits keeps table).cut ino size file there
         ∙ ap (λ (n : ℕ). Some (change_to files_now 0 n)) (sym touched);
   }
 

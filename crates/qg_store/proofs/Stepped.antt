@@ -1,17 +1,20 @@
 -- What the machine does where nothing changes, and where files are edited, by what is kept. Weights are in bytes.
-use Rattle.std.proofs.Common.{◌≡◌, ℕ, ◌+◌, ◌*◌, ◌≤◌, List, [], ◌∷◌, None, Some, Option, refl, sym, ap, subst, ◌∙◌}
+use Rattle.std.proofs.Common.{◌≡◌, ℕ, ◌+◌, ◌*◌, ◌≤◌, List, [], ◌∷◌, ◌++◌, None, Some, Option, refl, sym, ap, subst, ◌∙◌}
 use Rattle.std.proofs.Common.{arith}
 use Rattle.std.specs.Prelude.{◌<◌, MatchOption, length, nat_lt}
 use Rattle.qg_device.specs.History.{Event}
 use Rattle.qg_num.specs.declared.answer.Answer.{Answer}
 use Rattle.qg_num.specs.declared.answer.Answer.TheVariants.{Refused}
 use Rattle.qg_num.specs.declared.command.Command.{Command}
+use Rattle.qg_num.specs.declared.counters.Counters.{Counters}
 use Rattle.qg_num.specs.declared.refusal.Refusal.{Refusal}
 use Rattle.qg_num.specs.declared.refusal.Refusal.TheVariants as why
-use Rattle.qg_items.specs.declared.tree.TheConstants.{TOP_LEVEL}
+use Rattle.qg_items.specs.declared.tree.TheConstants.{EXTENT_TREE, QUOTA_TREE, TOP_LEVEL}
 use Rattle.qg_super.specs.declared.sizes.Sizes.{Sizes}
 use Rattle.qg_image.specs.declared.file.File.{File}
 use Rattle.qg_state.specs.Need.{file_copies, held_records, nodes_filled, weight}
+use Rattle.qg_state.specs.Record.{Record, records_bytes}
+use Rattle.qg_state.specs.Record.{InfoOf, LimitOf, RootOf, Status}
 use Rattle.qg_state.specs.State.{Accepted, Committed, State, Subvolume}
 use Rattle.qg_state.specs.Space as present
 use Rattle.qg_machine.specs.FileChange.{FileChange, file_change}
@@ -27,7 +30,8 @@ use Rattle.qg_weighed.specs.Weight.{records_in}
 use Rattle.qg_fs_tree.specs.declared.fs_tree.FsTree.{FsTree}
 use Rattle.qg_fs_layout.specs.Laying.{nodes_in}
 use Rattle.qg_other_trees.specs.Telling.{one_group}
-use Rattle.qg_fs_step.specs.Keeping.{FollowsCommand, NamesOthers, mine_after, other_weight, state_after}
+use Rattle.qg_other_trees.specs.Trees.{quota_tree_bytes, root_tree_bytes}
+use Rattle.qg_fs_step.specs.Keeping.{FollowsCommand, NamesOthers, mine_after, other_names, other_weight, state_after}
 use Rattle.qg_fs_step.specs.Keeping as step
 use Rattle.qg_fs_step.proofs.Free.{space-told}
 use Rattle.qg_fs_step.proofs.Kept.{level-told}
@@ -37,7 +41,6 @@ use Rattle.qg_store.specs.declared.kept.Kept.{Kept}
 use Rattle.qg_store.specs.Answering.{Answered}
 use Rattle.qg_store.specs.Editing.{slots_refusal}
 use Rattle.qg_store.specs.Keeping.{IsKept, IsKeptOf, book_weight, commit_need, need_of}
-use Rattle.qg_store.proofs.Known.{only}
 use Rattle.qg_store.proofs.Looked.{is-near, is-subvolume}
 
 -- ---- what is refused
@@ -52,6 +55,27 @@ does_nothing kept state history command reason keeps refused = record {
       (λ other. (Refused reason ≡ Refused other) × (machine.Stays state [] state))) (sym refused) (refl, (refl, refl));
   keeps = keeps;
 }
+
+-- ---- what the root and the quota tree name
+
+-- where there is one subvolume, and its group
+abbrev names_alone : List Record
+names_alone =
+    RootOf EXTENT_TREE ∷ RootOf TOP_LEVEL ∷ RootOf QUOTA_TREE ∷ Status ∷ InfoOf TOP_LEVEL ∷ LimitOf TOP_LEVEL ∷ []
+
+pub named-alone : (state : State) (mine : Subvolume) (counters : Counters) (stamp : ℕ)
+    → state.subvolumes ≡ (TOP_LEVEL, mine) ∷ [] → state.quota ≡ Some (one_group counters stamp)
+    → other_names state ≡ names_alone
+named-alone state mine counters stamp only quota = rw (only, quota) refl
+
+-- what their items take
+weigh-alone : (names : List Record) → names ≡ names_alone
+    → records_bytes (names ++ names) ≡ root_tree_bytes 1 + quota_tree_bytes 1
+weigh-alone names are = rw are refl
+
+weigh-all : (whole book others : ℕ) → whole ≡ book + others → others ≡ root_tree_bytes 1 + quota_tree_bytes 1
+    → whole ≡ book + root_tree_bytes 1 + quota_tree_bytes 1
+weigh-all whole book others is same = omega (arith, is, same)
 
 -- ---- the slots that are needed
 
@@ -77,16 +101,24 @@ module _ (kept : Kept) (state : State) (history : Option (List Event)) (bytes : 
   free-told = sym (space-told kept.fs history bytes state keeps.mine keeps.files tree-kept keeps.keeps).slots
 
   pub level-kept : root_level state TOP_LEVEL ≡ kept.fs.tree.height
-  level-kept = level-told kept.fs history bytes state keeps.mine keeps.files tree-kept keeps.keeps
+  level-kept =
+      subst (λ (sub : ℕ). root_level state sub ≡ kept.fs.tree.height) fits.fitted.own
+      (level-told kept.fs history bytes state keeps.mine keeps.files tree-kept keeps.keeps)
 
-  weight-kept : weight state ≡ book_weight kept + other_weight
+  others-weigh : other_weight (other_names state) state ≡ root_tree_bytes 1 + quota_tree_bytes 1
+  others-weigh =
+      weigh-alone (other_names state)
+      (named-alone state keeps.mine kept.group.counters kept.group.stamp keeps.only keeps.quota)
+
+  weight-kept : weight state ≡ book_weight kept + root_tree_bytes 1 + quota_tree_bytes 1
   weight-kept =
-      weight-told kept.fs history bytes state keeps.mine keeps.files tree-kept keeps.keeps kept.group.counters
-      kept.group.stamp keeps.quota keeps.recorded keeps.others
+      weigh-all (weight state) (book_weight kept) (other_weight (other_names state) state)
+      (weight-told kept.fs history bytes state keeps.mine keeps.files tree-kept keeps.keeps (other_names state)
+      keeps.recorded keeps.others) others-weigh
 
   nodesize-kept : state.sizes.nodesize ≡ kept.superblock.nodesize
   nodesize-kept =
-      ap (λ (sizes : Sizes). sizes.nodesize) keeps.keeps.laid.laid.sizes
+      ap (λ (sizes : Sizes). sizes.nodesize) keeps.keeps.laid.sizes
       ∙ ap (λ (sizes : Sizes). sizes.nodesize) fits.fitted.sizes
 
   need-kept : (files : List (ℕ × File)) (amount pieces : ℕ)
@@ -114,12 +146,13 @@ Edits state command reply new =
 abbrev pub edited : Kept → FsTree → Kept
 edited old fs = record old { fs = fs; pending = old.pending + 1 }
 
--- A command changed the tree: it follows the state by copy on write, what the last commit recorded stays, and a commit
--- finds its slots
+-- A command changed the tree: it follows the state by copy on write, it is the top-level subvolume's still, what the last
+-- commit recorded stays, and a commit finds its slots
 pub record Follows (old : Kept) (fs : FsTree) (state : State) (mine : Subvolume) (history : Option (List Event))
     (files : List (ℕ × File)) (pieces : ℕ) : Type 0 where
   pub copied : (last : Accepted) → FollowsCommand fs history state (state_after state files fs history last)
-      (mine_after mine files fs) files (file_copies old.fs.tree.height pieces)
+      (mine_after mine files fs) files TOP_LEVEL (file_copies old.fs.tree.height pieces)
+  pub owner : fs.tree.owner ≡ TOP_LEVEL
   pub short : AreShort files
   pub held : fs.refs.held ≡ old.fs.refs.held
   pub reserved : commit_need (edited old fs) ≤ free_slots fs.land.space
@@ -142,9 +175,11 @@ module _ (old : Kept) (fs : FsTree) (before after : Option (List Event)) (bytes 
   abbrev pub state_now : State
   state_now = state_after state files fs before last
 
-  tree-now : with_tree state TOP_LEVEL files fs.tree.address
+  tree-now : with_tree state fs.tree.owner files fs.tree.address
       ≡ record state { subvolumes = (TOP_LEVEL, mine_after keeps.mine files fs) ∷ [] }
-  tree-now = tree_is state keeps.mine files fs.tree.address (only old state before keeps)
+  tree-now =
+      ap (λ (sub : ℕ). with_tree state sub files fs.tree.address) follows.owner
+      ∙ tree_is state keeps.mine files fs.tree.address keeps.only
 
   held-now : state_now.held ≡ state.held
   held-now = ap (λ (s : State). s.held) tree-now
@@ -159,7 +194,10 @@ module _ (old : Kept) (fs : FsTree) (before after : Option (List Event)) (bytes 
     root = fs.tree.address;
     layout = nodes_in fs before;
     touched = 0;
-    changed = refl;
+    changed = ap (λ (sub : ℕ). let tree : State = with_tree state sub files fs.tree.address in record tree {
+      layout = nodes_in fs before;
+      pending = last ∷ state.pending;
+    }) follows.owner;
     laid_out = copied-now;
   }
 
@@ -180,17 +218,34 @@ module _ (old : Kept) (fs : FsTree) (before after : Option (List Event)) (bytes 
             ≡ is_among (records_in old.fs.refs.held) one) (sym held-now) (first.same one is);
       })
 
+  only-now : state_now.subvolumes ≡ (TOP_LEVEL, mine_after keeps.mine files fs) ∷ []
+  only-now = ap (λ (s : State). s.subvolumes) tree-now
+
+  quota-now : state_now.quota ≡ Some (one_group old.group.counters old.group.stamp)
+  quota-now = ap (λ (s : State). s.quota) tree-now ∙ keeps.quota
+
+  names-now : other_names state ≡ other_names state_now
+  names-now =
+      named-alone state keeps.mine old.group.counters old.group.stamp keeps.only keeps.quota
+      ∙ sym (named-alone state_now (mine_after keeps.mine files fs) old.group.counters old.group.stamp only-now quota-now)
+
+  others-now : NamesOthers state_now.held (other_names state_now)
+  others-now =
+      subst (λ (names : List Record). NamesOthers state_now.held names) names-now
+      (subst (λ (held : Committed). NamesOthers held (other_names state)) (sym held-now) keeps.others)
+
   keeps-now : IsKeptOf (edited old fs) state_now before
   keeps-now = record {
     files = files;
     mine = mine_after keeps.mine files fs;
     keeps = (follows.copied last).keeps;
+    only = only-now;
     short = follows.short;
     copied = keeps.copied;
-    quota = ap (λ (s : State). s.quota) tree-now ∙ keeps.quota;
+    quota = quota-now;
     pending = omega (arith, keeps.pending);
     recorded = recorded-now;
-    others = subst NamesOthers (sym held-now) keeps.others;
+    others = others-now;
     reserved = λ some. follows.reserved;
   }
 

@@ -12,16 +12,16 @@ use Rattle.qg_space.specs.Holding.{free_slots}
 use Rattle.qg_extents.specs.Table.{IsTable}
 use Rattle.qg_fs_tree.specs.declared.fs_tree.FsTree.{FsTree}
 use Rattle.qg_file_edits.specs.Files.{LeavesFiles, LeavesHeld}
-use Rattle.qg_fs_step.proofs.Others.{changes-told}
 use Rattle.qg_store.specs.declared.kept.Kept.{Kept}
 use Rattle.qg_store.specs.Answering.{Answered}
 use Rattle.qg_store.specs.Editing.{slots_refusal, unlink_refusal}
 use Rattle.qg_store.specs.Keeping.{IsKept, IsKeptOf, need_of}
 use Rattle.qg_store.proofs.Refused.{early-unlink, late-unlink}
+use Rattle.qg_store.proofs.Changed.{changes-top}
 use Rattle.qg_store.proofs.Leaves.{follows-edit}
 use Rattle.qg_fs_commit.proofs.Short.{short-left}
 use Rattle.qg_store.proofs.Stepped.{Follows, IsLate, change_to, does_edit, does_nothing, edited}
-use Rattle.qg_store.proofs.Stepped.{late-refusal, tree-kept}
+use Rattle.qg_store.proofs.Stepped.{late-refusal}
 
 -- it is refused
 pub refuses-unlink : (kept : Kept) (state : State) (history : Option (List Event)) (sub ino : ℕ)
@@ -41,8 +41,7 @@ module _ (kept : Kept) (state : State) (history : Option (List Event)) (bytes su
   pub is-late : IsLate state (Unlink TOP_LEVEL ino) files_now 0 pieces
   is-late = record {
     late = late-unlink state TOP_LEVEL ino passes;
-    change = (changes-told kept.fs history bytes state keeps.mine keeps.files
-        (tree-kept kept state history bytes fits keeps table) keeps.keeps).unlink ino file there
+    change = (changes-top kept state history bytes fits keeps table).unlink ino file there
         ∙ ap (λ (n : ℕ). Some (change_to files_now 0 n)) (sym touched);
   }
 

@@ -8,10 +8,10 @@ use Rattle.std.proofs.lemmas.List.{append_assoc, length-map, take-append-le, tak
 use Rattle.std.proofs.lemmas.List.Elements.{All-contains, Contains-append_left, Contains-get_or}
 use Rattle.std.proofs.lemmas.List.Sorted.{Contains-permutation, IsPermutation-append_comm, IsPermutation-map, IsPermutation-sym}
 use Rattle.std.proofs.lemmas.List.Sums.{list_all-from_AllPass}
-use Rattle.qg_num.specs.declared.counters.Counters.{Counters}
 use Rattle.qg_node.specs.declared.node.Node.{Node}
 use Rattle.qg_items.specs.declared.root.RootItem.{RootItem}
 use Rattle.qg_super.specs.declared.sizes.Sizes.{Sizes}
+use Rattle.qg_state.specs.declared.quota.Quota.{Quota}
 use Rattle.qg_space.specs.Holding.{Holding, is_free_slot}
 use Rattle.qg_refs.specs.declared.kept.Kept.{Kept}
 use Rattle.qg_tree.specs.Row.{address_of}
@@ -25,8 +25,8 @@ first_of_both : (xs ys zs : List ℕ) → xs ++ ys ≡ zs → take (length xs) z
 first_of_both xs ys zs is =
     ap (take (length xs)) (sym is) ∙ take-append-le (length xs) xs ys (omega arith) ∙ take_all (length xs) xs (omega arith)
 
-module _ (sizes : Sizes) (generation : ℕ) (root : RootItem) (book : List (ℕ × Kept)) (counters : Counters) (stamp : ℕ)
-    (slots : List ℕ) (trees : OtherTrees) (are : AreTrees sizes generation root book counters stamp slots trees) where
+module _ (sizes : Sizes) (generation : ℕ) (roots : List (ℕ × RootItem)) (book : List (ℕ × Kept)) (quota : Quota)
+    (slots : List ℕ) (trees : OtherTrees) (are : AreTrees sizes generation roots book quota slots trees) where
   abbrev pub count : ℕ
   count = length trees.extents.nodes + length trees.quotas.nodes + length trees.roots.nodes
 

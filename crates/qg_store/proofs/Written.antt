@@ -18,17 +18,17 @@ use Rattle.qg_extents.specs.Table.{IsTable}
 use Rattle.qg_fs_tree.specs.declared.fs_tree.FsTree.{FsTree}
 use Rattle.qg_file_edits.specs.Changes.{files_written}
 use Rattle.qg_file_edits.specs.Files.{LeavesFiles, LeavesHeld, pieces_of}
-use Rattle.qg_fs_step.proofs.Others.{changes-told}
 use Rattle.qg_store.specs.declared.kept.Kept.{Kept}
 use Rattle.qg_store.specs.Answering.{Answered}
 use Rattle.qg_store.specs.Editing.{range_refusal, slots_refusal}
 use Rattle.qg_store.specs.Keeping.{IsKept, IsKeptOf, need_of}
 use Rattle.qg_store.proofs.Known.{no-limit}
 use Rattle.qg_store.proofs.Refused.{early-write, late-write, runless-write}
+use Rattle.qg_store.proofs.Changed.{changes-top}
 use Rattle.qg_store.proofs.Leaves.{follows-edit}
 use Rattle.qg_fs_commit.proofs.Short.{short-left}
 use Rattle.qg_store.proofs.Stepped.{Follows, IsLate, change_to, does_edit, does_nothing, edited}
-use Rattle.qg_store.proofs.Stepped.{late-refusal, tree-kept}
+use Rattle.qg_store.proofs.Stepped.{late-refusal}
 
 -- the range may not be written
 pub refuses-range : (kept : Kept) (state : State) (history : Option (List Event)) (sub ino off len : ℕ)
@@ -63,8 +63,7 @@ module _ (kept : Kept) (state : State) (history : Option (List Event)) (bytes su
     late = late-write state TOP_LEVEL ino off len run
         (ap (λ (sub : ℕ). range_refusal state sub off len) (sym top) ∙ sym range)
         (no-limit kept state history keeps TOP_LEVEL (len + state.sizes.nodesize)) (sym found);
-    change = (changes-told kept.fs history bytes state keeps.mine keeps.files
-        (tree-kept kept state history bytes fits keeps table) keeps.keeps).write ino off len run (sym found)
+    change = (changes-top kept state history bytes fits keeps table).write ino off len run (sym found)
         ∙ ap (λ (n : ℕ). Some (change_to files_now amount n)) (sym touched);
   }
 

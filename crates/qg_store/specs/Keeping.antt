@@ -1,6 +1,6 @@
 -- What a store keeps, and the state of the machine that it is kept of (this project's own). Addresses, lengths and
 -- weights are in bytes.
-use Rattle.std.specs.Prelude.{◌≡◌, ℕ, ◌+◌, ◌*◌, ◌<◌, ◌≤◌, List, length, Option, None, Some, IsTrue}
+use Rattle.std.specs.Prelude.{◌≡◌, ℕ, ◌+◌, ◌*◌, ◌<◌, ◌≤◌, List, [], ◌∷◌, length, Option, None, Some, IsTrue}
 use Rattle.qg_device.specs.History.{Event}
 use Rattle.qg_items.specs.declared.tree.TheConstants.{TOP_LEVEL}
 use Rattle.qg_super.specs.Places.{total_bytes}
@@ -14,7 +14,8 @@ use Rattle.qg_ground.specs.Land.{IsDrafted}
 use Rattle.qg_weighed.specs.Laws.{IsRecorded}
 use Rattle.qg_weighed.specs.Weight.{weight_of}
 use Rattle.qg_other_trees.specs.Telling.{one_group}
-use Rattle.qg_fs_step.specs.Keeping.{KeepsState, NamesOthers, other_weight}
+use Rattle.qg_other_trees.specs.Trees.{quota_tree_bytes, root_tree_bytes}
+use Rattle.qg_fs_step.specs.Keeping.{KeepsState, NamesOthers, other_names}
 use Rattle.qg_fs_commit.specs.Committing.{AreShort}
 use Rattle.qg_store.specs.declared.kept.Kept.{Kept}
 
@@ -28,7 +29,7 @@ book_weight kept = weight_of kept.fs.refs.held kept.fs.refs.refs
 abbrev pub need_of : Kept → ℕ → ℕ
 need_of kept pieces =
     10 * file_copies kept.fs.tree.height pieces
-    + 8 * nodes_filled kept.superblock.nodesize (book_weight kept + other_weight) + 40
+    + 8 * nodes_filled kept.superblock.nodesize (book_weight kept + root_tree_bytes 1 + quota_tree_bytes 1) + 40
 
 -- by a commit, for the root, extent and quota trees
 abbrev pub commit_need : Kept → ℕ
@@ -37,7 +38,7 @@ commit_need kept = 5 * nodes_filled kept.superblock.nodesize (book_weight kept) 
 -- ---- over any disk
 
 -- What is kept fits together, whatever a disk holds: numbers are in their ranges, the tree is the top-level subvolume's
--- and of the generation to come, and its fresh nodes may be written
+-- and of the generation to come, it has no others beside it, and its fresh nodes may be written
 pub record IsFitted (kept : Kept) : Type 0 where
   pub superblock : IsTrue (is_super kept.superblock)
   pub copied : kept.root.last_snapshot ≤ kept.superblock.generation
@@ -45,6 +46,7 @@ pub record IsFitted (kept : Kept) : Type 0 where
   pub no_max_rfer : kept.group.max_rfer ≡ None
   pub no_max_excl : kept.group.max_excl ≡ None
   pub own : kept.fs.tree.owner ≡ TOP_LEVEL
+  pub none : kept.fs.others.items ≡ []
   pub next : kept.fs.tree.next ≡ kept.superblock.generation + 1
   pub sizes : kept.fs.land.space.sizes ≡ sizes_of kept.superblock
   pub drafted : IsDrafted kept.fs.land kept.fs.tree.next
@@ -67,16 +69,18 @@ SameButClean old new = new ≡ record old {
 
 -- ---- over a disk that tells
 
--- Over a disk with this history it is kept of a state. The tree has the state's files and is its layout; the book beside
--- the present one is what the last commit recorded; and where something is pending a commit finds its slots
+-- Over a disk with this history it is kept of a state with one subvolume. The tree has the state's files and is its
+-- layout; the book beside the present one is what the last commit recorded; and where something is pending a commit finds
+-- its slots
 pub record IsKeptOf (kept : Kept) (state : State) (history : Option (List Event)) : Type 0 where
   pub files : List (ℕ × File)
   pub mine : Subvolume
   pub keeps : KeepsState kept.fs history state mine files
+  pub only : state.subvolumes ≡ (TOP_LEVEL, mine) ∷ []
   pub short : AreShort files
   pub copied : mine.last_snapshot ≡ kept.root.last_snapshot
   pub quota : state.quota ≡ Some (one_group kept.group.counters kept.group.stamp)
   pub pending : length state.pending ≡ kept.pending
   pub recorded : IsRecorded state kept.fs.refs.held
-  pub others : NamesOthers state.held
+  pub others : NamesOthers state.held (other_names state)
   pub reserved : 0 < kept.pending → commit_need kept ≤ free_slots kept.fs.land.space

@@ -96,10 +96,9 @@ fn write_trees<D: Disk>(kept: &Kept, disk: &mut D, plan: &Plan) -> Result<OtherT
     ensures cause { HasCause BlockFault.Disk (D.faults disk.old) (D.faults disk.new) result }
 {
     let told = Told {
-        root: &plan.root,
+        roots: plan.roots.as_slice(),
         book: kept.fs.refs.refs(),
-        counters: &plan.counters,
-        stamp: plan.stamp,
+        quota: &plan.quota,
     };
     qg_tree_commit::commit(
         kept.alloc,
@@ -139,11 +138,11 @@ fn keep_commit<D: Disk>(
 {
     let count = trees.extents.nodes.len() + trees.quotas.nodes.len() + trees.roots.nodes.len();
     let (others, _) = plan.slots.as_slice().split_at(count);
+    let group = plan.quota.groups.as_slice()[0].1;
     committed(&mut kept.fs, disk, others)?;
     kept.superblock = trees.superblock;
     kept.root = plan.root;
-    kept.group.counters = plan.counters;
-    kept.group.stamp = plan.stamp;
+    kept.group = group;
     kept.pending = 0;
     Ok(())
 }

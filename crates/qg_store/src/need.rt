@@ -12,7 +12,7 @@ use qg_items::{QGROUP_INFO_BYTES, QGROUP_LIMIT_BYTES, QGROUP_STATUS_BYTES, ROOT_
 use qg_node::{HEADER_BYTES, ITEM_HEADER_BYTES};
 use qg_num::{NoMemory, Refusal};
 
-/// What the items of the root and quota trees take, in bytes.
+/// What the items of the root and quota trees take where there is one subvolume, and its group, in bytes.
 const OTHER_BYTES: u64 = (6 * ITEM_HEADER_BYTES
     + 3 * ROOT_ITEM_BYTES
     + QGROUP_STATUS_BYTES

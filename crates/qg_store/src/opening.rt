@@ -49,6 +49,7 @@ pub(crate) fn kept_of(alloc: Global, image: Image) -> Result<Kept, NoMemory>
     let next = Generation::new(superblock.generation.value() + 1);
     let fs = FsTree {
         tree: Tree::at(root.bytenr, root.level, owner, next),
+        others: Vec::new(alloc),
         land: Ground { blocks, space },
         refs: TreeRefs::new(refs, owner, u64::from(superblock.nodesize), next),
     };

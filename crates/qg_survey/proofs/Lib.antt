@@ -3,3 +3,4 @@ pub mod Rounds
 pub mod Stepped
 pub mod Ordered
 pub mod Held
+pub mod Links

@@ -7,7 +7,6 @@ use Rattle.std.proofs.lemmas.List.{map-append}
 use Rattle.std.proofs.lemmas.List.Elements.{All-contains, Contains-append_cases, Contains-append_right, Contains-get_or}
 use Rattle.std.proofs.lemmas.Map.Keys.{IsDistinct-cons, IsDistinct-head, IsDistinct-tail}
 use Rattle.qg_device.specs.History.{Event, content}
-use Rattle.qg_num.specs.declared.counters.Counters.{Counters}
 use Rattle.qg_node.specs.declared.node.Node.{Node}
 use Rattle.qg_node.specs.Nodes.{header_of}
 use Rattle.qg_items.specs.declared.root.RootItem.{RootItem}
@@ -17,6 +16,7 @@ use Rattle.qg_super.specs.SuperText.{sizes_of}
 use Rattle.qg_super.proofs.Served.{SizesFit-is_served, SuperFits-is_super}
 use Rattle.qg_state.proofs.Contained.{contains_here, contains_later}
 use Rattle.qg_verdict.specs.Walk.{node_found}
+use Rattle.qg_state.specs.declared.quota.Quota.{Quota}
 use Rattle.qg_refs.specs.declared.kept.Kept.{Kept}
 use Rattle.qg_blocks.specs.Held.{Draft}
 use Rattle.qg_blocks.specs.Told.{fresh_at}
@@ -60,15 +60,15 @@ both_distinct (n ∷ front) back first second none =
 
 -- ---- the nodes of a commit
 
-module _ (sizes : Sizes) (generation : ℕ) (root : RootItem) (book : List (ℕ × Kept)) (counters : Counters) (stamp : ℕ)
+module _ (sizes : Sizes) (generation : ℕ) (roots : List (ℕ × RootItem)) (book : List (ℕ × Kept)) (quota : Quota)
     (slots : List ℕ) (draft : Draft) (trees : OtherTrees)
-    (laying : IsLaying sizes generation root book counters stamp slots draft trees) (writable : AreWritable sizes draft)
+    (laying : IsLaying sizes generation roots book quota slots draft trees) (writable : AreWritable sizes draft)
     (are_slots : (slot : ℕ) → Contains slots slot → IsTrue (is_slot sizes slot)) where
   abbrev nodes : List Node
   nodes = nodes_written draft trees
 
   pub written-sizes : sizes_of trees.superblock ≡ sizes
-  written-sizes = laid-sizes sizes generation root book counters stamp slots trees laying.laid
+  written-sizes = laid-sizes sizes generation roots book quota slots trees laying.laid
 
   pub written-served : is_served sizes ≡ true
   written-served =
@@ -82,9 +82,9 @@ module _ (sizes : Sizes) (generation : ℕ) (root : RootItem) (book : List (ℕ 
         let is = fresh-writable draft laying.ascending sizes writable node fresh in
         record { formed = is.kept.sound; slot = is.slot }
     | inr other ↦ record {
-      formed = (laid-textual sizes generation root book counters stamp slots trees laying.laid node other).formed;
+      formed = (laid-textual sizes generation roots book quota slots trees laying.laid node other).formed;
       slot = are_slots (address_of node)
-          (laid-within sizes generation root book counters stamp slots trees laying.laid node other);
+          (laid-within sizes generation roots book quota slots trees laying.laid node other);
     }
   ]
 
@@ -107,7 +107,7 @@ module _ (sizes : Sizes) (generation : ℕ) (root : RootItem) (book : List (ℕ 
     | inl fresh ↦ All-contains (IsReadBack sizes.nodesize) (fresh_nodes draft) node read fresh
     | inr other ↦
         textual-IsReadBack sizes.nodesize node (SizesFit-is_served sizes written-served).node_size
-        (laid-textual sizes generation root book counters stamp slots trees laying.laid node other)
+        (laid-textual sizes generation roots book quota slots trees laying.laid node other)
   ]
 
   module _ (differ : IsDistinct (λ a b. a == b) slots)
@@ -119,7 +119,7 @@ module _ (sizes : Sizes) (generation : ℕ) (root : RootItem) (book : List (ℕ 
         let mine = one_mapped address_of (fresh_nodes draft) at fresh in
         let its = one_mapped address_of (nodes_laid trees) at other in
         let there = fresh-there draft laying.ascending sizes writable mine.0 mine.1 in
-        let within = laid-within sizes generation root book counters stamp slots trees laying.laid its.0 its.1 in
+        let within = laid-within sizes generation roots book quota slots trees laying.laid its.0 its.1 in
         clear (address_of mine.0) mine.0 there
         (subst (λ (n : ℕ). Contains slots n) (its.2 ∙ sym mine.2) within)
 
@@ -132,7 +132,7 @@ module _ (sizes : Sizes) (generation : ℕ) (root : RootItem) (book : List (ℕ 
     written_apart =
         subst (IsDistinct (λ a b. a == b)) (sym (map-append address_of (fresh_nodes draft) (nodes_laid trees)))
         (both_distinct (map address_of (fresh_nodes draft)) (map address_of (nodes_laid trees)) fresh_apart
-        (laid-apart sizes generation root book counters stamp slots trees laying.laid differ) none_both)
+        (laid-apart sizes generation roots book quota slots trees laying.laid differ) none_both)
 
     in_slots : (node : Node) → Contains nodes node → IsTrue (is_slot (sizes_of trees.superblock) (address_of node))
     in_slots node has =

@@ -8,7 +8,6 @@ use Rattle.std.proofs.lemmas.List.{append_assoc}
 use Rattle.std.proofs.lemmas.List.Elements.{Contains-append_cases, Contains-append_left}
 use Rattle.std.proofs.lemmas.List.Sorted.{Contains-permutation, IsPermutation-append_comm, IsPermutation-map, IsPermutation-sym}
 use Rattle.std.proofs.lemmas.Map.Keys.{IsDistinct-IsPermutation}
-use Rattle.qg_num.specs.declared.counters.Counters.{Counters}
 use Rattle.qg_node.specs.declared.node.Node.{Node}
 use Rattle.qg_node.specs.NodeText.{IsNode, IsNodeSize}
 use Rattle.qg_node.specs.Fits.{NodeFits}
@@ -17,6 +16,7 @@ use Rattle.qg_items.specs.declared.root.RootItem.{RootItem}
 use Rattle.qg_items.specs.declared.tree.TheConstants.{EXTENT_TREE, QUOTA_TREE, ROOT_TREE}
 use Rattle.qg_super.specs.declared.sizes.Sizes.{Sizes}
 use Rattle.qg_super.specs.SuperText.{sizes_of}
+use Rattle.qg_state.specs.declared.quota.Quota.{Quota}
 use Rattle.qg_refs.specs.declared.kept.Kept.{Kept}
 use Rattle.qg_tree.specs.Build.{IsMadeFor}
 use Rattle.qg_tree.specs.Row.{address_of}
@@ -43,8 +43,8 @@ textual_made : (nodesize owner generation : ℕ) (node : Node) → IsMadeFor nod
     → IsTextual nodesize node
 textual_made nodesize owner generation node made = record { formed = made.node_of_format; fits = made.fits }
 
-module _ (sizes : Sizes) (generation : ℕ) (root : RootItem) (book : List (ℕ × Kept)) (counters : Counters) (stamp : ℕ)
-    (slots : List ℕ) (trees : OtherTrees) (are : AreTrees sizes generation root book counters stamp slots trees) where
+module _ (sizes : Sizes) (generation : ℕ) (roots : List (ℕ × RootItem)) (book : List (ℕ × Kept)) (quota : Quota)
+    (slots : List ℕ) (trees : OtherTrees) (are : AreTrees sizes generation roots book quota slots trees) where
   -- the superblock tells these sizes
   pub laid-sizes : sizes_of trees.superblock ≡ sizes
   laid-sizes = ap sizes_of are.leads

@@ -1,6 +1,6 @@
 -- The nodes that a commit writes are those that the last commit does not hold.
 use Rattle.std.proofs.Common.{◌≡◌, ℕ, ◌<◌, Bool, true, not, List, [], ◌∷◌, ◌++◌, map, Option, Some, None, arith, refl, sym, ap, subst, ◌∙◌, inl, inr}
-use Rattle.std.specs.Prelude.{◌==◌, Contains}
+use Rattle.std.specs.Prelude.{◌==◌, Contains, IsTrue}
 use Rattle.std.specs.List.{filter}
 use Rattle.std.specs.List.Sorted.{IsPermutation, IsStrictlySortedBy}
 use Rattle.std.specs.Ordering.{nat_cmp}
@@ -9,12 +9,12 @@ use Rattle.std.proofs.lemmas.List.Elements.{filter-append}
 use Rattle.std.proofs.lemmas.List.Sorted.{Contains-permutation, IsPermutation-append, IsPermutation-append_comm, IsPermutation-refl, IsPermutation-sym, IsPermutation-trans}
 use Rattle.std.proofs.lemmas.Map.Keys.{sorted_from_strictly_increasing}
 use Rattle.qg_device.specs.History.{Event}
-use Rattle.qg_num.specs.declared.counters.Counters.{Counters}
 use Rattle.qg_num.specs.declared.piece.Piece.{Piece}
 use Rattle.qg_node.specs.declared.item.Item.{Item}
 use Rattle.qg_node.specs.declared.node.Node.{Node}
 use Rattle.qg_node.specs.Nodes.{header_of}
 use Rattle.qg_items.specs.declared.root.RootItem.{RootItem}
+use Rattle.qg_super.specs.Places.{is_slot}
 use Rattle.qg_super.proofs.Served.{SizesFit-is_served}
 use Rattle.qg_image.specs.Table.{keys_of}
 use Rattle.qg_state.specs.State.{Committed, Placed, State}
@@ -22,29 +22,29 @@ use Rattle.qg_state.proofs.Contained.{contains_here, contains_later}
 use Rattle.qg_space.proofs.Members.{contains_filter, filter_contains, one_passes, passes_one}
 use Rattle.qg_machine.specs.Written.{is_held_by, new_nodes}
 use Rattle.qg_home.proofs.Reaching.{entry_of_value, value_of_entry}
+use Rattle.qg_state.specs.declared.quota.Quota.{Quota}
 use Rattle.qg_refs.specs.declared.kept.Kept.{Kept}
 use Rattle.qg_refs.specs.Book.{full_in}
 use Rattle.qg_extents.specs.Table.{IsTable, book_of}
 use Rattle.qg_blocks.specs.Told.{fresh_at}
 use Rattle.qg_tree.specs.Row.{address_of}
 use Rattle.qg_ground.specs.Land.{IsDrafted}
-use Rattle.qg_tree_edits.proofs.Ways.{ways-some}
 use Rattle.qg_other_trees.specs.declared.laying.OtherTrees.{OtherTrees}
 use Rattle.qg_other_trees.specs.Trees.{nodes_laid}
 use Rattle.qg_other_trees.proofs.Slots.{contains_map, one_mapped}
 use Rattle.qg_fs_tree.specs.declared.fs_tree.FsTree.{FsTree}
-use Rattle.qg_fs_tree.specs.Standing.{IsReached, IsSubvolume, Stands, nodes_of}
-use Rattle.qg_fs_tree.proofs.Before.{held}
-use Rattle.qg_fs_layout.specs.Laying.{HoldsSlots, IsReachedAs, nodes_in}
+use Rattle.qg_fs_tree.specs.Standing.{IsSubvolume, Stands, nodes_of}
+use Rattle.qg_fs_tree.proofs.Lying.{told-at}
+use Rattle.qg_fs_layout.specs.Laying.{HoldsSlots, IsMet, IsMetAs, nodes_in}
 use Rattle.qg_fs_layout.proofs.Moved.{fresh-told}
 use Rattle.qg_fs_layout.proofs.Nodes.{nodes-ascend, reached-by, value-reached}
-use Rattle.qg_fs_layout.proofs.Told.{told-at}
+use Rattle.qg_fs_layout.proofs.Trees.{met-slot}
 use Rattle.qg_tree_commit.specs.Holds.{AreFree}
 use Rattle.qg_tree_commit.specs.Writing.{IsLaying, fresh_nodes, nodes_written}
 use Rattle.qg_tree_commit.proofs.Ascending.{Ascends, ascends-filter, ascends-sorted, same-ascending}
 use Rattle.qg_tree_commit.proofs.FreshNodes.{fresh-addresses, fresh-listed, fresh-there}
 use Rattle.qg_tree_commit.proofs.LaidNodes.{laid-within}
-use Rattle.qg_tree_commit.proofs.Subvolume.{fresh-AreWritable, fresh-reached, given-apart}
+use Rattle.qg_tree_commit.proofs.Subvolume.{fresh-AreWritable, fresh-reached, given-apart, met-held}
 
 -- ---- what a commit holds
 
@@ -89,10 +89,10 @@ mapped_keys (entry ∷ layout) each =
     (mapped_keys layout (λ later has. each later (contains_later entry layout later has)))
 
 module _ (fs : FsTree) (history : Option (List Event)) (bytes : ℕ) (items : List Item) (names : List (ℕ × Piece))
-    (root : RootItem) (book : List (ℕ × Kept)) (counters : Counters) (generation stamp : ℕ) (slots : List ℕ)
+    (roots : List (ℕ × RootItem)) (book : List (ℕ × Kept)) (quota : Quota) (generation : ℕ) (slots : List ℕ)
     (trees : OtherTrees) (old new : State) (subvolume : IsSubvolume fs history bytes)
     (stands : Stands fs history items names) (table : IsTable fs.refs.refs)
-    (laying : IsLaying fs.land.space.sizes generation root book counters stamp slots fs.land.blocks.draft trees)
+    (laying : IsLaying fs.land.space.sizes generation roots book quota slots fs.land.blocks.draft trees)
     (free : AreFree fs.land.space slots) (holds : HoldsSlots old fs.land.space.held_slots)
     (layout_is : new.layout ≡ nodes_in fs history) (others_are : IsPermutation new.held.others (nodes_laid trees)) where
   abbrev drafted : IsDrafted fs.land fs.tree.next
@@ -112,10 +112,13 @@ module _ (fs : FsTree) (history : Option (List Event)) (bytes : ℕ) (items : Li
   some_bytes =
       let least = (SizesFit-is_served fs.land.space.sizes drafted.sizes.served).least in omega (arith, least)
 
-  entry_reached : (entry : ℕ × Placed) → Contains layout entry → IsReachedAs fs history entry.0 entry.1
+  slots_met : (q : ℕ) → IsMet fs history q → IsTrue (is_slot fs.land.space.sizes q)
+  slots_met q met = met-slot fs history bytes items names subvolume stands q met
+
+  entry_reached : (entry : ℕ × Placed) → Contains layout entry → IsMetAs fs history entry.0 entry.1
   entry_reached entry has =
       reached-by fs history entry.0 entry.1
-      (value_of_entry layout entry (nodes-ascend fs history some_bytes stands.placed) has)
+      (value_of_entry layout entry (nodes-ascend fs history some_bytes slots_met) has)
 
   entry_named : (entry : ℕ × Placed) → Contains layout entry → address_of entry.1.node ≡ entry.0
   entry_named entry has =
@@ -128,17 +131,16 @@ module _ (fs : FsTree) (history : Option (List Event)) (bytes : ℕ) (items : Li
       let found = one_mapped (λ (entry : ℕ × Placed). entry.1.node) layout node parts.0 in
       let its = entry_reached found.0 found.1 in
       let named : address_of node ≡ found.0.0 = ap address_of (sym found.2) ∙ entry_named found.0 found.1 in
-      from found.0.0 (fresh_at fs.land.blocks.draft found.0.0) refl its.reached
+      from found.0.0 (fresh_at fs.land.blocks.draft found.0.0) refl its.met
       (its.told ∙ ap (λ (n : Node). Some n) found.2) named parts.1 where
-        from : (q : ℕ) (o : Option Node) → fresh_at fs.land.blocks.draft q ≡ o → IsReached fs history q
+        from : (q : ℕ) (o : Option Node) → fresh_at fs.land.blocks.draft q ≡ o → IsMet fs history q
             → nodes_of fs history q ≡ Some node → address_of node ≡ q → is_new node ≡ true → Contains fresh node
         from q (Some mine) is reached told named new_one =
             let same : Some mine ≡ Some node = sym (fresh-told fs.land history q mine is) ∙ told in
             let same' : mine ≡ node = cc in
             subst (λ (n : Node). Contains fresh n) same' (fresh-listed fs.land.blocks.draft laying.ascending q mine is)
         from q None none reached told named new_one =
-            let has = held fs history items names stands drafted q
-            (ways-some (nodes_of fs history) fs.tree.height fs.tree.address q reached) none in
+            let has = met-held fs history bytes items names subvolume stands q reached none in
             let there = (holds q).0 has in
             absurd (held_not old.held node (subst (λ (n : ℕ). Contains old.held.nodes n) (sym named) there) new_one)
 
@@ -150,8 +152,8 @@ module _ (fs : FsTree) (history : Option (List Event)) (bytes : ℕ) (items : Li
       node has in
       let reached = fresh-reached fs history bytes items names subvolume stands table q node there in
       let placed : Placed = record { node = node; full = full_in (book_of fs.refs.refs q) } in
-      let value = value-reached fs history some_bytes stands.placed q placed
-      (record { reached = reached; told = fresh-told fs.land history q node there; full = refl }) in
+      let value = value-reached fs history some_bytes slots_met q placed
+      (record { met = reached; told = fresh-told fs.land history q node there; full = refl }) in
       let entry = entry_of_value q placed layout value in
       let among = contains_map (λ (entry : ℕ × Placed). entry.1.node) layout (q, placed) entry in
       contains_filter is_new (layout_nodes layout) node among
@@ -168,7 +170,7 @@ module _ (fs : FsTree) (history : Option (List Event)) (bytes : ℕ) (items : Li
   layout_ascends =
       ascends-sorted Node address_of (layout_nodes layout)
       (subst (IsStrictlySortedBy nat_cmp) (sym (mapped_keys layout entry_named))
-      (sorted_from_strictly_increasing (keys_of layout) (nodes-ascend fs history some_bytes stands.placed)))
+      (sorted_from_strictly_increasing (keys_of layout) (nodes-ascend fs history some_bytes slots_met)))
 
   -- so they are the same, in the same order
   new_same : filter is_new (layout_nodes layout) ≡ fresh
@@ -180,7 +182,7 @@ module _ (fs : FsTree) (history : Option (List Event)) (bytes : ℕ) (items : Li
   others_new : filter is_new new.held.others ≡ new.held.others
   others_new = filter_all is_new new.held.others (λ node has.
       let other = Contains-permutation new.held.others (nodes_laid trees) node others_are has in
-      let within = laid-within fs.land.space.sizes generation root book counters stamp slots trees laying.laid node
+      let within = laid-within fs.land.space.sizes generation roots book quota slots trees laying.laid node
       other in
       unheld old.held node
       (λ held_there. given-apart fs slots free (address_of node) within ((holds (address_of node)).1 held_there)))

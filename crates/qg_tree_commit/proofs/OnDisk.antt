@@ -7,7 +7,6 @@ use Rattle.std.specs.Option.{option_map}
 use Rattle.std.proofs.lemmas.Bool.{cases_Bool, cond-false, cond-true, eq-eqb}
 use Rattle.std.proofs.lemmas.List.Elements.{Contains-append_cases, Contains-append_left}
 use Rattle.qg_device.specs.History.{Event, content}
-use Rattle.qg_num.specs.declared.counters.Counters.{Counters}
 use Rattle.qg_num.specs.declared.piece.Piece.{Piece}
 use Rattle.qg_node.specs.declared.item.Item.{Item}
 use Rattle.qg_node.specs.declared.node.Node.{Node}
@@ -19,6 +18,7 @@ use Rattle.qg_state.specs.State.{Placed}
 use Rattle.qg_state.proofs.Contained.{contains_cases, none_contained}
 use Rattle.qg_verdict.specs.Walk.{node_found}
 use Rattle.qg_home.proofs.Reaching.{value_of_entry}
+use Rattle.qg_state.specs.declared.quota.Quota.{Quota}
 use Rattle.qg_refs.specs.declared.kept.Kept.{Kept}
 use Rattle.qg_blocks.specs.Standing.{standing}
 use Rattle.qg_blocks.specs.Told.{IsBacked, IsNodeAt, fresh_at, told}
@@ -26,17 +26,16 @@ use Rattle.qg_blocks.specs.Writing.{AreWritten, Keeps}
 use Rattle.qg_tree.specs.Row.{address_of}
 use Rattle.qg_ground.specs.Land.{IsDrafted}
 use Rattle.qg_commit.specs.Calls.{IsReadBack, with_commit}
-use Rattle.qg_tree_edits.proofs.Ways.{ways-some}
 use Rattle.qg_other_trees.specs.declared.laying.OtherTrees.{OtherTrees}
 use Rattle.qg_other_trees.specs.Holds.{HoldsLayout}
 use Rattle.qg_other_trees.specs.Trees.{nodes_laid}
 use Rattle.qg_other_trees.proofs.Slots.{all_contained, one_mapped}
 use Rattle.qg_fs_tree.specs.declared.fs_tree.FsTree.{FsTree}
-use Rattle.qg_fs_tree.specs.Standing.{IsReached, Stands, nodes_of}
-use Rattle.qg_fs_tree.proofs.Before.{held}
-use Rattle.qg_fs_layout.specs.Laying.{nodes_in}
+use Rattle.qg_fs_tree.specs.Standing.{IsSubvolume, Stands, nodes_of}
+use Rattle.qg_fs_layout.specs.Laying.{IsMet, nodes_in}
 use Rattle.qg_fs_layout.proofs.Moved.{fresh-told}
 use Rattle.qg_fs_layout.proofs.Nodes.{nodes-ascend, reached-by}
+use Rattle.qg_fs_layout.proofs.Trees.{met-slot}
 use Rattle.qg_super.proofs.Served.{SizesFit-is_served}
 use Rattle.qg_tree_commit.specs.Holds.{AreForgotten, AreFree, IsFlushed, IsOnDisk, with_tree_commit}
 use Rattle.qg_tree_commit.specs.Writing.{IsLaying, fresh_nodes, nodes_written}
@@ -44,7 +43,7 @@ use Rattle.qg_tree_commit.proofs.AllNodes.{trees-held, written-found, written-li
 use Rattle.qg_tree_commit.proofs.FreshNodes.{fresh-listed, fresh-there}
 use Rattle.qg_tree_commit.proofs.LaidNodes.{laid-within}
 use Rattle.qg_tree_commit.proofs.Stays.{LiesInSlot, clean-stands, found-stands, standing-alike, stays-commit, stands-found}
-use Rattle.qg_tree_commit.proofs.Subvolume.{fresh-AreWritable, given-apart, given-clear, given-slot}
+use Rattle.qg_tree_commit.proofs.Subvolume.{fresh-AreWritable, given-apart, given-clear, given-slot, met-held}
 
 -- ---- clean nodes
 
@@ -79,9 +78,9 @@ record CameFrom (fs : FsTree) (trees : OtherTrees) (old : Option (List Event)) (
   told : old ≡ Some events
   is : new ≡ with_tree_commit fs trees events
 
-module _ (fs : FsTree) (root : RootItem) (book : List (ℕ × Kept)) (counters : Counters) (generation stamp : ℕ)
+module _ (fs : FsTree) (roots : List (ℕ × RootItem)) (book : List (ℕ × Kept)) (quota : Quota) (generation : ℕ)
     (slots : List ℕ) (trees : OtherTrees)
-    (laying : IsLaying fs.land.space.sizes generation root book counters stamp slots fs.land.blocks.draft trees)
+    (laying : IsLaying fs.land.space.sizes generation roots book quota slots fs.land.blocks.draft trees)
     (drafted : IsDrafted fs.land fs.tree.next) (free : AreFree fs.land.space slots)
     (read : All (IsReadBack fs.land.space.sizes.nodesize) (fresh_nodes fs.land.blocks.draft)) where
   abbrev sizes : Sizes
@@ -91,7 +90,7 @@ module _ (fs : FsTree) (root : RootItem) (book : List (ℕ × Kept)) (counters :
   nodes = nodes_written fs.land.blocks.draft trees
 
   same_sizes : sizes_of trees.superblock ≡ sizes
-  same_sizes = written-sizes sizes generation root book counters stamp slots fs.land.blocks.draft trees laying
+  same_sizes = written-sizes sizes generation roots book quota slots fs.land.blocks.draft trees laying
       (fresh-AreWritable fs drafted) (given-slot fs slots free)
 
   super_served : is_served (sizes_of trees.superblock) ≡ true
@@ -111,7 +110,7 @@ module _ (fs : FsTree) (root : RootItem) (book : List (ℕ × Kept)) (counters :
             let wrong : None ≡ Some found.0 = sym is.clean ∙ there' in
             absurd cc
         | inr other ↦
-            let within = laid-within sizes generation root book counters stamp slots trees laying.laid found.0 other in
+            let within = laid-within sizes generation roots book quota slots trees laying.laid found.0 other in
             is.apart (subst (λ (q : ℕ). Contains slots q) found.2 within)
       ]
 
@@ -135,7 +134,7 @@ module _ (fs : FsTree) (root : RootItem) (book : List (ℕ × Kept)) (counters :
     super_long = subst (λ (s : Sizes). total_bytes s ≤ length (content events)) (sym same_sizes) long
 
     after_long : total_bytes (sizes_of trees.superblock) ≤ length after
-    after_long = (trees-held sizes generation root book counters stamp slots fs.land.blocks.draft trees laying
+    after_long = (trees-held sizes generation roots book quota slots fs.land.blocks.draft trees laying
         (fresh-AreWritable fs drafted) (given-slot fs slots free) free.apart (given-clear fs slots drafted free) read
         events long).long
 
@@ -145,7 +144,7 @@ module _ (fs : FsTree) (root : RootItem) (book : List (ℕ × Kept)) (counters :
     elsewhere_super at is =
         stays-commit trees.superblock nodes events at super_served super_long
         (subst (λ (s : Sizes). AllByRecursion (LiesInSlot s) nodes) (sym same_sizes)
-        (written-lie sizes generation root book counters stamp slots fs.land.blocks.draft trees laying
+        (written-lie sizes generation roots book quota slots fs.land.blocks.draft trees laying
         (fresh-AreWritable fs drafted) (given-slot fs slots free)))
         (elsewhere_unwritten at is)
 
@@ -167,7 +166,7 @@ module _ (fs : FsTree) (root : RootItem) (book : List (ℕ × Kept)) (counters :
     fresh_found at node is =
         let has = Contains-append_left (fresh_nodes fs.land.blocks.draft) (nodes_laid trees) node
         (fresh-listed fs.land.blocks.draft laying.ascending at node is) in
-        let found = written-found sizes generation root book counters stamp slots fs.land.blocks.draft trees laying
+        let found = written-found sizes generation roots book quota slots fs.land.blocks.draft trees laying
         (fresh-AreWritable fs drafted) (given-slot fs slots free) free.apart (given-clear fs slots drafted free) read
         events long node has in
         subst (λ (q : ℕ). node_found trees.superblock after q ≡ Ok node) (drafted.each at node is).kept.placed found
@@ -178,57 +177,58 @@ module _ (fs : FsTree) (root : RootItem) (book : List (ℕ × Kept)) (counters :
         like_super after at ∙ found-stands trees.superblock after at node super_served after_long
         (fresh_found at node is)
 
-    -- ---- the tree's nodes
+    -- ---- the trees' nodes
 
-    module _ (items : List Item) (names : List (ℕ × Piece)) (stands : Stands fs (Some events) items names) where
-      -- a clean one
-      held_stands : (q : ℕ) (node : Node) → IsReached fs (Some events) q → nodes_of fs (Some events) q ≡ Some node
-          → fresh_at fs.land.blocks.draft q ≡ None → node_found trees.superblock after q ≡ Ok node
-      unfolding told
-      held_stands q node reached there none =
-          let has = held fs (Some events) items names stands drafted q
-          (ways-some (nodes_of fs (Some events)) fs.tree.height fs.tree.address q reached) none in
-          let stood = clean-stands (fresh_at fs.land.blocks.draft q) fs.land.blocks.draft.sizes events q node none
-          there in
-          let stood' = sym (like_super (content events) q) ∙ stood in
-          stands-found trees.superblock after q node super_served after_long
-          (elsewhere_super q (held-elsewhere q has) ∙ stood')
+    module _ (bytes : ℕ) (subvolume : IsSubvolume fs (Some events) bytes) (items : List Item) (names : List (ℕ × Piece)) (stands : Stands fs (Some events) items names)
+      where
+        -- a clean one
+        held_stands : (q : ℕ) (node : Node) → IsMet fs (Some events) q → nodes_of fs (Some events) q ≡ Some node
+            → fresh_at fs.land.blocks.draft q ≡ None → node_found trees.superblock after q ≡ Ok node
+        unfolding told
+        held_stands q node reached there none =
+            let has = met-held fs (Some events) bytes items names subvolume stands q reached none in
+            let stood = clean-stands (fresh_at fs.land.blocks.draft q) fs.land.blocks.draft.sizes events q node none
+            there in
+            let stood' = sym (like_super (content events) q) ∙ stood in
+            stands-found trees.superblock after q node super_served after_long
+            (elsewhere_super q (held-elsewhere q has) ∙ stood')
 
-      reached_found : (q : ℕ) (node : Node) → IsReached fs (Some events) q → nodes_of fs (Some events) q ≡ Some node
-          → node_found trees.superblock after q ≡ Ok node
-      reached_found q node reached there = from (fresh_at fs.land.blocks.draft q) refl where
-        from : (o : Option Node) → fresh_at fs.land.blocks.draft q ≡ o → node_found trees.superblock after q ≡ Ok node
-        from None none = held_stands q node reached there none
-        from (Some mine) is =
-            let same : Some mine ≡ Some node = sym (fresh-told fs.land (Some events) q mine is) ∙ there in
-            let same' : mine ≡ node = cc in
-            subst (λ (n : Node). node_found trees.superblock after q ≡ Ok n) same' (fresh_found q mine is)
+        reached_found : (q : ℕ) (node : Node) → IsMet fs (Some events) q → nodes_of fs (Some events) q ≡ Some node
+            → node_found trees.superblock after q ≡ Ok node
+        reached_found q node reached there = from (fresh_at fs.land.blocks.draft q) refl where
+          from : (o : Option Node) → fresh_at fs.land.blocks.draft q ≡ o → node_found trees.superblock after q ≡ Ok node
+          from None none = held_stands q node reached there none
+          from (Some mine) is =
+              let same : Some mine ≡ Some node = sym (fresh-told fs.land (Some events) q mine is) ∙ there in
+              let same' : mine ≡ node = cc in
+              subst (λ (n : Node). node_found trees.superblock after q ≡ Ok n) same' (fresh_found q mine is)
 
-      some_bytes : 0 < fs.land.space.sizes.nodesize
-      some_bytes = let least = (SizesFit-is_served sizes drafted.sizes.served).least in omega (arith, least)
+        some_bytes : 0 < fs.land.space.sizes.nodesize
+        some_bytes = let least = (SizesFit-is_served sizes drafted.sizes.served).least in omega (arith, least)
 
-      entry_found : (entry : ℕ × Placed) → Contains (nodes_in fs (Some events)) entry
-          → node_found trees.superblock after entry.0 ≡ Ok entry.1.node
-      entry_found entry has =
-          let ascend = nodes-ascend fs (Some events) some_bytes stands.placed in
-          let its = reached-by fs (Some events) entry.0 entry.1
-          (value_of_entry (nodes_in fs (Some events)) entry ascend has) in
-          reached_found entry.0 entry.1.node its.reached its.told
+        entry_found : (entry : ℕ × Placed) → Contains (nodes_in fs (Some events)) entry
+            → node_found trees.superblock after entry.0 ≡ Ok entry.1.node
+        entry_found entry has =
+            let ascend = nodes-ascend fs (Some events) some_bytes
+            (met-slot fs (Some events) bytes items names subvolume stands) in
+            let its = reached-by fs (Some events) entry.0 entry.1
+            (value_of_entry (nodes_in fs (Some events)) entry ascend has) in
+            reached_found entry.0 entry.1.node its.met its.told
 
-      pub layout-held : HoldsLayout trees.superblock after (nodes_in fs (Some events))
-      layout-held =
-          all_contained (λ entry. node_found trees.superblock after entry.0 ≡ Ok entry.1.node)
-          (nodes_in fs (Some events))
-          entry_found
+        pub layout-held : HoldsLayout trees.superblock after (nodes_in fs (Some events))
+        layout-held =
+            all_contained (λ entry. node_found trees.superblock after entry.0 ≡ Ok entry.1.node)
+            (nodes_in fs (Some events))
+            entry_found
 
-      pub on-disk : IsOnDisk fs trees events
-      on-disk = record {
-        commit = trees-held sizes generation root book counters stamp slots fs.land.blocks.draft trees laying
-            (fresh-AreWritable fs drafted) (given-slot fs slots free) free.apart (given-clear fs slots drafted free)
-            read
-            events long;
-        layout = layout-held;
-      }
+        pub on-disk : IsOnDisk fs trees events
+        on-disk = record {
+          commit = trees-held sizes generation roots book quota slots fs.land.blocks.draft trees laying
+              (fresh-AreWritable fs drafted) (given-slot fs slots free) free.apart (given-clear fs slots drafted free)
+              read
+              events long;
+          layout = layout-held;
+        }
 
   -- ---- from one history to another
 

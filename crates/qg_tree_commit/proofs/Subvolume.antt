@@ -1,33 +1,37 @@
--- What a subvolume's tree says of its fresh nodes and of free slots.
-use Rattle.std.proofs.Common.{◌≡◌, ℕ, ◌<◌, List, get_or, Option, Some, arith, sym, ◌∙◌, inl, inr}
-use Rattle.std.specs.Prelude.{Contains, IsTrue, All, ◌⊎◌}
-use Rattle.std.proofs.lemmas.Bool.{cases_lt, ltb-true}
-use Rattle.std.proofs.lemmas.List.Elements.{All-contains, Contains-get_or}
+-- What the trees of subvolumes say of fresh nodes, of those that the last commit holds, and of free slots.
+use Rattle.std.proofs.Common.{◌≡◌, ℕ, Bool, true, false, List, get_or, Option, Some, None, refl, sym, ap, subst, ◌∙◌, inl, inr}
+use Rattle.std.specs.Prelude.{Contains, IsSome, IsTrue, All, ◌||◌, ◌==◌, nat_lt}
+use Rattle.std.specs.List.{list_any}
+use Rattle.std.proofs.lemmas.Bool.{cases_Bool, eq-eqb, eqb-true, ltb-true}
+use Rattle.std.proofs.lemmas.List.Elements.{All-contains, Contains-append_cases, Contains-get_or}
 use Rattle.qg_device.specs.History.{Event}
-use Rattle.qg_num.specs.declared.counters.Counters.{Counters}
 use Rattle.qg_num.specs.declared.piece.Piece.{Piece}
 use Rattle.qg_node.specs.declared.item.Item.{Item}
 use Rattle.qg_node.specs.declared.node.Node.{Node}
 use Rattle.qg_items.specs.declared.root.RootItem.{RootItem}
 use Rattle.qg_super.specs.Places.{is_slot}
 use Rattle.qg_super.proofs.Served.{SizesFit-is_served}
-use Rattle.qg_space.specs.Holding.{is_free_slot}
-use Rattle.qg_space.proofs.Members.{Contains-has_slot}
+use Rattle.qg_state.proofs.Contained.{contains_later}
+use Rattle.qg_space.specs.Holding.{has_slot, is_free_slot}
+use Rattle.qg_space.proofs.Firsts.{is_free_slot-clear}
+use Rattle.qg_space.proofs.Members.{Contains-has_slot, one_passes, passes_one}
+use Rattle.qg_state.specs.declared.quota.Quota.{Quota}
 use Rattle.qg_refs.specs.declared.kept.Kept.{Kept}
-use Rattle.qg_extents.specs.Table.{IsTable, book_of}
+use Rattle.qg_extents.specs.Table.{IsTable}
 use Rattle.qg_blocks.specs.Told.{fresh_at}
 use Rattle.qg_tree.specs.Row.{address_of}
 use Rattle.qg_ground.specs.Land.{IsDrafted}
 use Rattle.qg_ground.proofs.Slots.{free-absent, free-apart, free-parts}
-use Rattle.qg_tree_refs.specs.Following.{references_to}
 use Rattle.qg_commit.specs.Calls.{IsReadBack}
 use Rattle.qg_other_trees.specs.declared.laying.OtherTrees.{OtherTrees}
 use Rattle.qg_fs_tree.specs.declared.fs_tree.FsTree.{FsTree}
-use Rattle.qg_fs_tree.specs.Standing.{IsReached, IsSubvolume, Stands}
-use Rattle.qg_fs_tree.proofs.Before.{none-before, reached}
-use Rattle.qg_fs_tree.proofs.Counts.{ways_in}
-use Rattle.qg_fs_layout.specs.Laying.{AreFit}
+use Rattle.qg_fs_tree.specs.Standing.{IsSubvolume, Stands}
+use Rattle.qg_fs_tree.proofs.Before.{elsewhere-parts, first_tree, reached}
+use Rattle.qg_fs_tree.proofs.Beside.{elsewhere, own_ways}
+use Rattle.qg_fs_tree.proofs.Taken.{has-led}
+use Rattle.qg_fs_layout.specs.Laying.{AreFit, IsMet}
 use Rattle.qg_fs_layout.proofs.Moved.{fresh-told}
+use Rattle.qg_fs_layout.proofs.Trees.{met-slot, tree-stands}
 use Rattle.qg_tree_commit.specs.Holds.{AreFree}
 use Rattle.qg_tree_commit.specs.Writing.{AreWritable, IsLaying, fresh_nodes}
 use Rattle.qg_tree_commit.proofs.FreshNodes.{fresh-there}
@@ -66,32 +70,79 @@ given-apart fs slots free at has held = free-apart fs.land.space at (given_free 
 
 -- ---- fresh nodes are reached
 
-either_way : (n : ℕ) → (n ≡ 0) ⊎ (0 < n)
-either_way n = elim (cases_lt 0 n) [ inl some ↦ inr some | inr none ↦ inl (omega arith) ]
-
 pub fresh-reached : (fs : FsTree) (history : Option (List Event)) (bytes : ℕ) (items : List Item)
     (names : List (ℕ × Piece)) → IsSubvolume fs history bytes → Stands fs history items names → IsTable fs.refs.refs
-    → (at : ℕ) (node : Node) → fresh_at fs.land.blocks.draft at ≡ Some node → IsReached fs history at
+    → (at : ℕ) (node : Node) → fresh_at fs.land.blocks.draft at ≡ Some node → IsMet fs history at
 fresh-reached fs history bytes items names subvolume stands table at node is =
     let drafted = subvolume.editable.drafted in
     let draft = drafted.each at node is in
-    let counted = sym (stands.settled.slots at draft.slot) ∙ draft.taken in
-    let some = ltb-true 0 (references_to (book_of fs.refs.refs) at) counted in
-    elim (either_way (ways_in fs history at)) [
-      | inl none ↦
-          let gone = none-before fs history items names stands drafted table at draft.slot none in
-          absurd (omega (arith, some, gone))
-      | inr led ↦ reached fs history items names stands drafted at led
+    let led : (nat_lt 0 (own_ways fs history at) || elsewhere fs history at) ≡ true =
+    sym (has-led fs history items names stands drafted table at draft.slot) ∙ draft.taken in
+    elim (cases_Bool (nat_lt 0 (own_ways fs history at))) [
+      | inl own ↦ record {
+        tree = fs.tree;
+        among = first_tree fs history items names stands drafted;
+        reached = reached fs history items names stands drafted at (ltb-true 0 (own_ways fs history at) own);
+      }
+      | inr none ↦
+          let other : elsewhere fs history at ≡ true =
+          sym (ap (λ (b : Bool). b || elsewhere fs history at) none) ∙ led in
+          let there = elsewhere-parts fs history items names stands drafted at other in
+          record {
+            tree = there.tree;
+            among = contains_later fs.tree fs.others.items there.tree there.among;
+            reached = there.reached;
+          }
+    ]
+
+-- ---- what is reached and not fresh the last commit holds
+
+lacks : (numbers : List ℕ) (q : ℕ) → list_any (λ slot. slot == q) numbers ≡ false → Contains numbers q → ⊥
+lacks numbers q none has =
+    let some = passes_one (λ (slot : ℕ). slot == q) numbers q has (eq-eqb q q refl) in
+    let wrong : true ≡ false = sym some ∙ none in
+    cc
+
+not_both : (o : Option Node) → o ≡ None → IsSome o → ⊥
+not_both None none some = absurd cc
+not_both (Some node) none some = cc
+
+pub met-held : (fs : FsTree) (history : Option (List Event)) (bytes : ℕ) (items : List Item)
+    (names : List (ℕ × Piece)) → IsSubvolume fs history bytes → Stands fs history items names → (q : ℕ)
+    → IsMet fs history q → fresh_at fs.land.blocks.draft q ≡ None → Contains fs.land.space.held_slots q
+met-held fs history bytes items names subvolume stands q met clean =
+    let space = fs.land.space in
+    let slot = met-slot fs history bytes items names subvolume stands q met in
+    let tree = tree-stands fs history bytes items names subvolume stands met.tree met.among in
+    elim (cases_Bool (has_slot space q)) [
+      | inl taken ↦ elim (stands.settled.written q taken) [
+        | inl fresh ↦ absurd (not_both (fresh_at fs.land.blocks.draft q) clean fresh)
+        | inr held ↦ held
+      ]
+      | inr untaken ↦ elim (cases_Bool (list_any (λ (number : ℕ). number == q) space.held_slots)) [
+        | inl some ↦
+            let found = one_passes (λ (number : ℕ). number == q) space.held_slots some in
+            subst (λ (n : ℕ). Contains space.held_slots n) (eqb-true found.0 q found.2) found.1
+        | inr none ↦
+            let free = is_free_slot-clear space q slot (λ has. elim (Contains-append_cases space.slots space.held_slots q
+            has) [
+              | inl here ↦
+                  let wrong : true ≡ false = sym ((Contains-has_slot space q).1 here) ∙ untaken in
+                  cc
+              | inr there ↦ lacks space.held_slots q none there
+            ]) in
+            absurd (tree.rooted.apart q free met.reached)
+      ]
     ]
 
 -- so each is read from its text, where the numbers of what is reached fit
 pub fresh-read : (fs : FsTree) (history : Option (List Event)) (bytes : ℕ) (items : List Item)
-    (names : List (ℕ × Piece)) (root : RootItem) (book : List (ℕ × Kept)) (counters : Counters)
-    (generation stamp : ℕ) (slots : List ℕ) (trees : OtherTrees)
+    (names : List (ℕ × Piece)) (roots : List (ℕ × RootItem)) (book : List (ℕ × Kept)) (quota : Quota)
+    (generation : ℕ) (slots : List ℕ) (trees : OtherTrees)
     → IsSubvolume fs history bytes → Stands fs history items names → IsTable fs.refs.refs → AreFit fs history
-    → IsLaying fs.land.space.sizes generation root book counters stamp slots fs.land.blocks.draft trees
+    → IsLaying fs.land.space.sizes generation roots book quota slots fs.land.blocks.draft trees
     → All (IsReadBack fs.land.space.sizes.nodesize) (fresh_nodes fs.land.blocks.draft)
-fresh-read fs history bytes items names root book counters generation stamp slots trees subvolume stands table fit is =
+fresh-read fs history bytes items names roots book quota generation slots trees subvolume stands table fit is =
     λ k d below.
     let drafted = subvolume.editable.drafted in
     let nodes = fresh_nodes fs.land.blocks.draft in

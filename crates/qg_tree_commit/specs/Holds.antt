@@ -30,7 +30,7 @@ abbrev pub with_tree_commit : FsTree → OtherTrees → List Event → List Even
 with_tree_commit fs trees events =
     with_commit trees.superblock (nodes_written fs.land.blocks.draft trees) events
 
--- the image then holds the commit, and all nodes that a tree reached before
+-- the image then holds the commit, and each node that some tree reached before
 pub record IsOnDisk (fs : FsTree) (trees : OtherTrees) (events : List Event) : Type 0 where
   pub commit : HasCommit trees.superblock (nodes_laid trees) (content (with_tree_commit fs trees events))
   pub layout : HoldsLayout trees.superblock (content (with_tree_commit fs trees events)) (nodes_in fs (Some events))

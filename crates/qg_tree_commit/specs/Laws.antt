@@ -3,7 +3,6 @@ use Rattle.std.specs.Prelude.{◌≡◌, ℕ, ◌≤◌, List, length, Option, S
 use Rattle.std.specs.List.Sorted.{IsPermutation}
 use Rattle.std.specs.Option.{option_map}
 use Rattle.qg_device.specs.History.{Event, content}
-use Rattle.qg_num.specs.declared.counters.Counters.{Counters}
 use Rattle.qg_num.specs.declared.piece.Piece.{Piece}
 use Rattle.qg_node.specs.declared.item.Item.{Item}
 use Rattle.qg_node.specs.declared.node.Node.{Node}
@@ -11,6 +10,7 @@ use Rattle.qg_items.specs.declared.root.RootItem.{RootItem}
 use Rattle.qg_super.specs.Places.{total_bytes}
 use Rattle.qg_state.specs.State.{State}
 use Rattle.qg_machine.specs.Written.{new_nodes}
+use Rattle.qg_state.specs.declared.quota.Quota.{Quota}
 use Rattle.qg_refs.specs.declared.kept.Kept.{Kept}
 use Rattle.qg_extents.specs.Table.{IsTable}
 use Rattle.qg_blocks.specs.Told.{fresh_at}
@@ -18,54 +18,55 @@ use Rattle.qg_commit.specs.Calls.{IsReadBack}
 use Rattle.qg_other_trees.specs.declared.laying.OtherTrees.{OtherTrees}
 use Rattle.qg_other_trees.specs.Trees.{nodes_laid}
 use Rattle.qg_fs_tree.specs.declared.fs_tree.FsTree.{FsTree}
-use Rattle.qg_fs_tree.specs.Standing.{IsReached, IsSubvolume, Stands}
-use Rattle.qg_fs_layout.specs.Laying.{AreFit, HoldsSlots, nodes_in}
+use Rattle.qg_fs_tree.specs.Standing.{IsSubvolume, Stands}
+use Rattle.qg_fs_layout.specs.Laying.{AreFit, HoldsSlots, IsMet, nodes_in}
 use Rattle.qg_tree_commit.specs.Writing.{IsLaying, fresh_nodes, nodes_written}
 use Rattle.qg_tree_commit.specs.Holds.{AreForgotten, AreFree, IsFlushed, IsOnDisk, with_tree_commit}
 
--- a tree that stands reaches each fresh node
+-- where trees stand, one of them reaches each fresh node
 abbrev pub FreshAreReached : Type 0
 FreshAreReached = (fs : FsTree) (history : Option (List Event)) (bytes : ℕ) (items : List Item)
     (names : List (ℕ × Piece)) → IsSubvolume fs history bytes → Stands fs history items names → IsTable fs.refs.refs
-    → (at : ℕ) (node : Node) → fresh_at fs.land.blocks.draft at ≡ Some node → IsReached fs history at
+    → (at : ℕ) (node : Node) → fresh_at fs.land.blocks.draft at ≡ Some node → IsMet fs history at
 
--- so where the numbers of what it reaches fit their fields, each fresh node is read from its text
+-- so where the numbers of what they reach fit their fields, each fresh node is read from its text
 abbrev pub FreshAreReadBack : Type 0
 FreshAreReadBack = (fs : FsTree) (history : Option (List Event)) (bytes : ℕ) (items : List Item)
-    (names : List (ℕ × Piece)) (root : RootItem) (book : List (ℕ × Kept)) (counters : Counters)
-    (generation stamp : ℕ) (slots : List ℕ) (trees : OtherTrees)
+    (names : List (ℕ × Piece)) (roots : List (ℕ × RootItem)) (book : List (ℕ × Kept)) (quota : Quota)
+    (generation : ℕ) (slots : List ℕ) (trees : OtherTrees)
     → IsSubvolume fs history bytes → Stands fs history items names → IsTable fs.refs.refs → AreFit fs history
-    → IsLaying fs.land.space.sizes generation root book counters stamp slots fs.land.blocks.draft trees
+    → IsLaying fs.land.space.sizes generation roots book quota slots fs.land.blocks.draft trees
     → All (IsReadBack fs.land.space.sizes.nodesize) (fresh_nodes fs.land.blocks.draft)
 
--- where a tree stands, and the three trees were laid out in free slots, a disk that is long enough holds the commit and
--- the tree's nodes once the calls were made
+-- where trees of subvolumes stand, and the three trees were laid out in free slots, a disk that is long enough holds the
+-- commit and the nodes of all of them once the calls were made
 abbrev pub CommitIsOnDisk : Type 0
 CommitIsOnDisk = (fs : FsTree) (events : List Event) (bytes : ℕ) (items : List Item) (names : List (ℕ × Piece))
-    (root : RootItem) (book : List (ℕ × Kept)) (counters : Counters) (generation stamp : ℕ) (slots : List ℕ)
+    (roots : List (ℕ × RootItem)) (book : List (ℕ × Kept)) (quota : Quota) (generation : ℕ) (slots : List ℕ)
     (trees : OtherTrees)
     → IsSubvolume fs (Some events) bytes → Stands fs (Some events) items names
-    → IsLaying fs.land.space.sizes generation root book counters stamp slots fs.land.blocks.draft trees
+    → IsLaying fs.land.space.sizes generation roots book quota slots fs.land.blocks.draft trees
     → AreFree fs.land.space slots → All (IsReadBack fs.land.space.sizes.nodesize) (fresh_nodes fs.land.blocks.draft)
     → total_bytes fs.land.space.sizes ≤ length (content events) → IsOnDisk fs trees events
 
--- the nodes written are those of the committed state that the last commit does not hold, in some order
+-- the nodes written are those of the committed state, whose layout is all trees, that the last commit does not hold, in
+-- some order
 abbrev pub WrittenAreNew : Type 0
 WrittenAreNew = (fs : FsTree) (history : Option (List Event)) (bytes : ℕ) (items : List Item)
-    (names : List (ℕ × Piece)) (root : RootItem) (book : List (ℕ × Kept)) (counters : Counters)
-    (generation stamp : ℕ) (slots : List ℕ) (trees : OtherTrees) (old new : State)
+    (names : List (ℕ × Piece)) (roots : List (ℕ × RootItem)) (book : List (ℕ × Kept)) (quota : Quota)
+    (generation : ℕ) (slots : List ℕ) (trees : OtherTrees) (old new : State)
     → IsSubvolume fs history bytes → Stands fs history items names → IsTable fs.refs.refs
-    → IsLaying fs.land.space.sizes generation root book counters stamp slots fs.land.blocks.draft trees
+    → IsLaying fs.land.space.sizes generation roots book quota slots fs.land.blocks.draft trees
     → AreFree fs.land.space slots → HoldsSlots old fs.land.space.held_slots → new.layout ≡ nodes_in fs history
     → IsPermutation new.held.others (nodes_laid trees)
     → IsPermutation (nodes_written fs.land.blocks.draft trees) (new_nodes old.held new)
 
 -- after the calls `written` of qg_blocks may be called, where no clean node in memory lies in a slot that was written
 abbrev pub FreshAreFlushed : Type 0
-FreshAreFlushed = (fs : FsTree) (before : Option (List Event)) (bytes : ℕ) (root : RootItem) (book : List (ℕ × Kept))
-    (counters : Counters) (generation stamp : ℕ) (slots : List ℕ) (trees : OtherTrees)
+FreshAreFlushed = (fs : FsTree) (before : Option (List Event)) (bytes : ℕ) (roots : List (ℕ × RootItem)) (book : List (ℕ × Kept))
+    (quota : Quota) (generation : ℕ) (slots : List ℕ) (trees : OtherTrees)
     → IsSubvolume fs before bytes
-    → IsLaying fs.land.space.sizes generation root book counters stamp slots fs.land.blocks.draft trees
+    → IsLaying fs.land.space.sizes generation roots book quota slots fs.land.blocks.draft trees
     → AreFree fs.land.space slots → AreForgotten fs.land.blocks slots
     → All (IsReadBack fs.land.space.sizes.nodesize) (fresh_nodes fs.land.blocks.draft)
     → ((events : List Event) → before ≡ Some events → total_bytes fs.land.space.sizes ≤ length (content events))

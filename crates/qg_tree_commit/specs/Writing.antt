@@ -1,16 +1,16 @@
--- What a commit writes where a subvolume's tree is edited by copy on write, and how far its calls came (this project's
--- own). Addresses are in bytes.
+-- What a commit writes where the trees of subvolumes are edited by copy on write, and how far its calls came (this
+-- project's own). Addresses are in bytes.
 use Rattle.std.specs.Prelude.{◌≡◌, ◌⊎◌, ℕ, List, ◌++◌, Option, Some, IsTrue}
 use Rattle.std.specs.List.Sorted.{IsStrictlySortedBy}
 use Rattle.std.specs.Map.{keys_of, values_of}
 use Rattle.std.specs.Ordering.{nat_cmp}
 use Rattle.qg_device.specs.History.{Event}
-use Rattle.qg_num.specs.declared.counters.Counters.{Counters}
 use Rattle.qg_node.specs.declared.node.Node.{Node}
 use Rattle.qg_items.specs.declared.root.RootItem.{RootItem}
 use Rattle.qg_super.specs.declared.sizes.Sizes.{Sizes}
 use Rattle.qg_super.specs.Places.{is_slot}
 use Rattle.qg_super.specs.SuperText.{is_super}
+use Rattle.qg_state.specs.declared.quota.Quota.{Quota}
 use Rattle.qg_refs.specs.declared.kept.Kept.{Kept}
 use Rattle.qg_blocks.specs.Held.{Draft}
 use Rattle.qg_blocks.specs.Told.{IsNodeAt, fresh_at}
@@ -43,15 +43,14 @@ nodes_written draft trees = fresh_nodes draft ++ nodes_laid trees
 
 -- The three trees of a commit of this generation in an image of these sizes, in the first of the slots, that tell this;
 -- and the addresses of the fresh nodes ascend, each once
-pub record IsLaying (sizes : Sizes) (generation : ℕ) (root : RootItem) (book : List (ℕ × Kept)) (counters : Counters)
-    (stamp : ℕ) (slots : List ℕ) (draft : Draft) (trees : OtherTrees) : Type 0 where
+pub record IsLaying (sizes : Sizes) (generation : ℕ) (roots : List (ℕ × RootItem)) (book : List (ℕ × Kept)) (quota : Quota) (slots : List ℕ) (draft : Draft) (trees : OtherTrees) : Type 0 where
   pub superblock : IsTrue (is_super trees.superblock)
-  pub laid : AreTrees sizes generation root book counters stamp slots trees
+  pub laid : AreTrees sizes generation roots book quota slots trees
   pub ascending : IsStrictlySortedBy nat_cmp (keys_of draft.fresh)
 
 abbrev pub IsLayingOf : Sizes → ℕ → Told → List ℕ → Draft → OtherTrees → Type 0
 IsLayingOf sizes generation told slots draft trees =
-    IsLaying sizes generation told.root.now told.book.now told.counters.now told.stamp slots draft trees
+    IsLaying sizes generation told.roots.now told.book.now told.quota.now slots draft trees
 
 -- the calls of a commit of such trees came so far
 pub record ComesSoFar (sizes : Sizes) (generation : ℕ) (told : Told) (slots : List ℕ) (draft : Draft)

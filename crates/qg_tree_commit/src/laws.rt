@@ -7,14 +7,14 @@ ghost use Rattle.qg_tree_commit.specs.Laws.{
   WrittenAreNew,
 };
 
-/// A law: a tree that stands reaches each fresh node. So where the numbers of what it reaches fit their fields, each
-/// fresh node is read from its text (this project's own).
+/// A law: where trees stand, one of them reaches each fresh node. So where the numbers of what they reach fit their
+/// fields, each fresh node is read from its text (this project's own).
 pub fn fresh_are_reached()
     ensures reached { FreshAreReached }
     ensures read { FreshAreReadBack }
 {}
 
-/// A law: once a commit's calls were made, a disk holds the root, extent and quota trees and the nodes that the
+/// A law: once a commit's calls were made, a disk holds the root, extent and quota trees and each node that some
 /// subvolume's tree reaches (this project's own).
 pub fn commit_is_on_disk()
     ensures held { CommitIsOnDisk }

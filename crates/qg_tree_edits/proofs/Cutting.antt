@@ -17,7 +17,7 @@ use Rattle.qg_ground.specs.Tellings.{Spares}
 use Rattle.qg_ground.proofs.Editing.{Rests-edited, Spares-edited, edited, edited-others}
 use Rattle.qg_ground.proofs.Lands.{IsSome-is, fresh_at-told}
 use Rattle.qg_edit.specs.Outcome.{IsCutOf, RestIsNode}
-use Rattle.qg_tree_edits.specs.Editing.{IsCutThere, IsRewritten, Moves, RestIsOf, RestIsReady, StaysCut}
+use Rattle.qg_tree_edits.specs.Editing.{IsCutThere, IsRewritten, Moves, RestIsReady, StaysCut}
 
 -- ---- the levels
 
@@ -32,15 +32,10 @@ front_level nodesize old whole node None same cut = ap (λ (n : Node). (header_o
 front_level nodesize old whole node (Some rest) same cut =
     ap (λ (h : Header). h.level) (header_of-split nodesize (header_of whole).address whole node rest cut) ∙ ap (λ (h : Header). h.level) same
 
-rest_of : (nodesize : ℕ) (old : Node) (rest : Option Node) → RestIsNode nodesize old rest → RestIsOf old rest
-rest_of nodesize old None named = tt
-rest_of nodesize old (Some rest) named = named.owner
-
 pub stays-cut : (nodesize : ℕ) (old whole : Node) (new : Ground) (at : ℕ) (rest : Option Node) → header_of whole ≡ header_of old → IsCutThere nodesize new at old whole rest → StaysCut nodesize old new at rest
 stays-cut nodesize old whole new at rest same cut = record {
   stays = record { node = cut.node; here = cut.here; levelled = front_level nodesize old whole cut.node rest same cut.cut };
   ready = rest_ready nodesize (header_of whole).address old whole cut.node rest same cut.cut cut.named;
-  owned = rest_of nodesize old rest cut.named;
 }
 
 pub stays-cut_ok : (nodesize : ℕ) (old whole : Node) (new : Ground) (at : ℕ) (result : Result (Option Node) BlockFault) → header_of whole ≡ header_of old

@@ -113,7 +113,7 @@ module _ (tree : Tree) (root : Root) (land mid : Ground) (history : Option (List
         whole.front descended-mine whole.back descended-way.there descended-way.child (descended-first is) about low set child edited_child above descended-items descended-unsettled kept cleared
 
     module _ (set end : Ground) (own_later child_later set_later end_later : Option (List Event)) (rest : Option Node) (instead : Instead)
-        (settled : IsSettled tree root low set history level now place child descended-unsettled.pointers descended-unsettled.header descended-items rest) (placed : IsPlacedBehind set end now rest instead)
+        (settled : IsSettled tree root low set history level now place child descended-unsettled.pointers descended-unsettled.header descended-items rest) (placed : IsPlacedBehind root.owner set end now rest instead)
         (own_rests : Rests land mid own_later root.next) (child_rests : Rests mid low child_later root.next) (set_rests : Rests low set set_later root.next) (end_rests : Rests set end end_later root.next) where
       -- and now all is edited
       pub descended-edited : IsPartEdited tree root land end history (suc level) at edit items instead

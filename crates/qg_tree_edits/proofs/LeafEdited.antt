@@ -24,7 +24,7 @@ use Rattle.qg_edit.specs.Edits.{edited}
 use Rattle.qg_tree_edits.specs.declared.instead.Instead.{Instead}
 use Rattle.qg_descent.specs.Tree.{Reaches, Root, super_of}
 use Rattle.qg_descent.specs.Branch.{IsBranch, IsMember}
-use Rattle.qg_tree_edits.specs.Editing.{CanMake, FillsThere, HoldInstead, IsCutThere, IsOwned, IsPartEdited, IsPartFit, IsPlacedBehind, IsRewritten, ReachesInstead, alone}
+use Rattle.qg_tree_edits.specs.Editing.{CanMake, FillsThere, HoldInstead, IsCutThere, IsOwned, IsPartEdited, IsPartFit, IsPlacedBehind, IsRewritten, ReachesInstead, alone, with_owner}
 use Rattle.qg_tree_edits.specs.Counting.{AreCommitted, IsPartTold, IsTold, one, tellings_made, tellings_owned, ways, ways_instead}
 use Rattle.qg_descent.proofs.BranchFrames.{reach-top}
 use Rattle.qg_descent.proofs.BranchWalk.{branch-under}
@@ -67,16 +67,18 @@ cut_leaf nodesize address h items (Leaf hf fs) (Leaf ho os) split =
       items_are = sym all;
     }
 
-member_moved : (tree : Tree) (super : Super) (level address : ℕ) (h other : Header) → other ≡ record h { address = other.address } → IsMember tree super level h
-    → IsMember tree super level (record other { address = address })
-member_moved tree super level address h other is member = record {
+-- the rest is a node that the tree may have, by an owner that its nodes may have
+member_moved : (tree : Tree) (super : Super) (level owner address : ℕ) (h other : Header) → other ≡ record h { address = other.address } → IsTrue (is_owner tree owner)
+    → IsMember tree super level h → IsMember tree super level (record other { owner = owner; address = address })
+member_moved tree super level owner address h other is may member = record {
   levelled = ap (λ (x : Header). x.level) is ∙ member.levelled;
-  owned = subst (λ (x : Header). IsTrue (is_owner tree x.owner)) (sym is) member.owned;
+  owned = may;
   dated = subst (λ (x : Header). IsTrue (is_generation super.generation None x.generation)) (sym is) member.dated;
 }
 
 -- what stands there holds the items
 module _ (tree : Tree) (super : Super) (set end : Ground) (history : Option (List Event)) (nodesize now : ℕ) (h : Header) (items : List Item) (instead : Instead) (member : IsMember tree super 0 h)
+    (owner : ℕ) (may : IsTrue (is_owner tree owner))
     (size : super.nodesize ≡ nodesize) where
   one_holds : IsOneThere set end history now (Leaf h items) instead → HoldInstead tree super (told end.blocks.draft history) 0 instead items
   unfolding IsBranch
@@ -91,7 +93,7 @@ module _ (tree : Tree) (super : Super) (set end : Ground) (history : Option (Lis
   fills : (at : ℕ) (node : Node) → told end.blocks.draft history at ≡ Some node → IsFilled nodesize node → FillsThere super.nodesize (told end.blocks.draft history) at
   fills at node there filled = record { node = node; there = there; filled = subst (λ (n : ℕ). IsFilled n node) (sym size) filled }
 
-  two_hold : AreTwoThere set end history nodesize now (Leaf h items) instead → HoldInstead tree super (told end.blocks.draft history) 0 instead items
+  two_hold : AreTwoThere owner set end history nodesize now (Leaf h items) instead → HoldInstead tree super (told end.blocks.draft history) 0 instead items
   unfolding IsBranch
   two_hold two =
       let parts = cut_leaf nodesize h.address h items two.front two.other two.split in
@@ -101,13 +103,17 @@ module _ (tree : Tree) (super : Super) (set end : Ground) (history : Option (Lis
         items_are = parts.items_are;
         here = (h, two.there ∙ ap Some parts.front_is, member);
         behind = (
-          (record parts.rest { address = two.more }, two.behind ∙ ap (λ (n : Node). Some (node_at two.more n)) parts.other_is, member_moved tree super 0 two.more h parts.rest parts.rest_is member),
+          (
+            record parts.rest { owner = owner; address = two.more },
+            two.behind ∙ ap (λ (n : Node). Some (node_at two.more (with_owner owner n))) parts.other_is,
+            member_moved tree super 0 owner two.more h parts.rest parts.rest_is may member,
+          ),
           fills now two.front two.there two.split.front_filled,
-          fills two.more (node_at two.more two.other) two.behind (filled-at nodesize two.more two.other two.split.rest_filled),
+          fills two.more (node_at two.more (with_owner owner two.other)) two.behind (filled-at nodesize owner two.more two.other two.split.rest_filled),
         );
       })
 
-  pub leaf-holds : IsOneThere set end history now (Leaf h items) instead ⊎ AreTwoThere set end history nodesize now (Leaf h items) instead
+  pub leaf-holds : IsOneThere set end history now (Leaf h items) instead ⊎ AreTwoThere owner set end history nodesize now (Leaf h items) instead
       → HoldInstead tree super (told end.blocks.draft history) 0 instead items
   leaf-holds (inl one) = one_holds one
   leaf-holds (inr two) = two_hold two
@@ -127,7 +133,7 @@ module _ (tree : Tree) (root : Root) (land mid : Ground) (history : Option (List
 module _ (tree : Tree) (root : Root) (land mid set end : Ground) (history later last : Option (List Event)) (expected : Expected) (at now : ℕ) (edit : Edit) (items : List Item) (rest : Option Node) (instead : Instead)
     (owned : IsOwned tree root land mid history expected at now) (makes : CanMake tree root) (fit : IsPartFit tree root land history 0 expected at edit items) (drafted : IsDrafted land root.next)
     (rests : Rests land mid later root.next) (rewritten : IsRewritten mid set now owned.mine) (drafted_set : IsDrafted set root.next) (rests_end : Rests set end last root.next)
-    (cut : IsCutThere mid.space.sizes.nodesize set now owned.mine (with_items owned.mine (edited edit (own_items owned.mine))) rest) (placed : IsPlacedBehind set end now rest instead) where
+    (cut : IsCutThere mid.space.sizes.nodesize set now owned.mine (with_items owned.mine (edited edit (own_items owned.mine))) rest) (placed : IsPlacedBehind root.owner set end now rest instead) where
   mine : (header : Header) × (owned.mine ≡ Leaf header items) × IsMember tree (super_of root land.blocks.draft) 0 header
   mine = mine-leaf_is tree root land mid history expected at now edit items owned makes fit
 
@@ -140,9 +146,9 @@ module _ (tree : Tree) (root : Root) (land mid set end : Ground) (history later 
   whole_is : with_items owned.mine (edited edit (own_items owned.mine)) ≡ Leaf mine.0 (edited edit items)
   whole_is = ap (λ (n : Node). with_items n (edited edit (own_items n))) mine.1
 
-  parts : IsOneThere set end history now (Leaf mine.0 (edited edit items)) instead ⊎ AreTwoThere set end history mid.space.sizes.nodesize now (Leaf mine.0 (edited edit items)) instead
+  parts : IsOneThere set end history now (Leaf mine.0 (edited edit items)) instead ⊎ AreTwoThere root.owner set end history mid.space.sizes.nodesize now (Leaf mine.0 (edited edit items)) instead
   parts =
-      parts-there set end history mid.space.sizes.nodesize now root.next owned.mine (Leaf mine.0 (edited edit items)) drafted_set rest instead
+      parts-there root.owner set end history mid.space.sizes.nodesize now root.next owned.mine (Leaf mine.0 (edited edit items)) drafted_set rest instead
       (subst (λ (n : Node). IsCutThere mid.space.sizes.nodesize set now owned.mine n rest) whole_is cut) placed
 
   space_is : set.space ≡ mid.space
@@ -183,13 +189,13 @@ module _ (tree : Tree) (root : Root) (land mid set end : Ground) (history later 
         | inl is ↦ not_at (same ∙ is)
         | inr free ↦ not_free (ap (is_free_slot land.space) same ∙ free)
       ] in
-      placed-told set end history mid.space.sizes.nodesize now (Leaf mine.0 (edited edit items)) instead parts disk q
+      placed-told root.owner set end history mid.space.sizes.nodesize now (Leaf mine.0 (edited edit items)) instead parts disk q
       (λ free. elim (free_set q free) [ inl was ↦ not_free was | inr same ↦ not_at same ])
       ∙ rewritten-told mid set now owned.mine owned.here rewritten disk q not_now
       ∙ owned.others disk q not_now
 
   free_end : (q : ℕ) → IsTrue (is_free_slot end.space q) → IsTrue (is_free_slot set.space q)
-  free_end = placed-free set end history last mid.space.sizes.nodesize now root.next (Leaf mine.0 (edited edit items)) instead drafted_set rests_end parts
+  free_end = placed-free root.owner set end history last mid.space.sizes.nodesize now root.next (Leaf mine.0 (edited edit items)) instead drafted_set rests_end parts
 
   -- what stands there is taken
   taken : (q : ℕ) → IsTrue (is_free_slot end.space q) → ReachesInstead (told end.blocks.draft history) 0 instead q → ⊥
@@ -202,7 +208,7 @@ module _ (tree : Tree) (root : Root) (land mid set end : Ground) (history later 
     ]
     | inr two ↦ elim (subst (λ (i : Instead). ReachesInstead (told end.blocks.draft history) 0 i q) two.instead_is reaches) [
       | inl here ↦ fresh-taken set root.next now cut.node drafted_set cut.here (ap (is_free_slot set.space) (sym here) ∙ free_end q free)
-      | inr behind ↦ fresh-taken end root.next two.more (node_at two.more two.other) rests_end.drafted two.makes.puts.here (ap (is_free_slot end.space) (sym behind) ∙ free)
+      | inr behind ↦ fresh-taken end root.next two.more (node_at two.more (with_owner root.owner two.other)) rests_end.drafted two.makes.puts.here (ap (is_free_slot end.space) (sym behind) ∙ free)
     ]
   ]
 
@@ -219,7 +225,7 @@ module _ (tree : Tree) (root : Root) (land mid set end : Ground) (history later 
       greater = refl;
     };
     first = λ least. sym (first-alone (told land.blocks.draft history) at top_is.0 items top_is.1);
-    holds = leaf-holds tree (super_of root land.blocks.draft) set end history mid.space.sizes.nodesize now mine.0 (edited edit items) instead mine.2
+    holds = leaf-holds tree (super_of root land.blocks.draft) set end history mid.space.sizes.nodesize now mine.0 (edited edit items) instead mine.2 root.owner makes.owner
         (drafted.sizes.nodesize ∙ sym (ap (λ (s : _). s.nodesize) rests.sizes)) parts;
     reach = reach;
     others = others;

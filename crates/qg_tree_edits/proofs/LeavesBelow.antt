@@ -71,11 +71,11 @@ leaf-leaves tree root old new history expected at edit items instead fit part le
 -- ---- a node whose first child was edited
 
 -- nothing of it was cut off
-pub placed-leaves : (set end : Ground) (history : Option (List Event)) (level now : ℕ) (rest : Option Node) (instead : Instead) → rest ≡ None → IsPlacedBehind set end now rest instead
+pub placed-leaves : (owner : ℕ) (set end : Ground) (history : Option (List Event)) (level now : ℕ) (rest : Option Node) (instead : Instead) → rest ≡ None → IsPlacedBehind owner set end now rest instead
     → leaves (told end.blocks.draft history) level instead.now ≡ leaves (told set.blocks.draft history) level now
-placed-leaves set end history level now None instead none placed =
+placed-leaves owner set end history level now None instead none placed =
     ap (λ (i : Instead). leaves (told end.blocks.draft history) level i.now) placed.0 ∙ ap (λ (g : Ground). leaves (told g.blocks.draft history) level now) placed.1
-placed-leaves set end history level now (Some node) instead none placed = absurd cc
+placed-leaves owner set end history level now (Some node) instead none placed = absurd cc
 
 -- an inner one below has two leaves at least
 two_below : (tree : Tree) (super : Super) (nodes : ℕ → Option Node) (level : ℕ) (pointer : Pointer) (items : List Item) → IsNodeSize super.nodesize → IsPointed super nodes pointer

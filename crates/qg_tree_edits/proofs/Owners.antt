@@ -1,23 +1,24 @@
 -- Who owns the fresh nodes after they were edited where they lie, and after what was cut off one got a place.
-use Rattle.std.proofs.Common.{◌≡◌, ◌≢◌, ℕ, refl, sym, ap, inr, Option, Some, None}
+use Rattle.std.proofs.Common.{◌≡◌, ◌≢◌, ℕ, refl, sym, ap, inl, inr, Option, Some, None}
 use Rattle.qg_node.specs.declared.node.Node.{Node}
 use Rattle.qg_blocks.specs.Told.{fresh_at}
 use Rattle.qg_shape.specs.declared.joining.Joined.{Joined}
 use Rattle.qg_shape.specs.declared.joining.Joined.TheVariants.{Whole, Parted}
 use Rattle.qg_ground.specs.declared.ground.Ground.{Ground}
 use Rattle.qg_ground.specs.Changes.{HasOwner, IsOwnedBy}
-use Rattle.qg_ground.proofs.Owners.{HasOwner-after, IsOwnedBy-after, IsOwnedBy-draft, IsOwnedBy-left, IsOwnedBy-made, IsOwnedBy-one}
+use Rattle.qg_ground.proofs.Owners.{IsOwnedBy-after, IsOwnedBy-draft, IsOwnedBy-left, IsOwnedBy-made, IsOwnedBy-one}
 use Rattle.qg_tree_edits.specs.declared.instead.Instead.{Instead}
-use Rattle.qg_tree_edits.specs.Editing.{ArePair, AreRewritten, IsPlacedBehind, IsRewritten, RestHasOwner, RestIsOf}
+use Rattle.qg_tree_edits.specs.Editing.{ArePair, AreRewritten, IsPlacedBehind, IsRewritten, with_owner}
 use Rattle.qg_tree_edits.specs.Uniting.{AreUnited, EndsAs}
+use Rattle.qg_tree_edits.proofs.PlacedBehind.{with_owner-owner}
 use Rattle.qg_tree_edits.proofs.United.{left_between, rewritten-fresh, rewritten-here}
 
 -- ---- one node
 
 module _ (owner : ℕ) (old new : Ground) (at : ℕ) (node : Node) (here : fresh_at old.blocks.draft at ≡ Some node)
     (is : IsRewritten old new at node) where
-  kept : HasOwner owner old is.node
-  kept = inr (at, node, here, sym is.named.owner)
+  kept : HasOwner owner old at is.node
+  kept = inr (node, here, sym is.named.owner)
 
   pub rewritten-owners : IsOwnedBy owner old new
   rewritten-owners =
@@ -53,23 +54,11 @@ united-owners owner old new left right instead differ pair united =
 
 -- ---- what was cut off a node
 
--- it has the owner of the node
-pub rest-owner : (owner : ℕ) (land : Ground) (at : ℕ) (node : Node) (rest : Option Node)
-    → fresh_at land.blocks.draft at ≡ Some node → RestIsOf node rest → RestHasOwner owner land rest
-rest-owner owner land at node None here of = tt
-rest-owner owner land at node (Some rest) here of = inr (at, node, here, sym of)
-
-pub rest-owner-after : (owner : ℕ) (old mid : Ground) (rest : Option Node) → IsOwnedBy owner old mid
-    → RestHasOwner owner mid rest → RestHasOwner owner old rest
-rest-owner-after owner old mid None first own = tt
-rest-owner-after owner old mid (Some rest) first own = HasOwner-after owner old mid rest first own
-
--- it gets a place
+-- it gets a place, and the owner
 pub placed-owners : (owner : ℕ) (low set end : Ground) (now : ℕ) (rest : Option Node) (instead : Instead)
-    → IsOwnedBy owner low set → RestHasOwner owner low rest → IsPlacedBehind set end now rest instead
-    → IsOwnedBy owner low end
-placed-owners owner low set end now None instead first own placed =
+    → IsOwnedBy owner low set → IsPlacedBehind owner set end now rest instead → IsOwnedBy owner low end
+placed-owners owner low set end now None instead first placed =
     IsOwnedBy-after owner low set end first
     (IsOwnedBy-draft owner set end (ap (λ (g : Ground). g.blocks.draft) placed.1))
-placed-owners owner low set end now (Some rest) instead first own (more, is, makes) =
-    IsOwnedBy-made owner low set end more rest first makes own
+placed-owners owner low set end now (Some rest) instead first (more, is, makes) =
+    IsOwnedBy-made owner low set end more (with_owner owner rest) first makes (inl (with_owner-owner owner rest))

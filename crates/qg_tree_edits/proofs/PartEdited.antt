@@ -27,7 +27,7 @@ use Rattle.qg_tree_edits.specs.declared.instead.Instead.{Instead}
 use Rattle.qg_descent.specs.Tree.{Reaches, Root, super_for, super_of}
 use Rattle.qg_descent.specs.Branch.{AreBranches, IsBranch, IsMember, IsPointed}
 use Rattle.qg_tree_edits.specs.First.{first_leaf, least}
-use Rattle.qg_tree_edits.specs.Editing.{CanMake, FillsThere, HoldInstead, IsCutThere, IsLeafEdited, IsOwned, IsPartEdited, IsPartFit, IsPlacedBehind, IsSettled, IsUnsettled, KeepsAbove, ReachesBeside, ReachesEach, ReachesInstead, ReachesParts, slots_for}
+use Rattle.qg_tree_edits.specs.Editing.{CanMake, FillsThere, HoldInstead, IsCutThere, IsLeafEdited, IsOwned, IsPartEdited, IsPartFit, IsPlacedBehind, IsSettled, IsUnsettled, KeepsAbove, ReachesBeside, ReachesEach, ReachesInstead, ReachesParts, slots_for, with_owner}
 use Rattle.qg_tree_edits.specs.Counting.{AreCommitted, IsPartTold, IsSettledTold, IsTold, TellSame, one, tellings_made, tellings_owned, ways, ways_each, ways_instead, ways_parts}
 use Rattle.qg_tree_edits.proofs.Around.{IsAround}
 use Rattle.qg_descent.proofs.Branches.{each-append, each-get}
@@ -73,12 +73,12 @@ back_get : {A : Type 0} (xs ys : List A) (i : ℕ) (x : A) → slice_get ys i �
 back_get [] ys i x is = (i, is)
 back_get (z ∷ xs) ys i x is = let later = back_get xs ys i x is in (suc later.0, later.1)
 
--- the rest is a node that the tree may have where the whole is
-member_at : (tree : Tree) (super : Super) (level : ℕ) (header other : Header) (address : ℕ) → other ≡ record header { address = header.address } → IsMember tree super level header
-    → IsMember tree super level (record other { address = address })
-member_at tree super level header other address same member = record {
+-- the rest is a node that the tree may have where the whole is, by an owner that its nodes may have
+member_at : (tree : Tree) (super : Super) (level owner : ℕ) (header other : Header) (address : ℕ) → other ≡ record header { owner = owner } → IsTrue (is_owner tree owner)
+    → IsMember tree super level header → IsMember tree super level (record other { address = address })
+member_at tree super level owner header other address same may member = record {
   levelled = ap (λ (h : Header). h.level) same ∙ member.levelled;
-  owned = ap (λ (h : Header). is_owner tree h.owner) same ∙ member.owned;
+  owned = ap (λ (h : Header). is_owner tree h.owner) same ∙ may;
   dated = ap (λ (h : Header). is_generation super.generation None h.generation) same ∙ member.dated;
 }
 
@@ -104,8 +104,8 @@ record IsInOne (set end : Ground) (now : ℕ) (instead : Instead) (header : Head
   same : end ≡ set
   here : fresh_at set.blocks.draft now ≡ Some (Inner header pointers)
 
--- what was cut off was made a node behind it
-record AreInTwo (nodesize : ℕ) (set end : Ground) (now : ℕ) (instead : Instead) (header : Header) (pointers : List Pointer) : Type 0 where
+-- what was cut off was made a node behind it, with this owner
+record AreInTwo (nodesize owner : ℕ) (set end : Ground) (now : ℕ) (instead : Instead) (header : Header) (pointers : List Pointer) : Type 0 where
   more : ℕ
   instead_is : instead ≡ record { now = now; more = Some more }
   other : Header
@@ -114,32 +114,33 @@ record AreInTwo (nodesize : ℕ) (set end : Ground) (now : ℕ) (instead : Inste
   pointers_are : pointers ≡ first ++ second
   here : fresh_at set.blocks.draft now ≡ Some (Inner header first)
   made : Makes set end more (Inner other second)
-  alike : other ≡ record header { address = header.address }
+  alike : other ≡ record header { owner = owner }
   filled : IsFilled nodesize (Inner header first)
   rest_filled : IsFilled nodesize (Inner other second)
 
-ends_as : (nodesize : ℕ) (set end : Ground) (now : ℕ) (rest : Option Node) (instead : Instead) (header : Header) (pointers new : List Pointer)
-    → IsCutThere nodesize set now (Inner header pointers) (Inner header new) rest → IsPlacedBehind set end now rest instead
-    → IsInOne set end now instead header new ⊎ AreInTwo nodesize set end now instead header new
-ends_as nodesize set end now None instead header pointers new cut placed = inl (record {
+ends_as : (nodesize owner : ℕ) (set end : Ground) (now : ℕ) (rest : Option Node) (instead : Instead) (header : Header) (pointers new : List Pointer)
+    → IsCutThere nodesize set now (Inner header pointers) (Inner header new) rest → IsPlacedBehind owner set end now rest instead
+    → IsInOne set end now instead header new ⊎ AreInTwo nodesize owner set end now instead header new
+ends_as nodesize owner set end now None instead header pointers new cut placed = inl (record {
   instead_is = placed.0;
   same = placed.1;
   here = cut.here ∙ ap (λ (n : Node). Some n) cut.cut;
 })
-ends_as nodesize set end now (Some node) instead header pointers new cut placed =
+ends_as nodesize owner set end now (Some node) instead header pointers new cut placed =
     let parts = parts_inner cut.node node header new cut.cut.alike cut.cut.whole in
     inr (record {
       more = placed.0;
       instead_is = placed.1;
-      other = header_of node;
+      other = record (header_of node) { owner = owner };
       first = parts.0;
       second = parts.1;
       pointers_are = parts.4;
       here = cut.here ∙ ap (λ (n : Node). Some n) parts.2;
-      made = subst (λ (n : Node). Makes set end placed.0 n) parts.3 placed.2;
-      alike = cut.cut.header;
+      made = subst (λ (n : Node). Makes set end placed.0 (with_owner owner n)) parts.3 placed.2;
+      alike = ap (λ (h : Header). record h { owner = owner }) cut.cut.header;
       filled = subst (λ (n : Node). IsFilled nodesize n) parts.2 cut.cut.front_filled;
-      rest_filled = subst (λ (n : Node). IsFilled nodesize n) parts.3 cut.cut.rest_filled;
+      rest_filled = filled_at nodesize (header_of node) (record (header_of node) { owner = owner }) parts.1
+          (subst (λ (n : Node). IsFilled nodesize n) parts.3 cut.cut.rest_filled);
     })
 
 module _ (tree : Tree) (root : Root) (land mid low set end : Ground) (history own_later child_later set_later end_later : Option (List Event)) (level : ℕ) (expected : Expected) (at now : ℕ) (edit : Edit)
@@ -152,7 +153,7 @@ module _ (tree : Tree) (root : Root) (land mid low set end : Ground) (history ow
     (child_edited : IsPartEdited tree root mid low history level child_at edit mine child) (edits : IsLeafEdited edit items items_new)
     (first : edit.key ≡ least → edits.leaf ≡ first_leaf (told land.blocks.draft history) (suc level) at)
     (member : IsMember tree (super_of root low.blocks.draft) (suc level) header)
-    (settled : IsSettled tree root low set history level now place child pointers header items_new rest) (placed : IsPlacedBehind set end now rest instead)
+    (settled : IsSettled tree root low set history level now place child pointers header items_new rest) (placed : IsPlacedBehind root.owner set end now rest instead)
     (own_rests : Rests land mid own_later root.next) (child_rests : Rests mid low child_later root.next) (set_rests : Rests low set set_later root.next) (end_rests : Rests set end end_later root.next) where
   -- an address was reached before, or was free
   Old : ℕ → Type 0
@@ -232,8 +233,8 @@ module _ (tree : Tree) (root : Root) (land mid low set end : Ground) (history ow
 
   -- ---- whichever became of the node
 
-  ends : IsInOne set end now instead header settled.pointers_new ⊎ AreInTwo low.space.sizes.nodesize set end now instead header settled.pointers_new
-  ends = ends_as low.space.sizes.nodesize set end now rest instead header pointers settled.pointers_new settled.cut placed
+  ends : IsInOne set end now instead header settled.pointers_new ⊎ AreInTwo low.space.sizes.nodesize root.owner set end now instead header settled.pointers_new
+  ends = ends_as low.space.sizes.nodesize root.owner set end now rest instead header pointers settled.pointers_new settled.cut placed
 
   end_free : (q : ℕ) → IsTrue (is_free_slot end.space q) → IsTrue (is_free_slot set.space q)
   end_free q free = elim ends [
@@ -243,7 +244,7 @@ module _ (tree : Tree) (root : Root) (land mid low set end : Ground) (history ow
         (λ has. subst (λ (ns : List ℕ). Contains ns q) (sym two.made.slots) (taken-more two.more set.space.slots q has)) free
   ]
 
-  more_old : (two : AreInTwo low.space.sizes.nodesize set end now instead header settled.pointers_new) → (q : ℕ) → q ≡ two.more → Old q
+  more_old : (two : AreInTwo low.space.sizes.nodesize root.owner set end now instead header settled.pointers_new) → (q : ℕ) → q ≡ two.more → Old q
   more_old two q same = set_old q (subst (λ (a : ℕ). IsTrue (is_free_slot set.space a)) (sym same) two.made.puts.free)
 
   end_others : (disk : Option (List Event)) (q : ℕ) → (Old q → ⊥) → told end.blocks.draft disk q ≡ told set.blocks.draft disk q
@@ -296,7 +297,7 @@ module _ (tree : Tree) (root : Root) (land mid low set end : Ground) (history ow
 
   -- ---- it was cut in two
 
-  module _ (two : AreInTwo low.space.sizes.nodesize set end now instead header settled.pointers_new) where
+  module _ (two : AreInTwo low.space.sizes.nodesize root.owner set end now instead header settled.pointers_new) where
     first_here : fresh_at end.blocks.draft now ≡ Some (Inner header two.first)
     first_here =
         KeepsFresh-put set end root.next two.more (node_at two.more (Inner two.other two.second)) set_rests.drafted two.made.puts now (Inner header two.first) two.here
@@ -360,7 +361,7 @@ module _ (tree : Tree) (root : Root) (land mid low set end : Ground) (history ow
       record two.other { address = two.more },
       two.second,
       second_told,
-      member_at tree (super_of root land.blocks.draft) (suc level) header two.other two.more two.alike member_then,
+      member_at tree (super_of root land.blocks.draft) (suc level) root.owner header two.other two.more two.alike makes.owner member_then,
       two_split.4,
     )
 
@@ -662,7 +663,7 @@ module _ (tree : Tree) (root : Root) (land mid low set end : Ground) (history ow
       let same = ap (λ (g : Ground). ways_each (told g.blocks.draft history) level settled.pointers_new q) one_node.same in
       omega (arith, top, same)))
 
-  two_end : (nodes clean : ℕ → Option Node) (two : AreInTwo low.space.sizes.nodesize set end now instead header settled.pointers_new) → Ends nodes clean (record { now = now; more = Some two.more })
+  two_end : (nodes clean : ℕ → Option Node) (two : AreInTwo low.space.sizes.nodesize root.owner set end now instead header settled.pointers_new) → Ends nodes clean (record { now = now; more = Some two.more })
   unfolding Ends new_ways
   two_end nodes clean two =
       let differ : two.more ≢ now = λ same. fresh-taken set root.next now (Inner header two.first) set_rests.drafted two.here (ap (is_free_slot set.space) (sym same) ∙ two.made.puts.free) in
@@ -680,7 +681,7 @@ module _ (tree : Tree) (root : Root) (land mid low set end : Ground) (history ow
   unfolding Ends
   end_told nodes clean =
       let after = ways_instead (told end.blocks.draft history) (suc level) instead in
-      told-come land nodes clean FromTop new_ways after 1 0 1 (slots_for rest) (tellings_made instead.more) (placed-few set end now rest instead placed)
+      told-come land nodes clean FromTop new_ways after 1 0 1 (slots_for rest) (tellings_made instead.more) (placed-few root.owner set end now rest instead placed)
       (told-within land nodes clean FromTop set (λ q. ⊥) new_ways after 1 0 1 (tellings_made instead.more) set_held set_within
       (elim ends [
         | inl one_node ↦ subst (λ (i : Instead). Ends nodes clean i) (sym one_node.instead_is) (one_ends nodes clean one_node)
@@ -723,7 +724,7 @@ module _ (tree : Tree) (root : Root) (land mid low set end : Ground) (history ow
     (child_edited : IsPartEdited tree root mid low history level child_at edit mine child) (above : KeepsAbove level mid low) (edits : IsLeafEdited edit items items_new)
     (first : edit.key ≡ least → edits.leaf ≡ first_leaf (told land.blocks.draft history) (suc level) at)
     (un : IsUnsettled tree root low history level now expected.to place child items_new)
-    (settled : IsSettled tree root low set history level now place child un.pointers un.header items_new rest) (placed : IsPlacedBehind set end now rest instead)
+    (settled : IsSettled tree root low set history level now place child un.pointers un.header items_new rest) (placed : IsPlacedBehind root.owner set end now rest instead)
     (own_rests : Rests land mid own_later root.next) (child_rests : Rests mid low child_later root.next) (set_rests : Rests low set set_later root.next) (end_rests : Rests set end end_later root.next) where
   same_pointers : un.pointers ≡ pointers
   same_pointers =

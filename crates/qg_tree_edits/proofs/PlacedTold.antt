@@ -43,12 +43,12 @@ module _ (old : Ground) (nodes clean : ℕ → Option Node) (Reached : ℕ → T
   }
 
 -- a node is made only where something was cut off
-pub placed-few : (old new : Ground) (now : ℕ) (rest : Option Node) (instead : Instead)
-    → IsPlacedBehind old new now rest instead
+pub placed-few : (owner : ℕ) (old new : Ground) (now : ℕ) (rest : Option Node) (instead : Instead)
+    → IsPlacedBehind owner old new now rest instead
     → sum_by copied_in (tellings_made instead.more) + sum_by made_in (tellings_made instead.more) ≤ slots_for rest
-placed-few old new now None instead placed =
+placed-few owner old new now None instead placed =
     subst (λ (i : Instead). sum_by copied_in (tellings_made i.more) + sum_by made_in (tellings_made i.more) ≤ 0)
     (sym placed.0) (omega arith)
-placed-few old new now (Some node) instead placed =
+placed-few owner old new now (Some node) instead placed =
     subst (λ (i : Instead). sum_by copied_in (tellings_made i.more) + sum_by made_in (tellings_made i.more) ≤ 1)
     (sym placed.1) (omega arith)

@@ -67,11 +67,11 @@ owned-stands tree root old new history expected at now owned =
     elim owned.same [ inl kept ↦ inl kept.1 | inr copied ↦ inr copied.1 ]
 
 -- and so does what is placed behind it
-pub placed-stands : (land old new : Ground) (at now : ℕ) (rest : Option Node) (instead : Instead)
-    → StandsFor land at now → IsPlacedBehind old new now rest instead → StandsFor land at instead.now
-placed-stands land old new at now None instead stands placed =
+pub placed-stands : (owner : ℕ) (land old new : Ground) (at now : ℕ) (rest : Option Node) (instead : Instead)
+    → StandsFor land at now → IsPlacedBehind owner old new now rest instead → StandsFor land at instead.now
+placed-stands owner land old new at now None instead stands placed =
     subst (λ (i : Instead). StandsFor land at i.now) (sym placed.0) stands
-placed-stands land old new at now (Some node) instead stands placed =
+placed-stands owner land old new at now (Some node) instead stands placed =
     subst (λ (i : Instead). StandsFor land at i.now) (sym placed.1) stands
 
 -- ---- pointers that would not ascend

@@ -9,7 +9,7 @@ use Rattle.qg_node.specs.declared.item.Item.{Item}
 use Rattle.qg_node.specs.declared.pointer.Pointer.{Pointer}
 use Rattle.qg_node.specs.declared.node.Header.{Header}
 use Rattle.qg_node.specs.declared.node.Node.{Node}
-use Rattle.qg_node.specs.declared.node.Node.TheVariants.{Inner}
+use Rattle.qg_node.specs.declared.node.Node.TheVariants.{Leaf, Inner}
 use Rattle.qg_node.specs.Nodes.{header_of, is_ascending}
 use Rattle.qg_node.specs.NodeText.{IsNode, IsNodeSize}
 use Rattle.qg_super.specs.declared.superblock.Super.{Super}
@@ -23,7 +23,7 @@ use Rattle.qg_verdict.specs.declared.tree.Tree.{Tree}
 use Rattle.qg_verdict.specs.Walk.{is_owner, walk_failure}
 use Rattle.qg_walk.specs.Standing.{expected_below, form_failure}
 use Rattle.qg_ground.specs.declared.ground.Ground.{Ground}
-use Rattle.qg_ground.specs.Changes.{HasOwner, Makes}
+use Rattle.qg_ground.specs.Changes.{Makes}
 use Rattle.qg_ground.specs.Land.{IsDrafted}
 use Rattle.qg_ground.specs.Tellings.{node_copy}
 use Rattle.qg_edit.specs.declared.edit.Edit.{Edit}
@@ -181,26 +181,21 @@ abbrev pub RestIsReady : ℕ → ℕ → ℕ → Option Node → Type 0
 RestIsReady nodesize level generation None = ⊤
 RestIsReady nodesize level generation (Some node) = IsNode nodesize node × ((header_of node).level ≡ level) × ((header_of node).generation ≡ generation)
 
--- and it has the owner of a node
-abbrev pub RestIsOf : Node → Option Node → Type 0
-RestIsOf old None = ⊤
-RestIsOf old (Some node) = (header_of node).owner ≡ (header_of old).owner
-
--- or this owner, or the one of some fresh node
-abbrev pub RestHasOwner : ℕ → Ground → Option Node → Type 0
-RestHasOwner owner land None = ⊤
-RestHasOwner owner land (Some node) = HasOwner owner land node
-
--- the node at an address is of its level still, and so is what was cut off it, which has its owner
+-- the node at an address is of its level still, and so is what was cut off it
 pub record StaysCut (nodesize : ℕ) (old : Node) (land : Ground) (at : ℕ) (rest : Option Node) : Type 0 where
   pub stays : IsFreshOn land (header_of old).level at
   pub ready : RestIsReady nodesize (header_of old).level (header_of old).generation rest
-  pub owned : RestIsOf old rest
 
--- it lies in a slot that was free, if there is any; all other nodes are told as before, and no other slot is taken or given back
-abbrev pub IsPlacedBehind : Ground → Ground → ℕ → Option Node → Instead → Type 0
-IsPlacedBehind old new now None instead = (instead ≡ record { now = now; more = None }) × (new ≡ old)
-IsPlacedBehind old new now (Some node) instead = (more : ℕ) × (instead ≡ record { now = now; more = Some more }) × Makes old new more node
+-- a node, with this owner
+abbrev pub with_owner : ℕ → Node → Node
+with_owner owner (Leaf header items) = Leaf (record header { owner = owner }) items
+with_owner owner (Inner header pointers) = Inner (record header { owner = owner }) pointers
+
+-- what was cut off, if anything, lies in a slot that was free, and has this owner; all other nodes are told as before, and no other slot is
+-- taken or given back
+abbrev pub IsPlacedBehind : ℕ → Ground → Ground → ℕ → Option Node → Instead → Type 0
+IsPlacedBehind owner old new now None instead = (instead ≡ record { now = now; more = None }) × (new ≡ old)
+IsPlacedBehind owner old new now (Some node) instead = (more : ℕ) × (instead ≡ record { now = now; more = Some more }) × Makes old new more (with_owner owner node)
 
 -- ---- two neighbours
 

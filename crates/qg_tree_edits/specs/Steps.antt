@@ -32,7 +32,7 @@ use Rattle.qg_descent.specs.Tree.{Root, super_of}
 use Rattle.qg_tree_edits.specs.declared.instead.Instead.{Instead}
 use Rattle.qg_tree_edits.specs.declared.pairing.Pair.{Pair}
 use Rattle.qg_tree_edits.specs.First.{least, leaves, leaves_behind}
-use Rattle.qg_tree_edits.specs.Editing.{CanLead, CanMake, IsEditable, IsEmptyIfLeaf, IsFreshOn, IsOwned, IsPartEdited, IsPartFit, IsPlacedBehind, IsSettled, IsUnsettled, KeepsLeaves, Moves, RestHasOwner, RestIsReady, StandsInstead, alone, slots_for}
+use Rattle.qg_tree_edits.specs.Editing.{CanLead, CanMake, IsEditable, IsEmptyIfLeaf, IsFreshOn, IsOwned, IsPartEdited, IsPartFit, IsPlacedBehind, IsSettled, IsUnsettled, KeepsLeaves, Moves, RestIsReady, StandsInstead, alone, slots_for}
 use Rattle.qg_tree_edits.specs.Uniting.{IsPaired}
 use Rattle.qg_tree_edits.specs.Rooting.{HasRoot, StandsForRoot, StaysTree}
 use Rattle.qg_tree_edits.specs.Counting.{IsPartTold, IsRootTold, IsSettledTold, TellsUnited}
@@ -63,7 +63,7 @@ pub record FailsByDisk {T : Type 0} (history : Option (List Event)) (before now 
 -- ---- a node is owned
 
 -- Over any disk: the node is owned that the way leads to expect. At most one slot fewer is free, and each fresh node
--- has the tree's number as owner, or an owner that some fresh node had
+-- has the tree's number as owner, or the owner that the fresh node at its address had
 pub record OwnsNode (tree : Tree) (root : Root) (expected : Expected) (at : ℕ) (old new : Ground)
     (history : Option (List Event)) (result : Result ℕ BlockFault) : Type 0 where
   pub is : IfOk result (λ now. IsOwned tree root old new history expected at now)
@@ -87,20 +87,20 @@ pub record HasRest (land : Ground) (level now generation : ℕ) (rest : Option N
   pub fresh : IsFreshOn land level now
   pub ready : RestIsReady land.space.sizes.nodesize level generation rest
 
--- The rest lies behind its node, each is fresh and of the level, and where there is no rest the node is alone. It takes
--- a slot only where there is one, and fresh nodes above stay as they are
-pub record PlacesRest (old new : Ground) (level now : ℕ) (rest : Option Node) (result : Result Instead BlockFault)
-    : Type 0 where
+-- The rest lies behind its node and has this owner, each is fresh and of the level, and where there is no rest the node
+-- is alone. It takes a slot only where there is one, and fresh nodes above stay as they are
+pub record PlacesRest (owner : ℕ) (old new : Ground) (level now : ℕ) (rest : Option Node)
+    (result : Result Instead BlockFault) : Type 0 where
   pub stood : IfOk result (λ instead. StandsInstead new level instead)
-  pub placed : IfOk result (λ instead. IsPlacedBehind old new now rest instead)
+  pub placed : IfOk result (λ instead. IsPlacedBehind owner old new now rest instead)
   pub whole : rest ≡ None → IfOk result (λ instead. instead.more ≡ None)
   pub moves : OnOk result (Moves (slots_for rest) level old new)
 
 -- ---- a tree gets its root
 
 -- Over any disk: the tree keeps its number and generation, and gets at most so many levels higher. At most so many
--- slots fewer are free, and each fresh node has the tree's number as owner, or an owner that some fresh node had. After
--- an Err the tree is where it was
+-- slots fewer are free, and each fresh node has the tree's number as owner, or the owner that the fresh node at its
+-- address had. After an Err the tree is where it was
 pub record SetsRoot {T : Type 0} (levels slots : ℕ) (before after : Root) (old new : Ground)
     (result : Result T BlockFault) : Type 0 where
   pub stays : StaysTree levels before after
@@ -134,7 +134,8 @@ pub record FailsToRoot {T : Type 0} (tree : Tree) (root : Root) (old new : Groun
 
 -- Over any disk: what stands in the place of the node of a level at an address is fresh and of that level, and is one
 -- node where no item comes. It lies at the address, or in a slot that was free. At most 2 * (level + 1) slots fewer are
--- free, fresh nodes above stay as they are, and each fresh node has the owner, or one that some fresh node had
+-- free, fresh nodes above stay as they are, and each fresh node has the owner, or the one that the fresh node at its
+-- address had
 pub record EditsPart (edit : Edit) (owner level at : ℕ) (old new : Ground) (result : Result Instead BlockFault)
     : Type 0 where
   pub stood : IfOk result (λ instead. StandsInstead new level instead)
@@ -232,7 +233,8 @@ pub record IsThinOn (land : Ground) (level at : ℕ) : Type 0 where
   pub thin : (node : Node) → fresh_at land.blocks.draft at ≡ Some node → IsThin land.space.sizes.nodesize node
 
 -- Over any disk: the neighbour of the child at an index of a node is owned, and the pair is these two. At most one slot
--- fewer is free, and each fresh node has the tree's number as owner, or an owner that some fresh node had
+-- fewer is free, and each fresh node has the tree's number as owner, or the owner that the fresh node at its address
+-- had
 pub record OwnsNeighbour (tree : Tree) (root : Root) (level at : ℕ) (to : Option Key) (place child : ℕ)
     (old new : Ground) (history : Option (List Event)) (result : Result Pair BlockFault) : Type 0 where
   pub is : (node : Node) → fresh_at old.blocks.draft at ≡ Some node
@@ -255,14 +257,14 @@ pub record FailsToPair (tree : Tree) (root : Root) (level at : ℕ) (to : Option
 
 -- Over any disk: the node stays a fresh one of its level, and what is cut off it may be written; nothing is where one
 -- node stands in the child's place. A slot is taken only where nothing is cut off, fresh nodes above stay as they are,
--- and each fresh node, and what is cut off, has the tree's number as owner, or an owner that some fresh node had
+-- and each fresh node has the tree's number as owner, or the owner that the fresh node at its address had
 pub record SetsPointers (root : Root) (level at : ℕ) (child : Instead) (old new : Ground)
     (result : Result (Option Node) BlockFault) : Type 0 where
   pub parent : OnOk result (IsFreshOn new (level + 1) at)
   pub ready : IfOk result (λ rest. RestIsReady old.space.sizes.nodesize (level + 1) root.next rest)
   pub whole : child.more ≡ None → IfOk result (λ rest. rest ≡ None)
   pub moves : IfOk result (λ rest. Moves (1 - slots_for rest) (level + 1) old new)
-  pub owners : IfOk result (λ rest. IsOwnedBy root.owner old new × RestHasOwner root.owner old rest)
+  pub owners : OnOk result (IsOwnedBy root.owner old new)
 
 -- Where the child at an index of a node of a tree was edited, and these are the items under the node: its pointers lead
 -- to them. Where the first child stands alone, each leaf below keeps its items, and a child that was an empty leaf is

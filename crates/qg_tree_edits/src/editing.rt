@@ -81,7 +81,7 @@ pub(crate) fn edit_under<P: TreePart, D: Disk, L: Ledger, B: Book<D, L>>(
         child,
         reads,
     )?;
-    place_rest(land, disk, book, now, level, tree.next(), rest, reads)
+    place_rest(tree, land, disk, book, now, level, rest, reads)
 }
 // Edits the leaf that a way has come to. The answer is what stands in its place.
 fn edit_there<P: TreePart, D: Disk, L: Ledger, B: Book<D, L>>(
@@ -113,5 +113,5 @@ fn edit_there<P: TreePart, D: Disk, L: Ledger, B: Book<D, L>>(
 {
     let now = own::<P, D, L, B>(tree, alloc, land, disk, book, way, reads)?;
     let rest = rewrite_leaf(land, now, edit)?;
-    place_rest(land, disk, book, now, 0, tree.next(), rest, reads)
+    place_rest(tree, land, disk, book, now, 0, rest, reads)
 }

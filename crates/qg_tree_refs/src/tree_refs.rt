@@ -70,6 +70,13 @@ impl TreeRefs {
         }
     }
 
+    /// The book is that of the subvolume `tree` from now on: what comes is owned by it.
+    pub fn stand_for(&mut self, tree: RootId)
+        ensures { self.new ≡ record self.old { tree = tree } }
+    {
+        self.tree = tree;
+    }
+
     /// Where the first reference lies that was told and could not be given or taken: its address in bytes.
     pub fn misfit(&self) -> Option<Address>
         ensures { result ≡ self.now.misfit }

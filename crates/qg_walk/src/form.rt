@@ -111,16 +111,18 @@ fn is_shaped(nodesize: u32, from: Option<Key>, node: &Node) -> bool
     takes_a_quarter(nodesize as usize, node) && is_first(key, node)
 }
 
-// Whether the items or pointers of a node take a quarter at least of what the header leaves of its bytes. No more of them is added up than
-// that takes.
-fn takes_a_quarter(nodesize: usize, node: &Node) -> bool
+/// Whether the items or pointers of a node take a quarter at least of what the header leaves of its bytes.
+///
+/// No more of them is added up than that takes.
+pub fn takes_a_quarter(nodesize: usize, node: &Node) -> bool
     ensures { result ≡ nat_le (capacity nodesize) (4 * used_bytes node.now) }
 {
     nodesize <= HEADER_BYTES || !node.has_room(HEADER_BYTES + (nodesize - HEADER_BYTES - 1) / 4)
 }
 
+/// Whether a node has the shape of a root: it is a leaf, or has two pointers at least.
 #[tactic(auto, unfolding(qg_image::specs::IsShaped::is_shaped))]
-fn is_root_shaped(node: &Node) -> bool
+pub fn is_root_shaped(node: &Node) -> bool
     ensures { (nodesize : ℕ) → result ≡ is_shaped nodesize None node.now }
 {
     match node {

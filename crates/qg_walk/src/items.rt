@@ -14,7 +14,7 @@ use qg_num::{Address, Generation, Rule};
 use qg_parts::{PartList, TreePart};
 
 /// Puts what the items of the leaf at an address say behind what others said, where the tree may hold each.
-pub(crate) fn add_said<P: TreePart, L: PartList<P>>(
+pub fn add_said<P: TreePart, L: PartList<P>>(
     generation: Generation,
     address: Address,
     items: &[Item],

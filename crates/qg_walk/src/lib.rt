@@ -7,12 +7,14 @@ mod items;
 mod keys;
 mod nodes;
 mod slot;
-mod visit;
+mod visiting;
 mod walk;
 mod walked;
 
 pub use fault::OpenFault;
-pub use form::{expected_below, form_failure};
+pub use form::{expected_below, form_failure, is_root_shaped, takes_a_quarter};
+pub use items::add_said;
 pub use nodes::NodeList;
+pub use visiting::visit;
 pub use walk::walk_tree;
 pub use walked::Walked;

@@ -14,7 +14,7 @@ ghost use Rattle.qg_walk.specs.Added.{AreSpaced, HasAdded, below_node, below_poi
 
 use crate::form::expected_below;
 use crate::items::add_said;
-use crate::visit::visit;
+use crate::visiting::visit;
 use crate::{NodeList, OpenFault, Walked};
 use qg_disk::Disk;
 use qg_node::{Node, Pointer};

@@ -4,7 +4,7 @@ use Rattle.std.proofs.lemmas.List.Elements.{All-from_recursion}
 use Rattle.qg_super.specs.Places.{slot_at}
 use Rattle.qg_refs.specs.declared.kept.Kept.{Kept}
 use Rattle.qg_extents.specs.Fresh.{fresh_table}
-use Rattle.qg_commit.proofs.FreshTrees.{fresh-enough, fresh_slots-IsDistinct, nodes_are, superblock_is}
+use Rattle.qg_commit.proofs.FreshTrees.{fresh-enough, fresh_groups, fresh_slots-IsDistinct, fresh_subvolumes, nodes_are, superblock_is}
 use Rattle.qg_commit.proofs.fresh.lay_fresh.Goals as goal
 
 -- what is known is of generation 1
@@ -18,6 +18,7 @@ lay_other_trees-requires c =
     rw (
       c.slots.ensures,
       c.in_ok-book.ensures.exact,
+      c.in_ok-quota.ensures,
       c.slot.ensures,
       c.slot-2.ensures,
       c.new.ensures,
@@ -28,9 +29,8 @@ lay_other_trees-requires c =
       served = c.requires;
       some = omega arith;
       early = lit< tt;
-      counted = refl;
-      by = record { made = omega arith; copied = omega arith };
-      stamp = omega arith;
+      subvolumes = fresh_subvolumes (slot_at sizes 2);
+      groups = fresh_groups sizes.nodesize;
       known = known sizes.nodesize (slot_at sizes 2);
       room = record {
         apart = fresh_slots-IsDistinct sizes c.requires;
@@ -44,6 +44,7 @@ returns-clause-trees c =
     rw (
       c.slots.ensures,
       c.in_ok-book.ensures.exact,
+      c.in_ok-quota.ensures,
       c.slot.ensures,
       c.slot-2.ensures,
       c.new.ensures,

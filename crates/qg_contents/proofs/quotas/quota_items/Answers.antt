@@ -1,47 +1,49 @@
-use Rattle.std.proofs.Common.{◌≤◌, ◌<◌, ◌^◌, length, map, subst, sym, ap, ◌∙◌, List, arith}
+use Rattle.std.proofs.Common.{ℕ, ◌+◌, ◌*◌, ◌≤◌, ◌<◌, ◌^◌, length, map, subst, sym, ap, ◌∙◌, List, arith}
 use Rattle.std.specs.Prelude.{All}
 use Rattle.std.specs.List.{filter_map, list_all}
 use Rattle.qg_node.specs.declared.item.Item.{Item}
 use Rattle.qg_node.specs.Fits.{ItemFits}
 use Rattle.qg_node.specs.Nodes.{is_ascending, items_bytes}
-use Rattle.qg_items.specs.Laws.{InfoFits}
 use Rattle.qg_image.specs.ItemMeaning.{quota_part}
 use Rattle.qg_verdict.specs.declared.tree.Tree.TheVariants.{Quotas}
 use Rattle.qg_verdict.specs.Walk.{is_item_of}
-use Rattle.qg_contents.specs.Written.{status_at, info_of}
+use Rattle.qg_state.specs.declared.quota.Group.{Group}
+use Rattle.qg_contents.specs.Writable.{AreWritableGroups}
+use Rattle.qg_contents.specs.Written.{parts_of_quota, status_at}
 use Rattle.qg_contents.proofs.QuotaTree.{quota-told, quota-allowed, quota-ascending, quota-short, quota-fit, quota-bytes}
 use Rattle.qg_contents.proofs.quotas.quota_items.Goals as goal
 
 pub returns-clause-told : goal.returns-clause-told
 returns-clause-told c =
     let now : c.args.generation < 2 ^ 64 = omega arith in
-    let fits : InfoFits (info_of c.args.stamp c.args.counters.now) =
-    record { generation = omega arith; rfer = omega arith; rfer_cmpr = omega arith; excl = omega arith; excl_cmpr = omega arith } in
-    ap (filter_map quota_part) c.in_ok-items_of_quota.ensures ∙ quota-told c.args.generation c.args.group (info_of c.args.stamp c.args.counters.now) now fits
+    ap (filter_map quota_part) c.in_ok-items_of_quota.ensures.exact
+    ∙ quota-told c.args.generation c.as_slice.result.now now c.in_ok-items_of_quota.ensures.fits
+    ∙ ap (parts_of_quota c.args.generation) c.as_slice.ensures
 
 pub returns-clause-allowed : goal.returns-clause-allowed
 returns-clause-allowed c =
     let now : c.args.generation < 2 ^ 64 = omega arith in
-    let fits : InfoFits (info_of c.args.stamp c.args.counters.now) =
-    record { generation = omega arith; rfer = omega arith; rfer_cmpr = omega arith; excl = omega arith; excl_cmpr = omega arith } in
-    ap (list_all (is_item_of Quotas c.args.generation)) c.in_ok-items_of_quota.ensures
-    ∙ quota-allowed c.args.generation c.args.group (info_of c.args.stamp c.args.counters.now) now fits c.requires
+    ap (list_all (is_item_of Quotas c.args.generation)) c.in_ok-items_of_quota.ensures.exact
+    ∙ quota-allowed c.args.generation c.as_slice.result.now now c.in_ok-items_of_quota.ensures.fits
+    (subst (AreWritableGroups c.args.generation) (sym c.as_slice.ensures) c.requires)
 
 pub returns-clause-ascending : goal.returns-clause-ascending
 returns-clause-ascending c =
-    ap (λ (items : List Item). is_ascending (map (λ item. item.key) items)) c.in_ok-items_of_quota.ensures
-    ∙ quota-ascending (status_at c.args.generation) c.args.group (info_of c.args.stamp c.args.counters.now)
+    ap (λ (items : List Item). is_ascending (map (λ item. item.key) items)) c.in_ok-items_of_quota.ensures.exact
+    ∙ quota-ascending c.args.generation (status_at c.args.generation) c.as_slice.result.now
+    (subst (AreWritableGroups c.args.generation) (sym c.as_slice.ensures) c.requires)
 
 pub returns-clause-short : goal.returns-clause-short
 returns-clause-short c =
-    subst (λ (items : List Item). All (λ (item : Item). length item.body ≤ 1024) items) (sym c.in_ok-items_of_quota.ensures)
-    (quota-short (status_at c.args.generation) c.args.group (info_of c.args.stamp c.args.counters.now))
+    subst (λ (items : List Item). All (λ (item : Item). length item.body ≤ 1024) items) (sym c.in_ok-items_of_quota.ensures.exact)
+    (quota-short (status_at c.args.generation) c.as_slice.result.now)
 
 pub returns-clause-fit : goal.returns-clause-fit
 returns-clause-fit c =
-    subst (λ (items : List Item). All ItemFits items) (sym c.in_ok-items_of_quota.ensures)
-    (quota-fit (status_at c.args.generation) c.args.group (info_of c.args.stamp c.args.counters.now) (omega arith))
+    subst (λ (items : List Item). All ItemFits items) (sym c.in_ok-items_of_quota.ensures.exact)
+    (quota-fit (status_at c.args.generation) c.as_slice.result.now c.in_ok-items_of_quota.ensures.fits)
 
 pub returns-clause-weight : goal.returns-clause-weight
 returns-clause-weight c =
-    ap items_bytes c.in_ok-items_of_quota.ensures ∙ quota-bytes (status_at c.args.generation) c.args.group (info_of c.args.stamp c.args.counters.now)
+    ap items_bytes c.in_ok-items_of_quota.ensures.exact ∙ quota-bytes (status_at c.args.generation) c.as_slice.result.now
+    ∙ ap (λ (groups : List (ℕ × Group)). 57 + 130 * length groups) c.as_slice.ensures

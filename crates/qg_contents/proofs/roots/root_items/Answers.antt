@@ -10,31 +10,36 @@ use Rattle.qg_verdict.specs.Walk.{is_item_of}
 use Rattle.qg_contents.proofs.RootTree.{roots-told, roots-allowed, roots-ascending, roots-short, roots-fit, roots-bytes}
 use Rattle.qg_contents.proofs.roots.root_items.Goals as goal
 
+pub items_of_roots-requires : goal.items_of_roots-requires
+items_of_roots-requires c = c.requires.subvolumes.numbers
+
 pub returns-clause-told : goal.returns-clause-told
 returns-clause-told c =
-    ap (filter_map root_part) c.in_ok-items_of_roots.ensures
-    ∙ roots-told c.args.extents.now c.args.files.now c.args.quotas.now c.requires.extents c.requires.files c.requires.quotas
+    ap (filter_map root_part) c.in_ok-items_of_roots.ensures.exact
+    ∙ roots-told c.args.extents.now c.args.subvolumes.now c.args.quotas.now c.requires.extents c.requires.subvolumes c.in_ok-items_of_roots.ensures.fits c.requires.quotas
 
 pub returns-clause-allowed : goal.returns-clause-allowed
-returns-clause-allowed c generation e f q =
-    ap (list_all (is_item_of Roots generation)) c.in_ok-items_of_roots.ensures
-    ∙ roots-allowed generation c.args.extents.now c.args.files.now c.args.quotas.now c.requires.extents c.requires.files c.requires.quotas e f q
+returns-clause-allowed c generation e s q =
+    ap (list_all (is_item_of Roots generation)) c.in_ok-items_of_roots.ensures.exact
+    ∙ roots-allowed c.args.extents.now c.args.subvolumes.now c.args.quotas.now generation
+    c.requires.extents c.requires.subvolumes c.in_ok-items_of_roots.ensures.fits c.requires.quotas e s q
 
 pub returns-clause-ascending : goal.returns-clause-ascending
 returns-clause-ascending c =
-    ap (λ (items : List Item). is_ascending (map (λ item. item.key) items)) c.in_ok-items_of_roots.ensures
-    ∙ roots-ascending c.args.extents.now c.args.files.now c.args.quotas.now
+    ap (λ (items : List Item). is_ascending (map (λ item. item.key) items)) c.in_ok-items_of_roots.ensures.exact
+    ∙ roots-ascending c.args.extents.now c.args.subvolumes.now c.args.quotas.now c.requires.subvolumes
 
 pub returns-clause-short : goal.returns-clause-short
 returns-clause-short c =
-    subst (λ (items : List Item). All (λ (item : Item). length item.body ≤ 1024) items) (sym c.in_ok-items_of_roots.ensures)
-    (roots-short c.args.extents.now c.args.files.now c.args.quotas.now)
+    subst (λ (items : List Item). All (λ (item : Item). length item.body ≤ 1024) items) (sym c.in_ok-items_of_roots.ensures.exact)
+    (roots-short c.args.extents.now c.args.subvolumes.now c.args.quotas.now)
 
 pub returns-clause-fit : goal.returns-clause-fit
 returns-clause-fit c =
-    subst (λ (items : List Item). All ItemFits items) (sym c.in_ok-items_of_roots.ensures)
-    (roots-fit c.args.extents.now c.args.files.now c.args.quotas.now c.requires.extents c.requires.files c.requires.quotas)
+    subst (λ (items : List Item). All ItemFits items) (sym c.in_ok-items_of_roots.ensures.exact)
+    (roots-fit c.args.extents.now c.args.subvolumes.now c.args.quotas.now c.requires.extents c.requires.subvolumes c.in_ok-items_of_roots.ensures.fits c.requires.quotas)
 
 pub returns-clause-weight : goal.returns-clause-weight
 returns-clause-weight c =
-    ap items_bytes c.in_ok-items_of_roots.ensures ∙ roots-bytes c.args.extents.now c.args.files.now c.args.quotas.now
+    ap items_bytes c.in_ok-items_of_roots.ensures.exact
+    ∙ roots-bytes c.args.extents.now c.args.subvolumes.now c.args.quotas.now c.requires.subvolumes

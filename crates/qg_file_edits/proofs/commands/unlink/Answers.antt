@@ -18,7 +18,8 @@ returns-clause-unlinked g c files file holds there found =
     (g.D.Disk.history c.args.disk.now) files _ c.args.reads.now c.make_exchange.new.reads c.make_exchange.result holds
     told
     c.make_exchange.ensures.told (g.D.Disk.size c.args.disk.now) c.requires.subvolume
-    c.make_exchange.ensures.table
+    c.make_exchange.ensures.table c.make_exchange.ensures.leaves.subvolume.editable.drafted
+    c.make_exchange.ensures.still
 
 pub returns-clause-sound : goal.returns-clause-sound
 returns-clause-sound g c events known files file holds there found room =

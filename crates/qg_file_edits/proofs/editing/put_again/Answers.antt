@@ -10,7 +10,7 @@ use Rattle.qg_file_edits.proofs.Once.{once-leaves, once-own, once-put}
 use Rattle.qg_file_edits.proofs.editing.put_again.Goals as goal
 
 pub returns-in_err-body-clause-told : goal.returns-in_err-body-clause-told
-returns-in_err-body-clause-told g c items names stands can =
+returns-in_err-body-clause-told g c items names stands can covered =
     let fs = c.args.fs.now in
     let before = g.D.Disk.history c.args.disk.now in
     let put = with_item (record { key = c.args.key; body = c.args.bytes.now }) items in
@@ -23,27 +23,27 @@ returns-in_err-body-clause-leaves g c =
     leaves-itself c.args.fs.now (g.D.Disk.history c.args.disk.now) (g.D.Disk.size c.args.disk.now) c.requires.subvolume
 
 pub returns-clause-told : goal.returns-clause-told
-returns-clause-told g c items names stands can =
+returns-clause-told g c items names stands can covered =
     let call = c.replace.ensures in
     once-put c.args.fs.now c.replace.new.self (g.D.Disk.history c.args.disk.now) (g.D.Disk.history c.replace.new.disk)
     (g.D.Disk.size c.args.disk.now) (g.D.Disk.size c.replace.new.disk) c.args.reads.now c.replace.new.reads
     c.replace.result
-    c.requires.subvolume call.rests call.subvolume call.reads items names stands (λ (k : Key). IsTrue (has_key k items))
+    c.requires.subvolume call.rests call.subvolume call.others call.reads items names stands (λ (k : Key). IsTrue (has_key k items))
     c.args.key c.args.key c.in_ok-body.body c.args.bytes.now refl c.in_ok-body.ensures
     (call.replaced items names stands) call.grows
-    (λ events known there room. call.sound events known items names stands there room) can
+    (λ events known there room. call.sound events known items names stands there room) can covered
 
 pub returns-clause-leaves : goal.returns-clause-leaves
 returns-clause-leaves g c =
     once-leaves c.args.fs.now c.replace.new.self (g.D.Disk.history c.args.disk.now)
     (g.D.Disk.history c.replace.new.disk) (g.D.Disk.size c.args.disk.now) (g.D.Disk.size c.replace.new.disk)
     c.args.reads.now c.replace.new.reads c.replace.result c.requires.subvolume c.replace.ensures.rests
-    c.replace.ensures.subvolume
+    c.replace.ensures.subvolume c.replace.ensures.others
 
 pub returns-clause-own : goal.returns-clause-own
 returns-clause-own g c =
     once-own c.args.fs.now c.replace.new.self (g.D.Disk.history c.args.disk.now)
     (g.D.Disk.history c.replace.new.disk) (g.D.Disk.size c.args.disk.now) (g.D.Disk.size c.replace.new.disk)
     c.args.reads.now c.replace.new.reads c.replace.result c.requires.subvolume c.replace.ensures.rests
-    c.replace.ensures.subvolume
+    c.replace.ensures.subvolume c.replace.ensures.others
     1 c.replace.ensures.grows

@@ -29,7 +29,7 @@ loop-step-preserved g c =
     (g.D.Disk.faults c.take_step.new.disk) c.take_step.new.reads call.leaves call.own call.cause.later call.told
 
 pub returns-in_err-take_step-clause-told : goal.returns-in_err-take_step-clause-told
-returns-in_err-take_step-clause-told g c items names stands applies =
+returns-in_err-take_step-clause-told g c items names stands applies named =
     let step = c.step-item.result in
     let i = c.loop-step.step-index in
     let steps = c.args.steps.now in
@@ -41,7 +41,7 @@ returns-in_err-take_step-clause-told g c items names stands applies =
     (steps-failed c.args.ino steps i step at c.args.fs.now c.loop-step.fs before (g.D.Disk.history c.loop-step.disk)
     (g.D.Disk.size c.args.disk.now) (g.D.Disk.size c.loop-step.disk) (g.D.Disk.faults c.args.disk.now)
     (g.D.Disk.faults c.loop-step.disk) c.args.reads.now c.loop-step.reads c.loop-step.invariant c.take_step.new.fs
-    c.take_step.new.reads _ c.loop-step-test.true c.in_err-take_step.ensures.told items names stands applies)
+    c.take_step.new.reads _ c.loop-step-test.true c.in_err-take_step.ensures.told items names stands applies named)
 
 pub returns-in_err-take_step-clause-leaves : goal.returns-in_err-take_step-clause-leaves
 returns-in_err-take_step-clause-leaves g c =
@@ -57,7 +57,7 @@ returns-in_err-take_step-clause-cause g c =
     (handed c.from_residual.result _ c.from_residual.ensures.1) c.in_err-take_step.ensures.cause
 
 pub returns-clause-told : goal.returns-clause-told
-returns-clause-told g c items names stands applies =
+returns-clause-told g c items names stands applies named =
     let steps = c.args.steps.now in
     let i = c.loop-step.step-index in
     let below : i ≤ length steps = omega arith in
@@ -65,7 +65,7 @@ returns-clause-told g c items names stands applies =
     (g.D.Disk.history c.loop-step.disk) (g.D.Disk.size c.args.disk.now) (g.D.Disk.size c.loop-step.disk)
     (g.D.Disk.faults c.args.disk.now) (g.D.Disk.faults c.loop-step.disk) c.args.reads.now c.loop-step.reads
     c.loop-step-test.false below (take_all i steps c.loop-step-test.false) c.loop-step.invariant items names stands
-    applies
+    applies named
 
 pub returns-clause-leaves : goal.returns-clause-leaves
 returns-clause-leaves g c = c.loop-step.invariant.leaves

@@ -13,7 +13,7 @@ pub edit_inode-requires : goal.edit_inode-requires
 edit_inode-requires g c = c.in_ok-take_steps.ensures.leaves.subvolume
 
 pub returns-in_err-steps-clause-told : goal.returns-in_err-steps-clause-told
-returns-in_err-steps-clause-told g c edits items names stands can =
+returns-in_err-steps-clause-told g c edits items names stands can covers =
     let fs = c.args.fs.now in
     let before = g.D.Disk.history c.args.disk.now in
     let left = after_exchange c.args.ino c.args.change.now items in
@@ -26,7 +26,7 @@ returns-in_err-steps-clause-leaves g c =
     leaves-itself c.args.fs.now (g.D.Disk.history c.args.disk.now) (g.D.Disk.size c.args.disk.now) c.requires.subvolume
 
 pub returns-in_err-take_steps-clause-told : goal.returns-in_err-take_steps-clause-told
-returns-in_err-take_steps-clause-told g c edits items names stands can =
+returns-in_err-take_steps-clause-told g c edits items names stands can covers =
     let change = c.args.change.now in
     let before = g.D.Disk.history c.args.disk.now in
     let steps = c.as_slice.result.now in
@@ -36,10 +36,10 @@ returns-in_err-take_steps-clause-told g c edits items names stands can =
     c.args.reads.now c.take_steps.new.reads c.from_residual-in_err-take_steps.result _
     (handed c.from_residual-in_err-take_steps.result _ c.from_residual-in_err-take_steps.ensures.1)
     (items-failed edits c.args.ino change steps c.args.fs.now c.take_steps.new.fs before c.args.reads.now
-    c.take_steps.new.reads are _ c.in_err-take_steps.ensures.told items names stands can)
+    c.take_steps.new.reads are _ c.in_err-take_steps.ensures.told items names stands can covers)
 
 pub returns-clause-told : goal.returns-clause-told
-returns-clause-told g c edits items names stands can =
+returns-clause-told g c edits items names stands can covers =
     let change = c.args.change.now in
     let before = g.D.Disk.history c.args.disk.now in
     let steps = c.as_slice.result.now in
@@ -48,7 +48,7 @@ returns-clause-told g c edits items names stands can =
     items-edited edits c.args.ino change steps c.args.fs.now c.take_steps.new.fs before c.args.reads.now
     c.take_steps.new.reads are c.edit_inode.new.fs (g.D.Disk.history c.take_steps.new.disk) c.edit_inode.new.reads
     c.edit_inode.result c.in_ok-take_steps.ensures.leaves.history c.in_ok-take_steps.ensures.told
-    c.edit_inode.ensures.told items names stands can
+    c.edit_inode.ensures.told c.in_ok-take_steps.ensures.own items names stands can covers
 
 pub returns-clause-leaves : goal.returns-clause-leaves
 returns-clause-leaves g c =

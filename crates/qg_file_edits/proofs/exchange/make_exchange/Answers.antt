@@ -44,6 +44,11 @@ pub returns-clause-table : goal.returns-clause-table
 returns-clause-table g c =
     subst (λ (refs : List (ℕ × Kept)). IsTable refs) c.refs.ensures c.len-ascending.ensures.table
 
+pub returns-clause-still : goal.returns-clause-still
+returns-clause-still g c =
+    ok-known _ c.unname_each-unnamed.result
+    (subst (λ (refs : List (ℕ × Kept)). IsTable refs) c.refs-2.ensures c.len-ascending_still.ensures.table)
+
 -- ---- pieces that cannot be named
 
 pub returns-in_err-name_those_put-clause-told : goal.returns-in_err-name_those_put-clause-told
@@ -119,7 +124,7 @@ returns-clause-told g c edits files files_new stands makes =
     let old = c.args.fs.now in
     let mid = c.name_those_put.new.fs in
     let edited = c.edit_items.new.fs in
-    let new = c.unname_each.new.fs in
+    let new = c.unname_each-unnamed.new.fs in
     let ino = c.args.ino in
     let change = c.args.change.now in
     let before = g.D.Disk.history c.args.disk.now in
@@ -136,12 +141,12 @@ returns-clause-told g c edits files files_new stands makes =
     let unnamed = subst (λ (xs : List Piece). (some : List Item) (names : List (ℕ × Piece))
     → Stands edited after some (names_of ino xs ++ names)
     → AreCovered edited.tree.owner (filter_map name_told some) names
-    → AreNamed edited new after some names c.unname_each.result) c.as_slice.ensures
-    (λ some names. c.unname_each.ensures.unnamed after left some names leaves.subvolume) in
+    → AreNamed edited new after some names c.unname_each-unnamed.result) c.as_slice.ensures
+    (λ some names. c.unname_each-unnamed.ensures.unnamed after left some names leaves.subvolume) in
     last-unnamed edits ino change files files_new old mid before bytes c.requires.subvolume stands makes nodes
     begun.done c.in_ok-name_those_put.ensures.heavier
-    edited new after left c.args.reads.now c.edit_items.new.reads c.unname_each.result leaves.history leaves.subvolume
-    c.unname_each.ensures.nodes c.unname_each.ensures.heavier made unnamed
+    edited new after left c.args.reads.now c.edit_items.new.reads c.unname_each-unnamed.result leaves.history leaves.subvolume
+    c.unname_each-unnamed.ensures.nodes c.unname_each-unnamed.ensures.heavier made unnamed
 
 pub returns-clause-leaves : goal.returns-clause-leaves
 returns-clause-leaves g c =
@@ -150,24 +155,24 @@ returns-clause-leaves g c =
     let after = g.D.Disk.history c.edit_items.new.disk in
     let left = g.D.Disk.size c.edit_items.new.disk in
     let leaves = c.in_ok-edit_items.ensures.leaves in
-    leaves-then c.args.fs.now c.edit_items.new.fs c.unname_each.new.fs before after after bytes left left
+    leaves-then c.args.fs.now c.edit_items.new.fs c.unname_each-unnamed.new.fs before after after bytes left left
     (leaves-then c.args.fs.now c.name_those_put.new.fs c.edit_items.new.fs before before after bytes bytes left
     (leaves-kept c.args.fs.now c.name_those_put.new.fs before bytes c.in_ok-name_those_put.ensures.nodes
     c.requires.subvolume) leaves)
-    (leaves-kept c.edit_items.new.fs c.unname_each.new.fs after left c.unname_each.ensures.nodes leaves.subvolume)
+    (leaves-kept c.edit_items.new.fs c.unname_each-unnamed.new.fs after left c.unname_each-unnamed.ensures.nodes leaves.subvolume)
 
 pub returns-clause-own : goal.returns-clause-own
 returns-clause-own g c =
     let old = c.args.fs.now in
     let mid = c.name_those_put.new.fs in
     let edited = c.edit_items.new.fs in
-    let new = c.unname_each.new.fs in
-    ok-known _ c.unname_each.result
+    let new = c.unname_each-unnamed.new.fs in
+    ok-known _ c.unname_each-unnamed.result
     (own-then old edited new
     (own-then old mid edited (own-kept old mid c.in_ok-name_those_put.ensures.nodes) c.in_ok-edit_items.ensures.own)
-    (own-kept edited new c.unname_each.ensures.nodes))
+    (own-kept edited new c.unname_each-unnamed.ensures.nodes))
 
 pub returns-clause-cause : goal.returns-clause-cause
 returns-clause-cause g c =
-    cause-other (g.D.Disk.faults c.args.disk.now) (g.D.Disk.faults c.edit_items.new.disk) c.unname_each.result
-    c.in_ok-edit_items.ensures.cause.later c.unname_each.ensures.fault
+    cause-other (g.D.Disk.faults c.args.disk.now) (g.D.Disk.faults c.edit_items.new.disk) c.unname_each-unnamed.result
+    c.in_ok-edit_items.ensures.cause.later c.unname_each-unnamed.ensures.fault

@@ -7,8 +7,7 @@ pub returns-clause-kept : goal.returns-clause-kept
 returns-clause-kept c = opened-kept
 
 pub returns-clause-recorded : goal.returns-clause-recorded
-returns-clause-recorded c = λ fs super image root files counters stamp table sound opened commit holds.
-    opened-recorded super image counters stamp holds fs root files table sound opened commit
+returns-clause-recorded c = opened-recorded
 
 pub returns-clause-names : goal.returns-clause-names
 returns-clause-names c = opened-names

@@ -1,5 +1,6 @@
 use Rattle.qg_fs_step.proofs.Free.{space-told}
 use Rattle.qg_fs_step.proofs.Kept.{level-told}
+use Rattle.qg_fs_step.proofs.OtherWeight.{others-weigh}
 use Rattle.qg_fs_step.proofs.Others.{changes-told, weight-told}
 use Rattle.qg_fs_step.proofs.laws.numbers_are_the_trees.Goals as goal
 
@@ -10,8 +11,11 @@ pub returns-clause-level : goal.returns-clause-level
 returns-clause-level c = level-told
 
 pub returns-clause-weight : goal.returns-clause-weight
-returns-clause-weight c = λ fs history bytes state mine files counters stamp kept keeps quota recorded names.
-    weight-told fs history bytes state mine files kept keeps counters stamp quota recorded names
+returns-clause-weight c = λ fs history bytes state mine files names kept keeps recorded others.
+    weight-told fs history bytes state mine files kept keeps names recorded others
+
+pub returns-clause-others : goal.returns-clause-others
+returns-clause-others c = others-weigh
 
 pub returns-clause-changes : goal.returns-clause-changes
 returns-clause-changes c = changes-told

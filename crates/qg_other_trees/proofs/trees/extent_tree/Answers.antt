@@ -2,6 +2,7 @@ use Rattle.std.proofs.lemmas.Result.{IfOk-weaker}
 use Rattle.qg_image.specs.ItemMeaning.{extent_part}
 use Rattle.qg_extents.specs.Written.{parts_of_book}
 use Rattle.qg_other_trees.specs.Trees.{ExtentsTell}
+use Rattle.qg_other_trees.proofs.Enough.{few_nodes}
 use Rattle.qg_other_trees.proofs.Slots.{all_said}
 use Rattle.qg_other_trees.proofs.trees.extent_tree.Goals as goal
 
@@ -23,4 +24,9 @@ returns-clause-tree c =
 
 pub returns-clause-few : goal.returns-clause-few
 returns-clause-few c =
-    IfOk-weaker c.build.result _ _ (λ built stands. rw (← c.in_ok-items.ensures.exact) stands.few) c.build.ensures
+    IfOk-weaker c.build.result _ _
+    (λ built stands.
+    rw (← c.in_ok-items.ensures.exact)
+    (few_nodes c.args.nodesize c.new.result c.args.next c.in_ok-items.items c.args.slots.now built.nodes built.root built.level
+    stands))
+    c.build.ensures

@@ -1,6 +1,8 @@
 use Rattle.std.proofs.Common.{◌≡◌, List, ℕ, ap, arith, length, refl, subst, sym, true}
 use Rattle.std.specs.List.{list_all}
 use Rattle.qg_space.specs.Holding.{is_free_slot}
+use Rattle.qg_store.specs.Committing.{group_now}
+use Rattle.qg_store.proofs.CanLay.{group-only}
 use Rattle.qg_store.proofs.KeptCommit.{committed-laid, count-within, front-told, later-fits}
 use Rattle.qg_store.proofs.WhereLaid.{front-free}
 use Rattle.qg_store.proofs.committing.keep_commit.Goals as goal
@@ -32,7 +34,8 @@ returns-clause-keeps g c =
     record {
       superblock = refl;
       root = refl;
-      group = refl;
+      group = group-only c.as_slice-2.result.now c.index-as_slice-0.result c.args.plan.now.quota
+          (group_now c.args.kept.now) c.as_slice-2.ensures c.requires.plan.quota;
       fs = committed-laid c.args.kept.now c.args.plan.now c.args.trees.now c.requires.laid c.args.kept.now.fs
           c.committed.new.fs _ front c.in_ok-committed.ensures.committed;
       pending = refl;

@@ -9,14 +9,13 @@ use Rattle.qg_store.proofs.committing.write_trees.Goals as goal
 pub commit-requires-clause-trees : goal.commit-requires-clause-trees
 commit-requires-clause-trees g c =
     can-be-laid c.args.kept.now c.args.plan.now c.requires.kept.fitted c.requires.plan c.sizes.result c.next.result _
-    c.as_slice.result.now (record {
+    c.as_slice-2.result.now (record {
       sizes_are = c.sizes.ensures;
       next_is = c.next.ensures;
-      root = refl;
+      roots = c.as_slice.ensures;
       book = c.refs.ensures;
-      counters = refl;
-      stamp = refl;
-      slots_are = c.as_slice.ensures;
+      quota = refl;
+      slots_are = c.as_slice-2.ensures;
     }) c.requires.early
 
 pub commit-requires-clause-fresh : goal.commit-requires-clause-fresh
@@ -25,7 +24,7 @@ commit-requires-clause-fresh g c = can-be-written c.args.kept.now c.requires.kep
 pub commit-requires-clause-slots : goal.commit-requires-clause-slots
 commit-requires-clause-slots g c =
     slots-there c.args.kept.now c.args.plan.now c.requires.kept.fitted c.requires.plan c.sizes.result
-    c.as_slice.result.now c.sizes.ensures c.as_slice.ensures
+    c.as_slice-2.result.now c.sizes.ensures c.as_slice-2.ensures
 
 pub returns-clause-read : goal.returns-clause-read
 returns-clause-read g c =
@@ -35,13 +34,12 @@ returns-clause-read g c =
 
 pub returns-clause-stopped : goal.returns-clause-stopped
 returns-clause-stopped g c = λ events told.
-    stops-so c.args.kept.now c.args.plan.now c.sizes.result c.next.result _ c.as_slice.result.now events _
+    stops-so c.args.kept.now c.args.plan.now c.sizes.result c.next.result _ c.as_slice-2.result.now events _
     c.commit.result (c.commit.ensures.stopped events told) (record {
       sizes_are = c.sizes.ensures;
       next_is = c.next.ensures;
-      root = refl;
+      roots = c.as_slice.ensures;
       book = c.refs.ensures;
-      counters = refl;
-      stamp = refl;
-      slots_are = c.as_slice.ensures;
+      quota = refl;
+      slots_are = c.as_slice-2.ensures;
     })

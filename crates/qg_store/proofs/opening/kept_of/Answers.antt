@@ -1,11 +1,11 @@
-use Rattle.std.proofs.Common.{◌≡◌, ℕ, List, [], ◌∷◌, ◌++◌, slice_index_or, arith, refl, sym, ap, subst, ◌∙◌}
-use Rattle.std.specs.Prelude.{◌↔◌, IsTrue}
+use Rattle.std.proofs.Common.{◌≡◌, ℕ, List, ◌++◌, arith, refl, sym, subst, ◌∙◌}
+use Rattle.std.specs.Prelude.{◌↔◌}
 use Rattle.std.specs.List.{Contains}
 use Rattle.qg_super.proofs.Served.{SuperFits-is_super}
 use Rattle.qg_state.specs.declared.quota.Group.{Group}
-use Rattle.qg_state.specs.declared.quota.Quota.{Quota}
 use Rattle.qg_other_trees.specs.Telling.{one_group}
-use Rattle.qg_store.proofs.Opened.{counted_one, kept-opened, never-ok, served_slots}
+use Rattle.qg_store.proofs.CanLay.{counted_one, group-only}
+use Rattle.qg_store.proofs.Opened.{kept-opened, never-ok, served_slots}
 use Rattle.qg_store.proofs.opening.kept_of.Goals as goal
 
 pub space_of-requires-clause-served : goal.space_of-requires-clause-served
@@ -32,16 +32,10 @@ pub returns-in_err-refs-clause-keeps : goal.returns-in_err-refs-clause-keeps
 returns-in_err-refs-clause-keeps c = λ events state is stands.
     never-ok _ c.from_residual-in_err-refs.result _ c.from_residual-in_err-refs.ensures.1
 
--- the group is the only one
-group_is : (groups : List (ℕ × Group)) (first : ℕ × Group) (quota : Quota) (group : Group) → groups ≡ quota.groups
-    → quota ≡ record { groups = (5, group) ∷ []; pairs = [] } → (slice_index_or groups 0 first).1 ≡ group
-group_is groups first quota group are counted =
-    ap (λ (list : List (ℕ × Group)). (slice_index_or list 0 first).1) (are ∙ ap (λ (q : Quota). q.groups) counted)
-
 pub returns-clause-keeps : goal.returns-clause-keeps
 returns-clause-keeps c = λ events state is stands.
     let image = c.args.image in
-    let group = group_is c.as_slice.result.now c.index-as_slice-0.result image.quota c.requires.group c.as_slice.ensures c.requires.counted in
+    let group = group-only c.as_slice.result.now c.index-as_slice-0.result image.quota c.requires.group c.as_slice.ensures c.requires.counted in
     kept-opened _ image
     (record {
       superblock = refl;
@@ -50,6 +44,7 @@ returns-clause-keeps c = λ events state is stands.
           (counted_one image.quota c.requires.group c.requires.counted c.requires.no_max_rfer c.requires.no_max_excl);
       idle = refl;
       tree = c.at.ensures ∙ (rw (c.new-owner.ensures, c.new-next.ensures, c.value.ensures) refl);
+      none = c.new-3.ensures.items;
       draft = c.in_ok-blocks.ensures.draft;
       sizes = c.in_ok-space.ensures.sizes;
       slots = subst (λ (list : List ℕ). (slot : ℕ) → Contains c.in_ok-space.space.slots slot ↔ Contains list slot)
@@ -63,6 +58,6 @@ returns-clause-keeps c = λ events state is stands.
           c.as_slice-2.ensures c.in_ok-space.ensures.held_slots);
       runs = c.in_ok-space.ensures.runs ∙ c.as_slice-4.ensures;
       held_runs = c.in_ok-space.ensures.held_runs ∙ c.as_slice-4.ensures;
-      refs = c.new-3.ensures
+      refs = c.new-4.ensures
           ∙ (rw (c.in_ok-refs.ensures, c.new-owner.ensures, c.from.ensures, c.new-next.ensures, c.value.ensures) refl);
     }) c.requires c.len-ascending.ensures.table events is state stands

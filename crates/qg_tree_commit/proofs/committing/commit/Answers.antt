@@ -34,7 +34,7 @@ write_all-requires-clause-nodes g c =
     let laying = listed-IsLaying sizes c.args.next told c.args.slots.now draft trees c.in_ok-addresses.addresses
     c.in_ok-trees.ensures.superblock c.in_ok-trees.ensures.trees c.in_ok-addresses.ensures.addresses
     c.in_ok-addresses.ensures.ascending in
-    let all = written-writable sizes c.args.next told.root.now told.book.now told.counters.now told.stamp
+    let all = written-writable sizes c.args.next told.roots.now told.book.now told.quota.now
     c.args.slots.now
     draft trees laying c.requires.fresh (each-slot sizes c.args.slots.now c.requires.slots) in
     subst (λ (n : ℕ). AllByRecursion (IsWritable n) (nodes_written draft trees)) (sym long) all

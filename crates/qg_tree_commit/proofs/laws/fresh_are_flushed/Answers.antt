@@ -3,7 +3,7 @@ use Rattle.qg_tree_commit.proofs.laws.fresh_are_flushed.Goals as goal
 
 pub returns : goal.returns
 returns c = record {
-  flushed = λ fs before bytes root book counters generation stamp slots trees subvolume laying free gone read long.
-      is-flushed fs root book counters generation stamp slots trees laying subvolume.editable.drafted free read before
+  flushed = λ fs before bytes roots book quota generation slots trees subvolume laying free gone read long.
+      is-flushed fs roots book quota generation slots trees laying subvolume.editable.drafted free read before
       long subvolume.editable.backed gone;
 }

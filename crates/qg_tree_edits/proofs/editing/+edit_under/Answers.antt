@@ -115,11 +115,11 @@ place_rest-requires-clause-rest g t c =
     let up : c.args.level - 1 + 1 ≡ c.args.level = omega arith in
     let settled = c.in_ok-rest.ensures.set in
     let sizes = ap (λ (s : Sizes). s.nodesize) (sym c.settle.ensures.rests.rests.sizes) in
-    rw c.next.ensures (record {
+    record {
       fresh = subst (λ (n : ℕ). IsFreshOn set n now) up settled.parent;
       ready = subst (λ (n : ℕ). RestIsReady set.space.sizes.nodesize n next rest) up
           (subst (λ (n : ℕ). RestIsReady n (c.args.level - 1 + 1) next rest) sizes settled.ready);
-    })
+    }
 
 -- ---- a leaf
 
@@ -185,7 +185,7 @@ returns-clause-part g t c =
       stood = placed.stood;
       whole = λ none. placed.whole (settled.whole (below.whole none));
       there = IfOk-weaker c.place_rest.result _ _
-          (λ instead behind. placed-stands land set end way.address now rest instead stands behind) placed.placed;
+          (λ instead behind. placed-stands owner land set end way.address now rest instead stands behind) placed.placed;
       moves = on_ok_weaker c.place_rest.result
           (λ last. let fourth = last.count in record {
             count = omega (arith, first, second, third, fourth, most);
@@ -197,7 +197,7 @@ returns-clause-part g t c =
       owners = IfOk-weaker c.place_rest.result _ _
           (λ instead behind. IsOwnedBy-after owner land mid end c.in_ok-now.ensures.owned.owners
           (IsOwnedBy-after owner mid low end below.owners
-          (placed-owners owner low set end now rest instead settled.owners.0 settled.owners.1 behind)))
+          (placed-owners owner low set end now rest instead settled.owners behind)))
           placed.placed;
     }
 
@@ -254,7 +254,7 @@ returns-clause-edited g t c items fit =
     edited_child above low_rests.node_sizes short in
     let settled = settle-settled tree root low set low_level now expected.to place child history low_history same_low
     rest (λ all all_un. (c.in_ok-rest.ensures.settled all all_un).settled) items_new un in
-    let last = rw c.next.ensures at c.place_rest.ensures.rests in
+    let last = c.place_rest.ensures.rests in
     let placed = c.place_rest.ensures.placed.placed in
     record {
       edited = IfOk-weaker c.place_rest.result _ _
@@ -279,7 +279,7 @@ returns-clause-edited g t c items fit =
           let there = subst (λ (n : ℕ). leaves (told set.blocks.draft history) n now
           ≡ leaves_behind (leaves (told land.blocks.draft history) n at)) (sym up) all in
           IfOk-weaker c.place_rest.result _ _
-          (λ instead behind. placed-leaves set end history c.args.level now rest instead
+          (λ instead behind. placed-leaves root.owner set end history c.args.level now rest instead
           (c.in_ok-rest.ensures.set.whole none) behind ∙ there)
           placed;
       told = λ before log follows.
@@ -569,7 +569,7 @@ returns-clause-rests g t c =
     c.edit_under.ensures.rests in
     let second = LeavesBe-after land low set history low_history set_history size low_size set_size next first
     c.settle.ensures.rests in
-    let third = rw c.next.ensures at c.place_rest.ensures.rests in
+    let third = c.place_rest.ensures.rests in
     LeavesBe-after land set c.place_rest.new.land history set_history (g.D.Disk.history c.place_rest.new.disk) size
     set_size (g.D.Disk.size c.place_rest.new.disk) next second third
 

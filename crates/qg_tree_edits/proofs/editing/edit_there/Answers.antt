@@ -26,7 +26,7 @@ use Rattle.qg_tree_edits.proofs.Served.{fresh-leaf, sizes-drafted, slots-most}
 use Rattle.qg_tree_edits.proofs.Stepped.{LeavesBe-after, cause-handed, cause-last, cause-none}
 use Rattle.qg_descent.proofs.Under.{under-leaf}
 use Rattle.qg_ground.proofs.Owners.{IsOwnedBy-after}
-use Rattle.qg_tree_edits.proofs.Owners.{placed-owners, rest-owner, rewritten-owners}
+use Rattle.qg_tree_edits.proofs.Owners.{placed-owners, rewritten-owners}
 use Rattle.qg_tree_edits.proofs.Naming.{names-none, names-other}
 use Rattle.qg_tree_edits.proofs.Unfit.{fails-leaf, fails-read, owned-stands, placed-stands}
 use Rattle.qg_tree_edits.specs.Failing.{FailsUnder, IsRefused}
@@ -55,7 +55,7 @@ place_rest-requires-clause-editable g c =
     owned.here rewritten (g.D.Disk.history c.own.new.disk) first.backed first.drafted in
     let size = c.own.ensures.rests.size in
     let room = c.requires.ready.editable.room in
-    rw c.next.ensures (record { backed = second.backed; drafted = second.drafted; room = omega (arith, size, room) })
+    record { backed = second.backed; drafted = second.drafted; room = omega (arith, size, room) }
 
 pub place_rest-requires-clause-stands : goal.place_rest-requires-clause-stands
 place_rest-requires-clause-stands g c =
@@ -96,12 +96,12 @@ place_rest-requires-clause-rest g c =
     let stays = stays-cut mid.space.sizes.nodesize owned.mine _ set now rest (header-with_items owned.mine _)
     (c.in_ok-rest.ensures.cut owned.mine owned.here) in
     let dated = (c.own.ensures.rests.rests.drafted.each now owned.mine owned.here).dated in
-    rw c.next.ensures (record {
+    record {
       fresh = record { node = stays.stays.node; here = stays.stays.here; levelled = stays.stays.levelled ∙ levelled };
       ready = ready-same _ _ _ 0 next rest levelled dated
           (subst (λ (n : ℕ). RestIsReady n (header_of owned.mine).level (header_of owned.mine).generation rest)
           (ap (λ (g : Ground). g.space.sizes.nodesize) (sym rewritten.is)) stays.ready);
-    })
+    }
 
 -- ---- what stands in the leaf's place
 
@@ -125,17 +125,14 @@ returns-clause-part g c =
     let count = moved.count in
     let taken = c.in_ok-now.ensures.owned.count in
     let most = slots-most rest in
-    let stays = stays-cut mid.space.sizes.nodesize owned.mine _ set now rest (header-with_items owned.mine _)
-    (c.in_ok-rest.ensures.cut owned.mine owned.here) in
     let edited = rewritten-owners owner mid set now owned.mine owned.here rewritten in
-    let own = rest-owner owner mid now owned.mine rest owned.here stays.owned in
     let stands = owned-stands tree root land mid history way.expected way.address now owned in
     let placed = c.place_rest.ensures.placed in
     record {
       stood = placed.stood;
       whole = λ none. placed.whole (c.in_ok-rest.ensures.whole none);
       there = IfOk-weaker c.place_rest.result _ _
-          (λ instead behind. placed-stands land set end way.address now rest instead stands behind) placed.placed;
+          (λ instead behind. placed-stands owner land set end way.address now rest instead stands behind) placed.placed;
       moves = on_ok_weaker c.place_rest.result
           (λ last. let third = last.count in record {
             count = omega (arith, count, taken, third, most);
@@ -144,7 +141,7 @@ returns-clause-part g c =
           placed.moves;
       owners = IfOk-weaker c.place_rest.result _ _
           (λ instead behind. IsOwnedBy-after owner land mid end c.in_ok-now.ensures.owned.owners
-          (placed-owners owner mid set end now rest instead edited own behind))
+          (placed-owners owner mid set end now rest instead edited behind))
           placed.placed;
     }
 
@@ -171,7 +168,7 @@ returns-clause-edited g c items fit =
     let rewritten = c.rewrite_leaf.ensures.rewritten owned.mine owned.here in
     let second = rewritten-rests mid set now root.next owned.mine owned.here rewritten own_history first.backed
     first.drafted in
-    let third = rw c.next.ensures at c.place_rest.ensures.rests in
+    let third = c.place_rest.ensures.rests in
     let cut = c.in_ok-rest.ensures.cut owned.mine owned.here in
     let there = fit-told tree root land mid history 0 expected at now edit items fit owned in
     let log_own = tellings_owned owned.node at now in
@@ -301,7 +298,7 @@ returns-clause-rests g c =
     let rewritten = c.rewrite_leaf.ensures.rewritten owned.mine owned.here in
     let second = rewritten-rests mid set c.in_ok-now.now next owned.mine owned.here rewritten own_history first.backed
     first.drafted in
-    let third = rw c.next.ensures at c.place_rest.ensures.rests in
+    let third = c.place_rest.ensures.rests in
     LeavesBe-after land set c.place_rest.new.land (g.D.Disk.history c.args.disk.now) own_history
     (g.D.Disk.history c.place_rest.new.disk) (g.D.Disk.size c.args.disk.now) (g.D.Disk.size c.own.new.disk)
     (g.D.Disk.size c.place_rest.new.disk) next

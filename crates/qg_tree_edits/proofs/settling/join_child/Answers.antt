@@ -26,7 +26,7 @@ use Rattle.qg_tree_edits.proofs.Served.{fresh-inner, instead-named, node-drafted
 use Rattle.qg_tree_edits.proofs.Served.{sizes-drafted, slots-none}
 use Rattle.qg_tree_edits.proofs.Stepped.{cause-handed}
 use Rattle.qg_ground.proofs.Owners.{IsOwnedBy-after}
-use Rattle.qg_tree_edits.proofs.Owners.{rest-owner, rest-owner-after, rewritten-owners, united-owners}
+use Rattle.qg_tree_edits.proofs.Owners.{rewritten-owners, united-owners}
 use Rattle.qg_tree_edits.proofs.Naming.{names-other, names-weaker}
 use Rattle.qg_tree_edits.proofs.Unfit.{misled-then, paired-one, paired-over}
 use Rattle.qg_tree_edits.specs.Failing.{ArentJoined, CantSettle, IsMisled, LacksNeighbour, NamesOnly}
@@ -166,11 +166,7 @@ returns-clause-set g c =
       })
           (c.lead_to.ensures.fits refl);
       owners = IfOk-weaker c.lead_to.result _ _
-          (λ rest cut. (
-            IsOwnedBy-after owner land both new before edited,
-            rest-owner-after owner land both rest before (rest-owner owner both at node rest here cut.owned),
-          ))
-          stays;
+          (λ rest cut. IsOwnedBy-after owner land both new before edited) stays;
     }
 
 pub returns-clause-settled : goal.returns-clause-settled

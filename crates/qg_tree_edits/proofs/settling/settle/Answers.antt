@@ -16,7 +16,7 @@ use Rattle.qg_tree_edits.proofs.Served.{fresh-inner, instead-named, node-drafted
 use Rattle.qg_tree_edits.proofs.Served.{size-drafted, sizes-drafted}
 use Rattle.qg_tree_edits.proofs.Settled.{settled, settled-told}
 use Rattle.qg_tree_edits.proofs.Unjoined.{can-lead}
-use Rattle.qg_tree_edits.proofs.Owners.{rest-owner, rewritten-owners}
+use Rattle.qg_tree_edits.proofs.Owners.{rewritten-owners}
 use Rattle.qg_tree_edits.proofs.Naming.{names-weaker}
 use Rattle.qg_tree_edits.proofs.Unfit.{misled-then}
 use Rattle.qg_tree_edits.specs.Failing.{CantSettle, IsMisled, NamesOnly}
@@ -130,11 +130,7 @@ returns-clause-set g c =
         count = omega (arith, count);
         above = moved.above;
       }) stays;
-      owners = IfOk-weaker c.lead_to.result _ _ (λ rest cut. (
-        edited,
-        rest-owner owner land at node rest here
-            cut.owned,
-      )) stays;
+      owners = IfOk-weaker c.lead_to.result _ _ (λ rest cut. edited) stays;
     }
 
 pub returns-clause-settled : goal.returns-clause-settled

@@ -17,10 +17,9 @@ returns-then-how_many-eq0-clause-sound c history bytes items names subvolume sta
     let fs = c.args.self.now in
     let piece = c.args.piece.now in
     let drafted = subvolume.editable.drafted in
-    let table = subst (λ (refs : List (ℕ × Kept)). IsTable refs) c.refs.ensures c.len-ascending.ensures.table in
     absurd (elim c.then-how_many-eq0.branch [
       | then-how_many-eq0-via-then-how_many-eq0 w ↦
-          let some = some-named fs history items drafted c.args.ino piece names stands among table in
+          let some = some-named fs history items drafted c.args.ino piece names stands among in
           let many = c.how_many.ensures
           ∙ ap (λ (refs : List (ℕ × Kept)). length (references_at (book_of refs) piece.extent)) c.refs-2.ensures in
           let none = w.if-how_many-eq0.true in
@@ -32,10 +31,8 @@ returns-then-how_many-eq0-clause-sound c history bytes items names subvolume sta
 
 pub returns-then-not-branch-clause-sound : goal.returns-then-not-branch-clause-sound
 returns-then-not-branch-clause-sound c history bytes items names subvolume stands among few =
-    let table = subst (λ (refs : List (ℕ × Kept)). IsTable refs) c.refs.ensures c.len-ascending.ensures.table in
     let room = room-named c.args.self.now history items subvolume.editable.drafted c.args.ino c.args.piece.now names
-    stands among
-    table few c.reference_of-reference.result c.reference_of-reference.ensures in
+    stands among few c.reference_of-reference.result c.reference_of-reference.ensures in
     absurd (true≢false (sym room ∙ sym c.in_ok-name.ensures.room ∙ c.if-not-branch.true))
 
 pub returns-clause-named : goal.returns-clause-named
@@ -48,7 +45,7 @@ returns-clause-named c history bytes items names subvolume stands among few =
     (c.in_ok-name.ensures.given c.if-not-branch.false) in
     Stands-named fs history items subvolume.editable.drafted c.args.ino piece names stands among
     (record fs { refs = c.name.new.self })
-    (record { tree = refl; land = refl; refs = c.name.ensures.others }) what adds refl few
+    (record { tree = refl; others = refl; land = refl; refs = c.name.ensures.others }) what adds refl few
 
 pub returns-clause-marks : goal.returns-clause-marks
 returns-clause-marks c q other =

@@ -51,9 +51,8 @@ pub returns-then-not-branch-clause-sound : goal.returns-then-not-branch-clause-s
 returns-then-not-branch-clause-sound c history bytes items names subvolume stands =
     let fs = c.args.self.now in
     let piece = c.args.piece.now in
-    let table = subst (λ (refs : List (ℕ × Kept)). IsTable refs) c.refs.ensures c.len-ascending.ensures.table in
     let room = room-new fs history items subvolume.editable.drafted c.args.ino piece names stands c.requires.free
-    table c.reference_of-reference.result c.reference_of-reference.ensures in
+    c.reference_of-reference.result c.reference_of-reference.ensures in
     absurd (true≢false (sym room ∙ sym c.in_ok-name.ensures.room ∙ c.if-not-branch.true))
 
 pub returns-then-not-branch-clause-subvolume : goal.returns-then-not-branch-clause-subvolume
@@ -82,6 +81,7 @@ returns-clause-named c history bytes items names subvolume stands =
     (record fs { land = record fs.land { space = c.take_run.new.self }; refs = c.name.new.self })
     (record {
       tree = refl;
+      others = refl;
       land = ap (λ (h : Holding). record fs.land { space = h })
           (c.in_ok-take_run.ensures.ok ∙ ap (λ (rs : List Element). record fs.land.space { runs = rs })
           (sym (ap (λ (h : Holding). h.runs) c.in_ok-take_run.ensures.ok)));

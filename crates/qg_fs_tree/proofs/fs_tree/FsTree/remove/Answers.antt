@@ -1,4 +1,4 @@
-use Rattle.std.proofs.Common.{ℕ, List, [], subst, arith}
+use Rattle.std.proofs.Common.{ℕ, List, [], refl, subst, arith}
 use Rattle.qg_edit.specs.Edits.{without_key}
 use Rattle.qg_edit.proofs.Leaves.{ok-known}
 use Rattle.qg_refs.specs.declared.kept.Kept.{Kept}
@@ -6,6 +6,9 @@ use Rattle.qg_extents.specs.Table.{IsTable}
 use Rattle.qg_tree_refs.proofs.Stepping.{Follows-none}
 use Rattle.qg_fs_tree.specs.declared.fs_tree.FsTree.{FsTree}
 use Rattle.qg_fs_tree.proofs.Called.{IsEditedTo-called, fits-called, fitting-sound}
+use Rattle.std.specs.Prelude.{not}
+use Rattle.qg_image.specs.IsShaped.{same_key}
+use Rattle.qg_fs_tree.proofs.Owned.{names-fewer}
 use Rattle.qg_fs_tree.proofs.fs_tree.FsTree.remove.Goals as goal
 
 pub returns-in_err-remove-clause-reads : goal.returns-in_err-remove-clause-reads
@@ -21,7 +24,7 @@ returns-clause-reads g c =
 pub returns-clause-removed : goal.returns-clause-removed
 returns-clause-removed g c items names stands there =
     let old = c.args.self.now in
-    let new : FsTree = record { tree = c.remove.new.tree; land = c.remove.new.land; refs = c.remove.new.book } in
+    let new : FsTree = record { tree = c.remove.new.tree; others = old.others; land = c.remove.new.land; refs = c.remove.new.book } in
     let history = g.D.Disk.history c.args.disk.now in
     let bytes = g.D.Disk.size c.args.disk.now in
     let met = c.in_ok-remove.ensures in
@@ -30,15 +33,18 @@ returns-clause-removed g c items names stands there =
     let told = made.told old.refs [] (Follows-none old.refs) in
     let edited = IsEditedTo-called old new history bytes items (without_key c.args.key items) names told.0
     c.requires.subvolume stands table told.2 told.1 (g.D.Disk.history c.remove.new.disk) (g.D.Disk.size c.remove.new.disk)
-    0 made.replaced c.remove.ensures.rests met.tree.stays met.owners
+    0 made.replaced c.remove.ensures.rests refl met.tree.stays c.in_ok-remove.ensures.owners.each
     (met.book.settled (λ none. stands.settled))
-    (subst (λ (refs : List (ℕ × Kept)). IsTable refs) c.refs-2.ensures c.len-ascending_still.ensures.table) in
+    (subst (λ (refs : List (ℕ × Kept)). IsTable refs) c.refs-2.ensures c.len-ascending_still.ensures.table) (λ at reference.
+    let fewer = names-fewer old.tree.owner (λ item. not (same_key item.key c.args.key)) items at reference in
+    let within = stands.within at reference in
+    omega (arith, fewer, within)) in
     ok-known _ c.fitting.result edited
 
 pub returns-clause-sound : goal.returns-clause-sound
 returns-clause-sound g c events is items names stands there room =
     let old = c.args.self.now in
-    let new : FsTree = record { tree = c.remove.new.tree; land = c.remove.new.land; refs = c.remove.new.book } in
+    let new : FsTree = record { tree = c.remove.new.tree; others = old.others; land = c.remove.new.land; refs = c.remove.new.book } in
     let history = g.D.Disk.history c.args.disk.now in
     let bytes = g.D.Disk.size c.args.disk.now in
     let table = subst (λ (refs : List (ℕ × Kept)). IsTable refs) c.refs.ensures c.len-ascending.ensures.table in

@@ -25,7 +25,6 @@ pub returns-then-how_many-gt0-clause-unnamed : goal.returns-then-how_many-gt0-cl
 returns-then-how_many-gt0-clause-unnamed c history bytes items names subvolume stands covered =
     let fs = c.args.self.now in
     let piece = c.args.piece.now in
-    let table = subst (λ (refs : List (ℕ × Kept)). IsTable refs) c.refs.ensures c.len-ascending.ensures.table in
     let table_left = subst (λ (refs : List (ℕ × Kept)). IsTable refs) c.refs-2.ensures
     c.len-ascending_still.ensures.table in
     let drops = subst (λ (r : Reference). Drops (book_of fs.refs.refs) (book_of c.unname.new.self.refs) piece.extent r)
@@ -35,8 +34,8 @@ returns-then-how_many-gt0-clause-unnamed c history bytes items names subvolume s
     c.refs-3.ensures in
     let some = c.if-how_many-gt0.true in
     Stands-left fs history items subvolume.editable.drafted c.args.ino piece names stands
-    (record fs { refs = c.unname.new.self })
-    (record { tree = refl; land = refl; refs = c.unname.ensures.others }) table drops table_left.book.sound
+    covered (record fs { refs = c.unname.new.self })
+    (record { tree = refl; others = refl; land = refl; refs = c.unname.ensures.others }) drops table_left.book.sound
     (omega (arith, many, some)) refl
 
 pub returns-then-not-is_taken-clause-sound : goal.returns-then-not-is_taken-clause-sound
@@ -51,7 +50,6 @@ returns-clause-unnamed c history bytes items names subvolume stands covered =
     let fs = c.args.self.now in
     let piece = c.args.piece.now in
     let drafted = subvolume.editable.drafted in
-    let table = subst (λ (refs : List (ℕ × Kept)). IsTable refs) c.refs.ensures c.len-ascending.ensures.table in
     let drops = subst (λ (r : Reference). Drops (book_of fs.refs.refs) (book_of c.unname.new.self.refs) piece.extent r)
     c.reference_of-reference.ensures
     (c.unname.ensures.taken c.if-not-unname.false) in
@@ -61,15 +59,16 @@ returns-clause-unnamed c history bytes items names subvolume stands covered =
     let runs = ap (λ (h : Holding). h.runs) c.give_run.ensures
     ∙ ap (λ (n : ℕ). without_run piece.extent n fs.land.space.runs)
     (whole-own fs history items drafted c.args.ino piece names stands) in
-    Stands-gone fs history items drafted c.args.ino piece names stands
+    Stands-gone fs history items drafted c.args.ino piece names stands covered
     (record fs { land = record fs.land { space = c.give_run.new.self }; refs = c.unname.new.self })
     (record {
       tree = refl;
+      others = refl;
       land = ap (λ (h : Holding). record fs.land { space = h })
           (c.give_run.ensures ∙ ap (λ (rs : List Element). record fs.land.space { runs = rs })
           (sym (ap (λ (h : Holding). h.runs) c.give_run.ensures)));
       refs = c.unname.ensures.others;
-    }) table drops (omega (arith, many, none)) runs
+    }) drops (omega (arith, many, none)) runs
 
 pub returns-clause-subvolume : goal.returns-clause-subvolume
 returns-clause-subvolume c history bytes subvolume =
