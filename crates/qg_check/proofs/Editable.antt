@@ -1,5 +1,5 @@
 -- An image of the trees that were read may be edited, whatever the disk tells.
-use Rattle.std.proofs.Common.{◌≡◌, ℕ, Bool, true, List, ◌++◌, refl, sym, ◌∙◌, subst}
+use Rattle.std.proofs.Common.{◌≡◌, ℕ, Bool, true, List, ◌++◌, refl, sym, subst}
 use Rattle.std.specs.Prelude.{Err, IfOk, Ok, Option, Result}
 use Rattle.std.specs.List.{list_all}
 use Rattle.std.proofs.lemmas.List.Folds.{list_all-append}
@@ -10,18 +10,21 @@ use Rattle.qg_walk.specs.declared.fault.OpenFault.{OpenFault}
 use Rattle.qg_check.specs.declared.image.Image.{Image}
 use Rattle.qg_check.specs.declared.judge.Read.{Read}
 use Rattle.qg_check.specs.IsImage.{IsEditable, Keeps}
-use Rattle.qg_check.specs.Trees.{AreFitParts, HasOneGroup, IsRootFit}
+use Rattle.qg_items.specs.declared.root.RootItem.{RootItem}
+use Rattle.qg_image.specs.Table.{keys_of}
+use Rattle.qg_check.specs.Editable.{AreGroups, AreSubvolumes}
+use Rattle.qg_check.specs.Trees.{AreFitParts}
 use Rattle.qg_check.proofs.Recorded.{known_by}
 
 -- what was read is fit, tree by tree
 pub record IsFit (super : Super) (read : Read) : Type 0 where
   pub superblock : is_super super ≡ true
-  pub root : IsRootFit super.generation read.trees.files
+  pub subvolumes : AreSubvolumes super.generation read.trees.subvolumes
   pub roots : list_all (is_slot (sizes_of super)) read.trees.nodes ≡ true
   pub extents : list_all (is_slot (sizes_of super)) read.extents.nodes ≡ true
   pub parts : AreFitParts super.generation read.extents.parts
   pub quotas : list_all (is_slot (sizes_of super)) read.quotas.nodes ≡ true
-  pub group : HasOneGroup super.generation read.quotas.quota
+  pub groups : AreGroups super.generation (keys_of read.trees.subvolumes) read.quotas.quota
 
 pass_three : (test : ℕ → Bool) (a b c : List ℕ) → list_all test a ≡ true → list_all test b ≡ true → list_all test c ≡ true → list_all test (a ++ b ++ c) ≡ true
 pass_three test a b c first second third = rw (list_all-append, list_all-append, first, second, third) refl
@@ -30,16 +33,11 @@ pass_three test a b c first second third = rw (list_all-append, list_all-append,
 kept_editable : (read : Read) (image : Image) → Keeps image.superblock read image → IsFit image.superblock read → IsEditable image
 kept_editable read image keeps fit =
     let super = image.superblock in
-    let one = fit.group in
     record {
       superblock = fit.superblock;
-      root = rw keeps.root fit.root;
+      roots = subst (λ (roots : List (ℕ × RootItem)). AreSubvolumes super.generation roots) (sym keeps.roots) fit.subvolumes;
       space = keeps.space;
-      group = one.group;
-      counted = keeps.quota ∙ one.counted;
-      no_max_rfer = one.no_max_rfer;
-      no_max_excl = one.no_max_excl;
-      stamp = one.stamp;
+      quota = rw (keeps.roots, keeps.quota) fit.groups;
       nodes = keeps.nodes;
       others = rw keeps.others (pass_three (is_slot (sizes_of super)) read.trees.nodes read.extents.nodes read.quotas.nodes fit.roots fit.extents fit.quotas);
       known = known_by super.generation super.nodesize read.extents.parts image.book fit.parts.by keeps.book keeps.table;
@@ -59,13 +57,9 @@ answer_editable super read (Err fault) same keeps fit = tt
 pub stale_editable : (image : Image) (stale : Option ℕ) → IsEditable image → IsEditable (record image { stale = stale })
 stale_editable image stale is = record {
   superblock = is.superblock;
-  root = is.root;
+  roots = is.roots;
   space = is.space;
-  group = is.group;
-  counted = is.counted;
-  no_max_rfer = is.no_max_rfer;
-  no_max_excl = is.no_max_excl;
-  stamp = is.stamp;
+  quota = is.quota;
   nodes = is.nodes;
   others = is.others;
   known = is.known;

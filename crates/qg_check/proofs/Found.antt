@@ -20,26 +20,18 @@ use Rattle.qg_node.specs.declared.fault.NodeFault.{NodeFault}
 use Rattle.qg_node.specs.declared.fault.NodeFault.TheVariants.{Csum, Place, Level, Empty, Bounds, Order, Slack}
 use Rattle.qg_node.specs.Nodes.{header_of, is_ascending, own_items}
 use Rattle.qg_node.specs.Reading.{◌>>=◌, check, count_at, has_checksum, has_empty_fields, header_at, inner_at, items_at, leaf_at, node_read, pointers_at}
-use Rattle.qg_items.specs.declared.root.RootItem.{RootItem}
 use Rattle.qg_super.specs.declared.superblock.Super.{Super}
 use Rattle.qg_super.specs.Places.{is_slot}
 use Rattle.qg_super.specs.SuperText.{sizes_of}
 use Rattle.qg_image.specs.Below.{inner_pointers, items_below, joined, leaf_items, nodes_below}
 use Rattle.qg_image.specs.ItemMeaning.{when}
-use Rattle.qg_image.specs.declared.part.ExtentPart.{ExtentPart}
-use Rattle.qg_state.specs.State.{Layout, node_at}
-use Rattle.qg_state.specs.Reach.{level_of}
 use Rattle.qg_state.proofs.Contained.{none_contained, contains_here, contains_cases}
 use Rattle.qg_verdict.specs.declared.failure.Failure.{Failure}
 use Rattle.qg_verdict.specs.declared.tree.Tree.{Tree}
-use Rattle.qg_verdict.specs.declared.tree.Tree.TheVariants.{Files}
 use Rattle.qg_verdict.specs.declared.expected.Expected.{Expected}
 use Rattle.qg_verdict.specs.Walk.{in_slot, node_found}
 use Rattle.qg_verdict.specs.ItemsUnder.{is_way, items_under, nodes_of, nodes_under}
-use Rattle.qg_verdict.specs.ImageState.{level_in}
-use Rattle.qg_reach.proofs.Reached.{address_of, FindsEach, LieWhereFound, nodes_below_found}
-use Rattle.qg_reach.proofs.Layouts.{AgreeByAddress, LieWhereFound-layout, layout_by, node_at-layout}
-use Rattle.qg_reach.proofs.Counting.{HasNodes}
+use Rattle.qg_reach.proofs.Reached.{address_of, FindsEach, LieWhereFound}
 
 -- ---- where a node lies
 
@@ -204,7 +196,7 @@ inner_owns items nodes same (Some (Inner header pointers)) = joined_items items 
   itself None = refl
   itself (Some below) = refl
 
-items_below-is : (found : ℕ → Option Node) (level address : ℕ) → items_below found level address ≡ option_map (flat_map own_items) (nodes_below found level address)
+pub items_below-is : (found : ℕ → Option Node) (level address : ℕ) → items_below found level address ≡ option_map (flat_map own_items) (nodes_below found level address)
 items_below-is found zero address = leaf_owns (found address)
 items_below-is found (suc level) address =
     inner_owns (λ pointer. items_below found level pointer.child) (λ pointer. nodes_below found level pointer.child) (λ pointer. items_below-is found level pointer.child) (found address)
@@ -257,47 +249,3 @@ inner_first under (Some (Inner header pointers)) nodes are =
 pub first_below : (found : ℕ → Option Node) (level address : ℕ) (nodes : List Node) → nodes_below found level address ≡ Some nodes → IsFirst (found address) nodes
 first_below found zero address nodes are = leaf_first (found address) nodes are
 first_below found (suc level) address nodes are = inner_first (λ pointer. nodes_below found level pointer.child) (found address) nodes are
-
--- ---- in the layout of an image
-
--- nodes that are each found by one way to find nodes differ in their addresses
-AgreeByAddress-found : (found : ℕ → Option Node) (nodes : List Node) → FindsEach found nodes → AgreeByAddress nodes
-AgreeByAddress-found found nodes finds = record {
-  agree = λ a b has has' same. same_Some a b (sym (finds.each a has) ∙ ap found same ∙ finds.each b has');
-}
-
-ok_found : (found : Result Node Failure) (node : Node) → result_ok found ≡ Some node → found ≡ Ok node
-ok_found (Ok other) node is = ap Ok (same_Some other node is)
-ok_found (Err failure) node is = absurd cc
-
-level_found : (super : Super) (image : List ℕ) (address : ℕ) (node : Node) → nodes_of (node_found super image) address ≡ Some node → level_in super image address ≡ (header_of node).level
-level_found super image address node is = rw (ok_found (node_found super image address) node is) refl
-
--- the nodes below a root of an image stand below it in their layout
-layout_below : (super : Super) (image : List ℕ) (root : ℕ) (parts : List ExtentPart) (nodes : List Node)
-    → nodes_below (nodes_of (node_found super image)) (level_in super image root) root ≡ Some nodes
-    → nodes_below (node_at (layout_by parts nodes)) (level_of (node_at (layout_by parts nodes) root)) root ≡ Some nodes
-layout_below super image root parts nodes are =
-    let found = nodes_of (node_found super image) in
-    let level = level_in super image root in
-    let lie = LieWhereFound-image super image in
-    let finds = FindsEach-below found level root nodes lie are in
-    let alike = AgreeByAddress-found found nodes finds in
-    let there : FindsEach (node_at (layout_by parts nodes)) nodes = record { each = λ node has. node_at-layout parts nodes node alike has } in
-    let first = first_below found level root nodes are in
-    let here = subst (λ a. node_at (layout_by parts nodes) a ≡ Some first.node) (lie.found root first.node first.is) (there.each first.node first.has) in
-    let same = ap level_of here ∙ sym (level_found super image root first.node first.is) in
-    subst (λ n. nodes_below (node_at (layout_by parts nodes)) n root ≡ Some nodes) (sym same)
-    (nodes_below_found found (node_at (layout_by parts nodes)) level root nodes lie there are)
-
-pub HasNodes-image : (super : Super) (image : List ℕ) (layout : Layout) (root : RootItem) (expected : Expected) (parts : List ExtentPart) (nodes : List Node)
-    → layout.nodes ≡ layout_by parts nodes → nodes_under Files super (node_found super image) (level_in super image root.bytenr) expected root.bytenr ≡ Some nodes
-    → HasNodes layout root.bytenr nodes
-HasNodes-image super image layout root expected parts nodes kept under =
-    let found = nodes_of (node_found super image) in
-    let are = when_some (is_way Files super (node_found super image) expected root.bytenr) (nodes_below found (level_in super image root.bytenr) root.bytenr) nodes under in
-    record {
-      lie = subst (λ placed. LieWhereFound (node_at placed)) (sym kept) (LieWhereFound-layout parts nodes);
-      below = subst (λ placed. nodes_below (node_at placed) (level_of (node_at placed root.bytenr)) root.bytenr ≡ Some nodes) (sym kept)
-          (layout_below super image root.bytenr parts nodes are);
-    }

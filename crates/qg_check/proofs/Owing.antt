@@ -1,4 +1,4 @@
--- In an image whose only subvolume's tree was walked, references are owed exactly to what begins in its layout.
+-- In an image whose subvolumes' trees were walked, references are owed exactly to what begins in its layout.
 use Rattle.std.proofs.Common.{◌≡◌, ◌⊎◌, ℕ, ◌≤◌, ◌<◌, Bool, true, false, List, [], ◌∷◌, ◌++◌, length, map, refl, sym, ap, subst, ◌∙◌, arith, inl, inr}
 use Rattle.std.specs.Prelude.{Option, Some, None, ◌==◌, if◌then◌else◌}
 use Rattle.std.specs.List.{Contains, filter_map, find, flat_map}
@@ -38,9 +38,10 @@ use Rattle.qg_home.proofs.Reaching.{entry_of_value}
 use Rattle.qg_owed.proofs.Layouts.{if_something, some_or_none, something_if}
 use Rattle.qg_extents.specs.Laws.{IsOwing}
 use Rattle.qg_gathered.specs.declared.nodes.NodesRead.{NodesRead}
-use Rattle.qg_gathered.specs.Gathered.{AreGathered}
+use Rattle.qg_gathered.specs.Gathered.{AreGathered, root_at}
+use Rattle.qg_gathered.proofs.Apart.{tree_under}
 use Rattle.qg_gathered.proofs.Found.{found_is}
-use Rattle.qg_gathered.proofs.Judged.{branch, by_address, listed, roots_are}
+use Rattle.qg_gathered.proofs.Verdicts.{branch, by_address, listed, roots_are}
 use Rattle.qg_gathered.proofs.Laid.{entry_of}
 use Rattle.qg_check.proofs.Found.{LieWhereFound-image}
 use Rattle.qg_check.proofs.Parents.{led-below}
@@ -148,7 +149,7 @@ node_owes placed owing has = elim (Contains-append_cases (child_owings placed) (
       inr (record { extent = extent_of piece.0; named = contains_map extent_of (pieces_of placed.node) piece.0 own; there = piece.2 })
 ]
 
--- ---- the layout of one tree
+-- ---- the layout of some trees
 
 -- a node lies at an address
 abbrev HasAt : List Node → ℕ → Type 0
@@ -162,15 +163,19 @@ record IsChild (nodes : List Node) (at : ℕ) : Type 0 where
   own : Contains (own_pointers parent) pointer
   there : pointer.child ≡ at
 
--- a layout is that of the nodes of one tree
-record IsTreeLayout (layout : Layout) (root : ℕ) (nodes : List Node) : Type 0 where
-  roots : layout.roots ≡ (5, root) ∷ []
+-- one of some roots lies there
+abbrev HasRootAt : List (ℕ × ℕ) → ℕ → Type 0
+HasRootAt roots at = (root : ℕ × ℕ) × Contains roots root × (root.1 ≡ at)
+
+-- a layout is that of the nodes of the trees with these roots
+record IsTreeLayout (layout : Layout) (those : List (ℕ × ℕ)) (nodes : List Node) : Type 0 where
+  roots : layout.roots ≡ those
   entries : (entry : ℕ × Placed) → Contains layout.nodes entry → Contains nodes entry.1.node × (address_of entry.1.node ≡ entry.0)
   placed : (node : Node) → Contains nodes node → (full : Bool) × Contains layout.nodes (address_of node, record { node = node; full = full })
   low : (node : Node) → Contains nodes node → (header_of node).level ≤ 7
-  start : HasAt nodes root
+  start : (root : ℕ × ℕ) → Contains those root → HasAt nodes root.1
   linked : (parent : Node) (pointer : Pointer) → Contains nodes parent → Contains (own_pointers parent) pointer → HasAt nodes pointer.child
-  led : (node : Node) → Contains nodes node → (address_of node ≡ root) ⊎ IsChild nodes (address_of node)
+  led : (node : Node) → Contains nodes node → HasRootAt those (address_of node) ⊎ IsChild nodes (address_of node)
 
 abbrev root_owing : ℕ × ℕ → Owing
 root_owing entry = record { address = entry.1; reference = KeyedBlock entry.0 }
@@ -232,7 +237,7 @@ some_owes layout at some =
 
 -- ---- what begins is owed, and what is owed begins
 
-module _ (layout : Layout) (root : ℕ) (nodes : List Node) (tree : IsTreeLayout layout root nodes) where
+module _ (layout : Layout) (roots : List (ℕ × ℕ)) (nodes : List Node) (tree : IsTreeLayout layout roots nodes) where
   owed_by : (entry : ℕ × Placed) (at : ℕ) → Contains layout.nodes entry → OwesTo entry.1 at → OwesAt layout at
   owed_by entry at has owes = (
     owes.0,
@@ -241,15 +246,15 @@ module _ (layout : Layout) (root : ℕ) (nodes : List Node) (tree : IsTreeLayout
     owes.2,
   )
 
-  root_owed : OwesAt layout root
-  root_owed =
-      let owing : Owing = record { address = root; reference = KeyedBlock 5 } in
-      let own = subst (λ (roots : List (ℕ × ℕ)). Contains (map root_owing roots) owing) (sym tree.roots) (contains_here owing []) in
+  root_owed : (root : ℕ × ℕ) → Contains roots root → OwesAt layout root.1
+  root_owed root has =
+      let owing = root_owing root in
+      let own = subst (λ (roots : List (ℕ × ℕ)). Contains (map root_owing roots) owing) (sym tree.roots) (contains_map root_owing roots root has) in
       (owing, subst (λ list. Contains list owing) (sym (all_owings layout)) (Contains-append_left (root_owings layout) (node_owings layout) owing own), refl)
 
   node_owed : (node : Node) → Contains nodes node → OwesAt layout (address_of node)
   node_owed node has = elim (tree.led node has) [
-    | inl same ↦ subst (OwesAt layout) (sym same) root_owed
+    | inl root ↦ subst (OwesAt layout) root.2 (root_owed root.0 root.1)
     | inr child ↦
         let above = tree.placed child.parent child.has in
         let parent : Placed = record { node = child.parent; full = above.0 } in
@@ -279,12 +284,9 @@ module _ (layout : Layout) (root : ℕ) (nodes : List Node) (tree : IsTreeLayout
   owed_begins at owes = elim (Contains-append_cases (root_owings layout) (node_owings layout) owes.0 (subst (λ list. Contains list owes.0) (all_owings layout) owes.1)) [
     | inl by_root ↦
         let entry = one_mapped root_owing layout.roots owes.0 by_root in
-        elim (contains_cases (5, root) [] entry.0 (subst (λ (roots : List (ℕ × ℕ)). Contains roots entry.0) tree.roots entry.1)) [
-          | inl is ↦
-              let same : root ≡ at = ap (λ (e : ℕ × ℕ). e.1) is ∙ ap (λ (o : Owing). o.address) entry.2 ∙ owes.2 in
-              subst (Begins layout) same (node_begins root tree.start)
-          | inr none ↦ absurd (none_contained entry.0 none)
-        ]
+        let own = subst (λ (roots : List (ℕ × ℕ)). Contains roots entry.0) tree.roots entry.1 in
+        let same : entry.0.1 ≡ at = ap (λ (o : Owing). o.address) entry.2 ∙ owes.2 in
+        subst (Begins layout) same (node_begins entry.0.1 (tree.start entry.0 own))
     | inr by_node ↦
         let entry = one_flat_mapped (λ (entry : ℕ × Placed). owed_by_node entry.1) layout.nodes owes.0 by_node in
         subst (Begins layout) owes.2 (lead entry.0 entry.1 owes.0.address (node_owes entry.0.1 owes.0 entry.2))
@@ -342,59 +344,69 @@ when_some : {A : Type 0} (test : Bool) (given : Option A) (x : A) → when test 
 when_some true given x is = is
 when_some false given x is = absurd cc
 
-module _ (super : Super) (image : List ℕ) (root : RootItem) (read : NodesRead) (extents : List Element) (parts : List ExtentPart)
-    (are : AreGathered super image root read extents parts) where
-  -- each of its nodes is one of the tree's
+module _ (super : Super) (image : List ℕ) (roots : List (ℕ × RootItem)) (read : NodesRead) (extents : List Element) (parts : List ExtentPart)
+    (are : AreGathered super image roots read extents parts) where
+  -- each of its nodes is one of those that were read
   pub entry-there : (entry : ℕ × Placed) → Contains (layout_of (state_in super image)).nodes entry
-      → Contains (nodes_of_root Files super image root) entry.1.node × (address_of entry.1.node ≡ entry.0)
+      → Contains are.gathered.nodes entry.1.node × (address_of entry.1.node ≡ entry.0)
   entry-there entry has =
-      let laid = by_address super image root read extents parts are in
-      let told = subst (λ table. Contains table entry) (listed super image root read extents parts are) has in
+      let laid = by_address super image roots read extents parts are in
+      let told = subst (λ table. Contains table entry) (listed super image roots read extents parts are) has in
       let one = one_mapped (entry_of (extent_parts super image)) laid.sorted entry told in
       let same : one.0 ≡ entry.1.node = ap (λ (e : ℕ × Placed). e.1.node) one.2 in
-      (subst (Contains (nodes_of_root Files super image root)) same (laid.same.into one.0 one.1), ap address_of (sym same) ∙ ap (λ (e : ℕ × Placed). e.0) one.2)
+      (subst (Contains are.gathered.nodes) same (laid.same.into one.0 one.1), ap address_of (sym same) ∙ ap (λ (e : ℕ × Placed). e.0) one.2)
 
-  back : (node : Node) → Contains (nodes_of_root Files super image root) node
+  back : (node : Node) → Contains are.gathered.nodes node
       → Contains (layout_of (state_in super image)).nodes (address_of node, placed (extent_parts super image) node)
   back node has =
-      let laid = by_address super image root read extents parts are in
-      subst (λ table. Contains table (address_of node, placed (extent_parts super image) node)) (sym (listed super image root read extents parts are))
+      let laid = by_address super image roots read extents parts are in
+      subst (λ table. Contains table (address_of node, placed (extent_parts super image) node)) (sym (listed super image roots read extents parts are))
       (contains_map (entry_of (extent_parts super image)) laid.sorted node (laid.same.back node has))
 
-  led_there : (node : Node) → Contains (nodes_of_root Files super image root) node
-      → (address_of node ≡ root.bytenr) ⊎ IsChild (nodes_of_root Files super image root) (address_of node)
+  led_there : (node : Node) → Contains are.gathered.nodes node
+      → HasRootAt (map root_at roots) (address_of node) ⊎ IsChild are.gathered.nodes (address_of node)
   led_there node has =
+      let entry = are.gathered.only node has in
+      let root = entry.0.1 in
       let found = nodes_of (node_found super image) in
       let level = level_in super image root.bytenr in
       let lie = LieWhereFound-image super image in
       let below = when_some (is_way Files super (node_found super image) (root_told root) root.bytenr) (nodes_below found level root.bytenr)
-      (nodes_of_root Files super image root) are.reached in
-      elim (led-below found level root.bytenr (nodes_of_root Files super image root) node below has) [
-        | inl is ↦ inl (lie.found root.bytenr node is)
+      (nodes_of_root Files super image root) (tree_under Files super image (root_told root) root.bytenr (are.sound entry.0 entry.1)) in
+      elim (led-below found level root.bytenr (nodes_of_root Files super image root) node below entry.2) [
+        | inl is ↦ inl (root_at entry.0, contains_map root_at roots entry.0 entry.1, sym (lie.found root.bytenr node is))
         | inr child ↦ inr (record {
           parent = child.parent;
-          has = child.has;
+          has = are.gathered.all entry.0 child.parent entry.1 child.has;
           pointer = child.pointer;
           own = child.own;
           there = sym (lie.found child.pointer.child node child.leads);
         })
       ]
 
-  tree_layout : IsTreeLayout (layout_of (state_in super image)) root.bytenr (nodes_of_root Files super image root)
-  tree_layout =
-      let whole = branch super image root read extents parts are in
-      record {
-        roots = roots_are super image root read extents parts are;
-        entries = entry-there;
-        placed = λ node has. ((placed (extent_parts super image) node).full, back node has);
-        low = λ node has. (found_is super image (address_of node) node (whole.reached.each node has).lies).low;
-        start = (whole.start.node, whole.start.has, whole.start.lies);
-        linked = λ parent pointer has own.
-            let link = whole.reached.linked parent pointer has own in
-            (link.2.node, link.2.has, link.2.lies);
-        led = led_there;
-      }
+  start_there : (root : ℕ × ℕ) → Contains (map root_at roots) root → HasAt are.gathered.nodes root.1
+  start_there root has =
+      let entry = one_mapped root_at roots root has in
+      let start = (branch super image roots read extents parts are entry.0 entry.1).start in
+      (start.node, are.gathered.all entry.0 start.node entry.1 start.has, start.lies ∙ ap (λ (r : ℕ × ℕ). r.1) entry.2)
+
+  linked_there : (parent : Node) (pointer : Pointer) → Contains are.gathered.nodes parent → Contains (own_pointers parent) pointer → HasAt are.gathered.nodes pointer.child
+  linked_there parent pointer has own =
+      let entry = are.gathered.only parent has in
+      let link = (branch super image roots read extents parts are entry.0 entry.1).reached.linked parent pointer entry.2 own in
+      (link.2.node, are.gathered.all entry.0 link.2.node entry.1 link.2.has, link.2.lies)
+
+  tree_layout : IsTreeLayout (layout_of (state_in super image)) (map root_at roots) are.gathered.nodes
+  tree_layout = record {
+    roots = roots_are super image roots read extents parts are;
+    entries = entry-there;
+    placed = λ node has. ((placed (extent_parts super image) node).full, back node has);
+    low = λ node has. (found_is super image (address_of node) node (are.gathered.found node has)).low;
+    start = start_there;
+    linked = linked_there;
+    led = led_there;
+  }
 
   -- references are owed exactly to what begins in it
   pub owing-image : IsOwing (layout_of (state_in super image))
-  owing-image = owing_tree (layout_of (state_in super image)) root.bytenr (nodes_of_root Files super image root) tree_layout
+  owing-image = owing_tree (layout_of (state_in super image)) (map root_at roots) are.gathered.nodes tree_layout

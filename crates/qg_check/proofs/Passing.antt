@@ -1,10 +1,10 @@
 -- What holds of all that a tree's items say, where the tree may hold each.
-use Rattle.std.proofs.Common.{◌≡◌, ℕ, Bool, true, false, List, [], ◌∷◌, map, refl, sym, ap, ◌∙◌, subst, arith}
+use Rattle.std.proofs.Common.{◌≡◌, ◌≤◌, ℕ, Bool, true, false, List, [], ◌∷◌, map, length, get_or, refl, sym, ap, ◌∙◌, subst}
 use Rattle.std.specs.Prelude.{All, Option, Some, ◌&&◌, ◌==◌, nat_le}
 use Rattle.std.specs.Bool.{then_some}
 use Rattle.std.specs.List.{AllByRecursion, list_all}
 use Rattle.std.proofs.lemmas.Bool.{and_parts, and_from, eqb-true, leb-true}
-use Rattle.std.proofs.lemmas.List.Elements.{All-filter, All-from_recursion}
+use Rattle.std.proofs.lemmas.List.Elements.{All-filter, All-from_recursion, filter_passes}
 use Rattle.std.proofs.lemmas.Option.{same_Some, option_and_then_some}
 use Rattle.std.proofs.lemmas.List.Sums.{AllPass-from_list_all}
 use Rattle.qg_node.specs.declared.item.Item.{Item}
@@ -17,7 +17,14 @@ use Rattle.qg_verdict.specs.declared.tree.Tree.TheVariants.{Roots, Extents, Quot
 use Rattle.qg_verdict.specs.ImageState.{subvolume_roots}
 use Rattle.qg_verdict.specs.Walk.{are_by, is_item_of, tells_generation}
 use Rattle.qg_walk.specs.Held.{AreHeld}
-use Rattle.qg_check.specs.Trees.{IsRootFit}
+use Rattle.qg_verdict.specs.Verdict.{are_roots}
+use Rattle.qg_node.specs.Nodes.{is_ascending}
+use Rattle.qg_image.specs.Table.{keys_of}
+use Rattle.qg_parts.specs.Keys.{root_key}
+use Rattle.qg_contents.specs.Writable.{IsRootBy}
+use Rattle.qg_check.specs.Editable.{AreSubvolumes}
+use Rattle.qg_check.proofs.Named.{are_roots_asked, top_there, tops_served}
+use Rattle.qg_check.proofs.Rising.{increases, subvolumes_ascend}
 
 -- what is said passes a test, where all that the items may say does
 said_passes : {P : Type 0} (meaning : Item → Option P) (test : P → Bool) (items : List Item) (parts : List P)
@@ -49,7 +56,7 @@ pub extents_by : (generation : ℕ) (parts : List ExtentPart) → AreHeld Extent
 unfolding is_item_of
 extents_by generation parts are = said_passes extent_part (λ (part : ExtentPart). are_by generation (extent_part_stamps part)) are.items parts are.held are.said
 
--- ---- the only subvolume
+-- ---- subvolumes
 
 when_some : {A : Type 0} (test : Bool) (given : Option A) (x : A) → when test given ≡ Some x → given ≡ Some x
 when_some true given x is = is
@@ -77,22 +84,31 @@ roots_once (item ∷ items) (part ∷ roots) said =
     let later : map root_part items ≡ map (λ part. Some part) roots = cc in
     (root_once item part first, roots_once items roots later)
 
--- so that of the only subvolume has one, and no generation that it tells is one to come
-pub root_fit : (generation : ℕ) (roots : List (ℕ × RootItem)) (top : RootItem) → AreHeld Roots root_part generation roots → subvolume_roots roots ≡ (5, top) ∷ []
-    → IsRootFit generation top
-root_fit generation roots top are only =
+-- no generation that a ROOT_ITEM tells is one to come
+by_stamps : (generation : ℕ) (root : RootItem) → are_by generation (root.generation ∷ root.last_snapshot ∷ []) ≡ true → IsRootBy generation root
+by_stamps generation root by =
+    let stamps = and_parts (nat_le root.generation generation) (nat_le root.last_snapshot generation && true) by in
+    record {
+      made = leb-true root.generation generation stamps.0;
+      copied = leb-true root.last_snapshot generation (and_parts (nat_le root.last_snapshot generation) true stamps.1).0;
+    }
+
+-- so the next commit can name the subvolumes that a root tree names
+pub subvolumes_fit : (generation : ℕ) (roots : List (ℕ × RootItem)) → AreHeld Roots root_part generation roots → is_ascending (map root_key roots) ≡ true
+    → are_roots roots ≡ true → length (subvolume_roots roots) ≤ 4096 → AreSubvolumes generation (subvolume_roots roots)
+subvolumes_fit generation roots held ascending are few =
     let IsBy : ℕ × RootItem → Type 0 = λ part. are_by generation (root_part_stamps part) ≡ true in
     let HasOne : ℕ × RootItem → Type 0 = λ part. part.1.refs ≡ 1 in
     let test : ℕ × RootItem → Bool = λ entry. is_subvolume_number entry.0 in
+    let asked = are_roots_asked roots are in
     let all : All IsBy (subvolume_roots roots) =
-    All-filter test IsBy roots (AllPass-from_list_all (λ (part : ℕ × RootItem). are_by generation (root_part_stamps part)) roots (roots_by generation roots are)) in
-    let each : All HasOne (subvolume_roots roots) = All-filter test HasOne roots (All-from_recursion HasOne roots (roots_once are.items roots are.said)) in
-    let by : All IsBy ((5, top) ∷ []) = subst (All IsBy) only all in
-    let once : All HasOne ((5, top) ∷ []) = subst (All HasOne) only each in
-    let own : are_by generation (top.generation ∷ top.last_snapshot ∷ []) ≡ true = by 0 (5, top) (omega arith) in
-    let stamps = and_parts (nat_le top.generation generation) (nat_le top.last_snapshot generation && true) own in
+    All-filter test IsBy roots (AllPass-from_list_all (λ (part : ℕ × RootItem). are_by generation (root_part_stamps part)) roots (roots_by generation roots held)) in
     record {
-      made = leb-true top.generation generation stamps.0;
-      copied = leb-true top.last_snapshot generation (and_parts (nat_le top.last_snapshot generation) true stamps.1).0;
-      once = once 0 (5, top) (omega arith);
+      few = few;
+      ascending = increases (keys_of (subvolume_roots roots)) (subvolumes_ascend roots ascending);
+      numbers = filter_passes test roots;
+      top_level = top_there roots asked.files;
+      counted = All-filter test HasOne roots (All-from_recursion HasOne roots (roots_once held.items roots held.said));
+      by = λ k d inside. by_stamps generation (get_or (subvolume_roots roots) k d).1 (all k d inside);
+      served = tops_served roots asked.alone;
     }

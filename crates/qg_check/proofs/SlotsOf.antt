@@ -1,5 +1,5 @@
 -- Slots that are the same as others that all are slots.
-use Rattle.std.proofs.Common.{◌≡◌, ℕ, Bool, true, List, [], ◌∷◌, get_or, inl, inr, subst}
+use Rattle.std.proofs.Common.{◌≡◌, ℕ, Bool, true, List, [], ◌∷◌, map, get_or, inl, inr, subst}
 use Rattle.std.specs.Prelude.{IsTrue}
 use Rattle.std.specs.List.{All, Contains, list_all}
 use Rattle.std.proofs.lemmas.Bool.{and_parts}
@@ -9,10 +9,10 @@ use Rattle.qg_super.specs.declared.sizes.Sizes.{Sizes}
 use Rattle.qg_super.specs.Places.{is_slot}
 use Rattle.qg_state.proofs.Contained.{none_contained, contains_cases}
 use Rattle.qg_reach.specs.Sets.{HaveSame}
-use Rattle.qg_node.specs.declared.node.Node.{Node}
 use Rattle.qg_walk.specs.Held.{AreAddressesOf, AreInSlots}
 use Rattle.qg_gathered.specs.declared.nodes.NodesRead.{NodesRead}
 use Rattle.qg_gathered.specs.Told.{AreOfNodes}
+use Rattle.qg_gathered.proofs.Sorted.{lie_as_told, number_read}
 
 -- what all pass, each passes
 passes : {A : Type 0} (p : A → Bool) (xs : List A) (x : A) → list_all p xs ≡ true → Contains xs x → p x ≡ true
@@ -31,8 +31,9 @@ same_slots sizes slots given same all = λ k d below. passes (is_slot sizes) giv
 pub slots_of_addresses : (sizes : Sizes) (addresses : List ℕ) → AreInSlots sizes AreAddressesOf addresses → list_all (is_slot sizes) addresses ≡ true
 slots_of_addresses sizes addresses in_slots = rw (in_slots.kept, list_all-map) in_slots.slots
 
--- so they do where this was gathered of nodes that lie in slots, and these are their addresses
-pub slots_of_gathered : (sizes : Sizes) (read : NodesRead) (addresses : List ℕ) → AreInSlots sizes AreOfNodes read
-    → ((nodes : List Node) → AreOfNodes read nodes → AreAddressesOf addresses nodes) → list_all (is_slot sizes) addresses ≡ true
-slots_of_gathered sizes read addresses in_slots are =
-    slots_of_addresses sizes addresses (record { nodes = in_slots.nodes; kept = are in_slots.nodes in_slots.kept; slots = in_slots.slots })
+-- so they do where this was gathered of nodes that lie in slots
+pub slots_of_gathered : (sizes : Sizes) (read : NodesRead) → AreInSlots sizes AreOfNodes read
+    → list_all (is_slot sizes) (map (λ node. node.linked.address) read.nodes.items) ≡ true
+slots_of_gathered sizes read in_slots =
+    slots_of_addresses sizes (map number_read read.nodes.items)
+    (record { nodes = in_slots.nodes; kept = lie_as_told read.nodes.items in_slots.nodes in_slots.kept; slots = in_slots.slots })

@@ -1,5 +1,5 @@
 -- The verdict on an image, by the parts that it looks at.
-use Rattle.std.proofs.Common.{◌≡◌, ℕ, List, [], ◌∷◌, map, length, refl, sym, ap, ◌∙◌}
+use Rattle.std.proofs.Common.{◌≡◌, ℕ, List, [], ◌∷◌, map, length, refl, sym, ap}
 use Rattle.std.specs.Prelude.{Option, Some, None}
 use Rattle.qg_num.specs.declared.rule.Rule.TheVariants as rule
 use Rattle.qg_items.specs.declared.root.RootItem.{RootItem}
@@ -13,7 +13,7 @@ use Rattle.qg_verdict.specs.Failure.{first_failure}
 use Rattle.qg_verdict.specs.ImageState.{super_in, super_of, roots_in, subvolume_roots}
 use Rattle.qg_verdict.specs.Verdict.{verdict, image_failure, root_failure, quota_failure, subvolume_failure, places_failure, roots_failure, together_failure}
 use Rattle.qg_check.specs.declared.trees.Trees.{Trees}
-use Rattle.qg_check.specs.Stages.{extents_failure, trees_failure}
+use Rattle.qg_check.specs.Stages.{trees_failure}
 use Rattle.qg_check.specs.Trees.{AreTrees}
 
 -- ---- several failures
@@ -26,12 +26,6 @@ in_parts : (a b : Option Failure) (rest : List (Option Failure)) → first_failu
 in_parts (Some a) b rest = refl
 in_parts None (Some b) rest = refl
 in_parts None None rest = sym (alone (first_failure rest))
-
-last_parts : (a b c d : Option Failure) → first_failure (a ∷ b ∷ first_failure (c ∷ []) ∷ d ∷ []) ≡ first_failure (a ∷ b ∷ c ∷ d ∷ [])
-last_parts (Some a) b c d = refl
-last_parts None (Some b) c d = refl
-last_parts None None (Some c) d = refl
-last_parts None None None d = refl
 
 -- ---- the verdict
 
@@ -65,8 +59,7 @@ rest_failure_trees super image trees are =
     same_rest (together_failure super image)
     (ap (root_failure Extents super image) are.named.extent_tree)
     (ap (quota_failure super image (roots_in super image)) are.named.quota_tree)
-    (ap (λ (entries : List (ℕ × RootItem)). first_failure (map (λ entry. subvolume_failure super image entry.1) entries)) are.named.only)
-    ∙ last_parts (extents_failure super image trees.extents) (quota_failure super image (roots_in super image) (Some trees.quotas)) (subvolume_failure super image trees.files)
-    (together_failure super image) where
-      same_rest : {a a' b b' s s' : Option Failure} (d : Option Failure) → a ≡ a' → b ≡ b' → s ≡ s' → first_failure (a ∷ b ∷ s ∷ d ∷ []) ≡ first_failure (a' ∷ b' ∷ s' ∷ d ∷ [])
-      same_rest d h k l = rw (h, k, l) refl
+    (ap (λ (entries : List (ℕ × RootItem)). first_failure (map (λ entry. subvolume_failure super image entry.1) entries)) are.named.all)
+  where
+    same_rest : {a a' b b' s s' : Option Failure} (d : Option Failure) → a ≡ a' → b ≡ b' → s ≡ s' → first_failure (a ∷ b ∷ s ∷ d ∷ []) ≡ first_failure (a' ∷ b' ∷ s' ∷ d ∷ [])
+    same_rest d h k l = rw (h, k, l) refl

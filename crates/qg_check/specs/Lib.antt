@@ -1,5 +1,6 @@
 pub mod Stages
 pub mod Stale
+pub mod Editable
 pub mod Trees
 pub mod IsImage
 pub mod Counted

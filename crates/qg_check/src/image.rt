@@ -1,5 +1,5 @@
 use qg_extents::Extents;
-use qg_items::RootItem;
+use qg_image::RootPart;
 use qg_num::{Address, Sequence};
 use qg_state::{Element, Quota};
 use qg_super::Super;
@@ -11,13 +11,13 @@ pub struct Image {
     pub superblock: Super,
     /// The place that does not hold the same, in bytes, if there is one.
     pub stale: Option<u64>,
-    /// The ROOT_ITEM of the top-level subvolume.
-    pub root: RootItem,
+    /// The subvolumes, ascending by number, with their ROOT_ITEMs.
+    pub roots: Sequence<RootPart>,
     /// The quota groups.
     pub quota: Quota,
     /// Where the nodes of the root, extent and quota trees lie, in the order of the walk.
     pub others: Sequence<Address>,
-    /// Where those of the top-level subvolume lie, ascending.
+    /// Where those that subvolumes reach lie, ascending.
     pub nodes: Sequence<Address>,
     /// The data extents that files name, ascending.
     pub extents: Sequence<Element>,

@@ -1,25 +1,28 @@
 // What the trees of an image say together.
-ghost use Rattle.std.specs.Prelude.{◌≡◌, ◌∷◌, [], ◌++◌, List, ℕ, IfOk, IsErrOf, IsTrue};
-ghost use Rattle.qg_items.specs.declared.tree.TheConstants.{TOP_LEVEL};
+ghost use Rattle.std.specs.Prelude.{◌≡◌, ◌++◌, List, ℕ, map, IfOk, IsErrOf, IsTrue};
 ghost use Rattle.qg_super.specs.Places.{is_served};
 ghost use Rattle.qg_super.specs.SuperText.{sizes_of};
 ghost use Rattle.qg_image.specs.Table.{keys_of};
 ghost use Rattle.qg_walk.specs.Fault.{FailsAs};
 ghost use Rattle.qg_walk.specs.Held.{AreInSlots};
 ghost use Rattle.qg_verdict.specs.Verdict.{together_failure};
+ghost use Rattle.qg_gathered.specs.Gathered.{root_at};
 ghost use Rattle.qg_gathered.specs.Told.{AreOfNodes};
+ghost use Rattle.qg_check.specs.Editable.{AreGroups, AreSubvolumes};
 ghost use Rattle.qg_check.specs.Trees.{AreFitParts, AreRead};
 ghost use Rattle.qg_check.specs.IsImage.{StandsFor, Keeps};
 
 use crate::Image;
 use crate::counts::{judge_counts, judge_extents};
 use crate::references::{judge_recorded, read_book};
-use crate::trees::{ExtentTree, FileTree, QuotaTree, Trees};
-use qg_num::{Address, NoMemory, Sequence};
-use qg_reach::{each_once, extents_of, reached_bytes};
+use crate::trees::{ExtentTree, QuotaTree, Trees};
+use qg_direct::Surveyed;
+use qg_gathered::NodesRead;
+use qg_image::RootPart;
+use qg_num::{Address, NoMemory, RootId, Sequence};
 use qg_super::Super;
 use qg_walk::OpenFault;
-use std::alloc::Global;
+use std::alloc::{AllocError, Global};
 
 /// What was read of the trees of an image.
 #[derive(Drop)]
@@ -27,15 +30,17 @@ pub struct Read {
     pub trees: Trees,
     pub extents: ExtentTree,
     pub quotas: QuotaTree,
-    pub subvolume: FileTree,
+    /// What was gathered of the nodes of all subvolumes.
+    pub nodes: NodesRead,
 }
 
-/// Judges where extents lie, what is recorded and what the group counts, and keeps what the image stands for.
+/// Judges where extents lie, what is recorded and what groups count, and keeps what the image stands for.
 pub(crate) fn judge_trees(alloc: Global, superblock: Super, read: Read) -> Result<Image, OpenFault>
     requires served { IsTrue (is_served (sizes_of superblock)) }
-    requires slots { AreInSlots (sizes_of superblock) AreOfNodes read.subvolume.nodes }
+    requires slots { AreInSlots (sizes_of superblock) AreOfNodes read.nodes }
     requires parts { AreFitParts superblock.generation read.extents.parts }
-    requires groups { keys_of read.quotas.quota.groups ≡ TOP_LEVEL ∷ [] }
+    requires subvolumes { AreSubvolumes superblock.generation read.trees.subvolumes }
+    requires groups { AreGroups superblock.generation (keys_of read.trees.subvolumes) read.quotas.quota }
     ensures failure { (bytes : List ℕ) → AreRead superblock bytes read → FailsAs result (together_failure superblock bytes) }
     ensures image { (bytes : List ℕ) → AreRead superblock bytes read → IfOk result (λ image. StandsFor superblock bytes image) }
     ensures superblock { IfOk result (λ image. image.superblock ≡ superblock) }
@@ -46,9 +51,13 @@ pub(crate) fn judge_trees(alloc: Global, superblock: Super, read: Read) -> Resul
         trees,
         extents: recorded,
         quotas,
-        subvolume,
+        nodes: reached,
     } = read;
-    let root = trees.files;
+    let Trees {
+        subvolumes,
+        nodes: root_nodes,
+        ..
+    } = trees;
     let ExtentTree {
         parts,
         nodes: extent_nodes,
@@ -57,36 +66,60 @@ pub(crate) fn judge_trees(alloc: Global, superblock: Super, read: Read) -> Resul
         quota,
         nodes: quota_nodes,
     } = quotas;
-    let FileTree {
-        files,
-        nodes: reached,
-    } = subvolume;
-    let others = joined(trees.nodes, extent_nodes, quota_nodes)?;
+    let others = joined(root_nodes, extent_nodes, quota_nodes)?;
     let sizes = superblock.sizes();
-    let extents = extents_of(alloc, files.as_slice())?;
+    let extents = reached.extents(alloc)?;
     judge_extents(&sizes, extents.as_slice())?;
-    let addresses = reached.addresses(alloc)?;
-    let nodes = each_once(alloc, addresses.as_slice())?;
-    judge_recorded(
+    let roots = roots_of(alloc, subvolumes.as_slice())?;
+    let surveyed = judge_recorded(
         alloc,
         reached,
-        root.bytenr,
+        roots.as_slice(),
         extents.as_slice(),
         parts.as_slice(),
     )?;
-    let bytes = reached_bytes(&sizes, nodes.as_slice(), extents.as_slice());
-    judge_counts(&quota, bytes)?;
+    judge_counts(
+        alloc,
+        roots.as_slice(),
+        surveyed.as_slice(),
+        superblock.nodesize,
+        extents.as_slice(),
+        &quota,
+    )?;
     let book = read_book(alloc, superblock.nodesize, parts.as_slice())?;
+    let nodes = addresses_of(alloc, surveyed.as_slice())?;
     Ok(Image {
         superblock,
         stale: None,
-        root,
+        roots: subvolumes,
         quota,
         others,
         nodes,
         extents,
         book,
     })
+}
+
+// Where the roots of subvolumes lie, by their numbers.
+fn roots_of(alloc: Global, subvolumes: &[RootPart]) -> Result<Vec<(RootId, Address)>, AllocError>
+    ensures { IfOk result (λ roots. roots.items ≡ map root_at subvolumes.now) }
+{
+    let mut roots = Vec::with_capacity(alloc, subvolumes.len())?;
+    for entry in subvolumes {
+        roots.push((entry.0, entry.1.bytenr))?;
+    }
+    Ok(roots)
+}
+
+// Where nodes lie.
+fn addresses_of(alloc: Global, nodes: &[Surveyed]) -> Result<Sequence<Address>, AllocError>
+    ensures { IfOk result (λ addresses. addresses ≡ map (λ node. node.linked.address) nodes.now) }
+{
+    let mut addresses = Sequence::with_capacity(alloc, nodes.len())?;
+    for node in nodes {
+        addresses.push(node.linked.address)?;
+    }
+    Ok(addresses)
 }
 
 // Three lists, one after the other.

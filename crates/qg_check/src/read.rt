@@ -8,15 +8,18 @@ ghost use Rattle.qg_super.specs.SuperText.{is_super, sizes_of};
 ghost use Rattle.qg_verdict.specs.Verdict.{verdict, places_failure};
 ghost use Rattle.qg_walk.specs.Fault.{FailsAs};
 ghost use Rattle.qg_check.specs.Stages.{trees_failure};
-ghost use Rattle.qg_check.specs.Trees.{AreTrees, IsRootFit};
+ghost use Rattle.qg_check.specs.Editable.{AreSubvolumes};
+ghost use Rattle.qg_check.specs.Trees.{AreTrees};
 ghost use Rattle.qg_check.specs.IsImage.{IsEditable, IsImage, StandsFor};
 
 use crate::Image;
 use crate::judge::{Read, judge_trees};
 use crate::places::{Places, read_places};
-use crate::trees::{Trees, read_extents, read_quotas, read_roots, read_subvolume};
+use crate::trees::{Trees, read_extents, read_quotas, read_roots};
 use qg_disk::Disk;
+use qg_gathered::NodesRead;
 use qg_num::{Address, Rule};
+use qg_shared_walk::read_subvolumes;
 use qg_super::{FIRST_PLACE, SECOND_PLACE, Super};
 use qg_walk::OpenFault;
 use std::alloc::Global;
@@ -80,20 +83,28 @@ fn read_trees<D: Disk>(
 ) -> Result<Image, OpenFault>
     requires served { IsTrue (is_served (sizes_of superblock)) }
     requires inside { total_bytes (sizes_of superblock) ≤ D.size disk.old }
+    requires subvolumes { AreSubvolumes superblock.generation trees.subvolumes }
     ensures failure { (events : List Event) → D.history disk.old ≡ Some events → AreTrees superblock (content events) trees
         → FailsAs result (trees_failure superblock (content events) trees) }
     ensures image { (events : List Event) → D.history disk.old ≡ Some events → AreTrees superblock (content events) trees
         → IfOk result (λ image. StandsFor superblock (content events) image) }
     ensures superblock { IfOk result (λ image. image.superblock ≡ superblock) }
     ensures editable { IsTrue (is_super superblock) → IsTrue (list_all (is_slot (sizes_of superblock)) trees.nodes)
-        → IsRootFit superblock.generation trees.files → IfOk result (λ image. IsEditable image) }
+        → IfOk result (λ image. IsEditable image) }
     ensures history { D.history disk.new ≡ D.history disk.old }
     ensures size { D.size disk.new ≡ D.size disk.old }
     ensures cause { HasCause OpenFault.Disk (D.faults disk.old) (D.faults disk.new) result }
 {
     let extents = read_extents(alloc, disk, &superblock, &trees.extents)?;
-    let quotas = read_quotas(alloc, disk, &superblock, &trees.quotas, &trees.files)?;
-    let subvolume = read_subvolume(alloc, disk, &superblock, &trees.files)?;
+    let subvolumes = trees.subvolumes.as_slice();
+    let quotas = read_quotas(alloc, disk, &superblock, &trees.quotas, subvolumes)?;
+    let nodes = read_subvolumes::<NodesRead, D>(
+        alloc,
+        disk,
+        &superblock,
+        subvolumes,
+        NodesRead::new(alloc),
+    )?;
     judge_trees(
         alloc,
         superblock,
@@ -101,7 +112,7 @@ fn read_trees<D: Disk>(
             trees,
             extents,
             quotas,
-            subvolume,
+            nodes,
         },
     )
 }

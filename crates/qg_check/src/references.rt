@@ -1,10 +1,11 @@
 // The references that the extent tree records.
-ghost use Rattle.std.specs.Prelude.{◌≡◌, ℕ, All, List, Option, IfOk, IsErrOf};
-ghost use Rattle.std.specs.List.Sorted.{IsNonDecreasingBy};
+ghost use Rattle.std.specs.Prelude.{◌≡◌, ℕ, All, List, map, Option, IfOk, IsErrOf};
+ghost use Rattle.std.specs.List.Sorted.{IsNonDecreasingBy, IsStrictlyIncreasing};
 ghost use Rattle.std.specs.Option.{option_map};
 ghost use Rattle.qg_num.specs.declared.rule.Rule.TheVariants as rule;
 ghost use Rattle.qg_items.specs.declared.root.RootItem.{RootItem};
 ghost use Rattle.qg_super.specs.declared.superblock.Super.{Super};
+ghost use Rattle.qg_image.specs.Table.{keys_of};
 ghost use Rattle.qg_state.specs.Owed.{part_address};
 ghost use Rattle.qg_state.specs.State.{layout_of};
 ghost use Rattle.qg_verdict.specs.declared.failure.Failure.TheVariants as failure;
@@ -13,34 +14,45 @@ ghost use Rattle.qg_verdict.specs.Verdict.{references_failure};
 ghost use Rattle.qg_walk.specs.Fault.{FailsAs, TellsFailure};
 ghost use Rattle.qg_extents.specs.Table.{IsTable, book_of};
 ghost use Rattle.qg_extents.specs.Told.{IsFault, IsTold, records_failure};
-ghost use Rattle.qg_gathered.specs.Gathered.{AreGathered};
+ghost use Rattle.qg_reach.specs.Sets.{HaveSame};
+ghost use Rattle.qg_direct.specs.Surveyed.{AreSurveyed};
+ghost use Rattle.qg_gathered.specs.Gathered.{AreGathered, root_at};
 ghost use Rattle.qg_check.specs.Counts.{CountFits};
 
+use qg_direct::Surveyed;
 use qg_extents::{Extents, RefsFault};
-use qg_gathered::{NodesRead, judge_references};
+use qg_gathered::{Judged, NodesRead, judge_references};
 use qg_image::ExtentPart;
-use qg_num::{Address, Rule};
+use qg_num::{Address, RootId, Rule};
 use qg_state::Element;
 use qg_walk::OpenFault;
 use std::alloc::Global;
 
-/// Judges the references that the extent tree records, and that each node that is not full is reached by its owner.
+/// Judges the references that the extent tree records, and that each node that is not full is reached by its owner. `roots` are the
+/// addresses of the subvolumes' roots, ascending by number. Gives what is surveyed of the nodes, ascending by address.
 pub(crate) fn judge_recorded(
     alloc: Global,
     nodes: NodesRead,
-    root: Address,
+    roots: &[(RootId, Address)],
     extents: &[Element],
     parts: &[ExtentPart],
-) -> Result<(), OpenFault>
-    requires { IsNonDecreasingBy part_address parts.now }
-    ensures failure { (super : Super) (bytes : List ℕ) (item : RootItem) → root ≡ item.bytenr
-        → AreGathered super bytes item nodes extents.now parts.now
+) -> Result<Vec<Surveyed>, OpenFault>
+    requires roots { IsStrictlyIncreasing (keys_of roots.now) }
+    requires parts { IsNonDecreasingBy part_address parts.now }
+    ensures failure { (super : Super) (bytes : List ℕ) (items : List (ℕ × RootItem)) → roots.now ≡ map root_at items
+        → AreGathered super bytes items nodes extents.now parts.now
         → FailsAs result (references_failure super bytes (layout_of (state_in super bytes))) }
+    ensures surveyed { (super : Super) (bytes : List ℕ) (items : List (ℕ × RootItem)) → roots.now ≡ map root_at items
+        → AreGathered super bytes items nodes extents.now parts.now
+        → IfOk result (λ those. AreSurveyed (layout_of (state_in super bytes)) roots.now those.items super.nodesize extents.now) }
+    ensures ascending { IfOk result (λ those. IsStrictlyIncreasing (map (λ node. node.linked.address) those.items)) }
+    ensures same { IfOk result (λ those. HaveSame (map (λ node. node.linked.address) those.items)
+        (map (λ node. node.linked.address) nodes.nodes.items)) }
     ensures no_disk { IsErrOf result OpenFault.Disk → ⊥ }
 {
-    match judge_references(alloc, nodes, root, extents, parts)? {
-        None => Ok(()),
-        Some(failure) => Err(OpenFault::from(failure)),
+    match judge_references(alloc, nodes, roots, extents, parts)? {
+        Judged::Keeps(surveyed) => Ok(surveyed),
+        Judged::Breaks(failure) => Err(OpenFault::from(failure)),
     }
 }
 

@@ -23,7 +23,6 @@ use Rattle.qg_state.specs.State.{State}
 use Rattle.qg_state.proofs.Contained.{contains_cases, contains_here, none_contained}
 use Rattle.qg_verdict.specs.Walk.{node_found}
 use Rattle.qg_verdict.specs.IsFresh.{fresh_leaf, fresh_state}
-use Rattle.qg_verdict.specs.OtherTrees.{AreOtherTrees}
 use Rattle.qg_tree.specs.Build.{IsMadeFor}
 use Rattle.qg_extents.specs.Fresh.{fresh_table}
 use Rattle.qg_extents.specs.Table.{IsTable}
@@ -33,7 +32,7 @@ use Rattle.qg_other_trees.specs.Sound.{IsCommitted}
 use Rattle.qg_other_trees.specs.Trees.{nodes_laid}
 use Rattle.qg_other_trees.proofs.Sound.{committed_others, is_committed}
 use Rattle.qg_commit.specs.Calls.{IsReadBack, IsWritable, with_image}
-use Rattle.qg_commit.specs.Fresh.{AreFreshTrees, extent_items, fresh_nodes, fresh_quota, fresh_root, fresh_roots, fresh_slots, fresh_super, own_leaf, quota_items, root_items}
+use Rattle.qg_commit.specs.Fresh.{AreFreshTrees, extent_items, fresh_nodes, fresh_quota, fresh_roots, fresh_slots, fresh_super, own_leaf, quota_items, root_items}
 use Rattle.qg_commit.specs.Mkfs.{HoldsFreshImage, IsFreshImage}
 use Rattle.qg_commit.proofs.FreshState.{before, counts, home, leaf_fits, leaf_format, runs, space, told, whole}
 use Rattle.qg_commit.proofs.FreshTrees.{extents_leaf, first_slots-IsDistinct, fresh_slots-IsDistinct, low_slot-is_slot, quotas_leaf, roots_leaf, superblock_is}

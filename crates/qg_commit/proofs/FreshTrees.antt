@@ -26,7 +26,8 @@ use Rattle.qg_tree.specs.declared.building.Built.{Built}
 use Rattle.qg_extents.specs.Fresh.{fresh_table}
 use Rattle.qg_extents.specs.Written.{items_of_book}
 use Rattle.qg_other_trees.specs.declared.laying.OtherTrees.{OtherTrees}
-use Rattle.qg_other_trees.specs.Trees.{AreGroups, AreSubvolumes, nodes_of_trees, root_item_laid}
+use Rattle.qg_other_trees.specs.Trees.{nodes_of_trees, root_item_laid}
+use Rattle.qg_check.specs.Editable.{AreGroups, AreSubvolumes}
 use Rattle.qg_other_trees.proofs.Enough.{filled_quota, filled_roots}
 use Rattle.qg_other_trees.proofs.One.{one_named, one_told}
 use Rattle.qg_commit.specs.Fresh.{AreFreshTrees, extent_items, fresh_counters, fresh_nodes, fresh_quota, fresh_root, fresh_roots, fresh_slots, fresh_super, own_leaf, quota_items, root_items}

@@ -1,5 +1,5 @@
 // Opening an image.
-ghost use Rattle.std.specs.Prelude.{◌≡◌, ◌∷◌, ◌⊎◌, ◌≤◌, List, Some, Err, IfOk, OnOk, IfErr, IsTrue};
+ghost use Rattle.std.specs.Prelude.{◌≡◌, ◌∷◌, ◌⊎◌, ◌≤◌, List, Some, IfOk, OnOk, IfErr, IsTrue};
 ghost use Rattle.qg_device.specs.Cause.{HasCause};
 ghost use Rattle.qg_device.specs.History.{Event, Synced, content};
 ghost use Rattle.qg_super.specs.Places.{total_bytes};

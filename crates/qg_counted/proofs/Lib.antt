@@ -3,3 +3,4 @@ pub mod Filtered
 pub mod Counted
 pub mod Weights
 pub mod Told
+pub mod Members

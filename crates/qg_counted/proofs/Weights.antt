@@ -1,16 +1,15 @@
 -- Sums of bytes by set, one portion and one set after the other.
 use Rattle.std.proofs.Common.{◌≡◌, ℕ, zero, suc, ◌+◌, ◌<◌, ◌≤◌, Bool, true, false, List, [], ◌∷◌, ◌++◌, length, take, get_or, set}
-use Rattle.std.proofs.Common.{Some, refl, sym, ap, ◌∙◌, arith, ◌⊎◌, inl, inr, ◌↔◌, length-take}
-use Rattle.std.specs.Prelude.{◌==◌, ◌&&◌, replicate, slice_get}
-use Rattle.std.specs.List.{All}
-use Rattle.std.proofs.lemmas.Bool.{eq-eqb, ne_eqb, cases_lt, true≢false}
-use Rattle.std.proofs.lemmas.List.{take_more, length_push, get_or_push, get_or_append_left}
+use Rattle.std.proofs.Common.{Some, refl, sym, ap, ◌∙◌, arith, ◌↔◌, length-take}
+use Rattle.std.specs.Prelude.{◌==◌, ◌&&◌, replicate}
+use Rattle.std.proofs.lemmas.Bool.{eq-eqb, ne_eqb, true≢false}
+use Rattle.std.proofs.lemmas.List.{take_more, take_all, get_or-replicate, length-replicate}
 use Rattle.std.proofs.lemmas.Option.{slice_get-get_or}
 use Rattle.qg_num.specs.declared.counters.Counters.{Counters}
 use Rattle.qg_reached.specs.Sets.{HasMember, row_of}
 use Rattle.qg_counted.specs.declared.counting.Portion.{Portion}
-use Rattle.qg_counted.specs.Portions.{given, bytes_where, sum_where, row_has, member_count, AreLone, counted, counted_by}
-use Rattle.qg_counted.specs.Portions.{is_in, is_in_alone}
+use Rattle.qg_counted.specs.Portions.{given, bytes_where, sum_where, row_has, member_count, counted, counted_by, AreCounted}
+use Rattle.qg_counted.specs.Portions.{is_in, is_in_alone, nothing, with_more, HaveMore}
 
 -- ---- a number or 0
 
@@ -40,23 +39,13 @@ pub has_is : (b : Bool) (row : List ℕ) (member : ℕ) → (b ≡ true) ↔ Has
 has_is true row member is = sym (eq-eqb _ _ (is.0 refl))
 has_is false row member is = sym (ne_eqb _ _ (λ has. true≢false (sym (is.1 has))))
 
-count_first : (row : List ℕ) → member_count row 0 ≡ 0
+pub count_first : (row : List ℕ) → member_count row 0 ≡ 0
 unfolding member_count
 count_first row = refl
 
-count_suc : (row : List ℕ) (n : ℕ) → member_count row (suc n) ≡ given (row_has row n) 1 + member_count row n
+pub count_suc : (row : List ℕ) (n : ℕ) → member_count row (suc n) ≡ given (row_has row n) 1 + member_count row n
 unfolding member_count
 count_suc row n = refl
-
-pub count_none : (row : List ℕ) → 0 ≡ member_count row 0
-count_none row = sym (count_first row)
-
-pub count_next : (row : List ℕ) (n : ℕ) → member_count row (n + 1) ≡ given (row_has row n) 1 + member_count row n
-count_next row n = let same : n + 1 ≡ suc n = omega arith in ap (member_count row) same ∙ count_suc row n
-
-pub count_le : (row : List ℕ) (n : ℕ) → member_count row n ≤ n
-count_le row zero = omega (arith, count_first row)
-count_le row (suc n) = omega (arith, count_suc row n, given_le (row_has row n) 1, count_le row n)
 
 -- ---- sums by index
 
@@ -153,44 +142,12 @@ sum_zeros test first (suc n) =
     ≡ given (test first) 0 + sum_where test (first + 1) (replicate n 0) = sum_one test first 0 (replicate n 0) in
     omega (arith, is, given_none (test first), sum_zeros test (first + 1) n)
 
--- one more number that passes leaves the sum below that of all
-pub next_small : (test : ℕ → Bool) (ns : List ℕ) (i bound : ℕ) → i < length ns → sum_where (λ _. true) 0 ns < bound
-    → test i ≡ true → sum_where test 0 (take i ns) + get_or ns i 0 < bound
-next_small test ns i bound short small passes =
-    omega (
-      arith,
-      sum_next test ns i short,
-      given_is (test i) (get_or ns i 0) passes,
-      take_le test 0 (i + 1) ns,
-      sum_le test 0 ns,
-      small,
-    )
-
 pub sum_start : (test : ℕ → Bool) → 0 ≡ sum_where test 0 []
 sum_start test = sym (sum_none test 0)
-
--- a number that passes is added, another one is passed by
-pub taken : (test : ℕ → Bool) (ns : List ℕ) (i old new : ℕ) → i < length ns → test i ≡ true
-    → old ≡ sum_where test 0 (take i ns) → new ≡ old + get_or ns i 0 → new ≡ sum_where test 0 (take (i + 1) ns)
-taken test ns i old new short passes before is =
-    omega (arith, sum_next test ns i short, given_is (test i) (get_or ns i 0) passes, before, is)
-
-pub passed_by : (test : ℕ → Bool) (ns : List ℕ) (i old new : ℕ) → i < length ns → test i ≡ false
-    → old ≡ sum_where test 0 (take i ns) → new ≡ old → new ≡ sum_where test 0 (take (i + 1) ns)
-passed_by test ns i old new short fails before is =
-    omega (arith, sum_next test ns i short, given_not (test i) (get_or ns i 0) fails, before, is)
-
-pub both_true : (a b : Bool) → a ≡ true → b ≡ true → (a && b) ≡ true
-both_true true b _ is = is
-both_true false b wrong _ = absurd (true≢false (sym wrong))
 
 pub first_false : (a b : Bool) → a ≡ false → (a && b) ≡ false
 first_false false b _ = refl
 first_false true b wrong = absurd (true≢false wrong)
-
-pub second_false : (a b : Bool) → b ≡ false → (a && b) ≡ false
-second_false true b is = is
-second_false false b is = refl
 
 -- ---- bytes of portions
 
@@ -253,81 +210,75 @@ pub one_small : (p : Portion) (bound : ℕ) → p.bytes < bound → bytes_where 
 one_small p bound small =
     omega (arith, bytes_one (λ _. true) p [], bytes_none (λ _. true), given_is true p.bytes refl, small)
 
-pub bytes_same : (test other : ℕ → Bool) (ps : List Portion) → All (λ p. test p.set ≡ other p.set) ps
-    → bytes_where test ps ≡ bytes_where other ps
-bytes_same test other [] same = bytes_none test ∙ sym (bytes_none other)
-bytes_same test other (p ∷ ps) same =
-    let first = ap (λ b. given b p.bytes) (same 0 p (omega arith)) in
-    let rest = bytes_same test other ps (λ k d short. same (suc k) d (omega (arith, short))) in
-    omega (arith, first, rest, bytes_one test p ps, bytes_one other p ps)
-
 -- ---- counters
 
-pub lone_none : (rows : List (List ℕ)) (subvolumes : ℕ) (lone : List Bool) → lone ≡ [] → length lone ≡ 0
-lone_none rows subvolumes lone is = ap length is
+-- the counters of the first sets
+pub record SummedFirst (rows : List (List ℕ)) (sums : List ℕ) (subvolumes n : ℕ) (counters : List Counters) : Type 0 where
+  pub all : length counters ≡ subvolumes
+  pub each : (k : ℕ) → k < subvolumes → get_or counters k nothing ≡ counted_by rows subvolumes (take n sums) k
 
--- for the first sets whether they have one member alone
-pub record LoneFirst (rows : List (List ℕ)) (subvolumes n : ℕ) (lone : List Bool) : Type 0 where
-  pub all : length lone ≡ n
-  pub each : (k : ℕ) → k < n → get_or lone k false ≡ (member_count (row_of rows k) subvolumes == 1)
+abbrev pub made : ℕ → ℕ → Counters
+made rfer excl = record { rfer = rfer; excl = excl }
 
-pub lone_more : (rows : List (List ℕ)) (subvolumes n : ℕ) (lone : List Bool) (b : Bool)
-    → b ≡ (member_count (row_of rows n) subvolumes == 1) → LoneFirst rows subvolumes n lone
-    → LoneFirst rows subvolumes (n + 1) (lone ++ b ∷ [])
-lone_more rows subvolumes n lone b is first = record {
-  all = length_push lone b ∙ ap (λ k. k + 1) first.all;
-  each = λ k short. each k short (cases_lt k n);
-} where
-  each : (k : ℕ) → k < n + 1 → (k < n) ⊎ (n ≤ k)
-      → get_or (lone ++ b ∷ []) k false ≡ (member_count (row_of rows k) subvolumes == 1)
-  each k _ (inl less) = get_or_append_left lone (b ∷ []) false k (omega (arith, less, first.all)) ∙ first.each k less
-  each k short (inr past) =
-      let now : k ≡ n = omega (arith, short, past) in
-      get_or_push lone b false k (first.all ∙ sym now) ∙ is
-      ∙ ap (λ j. member_count (row_of rows j) subvolumes == 1) (sym now)
+pub counters_same : (a b : Counters) → a.rfer ≡ b.rfer → a.excl ≡ b.excl → a ≡ b
+counters_same a b first second = ap (λ n. made n a.excl) first ∙ ap (made b.rfer) second
 
--- the first subvolumes have their counters
-pub record CountedFirst (rows : List (List ℕ)) (portions : List Portion) (subvolumes n : ℕ) (counters : List Counters)
-    : Type 0 where
-  pub all : length counters ≡ n
-  pub each : (k : ℕ) → k < n → slice_get counters k ≡ Some (counted rows subvolumes portions k)
+pub summed_none : (rows : List (List ℕ)) (sums : List ℕ) (subvolumes : ℕ) (counters : List Counters)
+    → counters ≡ replicate subvolumes nothing → SummedFirst rows sums subvolumes 0 counters
+summed_none rows sums subvolumes counters is = record {
+  all = ap length is ∙ length-replicate subvolumes nothing;
+  each = λ k short.
+      ap (λ (now : List Counters). get_or now k nothing) is ∙ get_or-replicate subvolumes k nothing nothing short
+      ∙ counters_same nothing (counted_by rows subvolumes [] k) (sum_start (is_in rows k))
+      (sum_start (is_in_alone rows subvolumes k));
+}
 
-pub counted_more : (rows : List (List ℕ)) (portions : List Portion) (subvolumes n : ℕ) (counters : List Counters)
-    (new : Counters) → new ≡ counted rows subvolumes portions n → CountedFirst rows portions subvolumes n counters
-    → CountedFirst rows portions subvolumes (n + 1) (counters ++ new ∷ [])
-counted_more rows portions subvolumes n counters new is first = record {
-  all = length_push counters new ∙ ap (λ k. k + 1) first.all;
-  each = λ k short. each k short (cases_lt k n);
-} where
-  long : length (counters ++ new ∷ []) ≡ n + 1
-  long = length_push counters new ∙ ap (λ k. k + 1) first.all
+-- the bytes of one set more can be counted
+pub summed_room : (rows : List (List ℕ)) (sums : List ℕ) (subvolumes n bound : ℕ) (counters : List Counters)
+    → n < length sums → sum_where (λ _. true) 0 sums < bound → SummedFirst rows sums subvolumes n counters
+    → (k : ℕ) → k < length counters
+    → ((get_or counters k nothing).rfer + get_or sums n 0 < bound) × ((get_or counters k nothing).excl + get_or sums n 0 < bound)
+summed_room rows sums subvolumes n bound counters short small first k inside =
+    let is = first.each k (omega (arith, inside, first.all)) in (
+      room (is_in rows k) (get_or counters k nothing).rfer (ap (λ (c : Counters). c.rfer) is),
+      room (is_in_alone rows subvolumes k) (get_or counters k nothing).excl (ap (λ (c : Counters). c.excl) is),
+    ) where
+      room : (test : ℕ → Bool) (sum : ℕ) → sum ≡ sum_where test 0 (take n sums) → sum + get_or sums n 0 < bound
+      room test sum is =
+          omega (
+            arith,
+            is,
+            sum_le test 0 (take n sums),
+            sum_next (λ _. true) sums n short,
+            given_is true (get_or sums n 0) refl,
+            take_le (λ _. true) 0 (n + 1) sums,
+            small,
+          )
 
-  read : (k : ℕ) → k < n + 1 → slice_get (counters ++ new ∷ []) k ≡ Some (get_or (counters ++ new ∷ []) k new)
-  read k short = slice_get-get_or (counters ++ new ∷ []) k new (omega (arith, short, long))
+-- a set's bytes are added to the counters of its members
+pub summed_more : (rows : List (List ℕ)) (sums : List ℕ) (subvolumes n : ℕ) (old new : List Counters)
+    → n < length sums → SummedFirst rows sums subvolumes n old → HaveMore (row_of rows n) (get_or sums n 0) old new
+    → SummedFirst rows sums subvolumes (n + 1) new
+summed_more rows sums subvolumes n old new short first more = record { all = more.same ∙ first.all; each = each } where
+  each : (k : ℕ) → k < subvolumes → get_or new k nothing ≡ counted_by rows subvolumes (take (n + 1) sums) k
+  each k inside =
+      more.each k (omega (arith, inside, first.all))
+      ∙ ap (λ m. with_more (row_has (row_of rows n) k) (member_count (row_of rows n) m == 1) (get_or sums n 0) (get_or old k nothing)) first.all
+      ∙ ap (with_more (is_in rows k n) (member_count (row_of rows n) subvolumes == 1) (get_or sums n 0)) (first.each k inside)
+      ∙ counters_same
+      (with_more (is_in rows k n) (member_count (row_of rows n) subvolumes == 1) (get_or sums n 0) (counted_by rows subvolumes (take n sums) k))
+      (counted_by rows subvolumes (take (n + 1) sums) k)
+      (sym (sum_next (is_in rows k) sums n short)) (sym (sum_next (is_in_alone rows subvolumes k) sums n short))
 
-  each : (k : ℕ) → k < n + 1 → (k < n) ⊎ (n ≤ k)
-      → slice_get (counters ++ new ∷ []) k ≡ Some (counted rows subvolumes portions k)
-  each k short (inl less) =
-      let inside : k < length counters = omega (arith, less, first.all) in
-      read k short ∙ ap Some (get_or_append_left counters (new ∷ []) new k inside)
-      ∙ sym (slice_get-get_or counters k new inside) ∙ first.each k less
-  each k short (inr past) =
-      let now : k ≡ n = omega (arith, short, past) in
-      read k short ∙ ap Some (get_or_push counters new new k (first.all ∙ sym now) ∙ is)
-      ∙ ap (λ j. Some (counted rows subvolumes portions j)) (sym now)
-
--- the counters by sums of sets are those of the portions
-pub counted_is : (rows : List (List ℕ)) (portions : List Portion) (subvolumes : ℕ) (sums : List ℕ) (lone : List Bool)
-    (subvolume : ℕ) → All (λ p. p.set < length rows) portions
-    → ((test : ℕ → Bool) → sum_where test 0 sums ≡ bytes_where test portions) → AreLone rows subvolumes lone
-    → counted_by rows sums lone subvolume ≡ counted rows subvolumes portions subvolume
-counted_is rows portions subvolumes sums lone subvolume inside same are =
-    ap (λ n. made n (sum_where (λ k. is_in rows subvolume k && get_or lone k false) 0 sums)) (same (is_in rows subvolume))
-    ∙ ap (made (bytes_where (is_in rows subvolume) portions))
-    (same (λ k. is_in rows subvolume k && get_or lone k false)
-    ∙ bytes_same (λ k. is_in rows subvolume k && get_or lone k false) (is_in_alone rows subvolumes subvolume) portions
-    (λ k d short. ap (λ b. is_in rows subvolume (get_or portions k d).set && b)
-    (are.each (get_or portions k d).set (inside k d short))))
-  where
-    made : ℕ → ℕ → Counters
-    made rfer excl = record { rfer = rfer; excl = excl }
+-- when all sets are through, each subvolume has its counters
+pub summed_all : (rows : List (List ℕ)) (portions : List Portion) (sums : List ℕ) (subvolumes : ℕ) (counters : List Counters)
+    → ((test : ℕ → Bool) → sum_where test 0 sums ≡ bytes_where test portions) → (n : ℕ) → length sums ≤ n
+    → SummedFirst rows sums subvolumes n counters → AreCounted rows portions subvolumes counters
+summed_all rows portions sums subvolumes counters same n past first = record {
+  all = first.all;
+  each = λ k short.
+      slice_get-get_or counters k nothing (omega (arith, short, first.all))
+      ∙ ap Some (first.each k short ∙ ap (λ (ns : List ℕ). counted_by rows subvolumes ns k) (take_all n sums past)
+      ∙ counters_same (counted_by rows subvolumes sums k) (counted rows subvolumes portions k) (same (is_in rows k))
+      (same (is_in_alone rows subvolumes k)));
+}

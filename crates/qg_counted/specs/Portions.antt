@@ -1,6 +1,6 @@
 -- What subvolumes count by portions: elements of which each has its bytes and the number of the set of those who reach
 -- it (btrfs-qgroup(8), "referenced" and "exclusive"; the form is this project's own). Counters are in bytes.
-use Rattle.std.specs.Prelude.{◌≡◌, ◌<◌, ◌+◌, ◌/◌, ◌%◌, ◌==◌, ◌&&◌, ℕ, zero, suc, Bool, true, false, List, [], ◌∷◌, Some, length}
+use Rattle.std.specs.Prelude.{◌≡◌, ◌<◌, ◌+◌, ◌/◌, ◌%◌, ◌^◌, ◌==◌, ◌&&◌, ℕ, zero, suc, Bool, true, false, List, [], ◌∷◌, Some, length}
 use Rattle.std.specs.Prelude.{slice_get, slice_index, slice_index_or}
 use Rattle.std.specs.Int.{bit_at}
 use Rattle.qg_num.specs.declared.counters.Counters.{Counters}
@@ -55,15 +55,30 @@ pub record AreCounted (rows : List (List ℕ)) (portions : List Portion) (subvol
 
 -- ---- on the way there
 
--- for each set whether it has one member alone
-pub record AreLone (rows : List (List ℕ)) (subvolumes : ℕ) (lone : List Bool) : Type 0 where
-  pub all : length lone ≡ length rows
-  pub each : (set : ℕ) → set < length rows
-      → slice_index_or lone set false ≡ (member_count (row_of rows set) subvolumes == 1)
-
--- the counters of a subvolume, by the bytes of each set and whether it has one member alone
-abbrev pub counted_by : List (List ℕ) → List ℕ → List Bool → ℕ → Counters
-counted_by rows sums lone subvolume = record {
+-- the counters of a subvolume, by the bytes of each set
+abbrev pub counted_by : List (List ℕ) → ℕ → List ℕ → ℕ → Counters
+counted_by rows subvolumes sums subvolume = record {
   rfer = sum_where (is_in rows subvolume) 0 sums;
-  excl = sum_where (λ set. is_in rows subvolume set && slice_index_or lone set false) 0 sums;
+  excl = sum_where (is_in_alone rows subvolumes subvolume) 0 sums;
 }
+
+-- nothing is counted
+abbrev pub nothing : Counters
+nothing = record { rfer = 0; excl = 0 }
+
+-- so many bytes more can be counted
+abbrev pub HasRoom : ℕ → Counters → Type 0
+HasRoom bytes counters = (counters.rfer + bytes < 2 ^ 64) × (counters.excl + bytes < 2 ^ 64)
+
+-- counters with so many bytes more if these are reached, exclusive ones if nobody else reaches them
+abbrev pub with_more : Bool → Bool → ℕ → Counters → Counters
+with_more reached alone bytes counters = record {
+  rfer = counters.rfer + given reached bytes;
+  excl = counters.excl + given (reached && alone) bytes;
+}
+
+-- the members of a row have so many bytes more, exclusive ones where there is one member alone
+pub record HaveMore (row : List ℕ) (bytes : ℕ) (old new : List Counters) : Type 0 where
+  pub same : length new ≡ length old
+  pub each : (subvolume : ℕ) → subvolume < length old → slice_index_or new subvolume nothing
+      ≡ with_more (row_has row subvolume) (member_count row (length old) == 1) bytes (slice_index_or old subvolume nothing)

@@ -1,8 +1,8 @@
 // The counters of all subvolumes, by the sets of those who reach each element.
-ghost use Rattle.std.specs.Prelude.{◌≡◌, ◌<◌, ◌^◌, ℕ, Bool, true, length, IfOk};
+ghost use Rattle.std.specs.Prelude.{◌≡◌, ◌<◌, ◌^◌, ℕ, Bool, true, length, IfOk, OnOk};
 ghost use Rattle.std.specs.List.{All};
 ghost use Rattle.qg_reached.specs.Sets.{row_of};
-ghost use Rattle.qg_counted.specs.Portions.{bytes_where, sum_where, row_has, member_count, AreLone, counted, counted_by, AreCounted};
+ghost use Rattle.qg_counted.specs.Portions.{bytes_where, sum_where, AreCounted, HasRoom, HaveMore, with_more};
 
 use qg_num::{Counters, NoMemory};
 use qg_reached::{Reached, SetId};
@@ -20,7 +20,7 @@ pub struct Portion {
 /// The counters of each of so many subvolumes: the bytes of what it reaches, and of what it alone reaches (this
 /// project's own).
 ///
-/// Bytes are summed by set first, so a set's members are asked once, however many elements have it.
+/// Bytes are summed by set first, so a set's members are told once, however many elements have it.
 pub fn counters_of(
     alloc: Global,
     reached: &Reached,
@@ -33,10 +33,15 @@ pub fn counters_of(
         AreCounted reached.now.sets.rows.items portions.now subvolumes counters.items) }
 {
     let sums = sums_by_set(alloc, reached.count(), portions)?;
-    let lone = lone_sets(alloc, reached, subvolumes)?;
-    let mut counters = Vec::with_capacity(alloc, subvolumes)?;
-    for subvolume in 0..subvolumes {
-        counters.push(counters_at(reached, sums.as_slice(), lone.as_slice(), subvolume))?;
+    let mut counters = vec![in alloc; Counters { rfer: 0, excl: 0 }; subvolumes]?;
+    for (set, bytes) in sums.iter().enumerate() {
+        add_to_members(
+            alloc,
+            reached,
+            SetId::new(set),
+            *bytes,
+            counters.as_mut_slice(),
+        )?;
     }
     Ok(counters)
 }
@@ -56,45 +61,42 @@ fn sums_by_set(alloc: Global, count: usize, portions: &[Portion]) -> Result<Vec<
     Ok(sums)
 }
 
-/// For each set whether it has one member alone among so many subvolumes.
-fn lone_sets(alloc: Global, reached: &Reached, subvolumes: usize) -> Result<Vec<bool>, AllocError>
-    ensures { IfOk result (λ lone. AreLone reached.now.sets.rows.items subvolumes lone.items) }
+/// Adds bytes to what each member of a set reaches, and to what it alone reaches where it is the only one.
+fn add_to_members(
+    alloc: Global,
+    reached: &Reached,
+    set: SetId,
+    bytes: u64,
+    counters: &mut [Counters],
+) -> Result<(), NoMemory>
+    requires { All (HasRoom bytes) counters.old }
+    ensures { OnOk result (
+        HaveMore (row_of reached.now.sets.rows.items set) bytes counters.old counters.new) }
 {
-    let count = reached.count();
-    let mut lone = Vec::with_capacity(alloc, count)?;
-    for set in 0..count {
-        lone.push(members_of(reached, SetId::new(set), subvolumes) == 1)?;
+    let members = reached.members(alloc, set, counters.len())?;
+    let alone = members.len() == 1;
+    let told = members.as_slice();
+    for member in told {
+        counters[*member] = more(counters[*member], bytes, alone);
     }
-    Ok(lone)
+    Ok(())
 }
 
-/// How many of so many subvolumes are members of a set.
-fn members_of(reached: &Reached, set: SetId, subvolumes: usize) -> usize
-    ensures { result ≡ member_count (row_of reached.now.sets.rows.items set) subvolumes }
+/// Counters with so many bytes more, exclusive ones too where nobody else reaches these.
+fn more(counters: Counters, bytes: u64, alone: bool) -> Counters
+    requires { HasRoom bytes counters }
+    ensures { result ≡ with_more true alone bytes counters }
 {
-    let mut count = 0;
-    for subvolume in 0..subvolumes {
-        if reached.has(set, subvolume) {
-            count += 1;
+    let rfer = counters.rfer + bytes;
+    if alone {
+        Counters {
+            rfer,
+            excl: counters.excl + bytes,
+        }
+    } else {
+        Counters {
+            rfer,
+            excl: counters.excl,
         }
     }
-    count
-}
-
-/// The counters of a subvolume, by the bytes of each set and whether it has one member alone.
-fn counters_at(reached: &Reached, sums: &[u64], lone: &[bool], subvolume: usize) -> Counters
-    requires same { length lone.now ≡ length sums.now }
-    requires small { sum_where (λ _. true) 0 sums.now < 2 ^ 64 }
-    ensures { result ≡ counted_by reached.now.sets.rows.items sums.now lone.now subvolume }
-{
-    let mut counters = Counters { rfer: 0, excl: 0 };
-    for (set, bytes) in sums.iter().enumerate() {
-        if reached.has(SetId::new(set), subvolume) {
-            counters.rfer += *bytes;
-            if lone[set] {
-                counters.excl += *bytes;
-            }
-        }
-    }
-    counters
 }

@@ -15,6 +15,7 @@ pub mod Dropped
 pub mod Leaving
 pub mod Ways
 pub mod Weighing
+pub mod Knowing
 pub mod Sound
 pub mod Sharing
 pub mod Few

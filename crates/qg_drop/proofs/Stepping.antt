@@ -1,6 +1,6 @@
 -- What stands while the parts of a tree are dropped one after the other.
 use Rattle.std.proofs.Common.{◌≡◌, ℕ, zero, suc, ◌<◌, ◌+◌, ◌*◌, ◌≤◌, Bool, List, [], ◌∷◌, length, map, Option, Some, arith, refl, sym, ap, subst, ◌∙◌}
-use Rattle.std.specs.Prelude.{Err, IsErrAnd, Ok, Result}
+use Rattle.std.specs.Prelude.{Err, IsErrAnd, Ok, OnOk, Result}
 use Rattle.std.specs.List.{filter}
 use Rattle.std.proofs.lemmas.List.Sums.{sum_by-cons}
 use Rattle.qg_device.specs.Cause.{HasCause}
@@ -75,6 +75,12 @@ edit-still land new before after bytes left generation editable size rests = rec
 
 pub never-err : {A : Type 0} (x : A) (fault : BlockFault) → ◌≡◌ {A = Result A BlockFault} (Ok x) (Err fault) → ⊥
 never-err {A} x fault is = cc
+
+-- it promises nothing of one that ended well
+pub never-ok : {T : Type 0} (result : Result T BlockFault) (fault : BlockFault)
+    → IsErrAnd result (λ given. given ≡ fault) → (P : Type 0) → OnOk result P
+never-ok (Ok x) fault is P = absurd is
+never-ok (Err given) fault is P = tt
 
 -- so its cause
 pub cause-handed : {B : Type 0} (before mid now : ℕ) (result : Result B BlockFault) (fault : BlockFault)

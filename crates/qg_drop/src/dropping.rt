@@ -1,9 +1,8 @@
 // A subvolume's tree, dropped whole.
-ghost use Rattle.std.specs.Prelude.{◌≡◌, ◌+◌, ◌*◌, ◌≤◌, ◌∷◌, [], ℕ, Bool, List, Option, Some, None, All, OnOk, IsTrue, length, map};
+ghost use Rattle.std.specs.Prelude.{◌≡◌, ◌+◌, ◌*◌, ◌≤◌, ◌∷◌, [], ℕ, Bool, List, Some, All, OnOk, IsTrue, map};
 ghost use Rattle.qg_device.specs.Cause.{HasCause};
 ghost use Rattle.qg_device.specs.History.{Event};
 ghost use Rattle.qg_super.specs.Places.{capacity};
-ghost use Rattle.qg_image.specs.Table.{value_at};
 ghost use Rattle.qg_state.specs.State.{State as MachineState, has_subvolume, next_generation};
 ghost use Rattle.qg_machine.specs.Refusals.{nodes_reached};
 ghost use Rattle.qg_machine.specs.Step.{deleted};
@@ -11,7 +10,7 @@ ghost use Rattle.qg_blocks.specs.Told.{BreaksNone};
 ghost use Rattle.qg_tree_edits.specs.Editing.{IsEditable};
 ghost use Rattle.qg_heavier.specs.Heavier.{BookGetsHeavier};
 ghost use Rattle.qg_forest.specs.Standing.{HoldsState, tree_of};
-ghost use Rattle.qg_drop.specs.Dropping.{AreParts, HoldsPartly, IsPart, RestsButRuns, parts_reached, without_part, without_parts};
+ghost use Rattle.qg_drop.specs.Dropping.{AreParts, HoldsPartly, IsPart, RestsButRuns, StaysBook, parts_reached, without_part, without_parts};
 
 use crate::child::{Child, children_of};
 use crate::extents::misfit_at;
@@ -60,8 +59,7 @@ pub fn drop_all<D: Disk, L: Ledger>(
         land.old.space.sizes.nodesize)) }
 
     // Over any disk.
-    ensures book { (book.new.tree ≡ book.old.tree) × (book.new.nodesize ≡ book.old.nodesize)
-        × (book.new.next ≡ book.old.next) }
+    ensures book { StaysBook book.old book.new result }
     ensures rests { RestsButRuns land.old land.new (D.history disk.new) tree.now.next }
     ensures disk { (D.history disk.new ≡ D.history disk.old) × (D.size disk.new ≡ D.size disk.old) }
     ensures cause { HasCause BlockFault.Disk (D.faults disk.old) (D.faults disk.new) result }
@@ -113,8 +111,7 @@ fn drop_under<D: Disk, L: Ledger>(
         → IsPart state waiting level part.now
         → OnOk result (BookGetsHeavier book.old book.new
         (parts_reached state level (part.now ∷ []) * capacity land.old.space.sizes.nodesize)) }
-    ensures book { (book.new.tree ≡ book.old.tree) × (book.new.nodesize ≡ book.old.nodesize)
-        × (book.new.next ≡ book.old.next) }
+    ensures book { StaysBook book.old book.new result }
     ensures rests { RestsButRuns land.old land.new (D.history disk.new) tree.now.next }
     ensures disk { (D.history disk.new ≡ D.history disk.old) × (D.size disk.new ≡ D.size disk.old) }
     ensures cause { HasCause BlockFault.Disk (D.faults disk.old) (D.faults disk.new) result }
@@ -177,8 +174,7 @@ fn drop_each<D: Disk, L: Ledger>(
         → AreParts state waiting level parts.now
         → OnOk result (BookGetsHeavier book.old book.new
         (parts_reached state level parts.now * capacity land.old.space.sizes.nodesize)) }
-    ensures book { (book.new.tree ≡ book.old.tree) × (book.new.nodesize ≡ book.old.nodesize)
-        × (book.new.next ≡ book.old.next) }
+    ensures book { StaysBook book.old book.new result }
     ensures rests { RestsButRuns land.old land.new (D.history disk.new) tree.now.next }
     ensures disk { (D.history disk.new ≡ D.history disk.old) × (D.size disk.new ≡ D.size disk.old) }
     ensures cause { HasCause BlockFault.Disk (D.faults disk.old) (D.faults disk.new) result }

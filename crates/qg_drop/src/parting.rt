@@ -1,6 +1,5 @@
 // One node that a subvolume reaches no more.
-ghost use Rattle.std.specs.Prelude.{◌≡◌, ◌≤◌, ◌&&◌, ◌==◌, ℕ, Bool, List, Option, None, IfErr, IfOk, IsSome, IsTrue, OnOk, not};
-ghost use Rattle.std.specs.List.{All, Contains};
+ghost use Rattle.std.specs.Prelude.{◌≡◌, ◌≤◌, ◌&&◌, ◌==◌, ℕ, Bool, List, Option, IfErr, IsSome, IsTrue, OnOk, not};
 ghost use Rattle.qg_device.specs.History.{Event};
 ghost use Rattle.qg_image.specs.Table.{value_at};
 ghost use Rattle.qg_state.specs.State.{Placed as PlacedValue, State as MachineState};
@@ -9,7 +8,7 @@ ghost use Rattle.qg_blocks.specs.Told.{BreaksNone, IsBacked, held_at};
 ghost use Rattle.qg_space.specs.Holding.{free_slots};
 ghost use Rattle.qg_ground.specs.Land.{IsDrafted};
 ghost use Rattle.qg_heavier.specs.Heavier.{BookGetsHeavier};
-ghost use Rattle.qg_drop.specs.Dropping.{HoldsPartly, IsUnder, RestsButRuns};
+ghost use Rattle.qg_drop.specs.Dropping.{HoldsPartly, IsUnder, RestsButRuns, StaysBook};
 
 use crate::extents::{extents_known, misfit_at, without_references};
 use qg_cow::Leaving;
@@ -42,8 +41,7 @@ pub(crate) fn part_with(
         → HoldsPartly land.old history book.old state sub waiting → value_at at state.layout ≡ Some placed
         → placed.full ≡ full → IsTrue (waiting at) → IsUnder state waiting at → BreaksNone result }
     ensures slots { free_slots land.old.space ≤ free_slots land.new.space }
-    ensures book { (book.new.tree ≡ book.old.tree) × (book.new.nodesize ≡ book.old.nodesize)
-        × (book.new.next ≡ book.old.next) }
+    ensures book { StaysBook book.old book.new result }
     ensures heavier { (history : Option (List Event)) (generation : ℕ) → IsBacked land.old.blocks history
         → IsDrafted land.old generation
         → OnOk result (BookGetsHeavier book.old book.new (capacity land.old.space.sizes.nodesize)) }

@@ -1,25 +1,23 @@
 -- What a file command makes of files that cuts one of them, by the edits that it does.
 --
 -- Positions, lengths and sizes are in bytes.
-use Rattle.std.proofs.Common.{◌≡◌, ℕ, ◌+◌, ◌^◌, ◌<◌, ◌≤◌, true, List, [], ◌∷◌, ◌++◌, length, Option, Some, arith, refl, sym, ap, subst, ◌∙◌}
-use Rattle.std.specs.Prelude.{Bool, ◌&&◌, is_some, nat_lt, if◌then◌else◌}
+use Rattle.std.proofs.Common.{◌≡◌, ℕ, ◌+◌, ◌^◌, ◌<◌, ◌≤◌, true, List, [], ◌++◌, length, Option, Some, arith, sym, ap, subst, ◌∙◌}
+use Rattle.std.specs.Prelude.{is_some}
 use Rattle.std.specs.List.{All, flat_map}
 use Rattle.std.specs.List.Sorted.{IsPermutation}
 use Rattle.std.specs.Option.{option_to_list}
-use Rattle.std.proofs.lemmas.Bool.{lt-ltb}
 use Rattle.std.proofs.lemmas.List.Elements.{All-filter}
 use Rattle.qg_num.specs.declared.piece.Piece.{Piece}
 use Rattle.qg_node.specs.declared.item.Item.{Item}
 use Rattle.qg_items.specs.declared.file.InodeItem.{InodeItem}
 use Rattle.qg_image.specs.declared.file.File.{File}
-use Rattle.qg_image.specs.FilesOf.{are_pieces, is_aligned, largest_size, piece_end, pieces_bytes}
+use Rattle.qg_image.specs.FilesOf.{is_aligned, largest_size, pieces_bytes}
 use Rattle.qg_image.specs.Table.{value_at, with_value}
-use Rattle.qg_image.proofs.Pieces.{FirstPiece-are_pieces, WholeFile-is_file, WholePiece-is_piece}
+use Rattle.qg_image.proofs.Pieces.{WholeFile-is_file}
 use Rattle.qg_machine.specs.FileChange.{before, pieces_or_none, pieces_past, with_size}
 use Rattle.qg_rules.specs.Writable.{AreWritableFiles, IsFileBy, IsWritableFile}
 use Rattle.qg_contents.specs.Written.{inode_of, items_of_file}
-use Rattle.qg_file_items.specs.Pieces.{pieces_cut, pieces_met}
-use Rattle.qg_file_items.proofs.Pieces.{range-order}
+use Rattle.qg_file_items.specs.Pieces.{pieces_cut}
 use Rattle.qg_file_items.proofs.RangeEdits.{edits-size}
 use Rattle.qg_file_items.proofs.Tables.{writable-with}
 use Rattle.qg_exchange.specs.declared.step.Step.{Step}
@@ -40,7 +38,7 @@ use Rattle.qg_file_edits.specs.Exchanging.{MakesFiles, TellPieces, after_exchang
 use Rattle.qg_file_edits.specs.Files.{pieces_of}
 use Rattle.qg_file_edits.specs.Naming.{AreFewNames, AreOfNamed}
 use Rattle.qg_file_edits.proofs.Counted.{file-bytes, gone-part, put-few, put-tell}
-use Rattle.qg_file_edits.proofs.Extents.{IsOfNamed, pieces-named}
+use Rattle.qg_file_edits.proofs.Extents.{IsOfNamed, named-besides, pieces-named}
 use Rattle.qg_file_edits.proofs.Files.{all-with, cut-by, cut-writable, file-found}
 use Rattle.qg_file_edits.proofs.Inodes.{inode-has}
 use Rattle.qg_file_edits.proofs.Parts.{all-before}
@@ -166,9 +164,10 @@ module _ (generation ino size : ℕ) (file : File) (files : List (ℕ × File)) 
         let most = cut-few size file.pieces steps here in
         omega (arith, most)
 
-    pub cut-makes : MakesFiles (pieces_past size file.pieces + 1) owner ino change files
+    pub cut-makes : (elsewhere : List (ℕ × Piece))
+        → MakesFiles (pieces_past size file.pieces + 1) owner ino change elsewhere files
         (with_value ino (with_size generation size file) files)
-    cut-makes = record {
+    cut-makes elsewhere = record {
       can = record {
         can = both-lists (λ (xs ys : List Piece). CanExchange ino xs ys (flat_map items_of_file files)) cut put
             change.gone change.put gone_is put_is (size-can generation ino size file files are there new_sound);
@@ -187,7 +186,8 @@ module _ (generation ino size : ℕ) (file : File) (files : List (ℕ × File)) 
           (subst (λ (xs : List Piece). IsPermutation (names_of ino (xs ++ [])) (names_of ino put)) (sym named_is)
           (none-besides ino put)));
       tell = subst (λ (xs : List Piece). TellPieces ino xs) (sym put_is) tell;
-      known = subst (λ (xs : List Piece). AreOfNamed (named files) xs) (sym named_is) known;
+      known = subst (λ (xs : List Piece). AreOfNamed (named files ++ elsewhere) xs) (sym named_is)
+          (named-besides (named files) elsewhere put known);
       few = subst (λ (xs : List Piece). AreFewNames owner (names_of ino xs ++ named files)) (sym put_is)
           (put-few owner ino new file.pieces cut put files are new_sound exchange spelled);
     }

@@ -1,6 +1,7 @@
 -- What stays over several calls.
 use Rattle.std.proofs.Common.{◌≡◌, ℕ, List, Option, Result, refl, ap, ◌∙◌}
 use Rattle.std.specs.Prelude.{OnOk}
+use Rattle.std.specs.List.{filter_map, flat_map}
 use Rattle.std.proofs.lemmas.Result.{on_ok_weaker}
 use Rattle.qg_device.specs.History.{Event}
 use Rattle.qg_num.specs.declared.fault.BlockFault.{BlockFault}
@@ -8,7 +9,7 @@ use Rattle.qg_ground.specs.declared.ground.Ground.{Ground}
 use Rattle.qg_descent.specs.Tree.{Root}
 use Rattle.qg_tree_edits.specs.Rooting.{Grows, LeavesBe}
 use Rattle.qg_fs_tree.specs.declared.fs_tree.FsTree.{FsTree}
-use Rattle.qg_fs_tree.specs.Standing.{IsSubvolume, KeepsTree}
+use Rattle.qg_fs_tree.specs.Standing.{IsSubvolume, KeepsTree, items_in, name_told, names_elsewhere}
 use Rattle.qg_file_edits.specs.Files.{LeavesHeld, StaysOwn}
 use Rattle.qg_file_edits.specs.Naming.{KeepsNodes}
 
@@ -24,6 +25,20 @@ keeps-then a b c first later = record {
   land = later.land ∙ ap (λ (land : Ground). record land { space = record land.space { runs = c.land.space.runs } })
       first.land;
 }
+
+-- what the other trees name stays
+pub elsewhere-same : (old new : FsTree) (history : Option (List Event)) → KeepsTree old new
+    → names_elsewhere new history ≡ names_elsewhere old history
+unfolding names_elsewhere
+elsewhere-same old new history keeps =
+    ap (λ (trees : List Root). flat_map (λ (tree : Root). filter_map name_told (items_in new history tree)) trees)
+    (others_same keeps.others)
+    ∙ ap (λ (land : Ground). flat_map
+    (λ (tree : Root). filter_map name_told (items_in (record new { land = land }) history tree)) old.others.items)
+    keeps.land
+  where
+    others_same : new.others ≡ old.others → new.others.items ≡ old.others.items
+    others_same same = rw same refl
 
 pub leaves-kept : (old new : FsTree) (history : Option (List Event)) (bytes : ℕ) → KeepsNodes old new
     → IsSubvolume old history bytes → LeavesHeld old new history history bytes bytes

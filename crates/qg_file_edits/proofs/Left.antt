@@ -20,7 +20,7 @@ use Rattle.qg_exchange.specs.Named.{named}
 use Rattle.qg_heavier.specs.Heavier.{edit_bytes, name_new_bytes}
 use Rattle.qg_heavier.proofs.Sums.{BookGetsHeavier-most}
 use Rattle.qg_fs_tree.specs.declared.fs_tree.FsTree.{FsTree}
-use Rattle.qg_fs_tree.specs.Standing.{IsSubvolume, Stands, made_slots, own_slots}
+use Rattle.qg_fs_tree.specs.Standing.{IsSubvolume, Stands, made_slots, names_elsewhere, own_slots}
 use Rattle.qg_fs_tree.proofs.Made.{made-free}
 use Rattle.qg_fs_tree.proofs.Own.{leaf-own, made-own, taken-made}
 use Rattle.qg_file_edits.specs.Editing.{AreMade, IsEditedBy}
@@ -116,10 +116,10 @@ module _ (edits added pieces : ℕ) (old new : FsTree) (history : Option (List E
 -- the same, by what is told of the exchange
 module _ (pieces : ℕ) (old new : FsTree) (ino : ℕ) (change : Exchange) (history : Option (List Event))
     (files files_new : List (ℕ × File)) (reads reads_new : ℕ) (result : Result (Unit {0}) BlockFault)
-    (holds : HoldsFiles old history files) (told : IsToldFor pieces old ino change files files_new)
+    (holds : HoldsFiles old history files) (told : IsToldFor pieces old history ino change files files_new)
     (called : (edits : ℕ) (files files_new : List (ℕ × File))
     → Stands old history (flat_map items_of_file files) (named files)
-    → MakesFiles edits old.tree.owner ino change files files_new
+    → MakesFiles edits old.tree.owner ino change (names_elsewhere old history) files files_new
     → AreMade edits (length (change.named ++ option_to_list change.new)) old new history (flat_map items_of_file files_new) (named files_new) reads reads_new result) where
   all_made : AreMade told.edits (length (change.named ++ option_to_list change.new)) old new history (flat_map items_of_file files_new) (named files_new) reads reads_new result
   all_made = called told.edits files files_new holds.stands told.makes

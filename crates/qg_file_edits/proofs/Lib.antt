@@ -13,6 +13,7 @@ pub mod Parts
 pub mod Files
 pub mod Inodes
 pub mod Extents
+pub mod Sources
 pub mod Counted
 pub mod Ranges
 pub mod Cuts

@@ -13,7 +13,6 @@ use Rattle.qg_node.specs.declared.item.Item.{Item}
 use Rattle.qg_items.specs.declared.extent.Reference.{Reference}
 use Rattle.qg_super.specs.declared.sizes.Sizes.{Sizes}
 use Rattle.qg_super.specs.Places.{data_begin, is_run}
-use Rattle.qg_state.specs.declared.element.Element.{Element}
 use Rattle.qg_state.specs.Owed.{Owing}
 use Rattle.qg_state.specs.Reach.{extent_of}
 use Rattle.qg_blocks.specs.Told.{BreaksNone}
@@ -27,13 +26,13 @@ use Rattle.qg_heavier.specs.Heavier.{BookGetsHeavier, name_bytes, name_new_bytes
 use Rattle.qg_heavier.proofs.Sums.{BookGetsHeavier-most, BookGetsHeavier-same, BookGetsHeavier-then}
 use Rattle.qg_fs_tree.specs.declared.fs_tree.FsTree.{FsTree}
 use Rattle.qg_fs_tree.specs.Standing.{IsKnownExtent, IsSubvolume, KeepsTree, Stands, extents_named, name_of, name_told, names_elsewhere, names_times}
-use Rattle.qg_fs_tree.proofs.Named.{own-extent}
 use Rattle.qg_fs_tree.proofs.Ordered.{stands-ordered}
 use Rattle.qg_fs_layout.proofs.Moved.{moves-itself, moves-then, names-move}
 use Rattle.qg_exchange.specs.Named.{names_of}
 use Rattle.qg_file_edits.specs.Naming.{AreCovered, AreFewNames, AreNamed, AreOfNamed, KeepsNodes, StandsMoved}
+use Rattle.qg_file_edits.proofs.Extents.{IsOfNamed, named-more}
 use Rattle.qg_file_edits.proofs.Items.{IsAt}
-use Rattle.qg_file_edits.proofs.Kept.{nodes-itself, nodes-then}
+use Rattle.qg_file_edits.proofs.Kept.{elsewhere-same, nodes-itself, nodes-then}
 
 -- ---- names
 
@@ -112,7 +111,8 @@ pub record NamesUpTo (old now : FsTree) (ino : ℕ) (pieces : List Piece) (count
   pub nodes : KeepsNodes old now
   pub heavier : BookGetsHeavier old.refs now.refs (length (take count pieces) * name_bytes)
   pub told : (history : Option (List Event)) (bytes : ℕ) (items : List Item) (names : List (ℕ × Piece))
-      → IsSubvolume old history bytes → Stands old history items names → AreOfNamed names pieces
+      → IsSubvolume old history bytes → Stands old history items names
+      → AreOfNamed (names ++ names_elsewhere old history) pieces
       → AreFewNames old.tree.owner (names_of ino pieces ++ names)
       → StandsMoved old now history items (names_of ino (take count pieces) ++ names)
 
@@ -155,15 +155,16 @@ module _ (old mid : FsTree) (ino : ℕ) (pieces : List Piece) (i : ℕ) (piece :
   -- the next piece can be named
   pub can-name : NamesUpTo old mid ino pieces i → (history : Option (List Event)) (bytes : ℕ) (items : List Item)
       (names : List (ℕ × Piece)) → IsSubvolume old history bytes → Stands old history items names
-      → AreOfNamed names pieces → AreFewNames old.tree.owner (names_of ino pieces ++ names)
+      → AreOfNamed (names ++ names_elsewhere old history) pieces
+      → AreFewNames old.tree.owner (names_of ino pieces ++ names)
       → CanName mid history bytes items (names_of ino (take i pieces) ++ names) ino piece
   can-name so_far history bytes items names subvolume stands among few =
       let before = so_far.told history bytes items names subvolume stands among few in
       let front = names_of ino (take i pieces) in
       let own = owner_same so_far.nodes.tree in
-      let extent = λ (name : ℕ × Piece). extent_of name.1 in
-      let known : Contains (map extent names) (extent_of piece) =
-      All-contains (λ (p : Piece). Contains (map extent names) (extent_of p)) pieces piece among here in
+      let elsewhere = names_elsewhere old history in
+      let known : IsOfNamed (names ++ elsewhere) piece =
+      All-contains (IsOfNamed (names ++ elsewhere)) pieces piece among here in
       let reference = (name_of old.tree.owner (ino, piece)).reference in
       let all = few piece.extent reference in
       let whole : names_of ino pieces ≡ front ++ names_of ino (piece ∷ drop (i + 1) pieces) =
@@ -180,9 +181,8 @@ module _ (old mid : FsTree) (ino : ℕ) (pieces : List Piece) (i : ℕ) (piece :
       record {
         subvolume = so_far.nodes.subvolume history bytes subvolume;
         stands = before.stands;
-        among = own-extent mid history (front ++ names) (extent_of piece)
-            (subst (λ (xs : List Element). Contains xs (extent_of piece)) (sym (map-append extent front names))
-            (Contains-append_right (map extent front) (map extent names) (extent_of piece) known));
+        among = subst (λ (others : List (ℕ × Piece)). IsOfNamed ((front ++ names) ++ others) piece)
+            (sym (elsewhere-same old mid history so_far.nodes.tree)) (named-more front names elsewhere piece known);
         few = subst (λ (o : ℕ). names_times o (front ++ names) piece.extent (name_of o (ino, piece)).reference
             < 4294967295) (sym own) fewer;
       }

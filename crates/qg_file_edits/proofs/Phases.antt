@@ -21,7 +21,7 @@ use Rattle.qg_exchange.proofs.Applied.{makes-exchange}
 use Rattle.qg_exchange.proofs.Counts.{names-ordered}
 use Rattle.qg_heavier.specs.Heavier.{BookGetsHeavier, name_new_bytes}
 use Rattle.qg_fs_tree.specs.declared.fs_tree.FsTree.{FsTree}
-use Rattle.qg_fs_tree.specs.Standing.{IsSubvolume, Stands, name_told, names_times}
+use Rattle.qg_fs_tree.specs.Standing.{IsSubvolume, Stands, name_told, names_elsewhere, names_times}
 use Rattle.qg_fs_tree.proofs.Ordered.{stands-ordered}
 use Rattle.qg_file_edits.specs.declared.exchange.Exchange.{Exchange}
 use Rattle.qg_file_edits.specs.Editing.{AreMade, CanEditInode, IsEditedBy, after_inode}
@@ -127,7 +127,7 @@ module _ (edits ino : ℕ) (change : Exchange) (steps : List Step) (old mid : Fs
 module _ (edits ino : ℕ) (change : Exchange) (files files_new : List (ℕ × File)) (old named_tree : FsTree)
     (before : Option (List Event)) (bytes : ℕ) (subvolume : IsSubvolume old before bytes)
     (stands : Stands old before (flat_map items_of_file files) (named files))
-    (makes : MakesFiles edits old.tree.owner ino change files files_new) where
+    (makes : MakesFiles edits old.tree.owner ino change (names_elsewhere old before) files files_new) where
   -- what is named meanwhile
   abbrev besides : List (ℕ × Piece)
   besides = names_of ino (change.named ++ option_to_list change.new) ++ named files
@@ -170,7 +170,8 @@ module _ (edits ino : ℕ) (change : Exchange) (files files_new : List (ℕ × F
 
   -- pieces are named
   pub first-named : (result : Result (Unit {0}) BlockFault)
-      → ((items : List Item) (names : List (ℕ × Piece)) → Stands old before items names → AreOfNamed names change.named
+      → ((items : List Item) (names : List (ℕ × Piece)) → Stands old before items names
+      → AreOfNamed (names ++ names_elsewhere old before) change.named
       → AreFewNames old.tree.owner (names_of ino (change.named ++ option_to_list change.new) ++ names)
       → AreNamed old named_tree before items (names_of ino (change.named ++ option_to_list change.new) ++ names) result)
       → AreNamed old named_tree before (flat_map items_of_file files) besides result

@@ -44,7 +44,7 @@ use Rattle.qg_file_edits.specs.Exchanging.{MakesFiles, TellPieces, after_exchang
 use Rattle.qg_file_edits.specs.Files.{Finds, pieces_of}
 use Rattle.qg_file_edits.specs.Naming.{AreFewNames, AreOfNamed}
 use Rattle.qg_file_edits.proofs.Counted.{file-bytes, gone-part, put-few, put-tell}
-use Rattle.qg_file_edits.proofs.Extents.{IsOfNamed, pieces-named}
+use Rattle.qg_file_edits.proofs.Extents.{IsOfNamed, named-besides, pieces-named}
 use Rattle.qg_file_edits.proofs.Files.{all-with, old-sound, range-by, range-writable}
 use Rattle.qg_file_edits.proofs.Inodes.{inode-has}
 use Rattle.qg_file_edits.proofs.Parts.{all-with_range}
@@ -166,21 +166,26 @@ module _ (generation ino from to : ℕ) (given : List Piece) (files : List (ℕ 
       put-tell generation ino range-file (pieces_of ino files) met put fits new_sound
       (range-by generation ino from to given files stamped by) exchange
 
-  -- what rests beside the range names extents that are named
-  pub range-rests_named : AreOfNamed (named files) (with_range from to [] met)
-  range-rests_named =
-      let known = IsOfNamed (names_by files) in
-      let all : All known met = All-filter _ known (pieces_of ino files) (pieces-named ino files) in
-      subst (λ (xs : List (ℕ × Piece)). AreOfNamed xs (with_range from to [] met)) (sym spelled)
-      (all-with_range known (λ piece position len offset is. is) from to [] met (All-nil known) all)
+  module _ (elsewhere : List (ℕ × Piece)) where
+    -- the pieces that the range meets name extents that are named
+    met_named : All (IsOfNamed (named files ++ elsewhere)) met
+    met_named =
+        let known = IsOfNamed (names_by files ++ elsewhere) in
+        let own = named-besides (names_by files) elsewhere (pieces_of ino files) (pieces-named ino files) in
+        let all : All known met = All-filter _ known (pieces_of ino files) own in
+        subst (λ (xs : List (ℕ × Piece)). All (IsOfNamed (xs ++ elsewhere)) met) (sym spelled) all
 
-  -- and so does what is given, where it does
-  pub range-put_named : All (IsOfNamed (names_by files)) given → AreOfNamed (named files) put
-  range-put_named given_known =
-      let known = IsOfNamed (names_by files) in
-      let all : All known met = All-filter _ known (pieces_of ino files) (pieces-named ino files) in
-      subst (λ (xs : List (ℕ × Piece)). AreOfNamed xs put) (sym spelled)
-      (all-with_range known (λ piece position len offset is. is) from to given met given_known all)
+    -- and so does what rests beside the range
+    pub range-rests_named : AreOfNamed (named files ++ elsewhere) (with_range from to [] met)
+    range-rests_named =
+        let known = IsOfNamed (named files ++ elsewhere) in
+        all-with_range known (λ piece position len offset is. is) from to [] met (All-nil known) met_named
+
+    -- and what is given, where it does
+    pub range-put_named : All (IsOfNamed (named files ++ elsewhere)) given → AreOfNamed (named files ++ elsewhere) put
+    range-put_named given_known =
+        let known = IsOfNamed (named files ++ elsewhere) in
+        all-with_range known (λ piece position len offset is. is) from to given met given_known met_named
 
   module _ (owner : ℕ) (first : List Piece) (new : Option Piece) (found : Found) (change : Exchange)
       (finds : Finds files ino from to found) (is : IsRangeChange generation from to given first new found change) where
@@ -241,12 +246,12 @@ module _ (generation ino from to : ℕ) (given : List Piece) (files : List (ℕ 
         let most = range-few from to given (pieces_of ino files) steps here in
         omega (arith, most)
 
-    pub range-makes :
-        AreOfNamed (named files) first
+    pub range-makes : (elsewhere : List (ℕ × Piece))
+        → AreOfNamed (named files ++ elsewhere) first
         → IsPermutation (names_of ino (first ++ option_to_list new)) (names_of ino put)
-        → MakesFiles (pieces_meeting from to (pieces_of ino files) + length given + 2) owner ino change files
+        → MakesFiles (pieces_meeting from to (pieces_of ino files) + length given + 2) owner ino change elsewhere files
         (with_value ino range-file files)
-    range-makes known order = record {
+    range-makes elsewhere known order = record {
       can = record {
         can = both-lists (λ (xs ys : List Piece). CanExchange ino xs ys (flat_map items_of_file files)) met put
             change.gone change.put gone_is put_is range_can;
@@ -265,7 +270,7 @@ module _ (generation ino from to : ℕ) (given : List Piece) (files : List (ℕ 
           (subst (λ (xs : List Piece). IsPermutation (names_of ino (xs ++ option_to_list new)) (names_of ino put))
           (sym is.named) order));
       tell = subst (λ (xs : List Piece). TellPieces ino xs) (sym put_is) tell;
-      known = subst (λ (xs : List Piece). AreOfNamed (named files) xs) (sym is.named) known;
+      known = subst (λ (xs : List Piece). AreOfNamed (named files ++ elsewhere) xs) (sym is.named) known;
       few = subst (λ (xs : List Piece). AreFewNames owner (names_of ino xs ++ named files)) (sym put_is) (few owner);
     }
 

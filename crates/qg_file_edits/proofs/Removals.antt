@@ -125,8 +125,9 @@ module _ (generation ino : ℕ) (file : File) (files : List (ℕ × File)) (ther
         let put : length change.put ≡ 0 = ap (λ (xs : List Piece). length xs) is.put in
         omega (arith, most, gone, put)
 
-    pub removal-makes : MakesFiles (length file.pieces + 1) owner ino change files (without_value ino files)
-    removal-makes = record {
+    pub removal-makes : (elsewhere : List (ℕ × Piece))
+        → MakesFiles (length file.pieces + 1) owner ino change elsewhere files (without_value ino files)
+    removal-makes elsewhere = record {
       can = record {
         can = both-lists (λ (xs ys : List Piece). CanExchange ino xs ys (flat_map items_of_file files)) file.pieces []
             change.gone change.put gone_is is.put (removed-can ino file files are there);
@@ -145,7 +146,7 @@ module _ (generation ino : ℕ) (file : File) (files : List (ℕ × File)) (ther
           (IsPermutation-refl []));
       tell = subst (λ (xs : List Piece). TellPieces ino xs) (sym is.put)
           (All-nil (λ (piece : Piece). name_told (item_of_piece ino piece) ≡ Some (ino, piece)));
-      known = subst (λ (xs : List Piece). AreOfNamed (named files) xs) (sym is.named)
-          (All-nil (IsOfNamed (named files)));
+      known = subst (λ (xs : List Piece). AreOfNamed (named files ++ elsewhere) xs) (sym is.named)
+          (All-nil (IsOfNamed (named files ++ elsewhere)));
       few = subst (λ (xs : List Piece). AreFewNames owner (names_of ino xs ++ named files)) (sym is.put) (few owner);
     }

@@ -19,9 +19,8 @@ use Rattle.qg_files.proofs.KeptApart.{apart-within_from, ends-within}
 use Rattle.qg_files.proofs.Order.{all_begin_from}
 use Rattle.qg_file_items.specs.Pieces.{pieces_met}
 use Rattle.qg_files.proofs.Sectors.{aligned-add}
-use Rattle.qg_exchange.specs.Named.{names_by}
 use Rattle.qg_file_edits.specs.Files.{pieces_of}
-use Rattle.qg_file_edits.proofs.Extents.{IsOfNamed, pieces-named}
+use Rattle.qg_file_edits.proofs.Extents.{IsOfNamed}
 use Rattle.qg_file_edits.proofs.Files.{file-found}
 use Rattle.qg_file_edits.proofs.Parts.{all-within}
 
@@ -218,11 +217,11 @@ module _ (generation source from len off : ℕ) (files : List (ℕ × File)) (ar
         stamped = All-map Stamped (moved from off) taken is.stamped;
       }
 
-  -- they name extents that are named
-  pub given-named : All (IsOfNamed (names_by files)) (map (moved from off) (within from (from + len) (pieces_of source files)))
-  given-named =
-      let known = IsOfNamed (names_by files) in
+  -- they name extents that are named, where the file's pieces do
+  pub given-named : (names : List (ℕ × Piece)) → All (IsOfNamed names) (pieces_of source files)
+      → All (IsOfNamed names) (map (moved from off) (within from (from + len) (pieces_of source files)))
+  given-named names all =
+      let known = IsOfNamed names in
       let taken = within from (from + len) (pieces_of source files) in
       All-map known (moved from off) taken
-      (all-within known (λ piece position len' offset is. is) from (from + len) (pieces_of source files)
-      (pieces-named source files))
+      (all-within known (λ piece position len' offset is. is) from (from + len) (pieces_of source files) all)

@@ -2,7 +2,7 @@
 --
 -- Positions, lengths and sizes are in bytes.
 use Rattle.std.proofs.Common.{◌≡◌, ℕ, ◌+◌, ◌*◌, ◌^◌, ◌<◌, ◌≤◌, List, [], ◌∷◌, ◌++◌, length, map, Option, Some, None, arith, refl, sym, ap, subst, true, ◌∙◌}
-use Rattle.std.specs.Prelude.{MatchOption, IsTrue, ⊤}
+use Rattle.std.specs.Prelude.{Contains, MatchOption, IsTrue, ⊤}
 use Rattle.std.specs.List.{All}
 use Rattle.std.specs.List.Sorted.{IsPermutation}
 use Rattle.std.specs.Option.{option_map, option_to_list}
@@ -18,6 +18,7 @@ use Rattle.qg_machine.specs.FileChange.{after, before, moved, new_piece, pieces_
 use Rattle.qg_rules.specs.Writable.{AreWritableFiles, IsFileBy, IsPlaced, IsWritableFile}
 use Rattle.qg_contents.specs.Written.{inode_of}
 use Rattle.qg_space.specs.Holding.{Holding, is_free_run}
+use Rattle.qg_descent.specs.Tree.{Root}
 use Rattle.qg_files.specs.Apart.{AreApart, AreApartFrom}
 use Rattle.qg_files.proofs.Kept.{are_pieces-new_piece}
 use Rattle.qg_file_items.specs.Pieces.{pieces_cut, pieces_met}
@@ -25,26 +26,28 @@ use Rattle.qg_file_items.proofs.Counted.{met-all, met-past}
 use Rattle.qg_files.proofs.Sectors.{aligned-add}
 use Rattle.qg_exchange.specs.Named.{named, names_of}
 use Rattle.qg_fs_tree.specs.declared.fs_tree.FsTree.{FsTree}
+use Rattle.qg_fs_tree.specs.Standing.{names_elsewhere, trees_of}
 use Rattle.qg_file_edits.specs.declared.exchange.Exchange.{Exchange}
 use Rattle.qg_file_edits.specs.declared.found.Found.{Found}
-use Rattle.qg_file_edits.specs.Changes.{IsCut, IsRangeChange, IsUnlinked, files_cloned, files_cut, files_written}
+use Rattle.qg_file_edits.specs.Changes.{IsCut, IsRangeChange, IsUnlinked, files_cloned_from, files_cut, files_written}
 use Rattle.qg_file_edits.specs.Exchanging.{IsReadyFor, MakesFiles}
-use Rattle.qg_file_edits.specs.Files.{Finds, HoldsFiles, IsFileRange, pieces_of}
+use Rattle.qg_file_edits.specs.Files.{Finds, HasFiles, HoldsFiles, IsFileRange, pieces_of}
 use Rattle.qg_file_edits.specs.Naming.{AreOfNamed}
 use Rattle.qg_file_edits.proofs.Few.{cut-names, no-names, range-names}
 use Rattle.qg_file_edits.proofs.Cuts.{cut-files, cut-files_by, cut-makes}
 use Rattle.qg_file_edits.proofs.Files.{file-found}
 use Rattle.qg_file_edits.proofs.Ranges.{none-besides, one-between, range-files, range-files_by, range-makes, range-put_named, range-rests_named}
 use Rattle.qg_file_edits.proofs.Removals.{left-files, left-files_by, removal-makes}
+use Rattle.qg_file_edits.proofs.Sources.{source-named}
 use Rattle.qg_file_edits.proofs.Taken.{IsGiven, given-named, given-sound, taken-few, within-met}
 
 -- an exchange makes these files of others, by so few edits that no more than some pieces are touched
-pub record IsToldFor (pieces : ℕ) (fs : FsTree) (ino : ℕ) (change : Exchange) (files files_new : List (ℕ × File))
-    : Type 0 where
+pub record IsToldFor (pieces : ℕ) (fs : FsTree) (history : Option (List Event)) (ino : ℕ) (change : Exchange)
+    (files files_new : List (ℕ × File)) : Type 0 where
   pub edits : ℕ
   pub most : edits ≤ pieces + 3
   pub few : length (change.named ++ option_to_list change.new) ≤ 2 * (pieces + 3)
-  pub makes : MakesFiles edits fs.tree.owner ino change files files_new
+  pub makes : MakesFiles edits fs.tree.owner ino change (names_elsewhere fs history) files files_new
   pub writable : AreWritableFiles files_new
   pub by : All (IsFileBy fs.tree.next) files_new
 
@@ -80,11 +83,12 @@ module _ (fs : FsTree) (history : Option (List Event)) (ino off len run : ℕ) (
   may : IsGiven fs.tree.next off (off + len) (new_piece fs.tree.next off len run ∷ [])
   may = new_given next off len run range.off_aligned range.len_aligned range.some run_fits range.near
 
-  known : AreOfNamed (named files) (with_range off (off + len) [] found.met)
+  known : AreOfNamed (named files ++ names_elsewhere fs history) (with_range off (off + len) [] found.met)
   known =
-      subst (λ (xs : List Piece). AreOfNamed (named files) (with_range off (off + len) [] xs)) (sym finds.met)
+      subst (λ (xs : List Piece). AreOfNamed (named files ++ names_elsewhere fs history)
+      (with_range off (off + len) [] xs)) (sym finds.met)
       (range-rests_named next ino off (off + len) given files holds.writable holds.by fits range.least range.below
-      range.off_aligned end_aligned range.near may.sound may.placed may.stamped)
+      range.off_aligned end_aligned range.near may.sound may.placed may.stamped (names_elsewhere fs history))
 
   order : IsPermutation
       (names_of ino (with_range off (off + len) [] found.met ++ option_to_list (Some (new_piece fs.tree.next off len
@@ -97,7 +101,7 @@ module _ (fs : FsTree) (history : Option (List Event)) (ino off len run : ℕ) (
       (names_of ino (with_range off (off + len) given xs))) finds.met
       (one-between ino (before off found.met) (after (off + len) found.met) (new_piece next off len run))
 
-  pub told-write : IsToldFor (pieces_meeting off (off + len) (pieces_of ino files)) fs ino change files
+  pub told-write : IsToldFor (pieces_meeting off (off + len) (pieces_of ino files)) fs history ino change files
       (files_written fs.tree.next ino off len run files)
   told-write = record {
     edits = pieces_meeting off (off + len) (pieces_of ino files) + length given + 2;
@@ -108,7 +112,8 @@ module _ (fs : FsTree) (history : Option (List Event)) (ino off len run : ℕ) (
         omega (arith, names);
     makes = range-makes next ino off (off + len) given files holds.writable holds.by fits range.least range.below
         range.off_aligned end_aligned range.near may.sound may.placed may.stamped fs.tree.owner
-        (with_range off (off + len) [] found.met) (Some (new_piece next off len run)) found change finds is known order;
+        (with_range off (off + len) [] found.met) (Some (new_piece next off len run)) found change finds is
+        (names_elsewhere fs history) known order;
     writable = range-files next ino off (off + len) given files holds.writable holds.by fits range.least range.below
         range.off_aligned end_aligned range.near may.sound may.placed may.stamped;
     by = range-files_by next ino off (off + len) given files holds.writable holds.by fits range.least range.below
@@ -118,9 +123,10 @@ module _ (fs : FsTree) (history : Option (List Event)) (ino off len run : ℕ) (
 -- ---- a clone
 
 module _ (fs : FsTree) (history : Option (List Event)) (other from len ino off : ℕ) (source : List Piece) (found : Found)
-    (change : Exchange) (files : List (ℕ × File)) (fits : fs.tree.next < 2 ^ 64) (from_aligned : is_aligned from ≡ true)
-    (range : IsFileRange ino off len) (holds : HoldsFiles fs history files)
-    (source_read : source ≡ pieces_met from (from + len) (pieces_of other files))
+    (change : Exchange) (files source_files : List (ℕ × File)) (tree : Root) (fits : fs.tree.next < 2 ^ 64)
+    (from_aligned : is_aligned from ≡ true) (range : IsFileRange ino off len) (holds : HoldsFiles fs history files)
+    (among : Contains (trees_of fs) tree) (has : HasFiles fs history tree source_files)
+    (source_read : source ≡ pieces_met from (from + len) (pieces_of other source_files))
     (finds : Finds files ino off (off + len) found)
     (is : IsRangeChange fs.tree.next off (off + len) (map (moved from off) (within from (from + len) source))
     (with_range off (off + len) (map (moved from off) (within from (from + len) source)) found.met) None found change)
@@ -129,17 +135,17 @@ module _ (fs : FsTree) (history : Option (List Event)) (other from len ino off :
     cloned_next = fs.tree.next
 
     abbrev cloned : List Piece
-    cloned = map (moved from off) (within from (from + len) (pieces_of other files))
+    cloned = map (moved from off) (within from (from + len) (pieces_of other source_files))
 
-    taken_same : within from (from + len) source ≡ within from (from + len) (pieces_of other files)
+    taken_same : within from (from + len) source ≡ within from (from + len) (pieces_of other source_files)
     taken_same =
         ap (λ (xs : List Piece). within from (from + len) xs) source_read
-        ∙ within-met from (from + len) (pieces_of other files)
+        ∙ within-met from (from + len) (pieces_of other source_files)
 
     is_cloned : IsRangeChange fs.tree.next off (off + len)
-        (map (moved from off) (within from (from + len) (pieces_of other files)))
-        (with_range off (off + len) (map (moved from off) (within from (from + len) (pieces_of other files))) found.met)
-        None found change
+        (map (moved from off) (within from (from + len) (pieces_of other source_files)))
+        (with_range off (off + len) (map (moved from off) (within from (from + len) (pieces_of other source_files)))
+        found.met) None found change
     is_cloned =
         subst (λ (xs : List Piece). IsRangeChange cloned_next off (off + len) (map (moved from off) xs)
         (with_range off (off + len) (map (moved from off) xs) found.met) None found change) taken_same is
@@ -148,25 +154,29 @@ module _ (fs : FsTree) (history : Option (List Event)) (other from len ino off :
     clone_end = aligned-add off len range.off_aligned range.len_aligned
 
     clone_may : IsGiven fs.tree.next off (off + len)
-        (map (moved from off) (within from (from + len) (pieces_of other files)))
+        (map (moved from off) (within from (from + len) (pieces_of other source_files)))
     clone_may =
-        given-sound cloned_next other from len off files holds.writable holds.by from_aligned range.len_aligned
+        given-sound cloned_next other from len off source_files has.writable has.by from_aligned range.len_aligned
         range.off_aligned
 
-    clone_known : AreOfNamed (named files) (with_range off (off + len)
-        (map (moved from off) (within from (from + len) (pieces_of other files))) found.met)
+    clone_known : AreOfNamed (named files ++ names_elsewhere fs history) (with_range off (off + len)
+        (map (moved from off) (within from (from + len) (pieces_of other source_files))) found.met)
     clone_known =
-        subst (λ (xs : List Piece). AreOfNamed (named files) (with_range off (off + len) cloned xs)) (sym finds.met)
+        subst (λ (xs : List Piece). AreOfNamed (named files ++ names_elsewhere fs history)
+        (with_range off (off + len) cloned xs)) (sym finds.met)
         (range-put_named cloned_next ino off (off + len) cloned files holds.writable holds.by fits range.least
         range.below range.off_aligned clone_end range.near clone_may.sound clone_may.placed clone_may.stamped
-        (given-named cloned_next other from len off files holds.writable holds.by from_aligned range.len_aligned
-        range.off_aligned))
+        (names_elsewhere fs history)
+        (given-named cloned_next other from len off source_files has.writable has.by from_aligned range.len_aligned
+        range.off_aligned (named files ++ names_elsewhere fs history)
+        (source-named fs history files source_files tree other fits holds among has)))
 
     clone_order : IsPermutation
         (names_of ino (with_range off (off + len)
-        (map (moved from off) (within from (from + len) (pieces_of other files))) found.met ++ option_to_list None))
+        (map (moved from off) (within from (from + len) (pieces_of other source_files))) found.met
+        ++ option_to_list None))
         (names_of ino (with_range off (off + len)
-        (map (moved from off) (within from (from + len) (pieces_of other files)))
+        (map (moved from off) (within from (from + len) (pieces_of other source_files)))
         (pieces_met off (off + len) (pieces_of ino files))))
     clone_order =
         subst (λ (xs : List Piece). IsPermutation
@@ -175,26 +185,26 @@ module _ (fs : FsTree) (history : Option (List Event)) (other from len ino off :
         (none-besides ino (with_range off (off + len) cloned found.met))
 
     pub told-clone : IsToldFor (pieces_meeting off (off + len) (pieces_of ino files)
-        + pieces_meeting from (from + len) (pieces_of other files)) fs ino change files
-        (files_cloned fs.tree.next other from len ino off files)
+        + pieces_meeting from (from + len) (pieces_of other source_files)) fs history ino change files
+        (files_cloned_from fs.tree.next (pieces_of other source_files) from len ino off files)
     told-clone = record {
       edits = pieces_meeting off (off + len) (pieces_of ino files) + length cloned + 2;
       most =
-          let long : length cloned ≡ length (within from (from + len) (pieces_of other files)) =
-          length-map (within from (from + len) (pieces_of other files)) (moved from off) in
-          let few = taken-few from (from + len) (pieces_of other files) in
+          let long : length cloned ≡ length (within from (from + len) (pieces_of other source_files)) =
+          length-map (within from (from + len) (pieces_of other source_files)) (moved from off) in
+          let few = taken-few from (from + len) (pieces_of other source_files) in
           omega (arith, long, few);
       few =
-          let long : length cloned ≡ length (within from (from + len) (pieces_of other files)) =
-          length-map (within from (from + len) (pieces_of other files)) (moved from off) in
-          let taken = taken-few from (from + len) (pieces_of other files) in
+          let long : length cloned ≡ length (within from (from + len) (pieces_of other source_files)) =
+          length-map (within from (from + len) (pieces_of other source_files)) (moved from off) in
+          let taken = taken-few from (from + len) (pieces_of other source_files) in
           let names = range-names off (off + len) cloned found.met (pieces_of ino files) change.named None change.new
           is_cloned.named is_cloned.new finds.met in
           omega (arith, long, taken, names);
       makes = range-makes cloned_next ino off (off + len) cloned files holds.writable holds.by fits range.least
           range.below range.off_aligned clone_end range.near clone_may.sound clone_may.placed clone_may.stamped
-          fs.tree.owner (with_range off (off + len) cloned found.met) None found change finds is_cloned clone_known
-          clone_order;
+          fs.tree.owner (with_range off (off + len) cloned found.met) None found change finds is_cloned
+          (names_elsewhere fs history) clone_known clone_order;
       writable = range-files cloned_next ino off (off + len) cloned files holds.writable holds.by fits range.least
           range.below range.off_aligned clone_end range.near clone_may.sound clone_may.placed clone_may.stamped;
       by = range-files_by cloned_next ino off (off + len) cloned files holds.writable holds.by fits range.least
@@ -209,7 +219,8 @@ module _ (fs : FsTree) (history : Option (List Event)) (ino : ℕ) (file : File)
   pub told-cut : (size : ℕ) (inode : InodeItem) (met : List Piece) → is_aligned size ≡ true → size ≤ largest_size
       → Some inode ≡ option_map inode_of (value_at ino files)
       → met ≡ pieces_met size largest_size (pieces_of ino files) → IsCut fs.tree.next size inode met change
-      → IsToldFor (pieces_past size file.pieces) fs ino change files (files_cut fs.tree.next ino size file files)
+      → IsToldFor (pieces_past size file.pieces) fs history ino change files
+      (files_cut fs.tree.next ino size file files)
   told-cut size inode met aligned near inode_found met_found is =
       let found : Some inode ≡ Some (inode_of file) =
       inode_found ∙ ap (λ (o : Option File). option_map inode_of o) there in
@@ -223,13 +234,13 @@ module _ (fs : FsTree) (history : Option (List Event)) (ino : ℕ) (file : File)
         most = omega arith;
         few = let names = cut-names size met file.pieces change.named change.new is.named is.new met_is in omega (arith, names);
         makes = cut-makes fs.tree.next ino size file files there holds.writable holds.by fits aligned near fs.tree.owner
-            inode met change inode_is met_is is;
+            inode met change inode_is met_is is (names_elsewhere fs history);
         writable = cut-files fs.tree.next ino size file files there holds.writable holds.by fits aligned near;
         by = cut-files_by fs.tree.next ino size file files there holds.writable holds.by fits aligned near;
       }
 
   pub told-unlink : (met : List Piece) → met ≡ pieces_met 0 largest_size file.pieces → IsUnlinked met change
-      → IsToldFor (length file.pieces) fs ino change files (without_value ino files)
+      → IsToldFor (length file.pieces) fs history ino change files (without_value ino files)
   told-unlink met met_found is =
       let sound = file-found IsWritableFile ino file files there holds.writable.each in
       record {
@@ -237,7 +248,7 @@ module _ (fs : FsTree) (history : Option (List Event)) (ino : ℕ) (file : File)
         most = omega arith;
         few = let names = no-names change.named change.new is.named is.new in omega (arith, names);
         makes = removal-makes fs.tree.next ino file files there holds.writable holds.by fits fs.tree.owner met change
-            (met_found ∙ met-all ino file sound) is;
+            (met_found ∙ met-all ino file sound) is (names_elsewhere fs history);
         writable = left-files fs.tree.next ino file files there holds.writable holds.by fits;
         by = left-files_by fs.tree.next ino file files there holds.writable holds.by fits;
       }

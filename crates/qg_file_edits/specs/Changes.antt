@@ -12,7 +12,6 @@ use Rattle.qg_file_edits.specs.declared.exchange.Exchange.{Exchange}
 use Rattle.qg_file_edits.specs.declared.found.Found.{Found}
 use Rattle.qg_file_edits.specs.declared.inode.InodeEdit.{InodeEdit}
 use Rattle.qg_file_edits.specs.declared.inode.InodeEdit.TheVariants.{Insert, Replace, Remove}
-use Rattle.qg_file_edits.specs.Files.{pieces_of}
 
 -- ---- the files that each command leaves, as the machine says it
 
@@ -28,11 +27,6 @@ files_written generation ino off len extent files =
 abbrev pub files_cloned_from : ℕ → List Piece → ℕ → ℕ → ℕ → ℕ → List (ℕ × File) → List (ℕ × File)
 files_cloned_from generation pieces from len ino off files =
     files_with generation ino off (off + len) (map (moved from off) (within from (from + len) pieces)) files
-
--- a range of one file comes into the place of a range of another
-abbrev pub files_cloned : ℕ → ℕ → ℕ → ℕ → ℕ → ℕ → List (ℕ × File) → List (ℕ × File)
-files_cloned generation source from len ino off files =
-    files_cloned_from generation (pieces_of source files) from len ino off files
 
 abbrev pub files_cut : ℕ → ℕ → ℕ → File → List (ℕ × File) → List (ℕ × File)
 files_cut generation ino size file files = with_value ino (with_size generation size file) files

@@ -59,12 +59,14 @@ pub record CoversExchange (owner ino : ℕ) (change : Exchange) (items : List It
     pub last : AreCovered owner (filter_map name_told (after_exchange ino change items)) names
 
 -- An exchange, of so many edits at most, makes these files of others. Those that are put in are the new one and some
--- that name extents which are named already, and no reference is there too often meanwhile
-pub record MakesFiles (edits owner ino : ℕ) (change : Exchange) (files files_new : List (ℕ × File)) : Type 0 where
+-- that name extents which are named already, by these files or by names of other trees, and no reference is there too
+-- often meanwhile
+pub record MakesFiles (edits owner ino : ℕ) (change : Exchange) (elsewhere : List (ℕ × Piece))
+    (files files_new : List (ℕ × File)) : Type 0 where
   pub can : CanEditSo edits ino change (flat_map items_of_file files)
   pub made : after_exchange ino change (flat_map items_of_file files) ≡ flat_map items_of_file files_new
   pub names : AreNamesExchanged (named files) (named files_new) (names_of ino change.gone) (names_of ino change.put)
   pub put : IsPermutation (names_of ino (change.named ++ option_to_list change.new)) (names_of ino change.put)
   pub tell : TellPieces ino change.put
-  pub known : AreOfNamed (named files) change.named
+  pub known : AreOfNamed (named files ++ elsewhere) change.named
   pub few : AreFewNames owner (names_of ino change.put ++ named files)

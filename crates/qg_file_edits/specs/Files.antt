@@ -1,4 +1,4 @@
--- A subvolume's tree that has the items of files, before a command and after it (this project's own).
+-- Trees that have the items of files: the one at hand before a command and after it, and others (this project's own).
 --
 -- Positions, lengths and sizes are in bytes.
 use Rattle.std.specs.Prelude.{◌≡◌, ℕ, ◌+◌, ◌*◌, ◌<◌, ◌≤◌, List, All, Option, IsTrue}
@@ -13,12 +13,13 @@ use Rattle.qg_machine.specs.FileChange.{pieces_or_none}
 use Rattle.qg_rules.specs.Writable.{AreWritableFiles, IsFileBy}
 use Rattle.qg_contents.specs.Written.{inode_of, items_of_file}
 use Rattle.qg_space.specs.Holding.{free_slots}
+use Rattle.qg_descent.specs.Tree.{Root}
 use Rattle.qg_file_items.specs.Pieces.{pieces_met}
 use Rattle.qg_exchange.specs.Named.{named}
 use Rattle.qg_state.specs.Need.{file_copies}
 use Rattle.qg_heavier.specs.Heavier.{BookGetsHeavier, edit_bytes, name_new_bytes}
 use Rattle.qg_fs_tree.specs.declared.fs_tree.FsTree.{FsTree}
-use Rattle.qg_fs_tree.specs.Standing.{IsSubvolume, Stands, made_slots, taken_slots}
+use Rattle.qg_fs_tree.specs.Standing.{IsSubvolume, Stands, items_in, made_slots, taken_slots}
 use Rattle.qg_fs_layout.specs.Laying.{IsMoved}
 use Rattle.qg_file_edits.specs.declared.found.Found.{Found}
 
@@ -28,6 +29,12 @@ use Rattle.qg_file_edits.specs.declared.found.Found.{Found}
 -- no generation past the one to come
 pub record HoldsFiles (fs : FsTree) (history : Option (List Event)) (files : List (ℕ × File)) : Type 0 where
   pub stands : Stands fs history (flat_map items_of_file files) (named files)
+  pub writable : AreWritableFiles files
+  pub by : All (IsFileBy fs.tree.next) files
+
+-- a tree has the items of these files, which can be written, and tell no generation past the one to come
+pub record HasFiles (fs : FsTree) (history : Option (List Event)) (tree : Root) (files : List (ℕ × File)) : Type 0 where
+  pub items : items_in fs history tree ≡ flat_map items_of_file files
   pub writable : AreWritableFiles files
   pub by : All (IsFileBy fs.tree.next) files
 

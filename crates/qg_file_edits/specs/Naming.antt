@@ -13,7 +13,7 @@ use Rattle.qg_fs_tree.specs.declared.fs_tree.FsTree.{FsTree}
 use Rattle.qg_fs_tree.specs.Standing.{IsSubvolume, KeepsTree, Stands, names_times}
 use Rattle.qg_fs_layout.specs.Laying.{IsMoved}
 
--- each of some pieces names an extent that is named already
+-- each of some pieces names an extent that these names lead to
 abbrev pub AreOfNamed : List (ℕ × Piece) → List Piece → Type 0
 AreOfNamed names pieces = All (λ piece. Contains (map (λ name. extent_of name.1) names) (extent_of piece)) pieces
 

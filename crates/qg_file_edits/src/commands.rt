@@ -1,5 +1,5 @@
 // What each file command does to a subvolume's tree.
-ghost use Rattle.std.specs.Prelude.{◌≡◌, ◌+◌, ◌*◌, ◌^◌, ◌<◌, ◌≤◌, ℕ, List, OnOk, IsTrue, length};
+ghost use Rattle.std.specs.Prelude.{◌≡◌, ◌+◌, ◌*◌, ◌^◌, ◌<◌, ◌≤◌, ℕ, Contains, List, OnOk, IsTrue, length};
 ghost use Rattle.qg_device.specs.Cause.{HasCause};
 ghost use Rattle.qg_device.specs.History.{Event};
 ghost use Rattle.qg_image.specs.declared.file.File.{File as FileValue};
@@ -11,9 +11,10 @@ ghost use Rattle.qg_blocks.specs.Told.{BreaksNone};
 ghost use Rattle.qg_space.specs.Holding.{free_slots, is_free_run};
 ghost use Rattle.qg_files.specs.Apart.{AreApart};
 ghost use Rattle.qg_file_items.specs.Pieces.{pieces_met};
-ghost use Rattle.qg_fs_tree.specs.Standing.{IsSubvolume};
-ghost use Rattle.qg_file_edits.specs.Changes.{files_cloned, files_cut, files_written};
-ghost use Rattle.qg_file_edits.specs.Files.{Finds, HoldsFiles, IsFileRange, LeavesFiles};
+ghost use Rattle.qg_descent.specs.Tree.{Root};
+ghost use Rattle.qg_fs_tree.specs.Standing.{IsSubvolume, trees_of};
+ghost use Rattle.qg_file_edits.specs.Changes.{files_cloned_from, files_cut, files_written};
+ghost use Rattle.qg_file_edits.specs.Files.{Finds, HasFiles, HoldsFiles, IsFileRange, LeavesFiles};
 ghost use Rattle.qg_file_edits.specs.Files.{LeavesHeld, StaysOwn, pieces_of};
 
 use crate::Found;
@@ -70,10 +71,10 @@ pub fn write<D: Disk, L: Ledger>(
     make_exchange(fs, alloc, disk, ino, &change, reads)
 }
 
-/// Puts what a source has in a range of so many bytes from a position on in the range of a file that begins at
-/// another (FICLONERANGE). Holes become holes, and a file that is missing is made. What was read before are the
-/// pieces that the source's range meets, and of the file its INODE_ITEM and the pieces that its range meets. Else as
-/// [`write`].
+/// Puts what a source, a file of this subvolume or of another, has in a range of so many bytes from a position on in
+/// the range of a file that begins at another (FICLONERANGE). Holes become holes, and a file that is missing is made.
+/// What was read before are the pieces that the source's range meets, and of the file its INODE_ITEM and the pieces
+/// that its range meets. Else as [`write`].
 pub fn clone_into<D: Disk, L: Ledger>(
     fs: &mut FsTree,
     alloc: Global,
@@ -92,23 +93,31 @@ pub fn clone_into<D: Disk, L: Ledger>(
     requires source_near { from + len ≤ largest_size }
     requires range { IsFileRange ino off len }
     requires apart { AreApart found.met }
-    ensures cloned { (files : List (ℕ × FileValue)) (other : ℕ) → HoldsFiles fs.old (D.history disk.old) files
-        → source.now ≡ pieces_met from (from + len) (pieces_of other files) → Finds files ino off (off + len) found
+    ensures cloned { (files source_files : List (ℕ × FileValue)) (tree : Root) (other : ℕ)
+        → HoldsFiles fs.old (D.history disk.old) files → Contains (trees_of fs.old) tree
+        → HasFiles fs.old (D.history disk.old) tree source_files
+        → source.now ≡ pieces_met from (from + len) (pieces_of other source_files)
+        → Finds files ino off (off + len) found
         → OnOk result (LeavesFiles fs.old fs.new (D.history disk.old)
-        (files_cloned fs.old.tree.next other from len ino off files)
+        (files_cloned_from fs.old.tree.next (pieces_of other source_files) from len ino off files)
         (pieces_meeting off (off + len) (pieces_of ino files)
-        + pieces_meeting from (from + len) (pieces_of other files))) }
-    ensures sound { (events : List Event) → D.history disk.old ≡ Some events → (files : List (ℕ × FileValue))
-        (other : ℕ)
-        → HoldsFiles fs.old (D.history disk.old) files
-        → source.now ≡ pieces_met from (from + len) (pieces_of other files) → Finds files ino off (off + len) found
+        + pieces_meeting from (from + len) (pieces_of other source_files))) }
+    ensures sound { (events : List Event) → D.history disk.old ≡ Some events
+        → (files source_files : List (ℕ × FileValue)) (tree : Root) (other : ℕ)
+        → HoldsFiles fs.old (D.history disk.old) files → Contains (trees_of fs.old) tree
+        → HasFiles fs.old (D.history disk.old) tree source_files
+        → source.now ≡ pieces_met from (from + len) (pieces_of other source_files)
+        → Finds files ino off (off + len) found
         → 10 * file_copies fs.old.tree.height (pieces_meeting off (off + len) (pieces_of ino files)
-        + pieces_meeting from (from + len) (pieces_of other files))
+        + pieces_meeting from (from + len) (pieces_of other source_files))
         ≤ free_slots fs.old.land.space → BreaksNone result }
-    ensures reads { (files : List (ℕ × FileValue)) (other : ℕ) → HoldsFiles fs.old (D.history disk.old) files
-        → source.now ≡ pieces_met from (from + len) (pieces_of other files) → Finds files ino off (off + len) found
+    ensures reads { (files source_files : List (ℕ × FileValue)) (tree : Root) (other : ℕ)
+        → HoldsFiles fs.old (D.history disk.old) files → Contains (trees_of fs.old) tree
+        → HasFiles fs.old (D.history disk.old) tree source_files
+        → source.now ≡ pieces_met from (from + len) (pieces_of other source_files)
+        → Finds files ino off (off + len) found
         → reads.new ≤ reads.old + 45 * (pieces_meeting off (off + len) (pieces_of ino files)
-        + pieces_meeting from (from + len) (pieces_of other files) + 3) }
+        + pieces_meeting from (from + len) (pieces_of other source_files) + 3) }
     ensures leaves { LeavesHeld fs.old fs.new (D.history disk.old) (D.history disk.new) (D.size disk.old)
         (D.size disk.new) }
     ensures own { OnOk result (StaysOwn fs.old fs.new) }

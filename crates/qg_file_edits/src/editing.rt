@@ -2,7 +2,6 @@
 ghost use Rattle.std.specs.Prelude.{ℕ, ◌≤◌, List, OnOk, IsTrue, length, not};
 ghost use Rattle.std.specs.List.{filter_map};
 ghost use Rattle.qg_device.specs.Cause.{HasCause};
-ghost use Rattle.qg_device.specs.History.{Event};
 ghost use Rattle.qg_num.specs.declared.piece.Piece.{Piece as PieceValue};
 ghost use Rattle.qg_node.specs.declared.item.Item.{Item as ItemValue};
 ghost use Rattle.qg_edit.specs.Edits.{has_key, with_item, without_key};

@@ -1,5 +1,5 @@
 // Pieces of a file come in the place of others, and its INODE_ITEM follows.
-ghost use Rattle.std.specs.Prelude.{◌≡◌, ◌++◌, ◌*◌, ℕ, List, Option, OnOk, IsErrOf, length};
+ghost use Rattle.std.specs.Prelude.{◌++◌, ◌*◌, ℕ, List, Option, OnOk, IsErrOf, length};
 ghost use Rattle.std.specs.List.{flat_map};
 ghost use Rattle.std.specs.Option.{option_to_list};
 ghost use Rattle.qg_device.specs.Cause.{HasCause};
@@ -11,7 +11,7 @@ ghost use Rattle.qg_contents.specs.Written.{items_of_file};
 ghost use Rattle.qg_exchange.specs.Named.{named, names_of};
 ghost use Rattle.qg_extents.specs.Table.{IsTable};
 ghost use Rattle.qg_heavier.specs.Heavier.{BookGetsHeavier, name_new_bytes};
-ghost use Rattle.qg_fs_tree.specs.Standing.{IsSubvolume, Stands};
+ghost use Rattle.qg_fs_tree.specs.Standing.{IsSubvolume, Stands, names_elsewhere};
 ghost use Rattle.qg_files.specs.Apart.{AreApart};
 ghost use Rattle.qg_file_edits.specs.Editing.{AreMade};
 ghost use Rattle.qg_file_edits.specs.Exchanging.{CanEditSo, CoversExchange, IsReadyFor, MakesFiles, after_exchange};
@@ -43,8 +43,8 @@ pub struct Exchange {
     pub inode: InodeEdit,
 }
 
-/// Pieces of a file come in the place of others in a subvolume's tree, and name their extents; those that go name
-/// theirs no more.
+/// Pieces of a file come in the place of others in a subvolume's tree, and name their extents, which this tree or
+/// another names already, or a new one; those that go name theirs no more.
 pub(crate) fn make_exchange<D: Disk, L: Ledger>(
     fs: &mut FsTree,
     alloc: Global,
@@ -57,7 +57,8 @@ pub(crate) fn make_exchange<D: Disk, L: Ledger>(
     requires ready { IsReadyFor fs.old.land.space change.now }
     ensures told { (edits : ℕ) (files files_new : List (ℕ × FileValue))
         → Stands fs.old (D.history disk.old) (flat_map items_of_file files) (named files)
-        → MakesFiles edits fs.old.tree.owner ino change.now files files_new
+        → MakesFiles edits fs.old.tree.owner ino change.now (names_elsewhere fs.old (D.history disk.old)) files
+        files_new
         → AreMade edits (length (change.now.named ++ option_to_list change.now.new)) fs.old fs.new (D.history disk.old) (flat_map items_of_file files_new) (named files_new)
         reads.old reads.new result }
     ensures table { IsTable fs.old.refs.refs }
@@ -79,7 +80,8 @@ pub(crate) fn make_exchange<D: Disk, L: Ledger>(
 fn name_those_put(fs: &mut FsTree, ino: Ino, change: &Exchange) -> Result<(), BlockFault>
     requires { IsReadyFor fs.old.land.space change.now }
     ensures named { (history : Option (List Event)) (bytes : ℕ) (items : List ItemValue) (names : List (ℕ × PieceValue))
-        → IsSubvolume fs.old history bytes → Stands fs.old history items names → AreOfNamed names change.now.named
+        → IsSubvolume fs.old history bytes → Stands fs.old history items names
+        → AreOfNamed (names ++ names_elsewhere fs.old history) change.now.named
         → AreFewNames fs.old.tree.owner (names_of ino (change.now.named ++ option_to_list change.now.new) ++ names)
         → AreNamed fs.old fs.new history items (names_of ino (change.now.named ++ option_to_list change.now.new)
         ++ names) result }

@@ -1,5 +1,5 @@
 // All of some pieces of a file name extents, or name them no more.
-ghost use Rattle.std.specs.Prelude.{◌≡◌, ◌++◌, ◌*◌, ℕ, ⊤, List, Option, MatchOption, IsErrOf, IsTrue, OnOk, length};
+ghost use Rattle.std.specs.Prelude.{◌++◌, ◌*◌, ℕ, ⊤, List, Option, MatchOption, IsErrOf, IsTrue, OnOk, length};
 ghost use Rattle.std.specs.List.{filter_map};
 ghost use Rattle.std.specs.Option.{option_to_list};
 ghost use Rattle.qg_device.specs.History.{Event};
@@ -8,16 +8,17 @@ ghost use Rattle.qg_node.specs.declared.item.Item.{Item as ItemValue};
 ghost use Rattle.qg_space.specs.Holding.{is_free_run};
 ghost use Rattle.qg_heavier.specs.Heavier.{BookGetsHeavier, name_bytes, name_new_bytes};
 ghost use Rattle.qg_exchange.specs.Named.{names_of};
-ghost use Rattle.qg_fs_tree.specs.Standing.{IsSubvolume, Stands, name_told};
+ghost use Rattle.qg_fs_tree.specs.Standing.{IsSubvolume, Stands, name_told, names_elsewhere};
 ghost use Rattle.qg_file_edits.specs.Naming.{AreCovered, AreFewNames, AreNamed, AreOfNamed, KeepsNodes};
 
 use qg_fs_tree::FsTree;
 use qg_num::{BlockFault, Ino, Piece};
 
-/// Pieces of a file name extents that others name already.
+/// Pieces of a file name extents that others name already, in this tree or in another.
 pub(crate) fn name_each(fs: &mut FsTree, ino: Ino, pieces: &[Piece]) -> Result<(), BlockFault>
     ensures named { (history : Option (List Event)) (bytes : ℕ) (items : List ItemValue) (names : List (ℕ × PieceValue))
-        → IsSubvolume fs.old history bytes → Stands fs.old history items names → AreOfNamed names pieces.now
+        → IsSubvolume fs.old history bytes → Stands fs.old history items names
+        → AreOfNamed (names ++ names_elsewhere fs.old history) pieces.now
         → AreFewNames fs.old.tree.owner (names_of ino pieces.now ++ names)
         → AreNamed fs.old fs.new history items (names_of ino pieces.now ++ names) result }
     ensures nodes { KeepsNodes fs.old fs.new }

@@ -2,12 +2,12 @@
 -- level lower.
 use Rattle.std.proofs.Common.{◌≡◌, ℕ, zero, suc, ◌+◌, ◌-◌, ◌*◌, ◌≤◌, Bool, true, false, List, [], ◌∷◌, ◌++◌, map}
 use Rattle.std.proofs.Common.{eqb, Option, Some, None, refl, sym, ap, subst, ◌∙◌, arith, inl, inr}
-use Rattle.std.specs.Prelude.{Result, Ok, Err, not, nat_le}
+use Rattle.std.specs.Prelude.{Result, Ok, Err, is_none, not, nat_le}
 use Rattle.std.specs.List.{Contains, IsDistinct, list_all}
 use Rattle.std.specs.Option.{option_and_then}
 use Rattle.std.specs.Ordering.{is_lt}
 use Rattle.std.specs.Result.{result_ok}
-use Rattle.std.proofs.lemmas.Bool.{and_parts, eqb-true, false≢true}
+use Rattle.std.proofs.lemmas.Bool.{and_parts, eq-eqb, eqb-true, false≢true}
 use Rattle.std.proofs.lemmas.List.Elements.{Contains-append_cases, Contains-append_left, Contains-append_right}
 use Rattle.std.proofs.lemmas.Option.{same_Some, option_and_then_some}
 use Rattle.qg_num.specs.Key.{key_cmp}
@@ -34,10 +34,10 @@ use Rattle.qg_verdict.specs.Walk.{begins_at, deepest, ends_before, found_failure
 use Rattle.qg_verdict.specs.Walk.{node_failure, node_found, pointers_failure, shape_failure, tree_failure, walk_failure}
 use Rattle.qg_verdict.specs.Walk.{way_failure}
 use Rattle.qg_verdict.specs.ItemsUnder.{is_way, nodes_of, nodes_under}
-use Rattle.qg_verdict.specs.ImageState.{level_in}
+use Rattle.qg_verdict.specs.ImageState.{level_in, tree_nodes}
 use Rattle.qg_walk.specs.Added.{is_from, is_to}
 use Rattle.qg_walk.specs.Standing.{expected_below}
-use Rattle.qg_walk.proofs.Failures.{IsFormed, IsFormed-way, kept-none, neither, walk-passed}
+use Rattle.qg_walk.proofs.Failures.{IsFormed, IsFormed-way, first_none, kept-none, neither, none_of_two, walk-passed}
 use Rattle.qg_walk.proofs.KeyRanges.{begins_at-all, ends_before-each, is_from-later, is_to-earlier, not_less_behind}
 use Rattle.qg_reach.proofs.Members.{one_mapped}
 use Rattle.qg_reach.proofs.Reached.{address_of}
@@ -124,11 +124,12 @@ module _ (tree : Tree) (super : Super) (image : List ℕ) where
   abbrev there : ℕ → Option Node
   there = nodes_of (node_found super image)
 
-  -- a node is no higher than a level, is found where it lies, and begins within a range
+  -- a node is no higher than a level, is found where it lies, begins within a range, and holds items that it may hold
   pub record IsPlaced (from to : Option Key) (level : ℕ) (node : Node) : Type 0 where
     pub low : (header_of node).level ≤ level
     pub lies : node_found super image (address_of node) ≡ Ok node
     pub keyed : IsKeyed from to node
+    pub held : list_all (is_item_of tree super.generation) (own_items node) ≡ true
 
 -- a node of a level lies at an address
 pub record HasNodeAt (nodes : List Node) (level address : ℕ) : Type 0 where
@@ -216,10 +217,10 @@ module _ (tree : Tree) (super : Super) (image : List ℕ) (to : Option Key) (lev
     one_placed node has = elim (Contains-append_cases first rest node has) [
       | inl early ↦
           let placed = branch.reached.each node early in
-          record { low = placed.low; lies = placed.lies; keyed = wider node placed.keyed }
+          record { low = placed.low; lies = placed.lies; keyed = wider node placed.keyed; held = placed.held }
       | inr late ↦
           let placed = others.reached.each node late in
-          record { low = placed.low; lies = placed.lies; keyed = lower node late placed.keyed }
+          record { low = placed.low; lies = placed.lies; keyed = lower node late placed.keyed; held = placed.held }
     ]
 
     one_linked : AreLinked (first ++ rest)
@@ -318,26 +319,29 @@ module _ (tree : Tree) (super : Super) (image : List ℕ) (to : Option Key) (lev
 -- ---- from an address down
 
 -- what is known of a node that breaks no rule
-record IsFit (super : Super) (expected : Expected) (node : Node) : Type 0 where
+record IsFit (tree : Tree) (super : Super) (expected : Expected) (node : Node) : Type 0 where
   formed : IsFormed expected node
   shaped : is_shaped super.nodesize expected.from node ≡ true
+  held : list_all (is_item_of tree super.generation) (own_items node) ≡ true
 
 module _ (tree : Tree) (super : Super) (image : List ℕ) where
   fits : (expected : Expected) (address : ℕ) (node : Node) → node_failure tree super expected address node ≡ None
-      → IsFit super expected node
+      → IsFit tree super expected node
   unfolding node_failure
   fits expected address node none =
       let way = way_failure tree super expected address node in
       let shape = shape_failure super.nodesize expected address node in
-      let parts = three way shape (unless (list_all (is_item_of tree super.generation) (own_items node)) rule.Item
-      address) none in
+      let held = list_all (is_item_of tree super.generation) (own_items node) in
+      let parts = three way shape (unless held rule.Item address) none in
       record {
         formed = IsFormed-way tree super expected address node parts.0;
         shaped = kept-none (is_shaped super.nodesize expected.from node) rule.Shape address parts.1;
+        held = kept-none held rule.Item address parts.2;
       }
     where
-      three : (a b c : Option Failure) → first_failure (a ∷ b ∷ c ∷ []) ≡ None → (a ≡ None) × (b ≡ None)
-      three None None c none = (refl, refl)
+      three : (a b c : Option Failure) → first_failure (a ∷ b ∷ c ∷ []) ≡ None → (a ≡ None) × (b ≡ None) × (c ≡ None)
+      three None None None none = (refl, refl, refl)
+      three None None (Some failure) none = absurd cc
       three None (Some failure) c none = absurd cc
       three (Some failure) b c none = absurd cc
 
@@ -345,12 +349,13 @@ module _ (tree : Tree) (super : Super) (image : List ℕ) where
   Branch expected level address nodes = IsBranch tree super image expected.from expected.to level address nodes
 
   own_placed : (expected : Expected) (level address : ℕ) (node : Node) → node_found super image address ≡ Ok node
-      → IsFit super expected node
+      → IsFit tree super expected node
       → (header_of node).level ≡ level → IsPlaced tree super image expected.from expected.to level node
   own_placed expected level address node is fit high = record {
     low = omega arith;
     lies = subst (λ a. node_found super image a ≡ Ok node) (sym (found_is super image address node is).lies) is;
     keyed = keyed super.nodesize expected.from expected.to node fit.shaped fit.formed.begins fit.formed.ends;
+    held = fit.held;
   }
 
   own_start : (nodes : List Node) (level address : ℕ) (node : Node) → node_found super image address ≡ Ok node
@@ -366,7 +371,7 @@ module _ (tree : Tree) (super : Super) (image : List ℕ) where
   -- a leaf
   alone : (expected : Expected) (level address : ℕ) (header : Header) (items : List Item)
       → node_found super image address ≡ Ok (Leaf header items)
-      → IsFit super expected (Leaf header items) → header.level ≡ level
+      → IsFit tree super expected (Leaf header items) → header.level ≡ level
       → Branch expected level address (Leaf header items ∷ [])
   alone expected level address header items is fit high =
       let leaf = Leaf header items in
@@ -406,7 +411,7 @@ module _ (tree : Tree) (super : Super) (image : List ℕ) where
   -- an inner node, and what is below its pointers
   module _ (expected : Expected) (level address : ℕ) (header : Header) (pointers : List Pointer) (below : List Node)
       (is : node_found super image address ≡ Ok (Inner header pointers))
-      (fit : IsFit super expected (Inner header pointers))
+      (fit : IsFit tree super expected (Inner header pointers))
       (high : header.level ≡ suc level) (under : AreBelow tree super image expected.to level pointers below) where
     abbrev inner : Node
     inner = Inner header pointers
@@ -435,6 +440,7 @@ module _ (tree : Tree) (super : Super) (image : List ℕ) where
           lies = placed.lies;
           keyed = low_keyed expected.from pointers node
               fit.shaped fit.formed.begins placed.keyed;
+          held = placed.held;
         }
 
     inner_placed : IsPlaced tree super image expected.from expected.to (suc level) inner
@@ -480,7 +486,7 @@ module _ (tree : Tree) (super : Super) (image : List ℕ) where
     }
 
   inner_keys : (expected : Expected) (level address : ℕ) (header : Header) (pointers : List Pointer)
-      → node_found super image address ≡ Ok (Inner header pointers) → IsFit super expected (Inner header pointers)
+      → node_found super image address ≡ Ok (Inner header pointers) → IsFit tree super expected (Inner header pointers)
       → AreKeys tree super image expected.to level pointers
   inner_keys expected level address header pointers is fit = record {
     ascending = (found_is super image address (Inner header pointers) is).ascending;
@@ -550,6 +556,157 @@ when_some false given x is = absurd cc
 level_is : (super : Super) (image : List ℕ) (address : ℕ) (node : Node) → node_found super image address ≡ Ok node
     → (header_of node).level ≡ level_in super image address
 level_is super image address node is = rw is refl
+
+-- ---- that there are nodes
+
+-- some nodes stand there
+record AreSome (there : Option (List Node)) : Type 0 where
+  nodes : List Node
+  are : there ≡ Some nodes
+
+module _ (tree : Tree) (super : Super) (image : List ℕ) where
+  some_joined : (walk : Expected → ℕ → Option Failure) (under : Pointer → Option (List Node)) (level : ℕ)
+      (to : Option Key)
+      → ((pointer : Pointer) (others : List Pointer) → walk (expected_below level to pointer others) pointer.child ≡ None
+      → AreSome (under pointer))
+      → (pointers : List Pointer) → pointers_failure walk level to pointers ≡ None → AreSome (joined under pointers)
+  some_joined walk under level to each [] none = record { nodes = []; are = refl }
+  some_joined walk under level to each (pointer ∷ pointers) none =
+      let parts = neither (walk (expected_below level to pointer pointers) pointer.child)
+      (pointers_failure walk level to pointers) none in
+      let first = each pointer pointers parts.0 in
+      let rest = some_joined walk under level to each pointers parts.1 in
+      record { nodes = first.nodes ++ rest.nodes; are = rw (first.are, rest.are) refl }
+
+  some_leaf : (address : ℕ) (node : Node) → node_found super image address ≡ Ok node → (header_of node).level ≡ 0
+      → AreSome (option_and_then (λ node. option_and_then (λ items. Some (node ∷ [])) (leaf_items node)) (Some node))
+  some_leaf address (Leaf header items) is low = record { nodes = Leaf header items ∷ []; are = refl }
+  some_leaf address (Inner header pointers) is low =
+      let kind = (found_is super image address (Inner header pointers) is).kind in
+      absurd (false≢true (kind ∙ eq-eqb header.level 0 low))
+
+  some_inner : (level : ℕ) (walk : Expected → ℕ → Option Failure) (under : Pointer → Option (List Node))
+      (expected : Expected)
+      → ((pointer : Pointer) (others : List Pointer)
+      → walk (expected_below level expected.to pointer others) pointer.child ≡ None → AreSome (under pointer))
+      → (address : ℕ) (node : Node) → node_found super image address ≡ Ok node → (header_of node).level ≡ suc level
+      → pointers_failure walk ((header_of node).level - 1) expected.to (own_pointers node) ≡ None
+      → AreSome (option_and_then (λ node. option_and_then (λ below. Some (node ∷ below))
+      (option_and_then (joined under) (inner_pointers node))) (Some node))
+  some_inner level walk under expected each address (Leaf header items) is high none =
+      let kind = (found_is super image address (Leaf header items) is).kind in
+      let low = eqb-true header.level 0 (sym kind) in
+      absurd (omega (arith, low, high))
+  some_inner level walk under expected each address (Inner header pointers) is high none =
+      let less : header.level - 1 ≡ level = omega (arith, high) in
+      let below = some_joined walk under level expected.to each pointers
+      (subst (λ n. pointers_failure walk n expected.to pointers ≡ None) less none) in
+      record { nodes = Inner header pointers ∷ below.nodes; are = rw below.are refl }
+
+  below_passed : (walk : Expected → ℕ → Option Failure) (expected : Expected) (address : ℕ) (here : Result Node Failure)
+      (node : Node) → here ≡ Ok node → found_failure (node_failure tree super) walk expected address here ≡ None
+      → pointers_failure walk ((header_of node).level - 1) expected.to (own_pointers node) ≡ None
+  below_passed walk expected address (Err failure) node is none = absurd cc
+  below_passed walk expected address (Ok other) node is none =
+      let same : other ≡ node = cc in
+      let parts = neither (node_failure tree super expected address other)
+      (pointers_failure walk ((header_of other).level - 1) expected.to (own_pointers other)) none in
+      subst (λ n. pointers_failure walk ((header_of n).level - 1) expected.to (own_pointers n) ≡ None) same parts.1
+
+  some_from : (level depth : ℕ) (expected : Expected) (address : ℕ) → level ≤ depth
+      → ((node : Node) → node_found super image address ≡ Ok node → (header_of node).level ≡ level)
+      → walk_failure (node_failure tree super) (node_found super image) depth expected address ≡ None
+      → AreSome (nodes_below (nodes_of (node_found super image)) level address)
+  unfolding walk_failure
+  some_from zero depth expected address deep known none =
+      let passed = walk-passed tree super (node_found super image) depth expected address none in
+      rw passed.is (some_leaf address passed.node passed.is (known passed.node passed.is))
+  some_from (suc level) zero expected address deep known none = absurd (omega arith)
+  some_from (suc level) (suc depth) expected address deep known none =
+      let walk = walk_failure (node_failure tree super) (node_found super image) depth in
+      let passed = walk-passed tree super (node_found super image) (suc depth) expected address none in
+      let under = λ (pointer : Pointer). nodes_below (nodes_of (node_found super image)) level pointer.child in
+      let below = below_passed walk expected address (node_found super image address) passed.node passed.is none in
+      rw passed.is (some_inner level walk under expected
+      (λ pointer others none'. some_from level depth (expected_below level expected.to pointer others) pointer.child
+      (omega arith) (known_below tree super image depth level (expected_below level expected.to pointer others)
+      pointer.child refl none') none') address passed.node passed.is (known passed.node passed.is) below)
+
+  -- ---- the rules on the way are kept where all are
+
+  way_node : (expected : Expected) (address : ℕ) (node : Node) → node_failure tree super expected address node ≡ None
+      → way_failure tree super expected address node ≡ None
+  unfolding node_failure
+  way_node expected address node none =
+      first_none (way_failure tree super expected address node) (shape_failure super.nodesize expected address node)
+      (unless (list_all (is_item_of tree super.generation) (own_items node)) rule.Item address) none
+
+  way_pointers : (all way : Expected → ℕ → Option Failure)
+      → ((expected : Expected) (address : ℕ) → all expected address ≡ None → way expected address ≡ None)
+      → (level : ℕ) (to : Option Key) (pointers : List Pointer) → pointers_failure all level to pointers ≡ None
+      → pointers_failure way level to pointers ≡ None
+  way_pointers all way each level to [] none = refl
+  way_pointers all way each level to (pointer ∷ pointers) none =
+      let expected = expected_below level to pointer pointers in
+      let parts = neither (all expected pointer.child) (pointers_failure all level to pointers) none in
+      none_of_two (way expected pointer.child) (pointers_failure way level to pointers)
+      (each expected pointer.child parts.0) (way_pointers all way each level to pointers parts.1)
+
+  way_found : (all way : Expected → ℕ → Option Failure)
+      → ((expected : Expected) (address : ℕ) → all expected address ≡ None → way expected address ≡ None)
+      → (expected : Expected) (address : ℕ) (here : Result Node Failure)
+      → found_failure (node_failure tree super) all expected address here ≡ None
+      → found_failure (way_failure tree super) way expected address here ≡ None
+  way_found all way each expected address (Err failure) none = absurd cc
+  way_found all way each expected address (Ok node) none =
+      let level = (header_of node).level - 1 in
+      let parts = neither (node_failure tree super expected address node)
+      (pointers_failure all level expected.to (own_pointers node)) none in
+      none_of_two (way_failure tree super expected address node)
+      (pointers_failure way level expected.to (own_pointers node))
+      (way_node expected address node parts.0)
+      (way_pointers all way each level expected.to (own_pointers node) parts.1)
+
+  way_walk : (depth : ℕ) (expected : Expected) (address : ℕ)
+      → walk_failure (node_failure tree super) (node_found super image) depth expected address ≡ None
+      → walk_failure (way_failure tree super) (node_found super image) depth expected address ≡ None
+  unfolding walk_failure
+  way_walk zero expected address none =
+      way_found (λ expected address. None) (λ expected address. None) (λ expected address same. same) expected address
+      (node_found super image address) none
+  way_walk (suc depth) expected address none =
+      way_found (walk_failure (node_failure tree super) (node_found super image) depth)
+      (walk_failure (way_failure tree super) (node_found super image) depth) (way_walk depth) expected address
+      (node_found super image address) none
+
+  way_kept : (expected : Expected) (root : ℕ) → tree_failure tree super image expected root ≡ None
+      → is_way tree super (node_found super image) expected root ≡ true
+  unfolding tree_failure is_way
+  way_kept expected root none = ap is_none (way_walk deepest expected root none)
+
+  nodes_stand : (expected : Expected) (root : ℕ) (nodes : List Node)
+      → nodes_under tree super (node_found super image) (level_in super image root) expected root ≡ Some nodes
+      → tree_nodes tree super image expected root ≡ nodes
+  unfolding tree_nodes
+  nodes_stand expected root nodes is = rw is refl
+
+-- the nodes of a tree whose walk meets no failure stand under its root
+pub tree_under : (tree : Tree) (super : Super) (image : List ℕ) (expected : Expected) (root : ℕ)
+    → tree_failure tree super image expected root ≡ None
+    → nodes_under tree super (node_found super image) (level_in super image root) expected root
+    ≡ Some (tree_nodes tree super image expected root)
+unfolding tree_failure
+tree_under tree super image expected root none =
+    let level = level_in super image root in
+    let passed = walk-passed tree super (node_found super image) deepest expected root none in
+    let low = subst (λ n. n ≤ 7) (level_is super image root passed.node passed.is)
+    (found_is super image root passed.node passed.is).low in
+    let below = some_from tree super image level deepest expected root low (level_is super image root) none in
+    let under : nodes_under tree super (node_found super image) level expected root ≡ Some below.nodes
+    = rw (way_kept tree super image expected root none) below.are in
+    under ∙ ap Some (sym (nodes_stand tree super image expected root below.nodes under))
+
+-- ---- a whole tree
 
 -- the nodes of a tree whose walk meets no failure
 pub tree_branch : (tree : Tree) (super : Super) (image : List ℕ) (expected : Expected) (root : ℕ) (nodes : List Node)

@@ -32,22 +32,27 @@ if_after : {A : Type 0} (P : Node → Type 0) (read : Result A NodeFault) (next 
 if_after P (Ok x) next reads = reads x
 if_after P (Err fault) next reads = tt
 
--- the node has the header that stands there, and its keys ascend
-record IsTold (bytes : List ℕ) (node : Node) : Type 0 where
+abbrev pub is_leaf : Node → Bool
+is_leaf (Leaf header items) = true
+is_leaf (Inner header pointers) = false
+
+-- the node has the header that stands there, its keys ascend, and it is a leaf or isn't
+record IsTold (bytes : List ℕ) (leaf : Bool) (node : Node) : Type 0 where
   header : header_of node ≡ header_at bytes
   ascending : is_ascending (own_keys node) ≡ true
+  kind : is_leaf node ≡ leaf
 
 in_order : (bytes : List ℕ) (empty : Bool) (node : Node) → header_of node ≡ header_at bytes
-    → IfOk (check (is_ascending (own_keys node)) Order (check empty Slack (Ok node))) (IsTold bytes)
+    → IfOk (check (is_ascending (own_keys node)) Order (check empty Slack (Ok node))) (IsTold bytes (is_leaf node))
 in_order bytes empty node header =
-    let told = IsTold bytes in
+    let told = IsTold bytes (is_leaf node) in
     if_checked told (is_ascending (own_keys node)) Order (check empty Slack (Ok node)) (λ order.
-    if_checked told empty Slack (Ok node) (λ slack. record { header = header; ascending = order }))
+    if_checked told empty Slack (Ok node) (λ slack. record { header = header; ascending = order; kind = refl }))
 
-leaf_told : (bytes : List ℕ) → IfOk (leaf_at bytes) (IsTold bytes)
+leaf_told : (bytes : List ℕ) → IfOk (leaf_at bytes) (IsTold bytes true)
 unfolding leaf_at
 leaf_told bytes =
-    let told = IsTold bytes in
+    let told = IsTold bytes true in
     let low = 101 + 25 * count_at bytes in
     let items = items_at (count_at bytes) 101 (length bytes) low bytes in
     let empty : List Item × ℕ → Bool = λ read. has_empty_fields bytes && is_zero low read.1 bytes in
@@ -57,10 +62,10 @@ leaf_told bytes =
     if_checked told (nat_le low (length bytes)) Bounds (items >>= next) (λ room.
     if_after told items next (λ read. in_order bytes (empty read) (Leaf (header_at bytes) read.0) refl))
 
-inner_told : (bytes : List ℕ) → IfOk (inner_at bytes) (IsTold bytes)
+inner_told : (bytes : List ℕ) → IfOk (inner_at bytes) (IsTold bytes false)
 unfolding inner_at
 inner_told bytes =
-    let told = IsTold bytes in
+    let told = IsTold bytes false in
     let end = 101 + 33 * count_at bytes in
     let pointers = pointers_at (count_at bytes) 101 bytes in
     let ascends = is_ascending (map (λ (pointer : Pointer). pointer.key) pointers) in
@@ -69,18 +74,20 @@ inner_told bytes =
     if_checked told (nat_le end (length bytes)) Bounds (check ascends Order (check empty Slack (Ok node)))
     (λ room. in_order bytes empty node refl)
 
-either_told : (bytes : List ℕ) (is_leaf : Bool) → IfOk (cond is_leaf (leaf_at bytes) (inner_at bytes)) (IsTold bytes)
+either_told : (bytes : List ℕ) (leaf : Bool) → IfOk (cond leaf (leaf_at bytes) (inner_at bytes)) (IsTold bytes leaf)
 either_told bytes true = leaf_told bytes
 either_told bytes false = inner_told bytes
 
--- the node names the address, is on a level that there is, and its keys ascend
+-- the node names the address, is on a level that there is, and its keys ascend; it is a leaf exactly on the lowest one
 record IsReadAt (address : ℕ) (node : Node) : Type 0 where
   lies : address_of node ≡ address
   low : (header_of node).level ≤ 7
   ascending : is_ascending (own_keys node) ≡ true
+  kind : is_leaf node ≡ ((header_of node).level == 0)
 
 read_of_told : (address : ℕ) (bytes : List ℕ) (read : Result Node NodeFault) → (u64_at 48 bytes == address) ≡ true
-    → nat_le (slice_index bytes 100) 7 ≡ true → IfOk read (IsTold bytes) → IfOk read (IsReadAt address)
+    → nat_le (slice_index bytes 100) 7 ≡ true → IfOk read (IsTold bytes (slice_index bytes 100 == 0))
+    → IfOk read (IsReadAt address)
 unfolding header_at
 read_of_told address bytes (Err fault) place low told = tt
 read_of_told address bytes (Ok node) place low told = record {
@@ -89,6 +96,7 @@ read_of_told address bytes (Ok node) place low told = record {
       subst (λ (level : ℕ). level ≤ 7) (sym (ap (λ (header : Header). header.level) told.header))
       (leb-true (slice_index bytes 100) 7 low);
   ascending = told.ascending;
+  kind = told.kind ∙ ap (λ (header : Header). header.level == 0) (sym told.header);
 }
 
 read_at : (address : ℕ) (bytes : List ℕ) → IfOk (node_read address bytes) (IsReadAt address)
@@ -108,12 +116,14 @@ read_at address bytes =
 
 -- ---- what is found
 
--- the address is that of a slot; the node names it, is on a level that there is, and its keys ascend
+-- the address is that of a slot; the node names it, is on a level that there is, and its keys ascend; it is a leaf exactly
+-- on the lowest one
 pub record IsFoundAt (super : Super) (address : ℕ) (node : Node) : Type 0 where
   pub slot : is_slot (sizes_of super) address ≡ true
   pub lies : address_of node ≡ address
   pub low : (header_of node).level ≤ 7
   pub ascending : is_ascending (own_keys node) ≡ true
+  pub kind : is_leaf node ≡ ((header_of node).level == 0)
 
 in_a_slot : (address : ℕ) (slot : Bool) (read : Result Node NodeFault) (node : Node)
     → in_slot slot address read ≡ Ok node
@@ -129,4 +139,4 @@ found_is super image address node is =
     let bytes = slice_range image address (address + super.nodesize) in
     let both = in_a_slot address (is_slot (sizes_of super) address) (node_read address bytes) node is in
     let read = subst (λ (r : Result Node NodeFault). IfOk r (IsReadAt address)) both.1 (read_at address bytes) in
-    record { slot = both.0; lies = read.lies; low = read.low; ascending = read.ascending }
+    record { slot = both.0; lies = read.lies; low = read.low; ascending = read.ascending; kind = read.kind }

@@ -4,6 +4,7 @@ pub mod Apart
 pub mod Laid
 pub mod Searching
 pub mod Marking
-pub mod Extents
+pub mod Runs
+pub mod Naming
 pub mod Sorted
-pub mod Judged
+pub mod Verdicts

@@ -17,6 +17,9 @@ use Rattle.qg_node.specs.declared.node.Header.{Header}
 use Rattle.qg_node.specs.declared.node.Node.{Node}
 use Rattle.qg_node.specs.Nodes.{header_of, own_items, own_pointers}
 use Rattle.qg_image.specs.Table.{value_at}
+use Rattle.qg_num.specs.declared.piece.Piece.{Piece}
+use Rattle.qg_state.specs.declared.element.Element.{Element}
+use Rattle.qg_state.specs.Reach.{extent_of, pieces_of}
 use Rattle.qg_image.specs.declared.part.ExtentPart.{ExtentPart}
 use Rattle.qg_image.specs.declared.part.ExtentPart.TheVariants.{DataRecord, NodeRecord, Referenced}
 use Rattle.qg_image.specs.declared.part.FilePart.{FilePart}
@@ -26,13 +29,14 @@ use Rattle.qg_state.specs.Owed.{Owing as OwedReference, owed_by_node, owed_by_pa
 use Rattle.qg_verdict.specs.ImageState.{is_full_record, placed}
 use Rattle.qg_reach.proofs.Reached.{address_of}
 use Rattle.qg_home.specs.Linked.{linked_of}
+use Rattle.qg_direct.specs.Surveyed.{surveyed_of}
 use Rattle.qg_owed.specs.Told.{kind_at}
 use Rattle.qg_owed.specs.declared.thing.Thing.{Thing}
 use Rattle.qg_owed.specs.declared.thing.Kind.TheVariants as kind
 use Rattle.qg_owed.proofs.Things.{kind_of_node}
 use Rattle.qg_gathered.specs.Told.{told_of, unmarked}
 use Rattle.qg_gathered.specs.Marked.{full_address, is_marked, link_where, marked_link, marked_owing, marked_owings}
-use Rattle.qg_gathered.specs.Marked.{owed_where, thing_where}
+use Rattle.qg_gathered.specs.Marked.{owed_where, surveyed_where, thing_where}
 use Rattle.qg_gathered.proofs.Laid.{entry_of}
 
 -- ---- which are full
@@ -138,6 +142,27 @@ module _ (full : List ℕ) (parts : List ExtentPart) (marks : AreMarks full part
       let first = ap (λ mark. marked_link mark (told_of node)) (marks (address_of node)) in
       ap (λ link. link ∷ map (link_where full) (map told_of nodes)) first
       ∙ ap (λ rest. linked_of (address_of node) (placed parts node) ∷ rest) (all_linked nodes)
+
+  begin_there : (pieces : List Piece) → map (λ (extent : Element). extent.address) (map extent_of pieces)
+      ≡ map (λ (piece : Piece). piece.extent) pieces
+  begin_there [] = refl
+  begin_there (piece ∷ pieces) = ap (λ rest. piece.extent ∷ rest) (begin_there pieces)
+
+  one_surveyed : (node : Node) → surveyed_where full (told_of node) ≡ surveyed_of (address_of node) (placed parts node)
+  one_surveyed node =
+      ap (λ mark. record {
+        linked = marked_link mark (told_of node);
+        extents = map (λ (extent : Element). extent.address) (map extent_of (pieces_of node));
+      }) (marks (address_of node))
+      ∙ ap (λ extents. record { linked = linked_of (address_of node) (placed parts node); extents = extents })
+      (begin_there (pieces_of node))
+
+  pub all_surveyed : (nodes : List Node) → map (surveyed_where full) (map told_of nodes) ≡ map
+      (λ entry. surveyed_of entry.0 entry.1) (map (entry_of parts) nodes)
+  all_surveyed [] = refl
+  all_surveyed (node ∷ nodes) =
+      ap (λ first. first ∷ map (surveyed_where full) (map told_of nodes)) (one_surveyed node)
+      ∙ ap (λ rest. surveyed_of (address_of node) (placed parts node) ∷ rest) (all_surveyed nodes)
 
   pub all_there : (nodes : List Node) (a : ℕ) → kind_at (map (thing_where full) (map told_of nodes)) a ≡ kind_of_node
       (value_at a (map (entry_of parts) nodes))

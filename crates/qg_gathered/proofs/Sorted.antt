@@ -15,10 +15,11 @@ use Rattle.qg_reach.specs.Sets.{HaveSame}
 use Rattle.qg_reach.proofs.Layouts.{AgreeByAddress}
 use Rattle.qg_reach.proofs.Members.{contains_map, one_mapped, same_moved, same_back}
 use Rattle.qg_reach.proofs.Reached.{address_of}
-use Rattle.qg_home.specs.declared.linked.Linked.{Linked}
 use Rattle.qg_owed.proofs.NumberSets.{Ascends, same_ascending}
 use Rattle.qg_gathered.specs.declared.nodes.NodeRead.{NodeRead}
-use Rattle.qg_gathered.specs.Marked.{link_where}
+use Rattle.qg_direct.specs.declared.surveyed.Surveyed.{Surveyed}
+use Rattle.qg_direct.specs.Surveyed.{links_in}
+use Rattle.qg_gathered.specs.Marked.{surveyed_where}
 use Rattle.qg_gathered.specs.Told.{NodeTold, told_by, told_of}
 
 -- ---- numbers that ascend
@@ -162,17 +163,31 @@ module _ (reads sorted : List NodeRead) (nodes : List Node) (told : map told_by 
       (IsDistinct-IsPermutation eqb (λ a b. grind (arith, nat_tests)) (map address_of nodes) (map number_read sorted)
       numbers_moved distinct)
 
--- links lie where the nodes lie that were read
-pub links_rise : (full : List ℕ) (reads : List NodeRead) (links : List Linked)
-    → links ≡ map (link_where full) (map told_by reads)
+-- links lie where what is surveyed lies
+pub lie_linked : (those : List Surveyed) → map (λ link. link.address) (links_in those)
+    ≡ map (λ node. node.linked.address) those
+lie_linked [] = refl
+lie_linked (node ∷ those) = ap (λ rest. node.linked.address ∷ rest) (lie_linked those)
+
+-- what is surveyed lies where the nodes lie that were read
+pub lie_surveyed : (full : List ℕ) (reads : List NodeRead)
+    → map (λ node. node.linked.address) (map (surveyed_where full) (map told_by reads)) ≡ map number_read reads
+lie_surveyed full [] = refl
+lie_surveyed full (read ∷ reads) = ap (λ rest. read.linked.address ∷ rest) (lie_surveyed full reads)
+
+pub surveyed_rise : (full : List ℕ) (reads : List NodeRead) (those : List Surveyed)
+    → those ≡ map (surveyed_where full) (map told_by reads)
     → IsStrictlyIncreasing (map (λ read. read.linked.address) reads)
-    → IsStrictlyIncreasing (map (λ link. link.address) links)
-links_rise full reads links are up =
-    let same : map (λ link. link.address) links ≡ map number_read reads = ap (map (λ (link : Linked). link.address)) are
-    ∙ lie reads in
-    subst IsStrictlyIncreasing (sym same) up
-  where
-    lie : (reads : List NodeRead) → map (λ link. link.address) (map (link_where full) (map told_by reads)) ≡ map
-        number_read reads
-    lie [] = refl
-    lie (read ∷ reads) = ap (λ rest. read.linked.address ∷ rest) (lie reads)
+    → IsStrictlyIncreasing (map (λ node. node.linked.address) those)
+surveyed_rise full reads those are up =
+    subst IsStrictlyIncreasing
+    (sym (ap (map (λ (node : Surveyed). node.linked.address)) are ∙ lie_surveyed full reads)) up
+
+pub surveyed_same : (full : List ℕ) (reads sorted : List NodeRead) (those : List Surveyed)
+    → those ≡ map (surveyed_where full) (map told_by sorted) → IsPermutation reads sorted
+    → HaveSame (map (λ node. node.linked.address) those) (map (λ read. read.linked.address) reads)
+surveyed_same full reads sorted those are moved =
+    subst (λ numbers. HaveSame numbers (map number_read reads))
+    (sym (ap (map (λ (node : Surveyed). node.linked.address)) are ∙ lie_surveyed full sorted))
+    (same_back (map number_read reads) (map number_read sorted)
+    (same_moved (map number_read reads) (map number_read sorted) (IsPermutation-map number_read reads sorted moved)))

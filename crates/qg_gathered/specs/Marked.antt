@@ -9,6 +9,7 @@ use Rattle.qg_image.specs.declared.part.ExtentPart.TheVariants.{DataRecord, Node
 use Rattle.qg_state.specs.Owed.{Owing as OwedReference}
 use Rattle.qg_state.specs.declared.element.Element.{Element}
 use Rattle.qg_home.specs.declared.linked.Linked.{Linked}
+use Rattle.qg_direct.specs.declared.surveyed.Surveyed.{Surveyed}
 use Rattle.qg_owed.specs.declared.thing.Thing.{Thing}
 use Rattle.qg_owed.specs.declared.thing.Kind.TheVariants.{Node, Extent}
 use Rattle.qg_gathered.specs.Told.{NodeTold}
@@ -66,8 +67,21 @@ thing_where full node = marked_thing (is_marked full node.linked.address) node
 abbrev pub link_where : List ℕ → NodeTold → Linked
 link_where full node = marked_link (is_marked full node.linked.address) node
 
+-- what is surveyed of it
+abbrev pub surveyed_where : List ℕ → NodeTold → Surveyed
+surveyed_where full node = record {
+  linked = link_where full node;
+  extents = map (λ extent. extent.address) node.extents;
+}
+
 -- ---- extents
 
 -- a data extent, as a thing
 abbrev pub extent_thing : Element → Thing
 extent_thing extent = record { address = extent.address; kind = Extent extent.bytes }
+
+-- ---- roots
+
+-- what a subvolume owes its root node
+abbrev pub root_owing : ℕ × ℕ → OwedReference
+root_owing root = record { address = root.1; reference = KeyedBlock root.0 }

@@ -2,7 +2,9 @@
 use Rattle.std.specs.Prelude.{◌≡◌, ℕ, false, List, map}
 use Rattle.qg_node.specs.declared.node.Node.{Node}
 use Rattle.qg_node.specs.Nodes.{header_of}
+use Rattle.qg_state.specs.declared.element.Element.{Element}
 use Rattle.qg_state.specs.State.{Placed}
+use Rattle.qg_state.specs.Reach.{extent_of, pieces_of}
 use Rattle.qg_state.specs.Owed.{Owing as OwedReference, owed_by_node}
 use Rattle.qg_home.specs.Linked.{linked_of}
 use Rattle.qg_home.specs.declared.linked.Linked.{Linked}
@@ -10,11 +12,13 @@ use Rattle.qg_owed.specs.Told.{owings_told}
 use Rattle.qg_gathered.specs.declared.nodes.NodeRead.{NodeRead}
 use Rattle.qg_gathered.specs.declared.nodes.NodesRead.{NodesRead}
 
--- what the rules `refs` and `home` need of a node: where it lies and what it points to, its generation, what it owes
+-- what the rules on all nodes need of one: where it lies and what it points to, its generation, what it owes, and the
+-- extents that its pieces name
 pub record NodeTold : Type 0 where
   pub linked : Linked
   pub generation : ℕ
   pub owings : List OwedReference
+  pub extents : List Element
 
 -- the node as if it weren't full
 abbrev pub unmarked : Node → Placed
@@ -26,11 +30,17 @@ told_of node = record {
   linked = linked_of (header_of node).address (unmarked node);
   generation = (header_of node).generation;
   owings = owed_by_node (unmarked node);
+  extents = map extent_of (pieces_of node);
 }
 
 -- what was gathered of one
 abbrev pub told_by : NodeRead → NodeTold
-told_by read = record { linked = read.linked; generation = read.generation; owings = owings_told read.owings.items }
+told_by read = record {
+  linked = read.linked;
+  generation = read.generation;
+  owings = owings_told read.owings.items;
+  extents = read.extents;
+}
 
 -- this was gathered of some nodes, in their order
 abbrev pub AreOfNodes : NodesRead → List Node → Type 0

@@ -1,13 +1,15 @@
-//! The rules `refs` and `home` of an image, by what is gathered of a subvolume's nodes as its tree is read.
+//! The rules `refs` and `home` of an image, by what is gathered of the nodes of subvolumes' trees as they are read.
 #![tactic(auto)]
 
+mod extents;
 mod full;
 mod judging;
 mod lists;
 mod nodes;
 mod order;
+mod surveyed;
 
-pub use judging::judge_references;
+pub use judging::{Judged, judge_references};
 pub use nodes::{NodeRead, NodesRead};
 
 #[cfg(test)]

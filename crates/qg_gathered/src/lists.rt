@@ -2,27 +2,27 @@
 ghost use Rattle.std.specs.Prelude.{◌≡◌, ◌++◌, ◌∷◌, [], map, IfOk, OnOk};
 ghost use Rattle.std.specs.List.{flat_map};
 ghost use Rattle.std.specs.List.Sorted.{IsNonDecreasing};
-ghost use Rattle.qg_items.specs.declared.extent.Reference.TheVariants.{KeyedBlock};
 ghost use Rattle.qg_owed.specs.Told.{owing_told, owings_told};
 ghost use Rattle.qg_gathered.specs.Told.{told_by};
-ghost use Rattle.qg_gathered.specs.Marked.{extent_thing, link_where, marked_owing, marked_reference, owed_where};
-ghost use Rattle.qg_gathered.specs.Marked.{thing_where};
+ghost use Rattle.qg_gathered.specs.Marked.{extent_thing, marked_owing, marked_reference, owed_where, root_owing};
+ghost use Rattle.qg_gathered.specs.Marked.{surveyed_where, thing_where};
 
 use crate::NodeRead;
 use crate::full::is_full;
-use qg_home::Linked;
+use crate::surveyed::addresses_of;
+use qg_direct::Surveyed;
 use qg_items::Reference;
-use qg_num::{Address, NoMemory};
+use qg_num::{Address, NoMemory, RootId};
 use qg_owed::{Kind, Owing, Thing};
 use qg_state::Element;
 use std::alloc::Global;
 
-/// What is owed by nodes, what they are, and what they point to.
+/// What is owed by nodes, what they are, and what they point to and name.
 #[derive(Drop)]
 pub(crate) struct Lists {
     pub owings: Vec<Owing>,
     pub things: Vec<Thing>,
-    pub links: Vec<Linked>,
+    pub surveyed: Vec<Surveyed>,
 }
 
 /// The lists of nodes, some of which are full.
@@ -35,33 +35,40 @@ pub(crate) fn lists_of(
     ensures owings { IfOk result (λ lists.
         owings_told lists.owings.items ≡ flat_map (owed_where full.now) (map told_by nodes.items)) }
     ensures things { IfOk result (λ lists. lists.things.items ≡ map (thing_where full.now) (map told_by nodes.items)) }
-    ensures links { IfOk result (λ lists. lists.links.items ≡ map (link_where full.now) (map told_by nodes.items)) }
+    ensures surveyed { IfOk result (λ lists.
+        lists.surveyed.items ≡ map (surveyed_where full.now) (map told_by nodes.items)) }
 {
     let mut lists = Lists {
         owings: Vec::new(alloc),
         things: Vec::with_capacity(alloc, nodes.len())?,
-        links: Vec::with_capacity(alloc, nodes.len())?,
+        surveyed: Vec::with_capacity(alloc, nodes.len())?,
     };
     for node in nodes {
-        add_node(node, full, &mut lists)?;
+        add_node(alloc, node, full, &mut lists)?;
     }
     Ok(lists)
 }
 
 // Puts what is told of a node at the end of each list.
-fn add_node(node: NodeRead, full: &[Address], lists: &mut Lists) -> Result<(), NoMemory>
+fn add_node(
+    alloc: Global,
+    node: NodeRead,
+    full: &[Address],
+    lists: &mut Lists,
+) -> Result<(), NoMemory>
     requires { IsNonDecreasing full.now }
     ensures owings { OnOk result (owings_told lists.new.owings.items
         ≡ owings_told lists.old.owings.items ++ owed_where full.now (told_by node)) }
     ensures things { OnOk result (lists.new.things.items
         ≡ lists.old.things.items ++ thing_where full.now (told_by node) ∷ []) }
-    ensures links { OnOk result (lists.new.links.items
-        ≡ lists.old.links.items ++ link_where full.now (told_by node) ∷ []) }
+    ensures surveyed { OnOk result (lists.new.surveyed.items
+        ≡ lists.old.surveyed.items ++ surveyed_where full.now (told_by node) ∷ []) }
 {
     let NodeRead {
         mut linked,
         generation,
         owings,
+        extents,
     } = node;
     let full = is_full(full, linked.address);
     add_owings(linked.address, full, owings.as_slice(), &mut lists.owings)?;
@@ -74,7 +81,8 @@ fn add_node(node: NodeRead, full: &[Address], lists: &mut Lists) -> Result<(), N
         },
     })?;
     linked.full = full;
-    lists.links.push(linked)?;
+    let extents = addresses_of(alloc, extents.as_slice())?;
+    lists.surveyed.push(Surveyed { linked, extents })?;
     Ok(())
 }
 
@@ -121,6 +129,24 @@ fn shared_reference(parent: Address, reference: &Reference) -> Reference
             parent,
         },
     }
+}
+
+/// Puts what subvolumes owe their root nodes at the end, by number and the root's address in bytes.
+pub(crate) fn add_roots(
+    roots: &[(RootId, Address)],
+    owings: &mut Vec<Owing>,
+) -> Result<(), NoMemory>
+    ensures { OnOk result (owings_told owings.new.items
+        ≡ owings_told owings.old.items ++ map root_owing roots.now) }
+{
+    for root in roots {
+        let reference = Reference::KeyedBlock { root: root.0 };
+        owings.push(Owing {
+            address: root.1,
+            reference,
+        })?;
+    }
+    Ok(())
 }
 
 /// Puts data extents at the end, as things.

@@ -1,17 +1,22 @@
 // What is gathered of the nodes of a tree.
-ghost use Rattle.std.specs.Prelude.{◌≡◌, [], List, IfOk};
+ghost use Rattle.std.specs.Prelude.{◌≡◌, [], List, map, IfOk};
+ghost use Rattle.std.specs.List.{flat_map};
 ghost use Rattle.qg_node.specs.declared.node.Node.{Node as NodeValue};
+ghost use Rattle.qg_state.specs.Reach.{extent_of, pieces_of};
+ghost use Rattle.qg_verdict.specs.Verdict.{extent_set};
 ghost use Rattle.qg_walk.specs.Held.{AreAddressesOf};
 ghost use Rattle.qg_gathered.specs.Told.{AreOfNodes, told_by, told_of};
 
+use crate::extents::{extents_of_node, put_extents, sort, without_repeats};
 use qg_home::{Linked, linked_of};
 use qg_node::Node;
 use qg_num::{Address, Generation, NoMemory, Sequence};
 use qg_owed::{Owing, owings_of_node};
+use qg_state::Element;
 use qg_walk::NodeList;
 use std::alloc::Global;
 
-/// What the rules `refs` and `home` need of a node, told as if it weren't full (this project's own).
+/// What the rules on all nodes together need of a node, told as if it weren't full (this project's own).
 ///
 /// Whether it is full stands in the extent tree. Where it is, the same is owed by shared references.
 #[derive(Debug, Drop)]
@@ -22,9 +27,11 @@ pub struct NodeRead {
     pub generation: Generation,
     /// What it owes where it isn't full.
     pub owings: Vec<Owing>,
+    /// The data extents that its pieces name, in their order.
+    pub extents: Sequence<Element>,
 }
 
-/// What the rules `refs` and `home` need of the nodes of a subvolume's tree, taken in as the tree is walked (this
+/// What the rules on all nodes together need of the nodes of subvolumes' trees, taken in as the trees are walked (this
 /// project's own).
 #[derive(Debug, Drop)]
 pub struct NodesRead {
@@ -54,6 +61,27 @@ impl NodesRead {
         }
         Ok(addresses)
     }
+
+    /// The data extents that they name, ascending by address and length, each once (on-disk format, EXTENT_DATA).
+    pub fn extents(&self, alloc: Global) -> Result<Sequence<Element>, NoMemory>
+        ensures { (nodes : List NodeValue) → AreOfNodes self.now nodes
+            → IfOk result (λ extents. extents ≡ extent_set (flat_map (λ node. map extent_of (pieces_of node)) nodes)) }
+    {
+        let mut named = self.named(alloc)?;
+        sort(&mut named);
+        Ok(without_repeats(alloc, named.as_slice())?)
+    }
+
+    // The extents that they name, as often as they are named.
+    fn named(&self, alloc: Global) -> Result<Vec<Element>, NoMemory>
+        ensures { IfOk result (λ named. named.items ≡ flat_map (λ told. told.extents) (map told_by self.now.nodes.items)) }
+    {
+        let mut named = Vec::new(alloc);
+        for node in self.nodes.as_slice() {
+            put_extents(&mut named, node.extents.as_slice())?;
+        }
+        Ok(named)
+    }
 }
 
 impl NodeList for NodesRead {
@@ -78,5 +106,6 @@ fn read_of(alloc: Global, node: &Node) -> Result<NodeRead, NoMemory>
         linked: linked_of(alloc, node, false)?,
         generation: node.header().generation,
         owings,
+        extents: extents_of_node(alloc, node)?,
     })
 }

@@ -1,5 +1,5 @@
 -- What the root tree and the quota tree of any number of subvolumes and groups name.
-use Rattle.std.proofs.Common.{◌≡◌, ℕ, suc, ◌+◌, ◌*◌, ◌≤◌, ◌<◌, inl, inr, Bool, true, false, not, List, [], ◌∷◌, ◌++◌, map, length, refl, sym, ap, subst, ◌∙◌, arith}
+use Rattle.std.proofs.Common.{◌≡◌, ℕ, ◌+◌, ◌*◌, ◌≤◌, ◌<◌, inl, inr, Bool, true, false, not, List, [], ◌∷◌, ◌++◌, map, length, refl, sym, ap, subst, ◌∙◌, arith}
 use Rattle.std.specs.Prelude.{Contains, Option, Some, None, is_some, ◌==◌, ◌&&◌, ◌||◌, if◌then◌else◌, nat_lt, nat_le}
 use Rattle.std.specs.List.{AllByRecursion, count_by, filter_map, list_all}
 use Rattle.std.proofs.lemmas.Bool.{and_parts, cases_Bool, eq-eqb, eqb-true, le-leb, true≢false}
@@ -21,7 +21,7 @@ use Rattle.qg_state.proofs.Contained.{contains_cases, contains_here, contains_la
 use Rattle.qg_verdict.specs.Verdict.{are_few, are_roots, fits_quota, is_group_number, is_limit, is_plain, is_quota, is_relation_part, is_served_group, is_served_number, most_groups, most_relations}
 use Rattle.qg_contents.specs.Written.{flag_of, info_of, info_part, limit_of, limit_part, parts_of_quota, roots_named, status_at}
 use Rattle.qg_contents.proofs.Rising.{Above, Rises, Rises-increasing, both}
-use Rattle.qg_other_trees.specs.Trees.{AreGroups, AreSubvolumes, is_plain_group}
+use Rattle.qg_check.specs.Editable.{AreGroups, AreSubvolumes, is_plain_group}
 use Rattle.qg_other_trees.proofs.Slots.{each_contained, one_mapped}
 
 -- ---- the root tree

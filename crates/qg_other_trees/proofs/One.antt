@@ -1,5 +1,5 @@
 -- One subvolume and one group, as lists.
-use Rattle.std.proofs.Common.{◌≡◌, ℕ, ◌≤◌, ◌<◌, true, List, [], ◌∷◌, refl, sym, ap, subst, ◌∙◌, arith}
+use Rattle.std.proofs.Common.{◌≡◌, ℕ, ◌≤◌, true, List, [], ◌∷◌, refl, sym, ap, subst, arith}
 use Rattle.std.specs.Prelude.{Some, is_some}
 use Rattle.std.specs.List.{AllByRecursion}
 use Rattle.std.proofs.lemmas.List.Elements.{All-from_recursion}
@@ -15,7 +15,7 @@ use Rattle.qg_verdict.specs.OtherTrees.{root_item_of, subvolume_items}
 use Rattle.qg_verdict.specs.Verdict.{is_group_number}
 use Rattle.qg_contents.specs.Writable.{IsRootBy}
 use Rattle.qg_other_trees.specs.Telling.{HasRoot, one_group}
-use Rattle.qg_other_trees.specs.Trees.{AreGroups, AreSubvolumes}
+use Rattle.qg_check.specs.Editable.{AreGroups, AreSubvolumes}
 
 pub one_named : (generation : ℕ) (root : RootItem) → root.refs ≡ 1 → IsRootBy generation root
     → AreSubvolumes generation ((TOP_LEVEL, root) ∷ [])

@@ -4,9 +4,7 @@ use Rattle.std.specs.Bool.{then_some}
 use Rattle.std.specs.Prelude.{◌&&◌, ◌==◌, nat_le, nat_lt, unwrap_or, Option, Some, None, Ok, slice_range}
 use Rattle.std.specs.List.{All, AllByRecursion, IsDistinct, filter_map, find, list_all}
 use Rattle.std.proofs.lemmas.Bool.{eq-eqb, le-leb}
-use Rattle.std.proofs.lemmas.List.{append-nil}
 use Rattle.std.proofs.lemmas.List.Elements.{All-contains, Contains-append_left, Contains-append_right, Contains-get_or}
-use Rattle.std.proofs.lemmas.Option.{same_Some}
 use Rattle.qg_num.specs.declared.rule.Rule.{Rule}
 use Rattle.qg_num.specs.declared.rule.Rule.TheVariants as rule
 use Rattle.qg_node.specs.declared.item.Item.{Item}
@@ -21,7 +19,7 @@ use Rattle.qg_super.specs.SuperText.{choose, sizes_of, super_read}
 use Rattle.qg_super.proofs.Served.{SuperFits-is_super}
 use Rattle.qg_super.proofs.SuperTexts.{super_writes_back}
 use Rattle.qg_image.specs.FilesOf.{are_files, file_parts, files_in, files_of, is_file_item}
-use Rattle.qg_image.specs.ItemMeaning.{extent_part, is_subvolume_number, quota_part, root_part}
+use Rattle.qg_image.specs.ItemMeaning.{extent_part, quota_part, root_part}
 use Rattle.qg_image.specs.Table.{keys_of, value_at}
 use Rattle.qg_image.specs.declared.file.File.{File}
 use Rattle.qg_image.specs.declared.part.ExtentPart.{ExtentPart}
@@ -34,7 +32,7 @@ use Rattle.qg_state.specs.State.{Layout, Placed, State, Subvolume, layout_of, ne
 use Rattle.qg_verdict.specs.declared.failure.Failure.{Failure}
 use Rattle.qg_verdict.specs.declared.tree.Tree.TheVariants.{Extents, Files, Quotas, Roots}
 use Rattle.qg_verdict.specs.Failure.{first_failure, unless}
-use Rattle.qg_verdict.specs.ImageState.{as_committed, extent_parts, items_of_root, layout_in, nodes_of_root, other_nodes, quota_in, quota_parts, quota_told, roots_in, state_in, subvolume_in, subvolume_roots, subvolumes_in, super_in, super_of}
+use Rattle.qg_verdict.specs.ImageState.{as_committed, extent_parts, items_of_root, layout_in, other_nodes, quota_in, quota_parts, quota_told, roots_in, state_in, subvolume_in, subvolume_roots, subvolumes_in, super_in, super_of}
 use Rattle.qg_verdict.specs.OtherTrees.{subvolume_items, super_at}
 use Rattle.qg_verdict.specs.Verdict.{IsSound, are_few, are_roots, counts_failure, extent_set, is_quota, most_subvolumes, places_failure, quota_failure, references_failure, root_failure, roots_failure, space_failure, subvolume_failure, together_failure}
 use Rattle.qg_verdict.specs.Walk.{node_found, root_expected, root_told, tree_failure}

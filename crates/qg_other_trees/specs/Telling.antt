@@ -1,27 +1,22 @@
 -- A state that the root, extent and quota trees of a commit tell (this project's own). Addresses and lengths are in
 -- bytes.
-use Rattle.std.specs.Prelude.{◌≡◌, ℕ, ◌<◌, ◌≤◌, false, List, [], ◌∷◌, ◌++◌, Option, Some, None, Contains, IsSome, ◌==◌}
-use Rattle.std.specs.List.{AllByRecursion, IsDistinct, filter_map}
+use Rattle.std.specs.Prelude.{◌≡◌, ℕ, ◌<◌, ◌≤◌, false, List, [], ◌∷◌, Option, Some, None, Contains, IsSome, ◌==◌}
+use Rattle.std.specs.List.{AllByRecursion, IsDistinct}
 use Rattle.std.specs.List.Sorted.{IsPermutation}
-use Rattle.std.specs.Option.{option_map}
 use Rattle.qg_num.specs.declared.counters.Counters.{Counters}
-use Rattle.qg_node.specs.declared.item.Item.{Item}
 use Rattle.qg_node.specs.declared.node.Node.{Node}
 use Rattle.qg_node.specs.Nodes.{header_of}
 use Rattle.qg_items.specs.declared.extent.Reference.{Reference}
 use Rattle.qg_items.specs.declared.root.RootItem.{RootItem}
-use Rattle.qg_items.specs.declared.tree.TheConstants.{EXTENT_TREE, TOP_LEVEL, QUOTA_TREE}
+use Rattle.qg_items.specs.declared.tree.TheConstants.{TOP_LEVEL}
 use Rattle.qg_super.specs.declared.sizes.Sizes.{Sizes}
-use Rattle.qg_image.specs.ItemMeaning.{extent_part, quota_part, root_part}
 use Rattle.qg_image.specs.Table.{value_at}
 use Rattle.qg_state.specs.declared.element.Element.{Element}
 use Rattle.qg_state.specs.declared.quota.Quota.{Quota}
 use Rattle.qg_state.specs.State.{Layout, Placed, State, Subvolume, layout_of, node_at}
-use Rattle.qg_state.specs.Owed.{Agrees, is_nothing, layout_extents, owed_count, what_at}
-use Rattle.qg_verdict.specs.declared.tree.Tree.TheVariants.{Extents, Quotas, Roots}
-use Rattle.qg_verdict.specs.ImageState.{addresses_of, quota_told, subvolume_roots}
+use Rattle.qg_state.specs.Owed.{is_nothing, layout_extents, owed_count, what_at}
+use Rattle.qg_verdict.specs.ImageState.{addresses_of}
 use Rattle.qg_verdict.specs.OtherTrees.{AreOtherTrees, subvolume_items}
-use Rattle.qg_verdict.specs.Walk.{root_expected}
 use Rattle.qg_refs.specs.declared.kept.Kept.{Kept}
 use Rattle.qg_refs.specs.Book.{AgreesWithOwed, Book, full_in, what_in}
 use Rattle.qg_extents.specs.Table.{book_of, IsTable}

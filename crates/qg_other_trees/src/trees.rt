@@ -1,24 +1,14 @@
 // The trees of a commit, one by one.
-ghost use Rattle.std.specs.Prelude.{◌≡◌, ◌<◌, ◌≤◌, ◌+◌, ◌*◌, ◌^◌, length, All, IfOk};
+ghost use Rattle.std.specs.Prelude.{◌≡◌, ◌<◌, ◌≤◌, ◌+◌, ◌*◌, length, All, IfOk};
 ghost use Rattle.qg_node.specs.NodeText.{IsNodeSize};
 ghost use Rattle.qg_node.specs.Nodes.{items_bytes};
-ghost use Rattle.qg_items.specs.declared.tree.TheConstants.{EXTENT_TREE, QUOTA_TREE, ROOT_TREE, TOP_LEVEL};
+ghost use Rattle.qg_items.specs.declared.tree.TheConstants.{EXTENT_TREE, QUOTA_TREE, ROOT_TREE};
 ghost use Rattle.qg_state.specs.Need.{nodes_filled};
 ghost use Rattle.qg_verdict.specs.declared.tree.Tree.TheVariants.{Extents as ExtentTree, Quotas, Roots};
 ghost use Rattle.qg_contents.specs.Writable.{AreWritableGroups, IsRootBy, IsWritableRoot};
 ghost use Rattle.qg_extents.specs.Written.{items_of_book};
-ghost use Rattle.qg_other_trees.specs.Trees.{
-  AreEnough,
-  AreSubvolumes,
-  ExtentsTell,
-  IsTreeOfItems,
-  QuotaTells,
-  RootsTell,
-  most_nodes,
-  quota_tree_bytes,
-  root_item_laid,
-  root_tree_bytes,
-};
+ghost use Rattle.qg_other_trees.specs.Trees.{AreEnough, ExtentsTell, IsTreeOfItems, QuotaTells, RootsTell, most_nodes, quota_tree_bytes, root_item_laid, root_tree_bytes};
+ghost use Rattle.qg_check.specs.Editable.{AreSubvolumes};
 
 use qg_contents::{quota_items, root_items};
 use qg_extents::Extents;

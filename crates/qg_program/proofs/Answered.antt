@@ -198,7 +198,7 @@ answered-some {state} so_far opens told same = record {
   };
 }
 
--- and then perhaps calls of a commit
+-- and then perhaps calls of the next line's commits
 answered-until : {state : State} {input : List ℕ} {events opened : List Event} {pend : Option (List ℕ)} {before : Stored} {history told : Option (List Event)} {old mid new : Option (List ℕ)}
     → (so_far : HasAnswered state input opened pend before history old mid) → IsOpened events (Some opened)
     → StopsBefore so_far.present (script_lines so_far.left) so_far.events told × (new ≡ mid) → FollowsUntil state (script_lines input) events told old new

@@ -6,7 +6,6 @@ use Rattle.qg_device.specs.History.{Event}
 use Rattle.qg_num.specs.declared.answer.Answer.{Answer}
 use Rattle.qg_num.specs.declared.command.Command.{Command}
 use Rattle.qg_grammar.specs.ScriptText.{script_lines}
-use Rattle.qg_machine.specs.Run.{Asks}
 use Rattle.qg_grammar.specs.ReplyText.{reply_text, no_line}
 use Rattle.qg_script.specs.Lines.{LosesLine, TakesLine}
 use Rattle.qg_script.specs.ServedLines.{IsServedLineOf}
@@ -59,14 +58,14 @@ pub so_far-command : (old : State) (events : List Event) (line : List ℕ) (hist
     → IsServedLineOf line command → IsDoneSoFar old command events history → IsLineSoFar old line events history
 so_far-command old events line history command asked (inl none) = inl none
 so_far-command old events line history command asked (inr starts) =
-    inr (subst (Asks line) starts.0 (record { line_of = asked.line_of; served = asked.served }), starts.1)
+    inr (record { command = command; asked = record { line_of = asked.line_of; served = asked.served }; starts = starts })
 
 -- a line that was taken is the first of those that are not answered any more
 stops-before : (old : State) (events : List Event) (before rest line : List ℕ) (history : Option (List Event)) → LosesLine before rest line
     → IsLineSoFar old line events history → StopsBefore old (script_lines before) events history
 stops-before old events before rest line history loses (inl none) = inl none
 stops-before old events before rest line history loses (inr starts) =
-    inr (record { line = line; later = script_lines rest; first = loses.first; asked = starts.0; starts = starts.1 })
+    inr (record { line = line; later = script_lines rest; first = loses.first; starts = starts })
 
 -- where it was not answered
 pub fails-answer : (end : Status) (old : State) (events : List Event) (before : List ℕ) (taken after : Option (List ℕ)) (line : List ℕ) (store : Stored)

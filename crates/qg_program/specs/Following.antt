@@ -5,12 +5,13 @@ use Rattle.std.specs.List.{concat}
 use Rattle.std.specs.Io.KnownBytes.{append_known}
 use Rattle.qg_device.specs.History.{Event, synced}
 use Rattle.qg_edge.specs.Appended.{AppendsFront}
-use Rattle.qg_num.specs.declared.command.Command.TheVariants.{Commit}
+use Rattle.qg_num.specs.declared.command.Command.{Command}
 use Rattle.qg_grammar.specs.ScriptText.{script_lines, longest_script}
 use Rattle.qg_state.specs.State.{Committed, State}
 use Rattle.qg_machine.specs.Run.{Asks, Run}
 use Rattle.qg_commit.specs.Opened.{IsOpened, IsOpening}
-use Rattle.qg_store.specs.Making.{AreSynced, MadeCommits, StartsCommit}
+use Rattle.qg_store.specs.Answering.{StartsCommits}
+use Rattle.qg_store.specs.Making.{AreSynced, MadeCommits}
 use Rattle.qg_program.specs.declared.status.Status.{Status}
 use Rattle.qg_program.specs.declared.status.Status.TheVariants.{Disk, Done, NoMemory, Sink, Source, TooLong}
 use Rattle.qg_program.specs.Running.{ended_lines}
@@ -25,15 +26,20 @@ pub record MakesAll (held : Committed) (commits : List State) (events : List Eve
   pub made : MadeCommits held commits opened history
   pub synced : AreSynced commits (synced opened) (synced made.after)
 
--- the first of some lines asks for a commit, and the calls of one that the machine does came so far
+-- a line asks for a command, and the calls of its commits came so far
+pub record StartsLine (old : State) (line : List ℕ) (events : List Event) (history : Option (List Event)) : Type 0 where
+  pub command : Command
+  pub asked : Asks line command
+  pub starts : StartsCommits old command events history
+
+-- the first of some lines is broken off in the midst of its commits
 pub record BreaksOff (old : State) (lines : List (List ℕ)) (events : List Event) (history : Option (List Event)) : Type 0 where
   pub line : List ℕ
   pub later : List (List ℕ)
   pub first : lines ≡ line ∷ later
-  pub asked : Asks line Commit
-  pub starts : StartsCommit old events history
+  pub starts : StartsLine old line events history
 
--- before some lines, which are not answered any more, nothing else was done to the disk, or calls of a commit for which the first asks
+-- before some lines, which are not answered any more, nothing else was done to the disk, or calls of the commits that the first of them makes
 abbrev pub StopsBefore : State → List (List ℕ) → List Event → Option (List Event) → Type 0
 StopsBefore old lines events history = (history ≡ Some events) ⊎ BreaksOff old lines events history
 

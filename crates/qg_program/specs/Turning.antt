@@ -1,22 +1,27 @@
 -- One turn of a run (this project's own): the next line is taken and answered.
-use Rattle.std.specs.Prelude.{◌≡◌, ◌⊎◌, ℕ, ◌≤◌, Bool, true, false, List, [], Option, Some, None, Result, Ok, Err, OnOk}
+use Rattle.std.specs.Prelude.{◌≡◌, ◌⊎◌, ℕ, ◌<◌, ◌≤◌, Bool, true, false, List, [], Option, Some, None, Result, Ok, Err, OnOk}
 use Rattle.std.specs.Io.KnownBytes.{IsAtEnd, append_known}
 use Rattle.qg_device.specs.Cause.{HasCause}
 use Rattle.qg_device.specs.History.{Event}
 use Rattle.qg_super.specs.Places.{total_bytes}
 use Rattle.qg_edge.specs.Appended.{AppendsFront}
-use Rattle.qg_num.specs.declared.command.Command.TheVariants.{Commit}
 use Rattle.qg_grammar.specs.ScriptText.{script_lines}
 use Rattle.qg_script.specs.Feeding.{Feeding, IsTooLong, IsWithinLimit}
 use Rattle.qg_script.specs.Lines.{CountsTaken, LosesLine}
 use Rattle.qg_state.specs.State.{State}
-use Rattle.qg_machine.specs.Run.{Asks, Turn}
-use Rattle.qg_store.specs.Making.{MadeCommits, StartsCommit}
+use Rattle.qg_machine.specs.Run.{Turn}
+use Rattle.qg_store.specs.Making.{MadeCommits}
 use Rattle.qg_store.specs.Stored.{Stored, IsStoreOf, IsStoreOver, sizes_stored}
 use Rattle.qg_program.specs.declared.status.Status.{Status}
 use Rattle.qg_program.specs.declared.status.Status.TheVariants.{NoMemory, Image, Source, Sink, Disk, TooLong}
-use Rattle.qg_program.specs.Following.{StopsBefore}
+use Rattle.qg_program.specs.Following.{StartsLine, StopsBefore}
 use Rattle.qg_program.specs.Putting.{PutsFailure, PutsReplies}
+
+-- a new ledger of a name, cut into some parts, is the one of this name and of so many parts
+pub record IsBlankOf (name parts ledger shares : ℕ) : Type 0 where
+  pub named : name ≡ ledger
+  pub parted : parts ≡ shares
+  pub some : 0 < parts
 
 -- a store has not stopped, its disk, where that tells, is as the store left it, and its disk of so many bytes has all of its image
 pub record IsReady (store : Stored) (history : Option (List Event)) (size : ℕ) : Type 0 where
@@ -64,12 +69,12 @@ IsTurn true old events before (Some after) store history held now = Turns old ev
 IsTurn true old events before None store history held now = ⊥
 IsTurn false old events before after store history held now = (before ≡ []) × (after ≡ Some []) × (history ≡ Some events) × (now ≡ held)
 
--- what a line that is not answered to its end has done to the disk: nothing, or calls of a commit for which it asks
+-- what a line that is not answered to its end has done to the disk: nothing, or calls of the commits that it makes
 abbrev pub IsLineSoFar : State → List ℕ → List Event → Option (List Event) → Type 0
-IsLineSoFar old line events history = (history ≡ Some events) ⊎ (Asks line Commit × StartsCommit old events history)
+IsLineSoFar old line events history = (history ≡ Some events) ⊎ StartsLine old line events history
 
 -- A turn that fails. Where the sink failed, the line was answered but for its reply. Where no line was read, nothing was done; else perhaps
--- calls of a commit for which the line asks.
+-- calls of the commits that the line makes.
 abbrev pub FailsToTurn : Status → State → List Event → List ℕ → Option (List ℕ) → Stored → Option (List Event) → Option (List ℕ) → Option (List ℕ) → Type 0
 FailsToTurn Sink old events before after store history held now = TurnsPart old events before store history held now
 FailsToTurn Source old events before after store history held now = (history ≡ Some events) × (now ≡ held)

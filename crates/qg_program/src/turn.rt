@@ -8,11 +8,12 @@ ghost use Rattle.qg_script.specs.Lines.{pending};
 ghost use Rattle.qg_state.specs.State.{State};
 ghost use Rattle.qg_commit.specs.Opened.{IsOpened};
 ghost use Rattle.qg_store.specs.Stored.{IsStoreOf};
-ghost use Rattle.qg_program.specs.Ends.{is_answerers};
+ghost use Rattle.qg_program.specs.Ends.{HasCauses, is_answerers};
 ghost use Rattle.qg_program.specs.Following.{Follows};
 ghost use Rattle.qg_program.specs.Putting.{FailsToPut, PutsFailure};
 ghost use Rattle.qg_program.specs.Running.{IsTaken};
-ghost use Rattle.qg_program.specs.Turning.{FailsToTurn, HaveCauses, IsReady, IsTurn, PutsLine, StandsOver, TakesTurn};
+ghost use Rattle.qg_program.specs.Turning.{FailsToTurn, HaveCauses, IsBlankOf, IsReady, IsTurn, PutsLine};
+ghost use Rattle.qg_program.specs.Turning.{StandsOver, TakesTurn};
 
 use crate::Status;
 use crate::answer::answer_line;
@@ -104,12 +105,8 @@ pub(crate) fn answer_lines<L: Ledger, M: Ledger, D: Disk, S: Source, K: Sink>(
     sink: &mut K,
 ) -> Status
     requires ready { IsReady store (D.history disk.old) (D.size disk.old) }
-    requires looks_name { looks.name ≡ L.name }
-    requires looks_parts { looks.parts ≡ L.parts }
-    requires looks_some { 0 < looks.parts }
-    requires reads_name { reads.name ≡ M.name }
-    requires reads_parts { reads.parts ≡ M.parts }
-    requires reads_some { 0 < reads.parts }
+    requires looks { IsBlankOf looks.name looks.parts L.name L.parts }
+    requires reads { IsBlankOf reads.name reads.parts M.name M.parts }
     ensures follows { (state : State) (events opened : List Event) (input : List ℕ)
         → IsStoreOf store state (D.history disk.old)
         → IsOpened events (Some opened) → D.history disk.old ≡ Some opened → S.bytes_left source.old ≡ Some input
@@ -118,9 +115,9 @@ pub(crate) fn answer_lines<L: Ledger, M: Ledger, D: Disk, S: Source, K: Sink>(
     ensures told { result ≡ Status.Image → PutsFailure (K.bytes_held sink.old) (K.bytes_held sink.new) }
     ensures takes { IsTaken result (S.bytes_left source.old) (S.bytes_left source.new) }
     ensures ends { IsTrue (is_answerers result) }
-    ensures source_fault { result ≡ Status.Source → Rose (S.faults source.old) (S.faults source.new) }
-    ensures sink_fault { result ≡ Status.Sink → Rose (K.faults sink.old) (K.faults sink.new) }
-    ensures disk_fault { result ≡ Status.Disk → Rose (D.faults disk.old) (D.faults disk.new) }
+    ensures causes { HasCauses result (Rose (S.faults source.old) (S.faults source.new)) (Rose (K.faults sink.old)
+        (K.faults sink.new))
+        (Rose (D.faults disk.old) (D.faults disk.new)) }
 {
     let mut session = Session {
         store,

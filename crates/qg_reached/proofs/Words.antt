@@ -1,6 +1,7 @@
 -- Rows of words: what one more member, and the members of another row, make of them.
 use Rattle.std.proofs.Common.{◌≡◌, ℕ, ◌+◌, ◌*◌, ◌%◌, ◌/◌, ◌^◌, ◌<◌, ◌≤◌, List, [], ◌∷◌, ◌++◌, length, take, get_or}
-use Rattle.std.proofs.Common.{sym, subst, ◌∙◌, arith, ◌⊎◌, inl, inr, ◌↔◌}
+use Rattle.std.proofs.Common.{sym, ap, subst, ◌∙◌, arith, ◌⊎◌, inl, inr, ◌↔◌}
+use Rattle.std.specs.Prelude.{min}
 use Rattle.std.specs.Int.{bit_at}
 use Rattle.std.specs.List.{All, Contains}
 use Rattle.std.proofs.lemmas.Bool.{cases_eq, cases_lt}
@@ -9,7 +10,7 @@ use Rattle.std.proofs.lemmas.List.Elements.{All-push, Contains-get_or, Contains-
 use Rattle.std.proofs.lemmas.List.Elements.{Contains-append_left}
 use Rattle.qg_home.specs.Marks.{HasMark}
 use Rattle.qg_home.proofs.Marking.{none_marked, own_bit, other_bit, put_on, put_cases, put_keeps, put_there}
-use Rattle.qg_reached.specs.Sets.{HasMember, AreMembers}
+use Rattle.qg_reached.specs.Sets.{HasMember, AreMembers, AreMembersBefore}
 
 -- ---- lists that are read by a default
 
@@ -162,6 +163,48 @@ told_same row n members none are = record {
   by : (member : ℕ) → (member ≡ n) ⊎ (member ≡ n → ⊥) → member < n + 1 → HasMember row member → Contains members member
   by member (inl same) _ has = absurd (none (subst (HasMember row) same has))
   by member (inr other) less has = (are.told member).1 (omega (arith, less, other), has)
+
+-- so it is up to a higher bound where nothing between is a member
+pub told_further : (row : List ℕ) (n m : ℕ) (members : List ℕ) → n ≤ m
+    → ((member : ℕ) → n ≤ member → member < m → HasMember row member → ⊥) → AreMembers row n members
+    → AreMembers row m members
+told_further row n m members up none are = record {
+  ascending = are.ascending;
+  told = λ member. (
+    λ has. let old = (are.told member).0 has in (omega (arith, old.0, up), old.1),
+    λ is. by member (cases_lt member n) is.0 is.1,
+  );
+} where
+  by : (member : ℕ) → (member < n) ⊎ (n ≤ member) → member < m → HasMember row member → Contains members member
+  by member (inl less) _ has = (are.told member).1 (less, has)
+  by member (inr past) less has = absurd (none member past less has)
+
+-- a word of zeros tells no member
+pub told_empty : (row : List ℕ) (word bound : ℕ) (members : List ℕ) → get_or row word 0 ≡ 0
+    → AreMembersBefore row word bound members → AreMembersBefore row (word + 1) bound members
+told_empty row word bound members zeros are =
+    told_further row (min bound (word * 64)) (min bound ((word + 1) * 64)) members (omega arith) none are where
+      none : (member : ℕ) → min bound (word * 64) ≤ member → member < min bound ((word + 1) * 64)
+          → HasMember row member → ⊥
+      none member past less has =
+          let here : member / 64 ≡ word = omega (arith, past, less) in
+          none_marked (member % 64)
+          (subst (λ n. bit_at n (member % 64) ≡ 1) (ap (λ k. get_or row k 0) here ∙ zeros) has)
+
+-- there is no word further on
+pub told_all : (row : List ℕ) (word bound : ℕ) (members : List ℕ) → length row ≤ word
+    → AreMembersBefore row word bound members → AreMembers row bound members
+told_all row word bound members all are = told_further row (min bound (word * 64)) bound members (omega arith) none are where
+  none : (member : ℕ) → min bound (word * 64) ≤ member → member < bound → HasMember row member → ⊥
+  none member past less has =
+      none_past row (member / 64) (member % 64) (omega (arith, all, past, less)) has
+
+-- where the bound is reached, later words tell nothing more
+pub told_past : (row : List ℕ) (word bound : ℕ) (members : List ℕ) → bound / 64 < word
+    → AreMembersBefore row word bound members → AreMembersBefore row (word + 1) bound members
+told_past row word bound members past are =
+    let same : min bound (word * 64) ≡ min bound ((word + 1) * 64) = omega (arith, past) in
+    subst (λ n. AreMembers row n members) same are
 
 pub told_more : (row : List ℕ) (n : ℕ) (members : List ℕ) → HasMember row n → AreMembers row n members
     → AreMembers row (n + 1) (members ++ n ∷ [])

@@ -1,5 +1,5 @@
 -- Sets of subvolumes, each told by its place in a list (this project's own).
-use Rattle.std.specs.Prelude.{◌≡◌, ◌≤◌, ◌<◌, ◌↔◌, ◌⊎◌, ◌/◌, ◌%◌, ℕ, List, [], length, slice_index_or}
+use Rattle.std.specs.Prelude.{◌≡◌, ◌≤◌, ◌<◌, ◌↔◌, ◌⊎◌, ◌*◌, ◌/◌, ◌%◌, min, ℕ, List, [], length, slice_index_or}
 use Rattle.std.specs.List.{All, Contains}
 use Rattle.std.specs.List.Sorted.{IsStrictlyIncreasing}
 use Rattle.qg_home.specs.Marks.{HasMark}
@@ -31,3 +31,7 @@ pub record IsUnionOf (old : List (List ℕ)) (own sets : List ℕ) (new : List (
 pub record AreMembers (row : List ℕ) (bound : ℕ) (members : List ℕ) : Type 0 where
   pub ascending : IsStrictlyIncreasing members
   pub told : (member : ℕ) → Contains members member ↔ ((member < bound) × HasMember row member)
+
+-- so it is of those that words before this one tell
+abbrev pub AreMembersBefore : List ℕ → ℕ → ℕ → List ℕ → Type 0
+AreMembersBefore row word bound members = AreMembers row (min bound (word * 64)) members

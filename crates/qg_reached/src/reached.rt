@@ -5,7 +5,7 @@ ghost use Rattle.qg_reached.specs.Sets.{HasMember, row_of, IsUnionOf, AreMembers
 ghost use Rattle.qg_reached.specs.Reached.{AreWays, IsSized, AreSettledFrom, TellsReach};
 
 use crate::level::{Ways, settle_level, ways_to};
-use crate::rows::has_member;
+use crate::rows::{has_member, members_of};
 use crate::sets::{SetId, Sets};
 use qg_home::{Linked, highest_level};
 use qg_num::{Address, NoMemory, RootId, Sequence};
@@ -94,13 +94,7 @@ impl Reached {
     ) -> Result<Sequence<usize>, NoMemory>
         ensures { IfOk result (λ members. AreMembers (row_of self.now.sets.rows.items set) subvolumes members) }
     {
-        let mut members = Sequence::new(alloc);
-        for subvolume in 0..subvolumes {
-            if self.has(set, subvolume) {
-                members.push(subvolume)?;
-            }
-        }
-        Ok(members)
+        Ok(members_of(alloc, self.sets.row(set), subvolumes)?)
     }
 
     /// The set of all that are in one of some sets, as of an extent that several leaves name.

@@ -1,9 +1,9 @@
 // Rows of words: which indices are members of a set.
-ghost use Rattle.std.specs.Prelude.{◌≡◌, ◌≤◌, ◌↔◌, ◌⊎◌, ℕ, length, OnOk, IsTrue, slice_index};
-ghost use Rattle.qg_reached.specs.Sets.{HasMember};
+ghost use Rattle.std.specs.Prelude.{◌≡◌, ◌≤◌, ◌+◌, ◌↔◌, ◌⊎◌, ℕ, length, IfOk, OnOk, IsTrue, slice_index};
+ghost use Rattle.qg_reached.specs.Sets.{HasMember, AreMembers, AreMembersBefore};
 
 use qg_num::Sequence;
-use std::alloc::AllocError;
+use std::alloc::{AllocError, Global};
 
 /// Whether an index is a member.
 pub(crate) fn has_member(row: &[u64], member: usize) -> bool
@@ -11,6 +11,45 @@ pub(crate) fn has_member(row: &[u64], member: usize) -> bool
 {
     let word = member / 64;
     word < row.len() && (row[word] >> (member % 64)) & 1 == 1
+}
+
+/// The members below a bound, ascending. Words without members are passed by.
+pub(crate) fn members_of(
+    alloc: Global,
+    row: &[u64],
+    bound: usize,
+) -> Result<Sequence<usize>, AllocError>
+    ensures { IfOk result (λ members. AreMembers row.now bound members) }
+{
+    let mut members = Sequence::new(alloc);
+    for (word, bits) in row.iter().enumerate() {
+        if *bits > 0 {
+            push_members(&mut members, row, word, bound)?;
+        }
+    }
+    Ok(members)
+}
+
+/// Puts the members that a word tells, those below a bound, behind those that words before it tell.
+fn push_members(
+    members: &mut Sequence<usize>,
+    row: &[u64],
+    word: usize,
+    bound: usize,
+) -> Result<(), AllocError>
+    requires { AreMembersBefore row.now word bound members.old }
+    ensures { OnOk result (AreMembersBefore row.now (word + 1) bound members.new) }
+{
+    if word <= bound / 64 {
+        let first = word * 64;
+        let end = first + (bound - first).min(64);
+        for member in first..end {
+            if has_member(row, member) {
+                members.push(member)?;
+            }
+        }
+    }
+    Ok(())
 }
 
 /// Makes an index a member.

@@ -3,4 +3,5 @@ pub mod Lists
 pub mod Pieces
 pub mod Standing
 pub mod Reading
+pub mod Searching
 pub mod Quotas

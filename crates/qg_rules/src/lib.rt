@@ -5,6 +5,7 @@ mod files;
 mod parts;
 mod quota;
 mod roots;
+mod stage;
 
 pub use files::{
     INODES_END, LARGEST_SIZE, LEAST_INODE, is_aligned, is_between, is_piece, read_files,

@@ -1,15 +1,20 @@
 // The rules on the quota tree.
-ghost use Rattle.std.specs.Prelude.{◌≡◌, ◌==◌, ◌&&◌, ℕ, true, length, map, None, Some, IfErr, IfOk, OnOk, IsTrue};
+ghost use Rattle.std.specs.Prelude.{◌≡◌, ◌++◌, ◌∷◌, [], ℕ, length, None, Some, IfErr, IfOk, OnOk};
 ghost use Rattle.std.specs.List.{count_by, filter_map, list_all, list_any};
+ghost use Rattle.std.specs.List.Sorted.{IsNonDecreasing};
 ghost use Rattle.qg_image.specs.Table.{keys_of};
 ghost use Rattle.qg_verdict.specs.ImageState.{info_told, quota_told};
-ghost use Rattle.qg_verdict.specs.Verdict.{are_few, is_plain, is_quota, is_relation_part, is_served_number, is_status_part};
-ghost use Rattle.qg_rules.specs.Quota.{fits_served, group_in, is_counters, is_limits, is_unlimited, quota_rule, unlimited_group, IfRule};
+ghost use Rattle.qg_verdict.specs.Verdict.{are_few, is_group_number, is_limit, is_plain, is_quota, is_relation_part};
+ghost use Rattle.qg_verdict.specs.Verdict.{is_served_number, is_status_part};
+ghost use Rattle.qg_rules.specs.Quota.{are_judged, counted_in, fits_served, group_in, is_listed, limited_in, quota_rule};
+ghost use Rattle.qg_rules.specs.Quota.{unlimited_group, ArePut, IfRule};
 
+use crate::stage::SERVES_SUBVOLUMES;
 use qg_image::{QuotaPart, RootPart};
 use qg_items::tree::TOP_LEVEL;
 use qg_items::{QgroupInfo, QgroupLimit};
 use qg_num::{Counters, GroupId, Rule, Sequence};
+use qg_parts::is_subvolume_number;
 use qg_state::{Group, Quota};
 use std::alloc::{AllocError, Global};
 
@@ -48,7 +53,8 @@ pub fn read_quota(
     ensures told { IfOk result (λ quota. quota ≡ quota_told parts.now) }
     ensures refused { IfErr result (λ fault. IfRule fault (λ rule. quota_rule (keys_of subvolumes.now) parts.now ≡ Some rule)) }
 {
-    if !is_quota(subvolumes, parts) {
+    let sound = is_quota(alloc, subvolumes, parts)?;
+    if !sound {
         return Err(QuotaFault::Rule(Rule::Quota));
     }
     if !are_few(parts) {
@@ -62,13 +68,28 @@ pub fn read_quota(
 }
 
 // Whether the quota items fit each other and the subvolumes.
-fn is_quota(subvolumes: &[RootPart], parts: &[QuotaPart]) -> bool
-    ensures { result ≡ is_quota (keys_of subvolumes.now) parts.now }
+fn is_quota(alloc: Global, subvolumes: &[RootPart], parts: &[QuotaPart]) -> Result<bool, AllocError>
+    ensures { IfOk result (λ sound. sound ≡ is_quota (keys_of subvolumes.now) parts.now) }
 {
-    let counted = has_counters(parts);
-    has_status(parts)
-        && are_served(counted, has_limits(parts), parts)
-        && are_counted(counted, subvolumes)
+    let numbers = numbers_in(alloc, parts)?;
+    let counted = numbers.counted.as_slice();
+    let limited = numbers.limited.as_slice();
+    let judged = are_judged(counted, limited, subvolumes, parts);
+    Ok(judged)
+}
+
+// The same, where these are the numbers of the groups that have counters and limits.
+fn are_judged(
+    counted: &[u64],
+    limited: &[u64],
+    subvolumes: &[RootPart],
+    parts: &[QuotaPart],
+) -> bool
+    requires counted { IsNonDecreasing counted.now }
+    requires limited { IsNonDecreasing limited.now }
+    ensures { result ≡ are_judged counted.now limited.now subvolumes.now parts.now }
+{
+    has_status(parts) && are_served(counted, limited, parts) && are_counted(counted, subvolumes)
 }
 
 fn has_status(parts: &[QuotaPart]) -> bool
@@ -79,53 +100,83 @@ fn has_status(parts: &[QuotaPart]) -> bool
         .any(|part| matches!(part, QuotaPart::Status { .. }))
 }
 
-fn has_counters(parts: &[QuotaPart]) -> bool
-    ensures { result ≡ list_any is_counters parts.now }
-{
-    parts.iter().any(|part| is_counters(part))
+// The numbers of the groups that have counters, and of those that have limits, each list ascending.
+#[derive(Drop)]
+struct Numbers {
+    counted: Vec<u64>,
+    limited: Vec<u64>,
 }
 
-fn has_limits(parts: &[QuotaPart]) -> bool
-    ensures { result ≡ list_any is_limits parts.now }
+fn numbers_in(alloc: Global, parts: &[QuotaPart]) -> Result<Numbers, AllocError>
+    ensures counted { IfOk result (λ numbers. ArePut (counted_in parts.now) numbers.counted.items) }
+    ensures limited { IfOk result (λ numbers. ArePut (limited_in parts.now) numbers.limited.items) }
 {
-    parts.iter().any(|part| is_limits(part))
+    let mut numbers = Numbers {
+        counted: Vec::new(alloc),
+        limited: Vec::new(alloc),
+    };
+    for part in parts {
+        add_number(part, &mut numbers)?;
+    }
+    numbers.counted.sort_unstable();
+    numbers.limited.sort_unstable();
+    Ok(numbers)
 }
 
-// Whether an item is the counters of a group that is served.
-fn is_counters(part: &QuotaPart) -> bool
-    ensures { result ≡ is_counters part.now }
+// Puts the number of the group that an item is of at the end.
+fn add_number(part: &QuotaPart, numbers: &mut Numbers) -> Result<(), AllocError>
+    ensures counted { OnOk result (numbers.new.counted.items ≡ numbers.old.counted.items ++ counted_in (part.now ∷ [])) }
+    ensures limited { OnOk result (numbers.new.limited.items ≡ numbers.old.limited.items ++ limited_in (part.now ∷ [])) }
 {
     match part {
-        QuotaPart::Info { group, .. } => is_served_number(*group),
-        _ => false,
+        QuotaPart::Info { group, .. } => numbers.counted.push(group.number())?,
+        QuotaPart::Limits { group, .. } => numbers.limited.push(group.number())?,
+        QuotaPart::Status { .. } | QuotaPart::Relation { .. } => {}
     }
+    Ok(())
 }
 
-// Whether an item is the limits of a group that is served.
-fn is_limits(part: &QuotaPart) -> bool
-    ensures { result ≡ is_limits part.now }
+// Whether a number is one of some that ascend.
+fn is_listed(numbers: &[u64], number: u64) -> bool
+    requires { IsNonDecreasing numbers.now }
+    ensures { result ≡ is_listed numbers.now number }
 {
-    match part {
-        QuotaPart::Limits { group, .. } => is_served_number(*group),
-        _ => false,
+    numbers.binary_search(&number).is_ok()
+}
+
+fn are_served(counted: &[u64], limited: &[u64], parts: &[QuotaPart]) -> bool
+    requires counted { IsNonDecreasing counted.now }
+    requires limited { IsNonDecreasing limited.now }
+    ensures { result ≡ list_all (fits_served counted.now limited.now) parts.now }
+{
+    for part in parts {
+        if !fits_served(counted, limited, part) {
+            return false;
+        }
     }
+    true
 }
 
-fn are_served(counted: bool, limited: bool, parts: &[QuotaPart]) -> bool
-    ensures { result ≡ list_all (fits_served counted limited) parts.now }
-{
-    parts.iter().all(|part| fits_served(counted, limited, part))
-}
-
-// Whether an item is served and fits the others, where the counters and the limits are there or not.
-fn fits_served(counted: bool, limited: bool, part: &QuotaPart) -> bool
-    ensures { result ≡ fits_served counted limited part.now }
+// Whether an item is served and fits the others, where groups of these numbers have counters and limits. Until groups of
+// higher levels are served no limit may be set, and there are no relations (`serves_groups` of qg_state).
+fn fits_served(counted: &[u64], limited: &[u64], part: &QuotaPart) -> bool
+    requires counted { IsNonDecreasing counted.now }
+    requires limited { IsNonDecreasing limited.now }
+    ensures { result ≡ fits_served counted.now limited.now part.now }
 {
     match part {
         QuotaPart::Status { .. } => true,
-        QuotaPart::Info { group, info } => limited && is_served_number(*group) && is_plain(info),
+        QuotaPart::Info { group, info } => {
+            is_listed(limited, group.number())
+                && is_group_number(*group)
+                && is_plain(info)
+                && is_served_number(*group)
+        }
         QuotaPart::Limits { group, limit } => {
-            counted && is_served_number(*group) && is_unlimited(limit)
+            is_listed(counted, group.number())
+                && is_limit(limit)
+                && is_served_number(*group)
+                && limit.flags == 0
         }
         QuotaPart::Relation { .. } => false,
     }
@@ -134,7 +185,14 @@ fn fits_served(counted: bool, limited: bool, part: &QuotaPart) -> bool
 fn is_served_number(group: GroupId) -> bool
     ensures { result ≡ is_served_number group }
 {
-    group.number() == TOP_LEVEL
+    group.number() == TOP_LEVEL || (SERVES_SUBVOLUMES && group.level() == 0)
+}
+
+// Whether a group of level 0 is that of a number that a subvolume may have.
+fn is_group_number(group: GroupId) -> bool
+    ensures { result ≡ is_group_number group }
+{
+    group.level() != 0 || is_subvolume_number(group.id())
 }
 
 // Whether the compressed counters are the plain ones.
@@ -144,20 +202,25 @@ fn is_plain(info: &QgroupInfo) -> bool
     info.rfer_cmpr == info.rfer && info.excl_cmpr == info.excl
 }
 
-// Whether no limit is set, and each is 0.
-fn is_unlimited(limit: &QgroupLimit) -> bool
-    ensures { result ≡ is_unlimited limit.now }
+// Whether a limit that is not set is 0.
+fn is_limit(limit: &QgroupLimit) -> bool
+    ensures { result ≡ is_limit limit.now }
 {
-    limit.flags == 0 && limit.max_rfer == 0 && limit.max_excl == 0
+    (limit.flags % 2 == 1 || limit.max_rfer == 0)
+        && (limit.flags / 2 % 2 == 1 || limit.max_excl == 0)
 }
 
-// Whether each subvolume is the top-level one, and its group has counters.
-fn are_counted(counted: bool, subvolumes: &[RootPart]) -> bool
-    ensures { result ≡ list_all (λ entry. (entry.0 == TOP_LEVEL) && counted) subvolumes.now }
+// Whether each subvolume's group has counters.
+fn are_counted(counted: &[u64], subvolumes: &[RootPart]) -> bool
+    requires { IsNonDecreasing counted.now }
+    ensures { result ≡ list_all (λ entry. is_listed counted.now entry.0) subvolumes.now }
 {
-    subvolumes
-        .iter()
-        .all(|part| part.0.value() == TOP_LEVEL && counted)
+    for part in subvolumes {
+        if !is_listed(counted, part.0.value()) {
+            return false;
+        }
+    }
+    true
 }
 
 // Whether there are no more groups and relations than are served.

@@ -5,6 +5,7 @@ ghost use Rattle.qg_image.specs.Table.{has_key, value_at};
 ghost use Rattle.qg_verdict.specs.Verdict.{are_roots};
 ghost use Rattle.qg_rules.specs.Roots.{is_alone};
 
+use crate::stage::SERVES_SUBVOLUMES;
 use qg_image::RootPart;
 use qg_items::RootItem;
 use qg_items::tree::{EXTENT_TREE, QUOTA_TREE, TOP_LEVEL};
@@ -19,7 +20,7 @@ pub fn are_roots(parts: &[RootPart]) -> bool
     has_root(EXTENT_TREE, parts)
         && has_root(TOP_LEVEL, parts)
         && has_root(QUOTA_TREE, parts)
-        && is_alone(parts)
+        && (SERVES_SUBVOLUMES || is_alone(parts))
 }
 
 /// The ROOT_ITEM of a tree; None where there is no such tree.

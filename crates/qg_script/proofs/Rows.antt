@@ -1,14 +1,15 @@
 -- What is read behind the first word of a line.
 use Rattle.std.proofs.Common.{◌≡◌, ℕ, ◌+◌, ◌*◌, ◌<◌, ◌^◌, List, [], ◌∷◌, ◌++◌, length, get_or, All, Option, Some, None, true, refl, sym, ap, ◌∙◌, arith, append_assoc, lit<}
-use Rattle.std.specs.Prelude.{codes, IfSome, ◌&&◌}
+use Rattle.std.specs.Prelude.{codes, IfSome, IfNone, ◌&&◌}
 use Rattle.std.specs.List.{flat_map}
 use Rattle.std.proofs.lemmas.Bool.{and_parts, and_from}
 use Rattle.std.proofs.lemmas.Bool.Decides.{nat_tests}
 use Rattle.std.proofs.lemmas.List.{append-nil, append_cancel_left}
 use Rattle.std.proofs.lemmas.List.Elements.{All-nil, All-cons}
 use Rattle.qg_num.specs.declared.command.Command.{Command}
-use Rattle.qg_num.specs.declared.command.Command.TheVariants.{Write, Clone, Truncate, Unlink, Ls}
+use Rattle.qg_num.specs.declared.command.Command.TheVariants.{Write, Clone, Truncate, Unlink, Snap, Delete, Ls, Owners}
 use Rattle.qg_grammar.specs.ScriptText.{command_text, is_in_grammar, is_sub_word, is_ino_word, is_word, then_number}
+use Rattle.qg_grammar.specs.Served.{is_served_command}
 use Rattle.qg_script.specs.Reading.{AreNumbers, IsTextOf, Reads}
 use Rattle.qg_script.proofs.Parting.{number_at}
 
@@ -18,6 +19,11 @@ use Rattle.qg_script.proofs.Parting.{number_at}
 pub reads_none : {text : List ℕ} (found : Option Command) → found ≡ None → ((command : Command) → IsTextOf text command → ⊥) → Reads text found
 reads_none None is none = record { command = tt; none = none }
 reads_none (Some command) is none = absurd cc
+
+-- what holds of no text where nothing was read
+pub none_read : {Q : Type 0} (found : Option Command) → Q → IfNone found Q
+none_read None so = so
+none_read (Some command) so = tt
 
 -- what holds of every command of a text holds of the one that was read
 pub of_found : {P Q : Command → Type 0} (found : Option Command) → ((command : Command) → P command → Q command) → IfSome found P → IfSome found Q
@@ -70,6 +76,12 @@ is_word-fits n fits = grind (arith, nat_tests)
 -- a number that was read is one that a line may have
 pub word_at : {count : ℕ} {text numbers : List ℕ} (place : ℕ) → AreNumbers count text numbers → place < count → is_word (get_or numbers place 0) ≡ true
 word_at {count} {text} {numbers} place are within = is_word-fits (get_or numbers place 0) (are.fit place 0 (omega (arith, are.as_many)))
+
+-- one number alone
+pub one : {text : List ℕ} (numbers : List ℕ) → AreNumbers 1 text numbers → numbers ≡ get_or numbers 0 0 ∷ []
+one [] are = absurd (omega (arith, are.as_many))
+one (a ∷ []) are = refl
+one (a ∷ b ∷ numbers) are = absurd (omega (arith, are.as_many))
 
 -- two numbers one by one
 pub two : {text : List ℕ} (numbers : List ℕ) → AreNumbers 2 text numbers → numbers ≡ get_or numbers 0 0 ∷ get_or numbers 1 0 ∷ []
@@ -251,3 +263,75 @@ pub only_ls : (P : Command → Type 0) (rest : List ℕ) → ((sub ino : ℕ) �
 unfolding command_text is_in_grammar
 only_ls P rest ls (Ls sub ino) is = ls sub ino is.in_grammar (file_numbers ls_tells is.in_grammar is)
 only_ls P rest ls command is = let first = ap mark is.spelled in absurd (omega (arith, first))
+
+-- ---- the commands that tell one number
+
+-- the number of a subvolume is one that a line may have, and was read as such
+abbrev pub IsSubRead : ℕ → ℕ → Type 0
+IsSubRead sub first = (is_sub_word first ≡ true) × (sub ≡ first)
+
+-- another number of a text is read as a subvolume's where it is one
+pub sub_at : {count : ℕ} {text numbers others : List ℕ} → AreNumbers count text numbers → AreNumbers count text others
+    → is_sub_word (get_or others 0 0) ≡ true → is_sub_word (get_or numbers 0 0) ≡ true
+sub_at {count} {text} {numbers} {others} are other is = rw (number_at 0 other are) is
+
+sub_fit : (sub : ℕ) → is_sub_word sub ≡ true → Fit (sub ∷ [])
+sub_fit sub is = All-cons (λ n. n < 2 ^ 64) sub [] (sub_fits sub is) none_fit
+
+pub delete_text : (sub : ℕ) → command_text (Delete sub) ≡ codes "delete" ++ flat_map then_number (sub ∷ [])
+unfolding command_text
+delete_text sub = simp (append-nil)
+
+pub only_delete : (P : Command → Type 0) (rest : List ℕ) → ((sub : ℕ) → is_sub_word sub ≡ true → AreNumbers 1 rest (sub ∷ []) → P (Delete sub))
+    → (command : Command) → IsTextOf (codes "delete" ++ rest) command → P command
+unfolding command_text is_in_grammar
+only_delete P rest delete (Delete sub) is =
+    delete sub is.in_grammar (numbers_of (codes "delete") (is.spelled ∙ delete_text sub) (sub_fit sub is.in_grammar))
+only_delete P rest delete command is = let first = ap mark is.spelled in absurd (omega (arith, first))
+
+pub delete_read : {rest numbers : List ℕ} {sub : ℕ} → AreNumbers 1 rest numbers → IsSubRead sub (get_or numbers 0 0)
+    → IsTextOf (codes "delete" ++ rest) (Delete sub)
+unfolding is_in_grammar
+delete_read {rest} {numbers} {sub} are of =
+    let behind = are.whole ∙ ap (flat_map then_number) (one numbers are) in
+    rw (of.1) (record { spelled = ap (λ (xs : List ℕ). codes "delete" ++ xs) behind ∙ sym (delete_text _); in_grammar = of.0 })
+
+pub owners_text : (address : ℕ) → command_text (Owners address) ≡ codes "owners" ++ flat_map then_number (address ∷ [])
+unfolding command_text
+owners_text address = simp (append-nil)
+
+pub only_owners : (P : Command → Type 0) (rest : List ℕ) → ((address : ℕ) → AreNumbers 1 rest (address ∷ []) → P (Owners address))
+    → (command : Command) → IsTextOf (codes "owners" ++ rest) command → P command
+unfolding command_text is_in_grammar
+only_owners P rest owners (Owners address) is =
+    owners address (numbers_of (codes "owners") (is.spelled ∙ owners_text address) (word_fits address [] is.in_grammar none_fit))
+only_owners P rest owners command is = let first = ap mark is.spelled in absurd (omega (arith, first))
+
+pub owners_read : {rest numbers : List ℕ} → AreNumbers 1 rest numbers → IsTextOf (codes "owners" ++ rest) (Owners (get_or numbers 0 0))
+unfolding is_in_grammar
+owners_read {rest} {numbers} are =
+    let behind = are.whole ∙ ap (flat_map then_number) (one numbers are) in
+    record { spelled = ap (λ (xs : List ℕ). codes "owners" ++ xs) behind ∙ sym (owners_text _); in_grammar = word_at 0 are (lit< tt) }
+
+-- ---- a snapshot without groups
+
+pub snap_text : (sub : ℕ) → command_text (Snap sub []) ≡ codes "snap" ++ flat_map then_number (sub ∷ [])
+unfolding command_text
+snap_text sub = simp (append_assoc, append-nil)
+
+-- a command that is served, whose text begins with `snap`, is one without groups
+pub only_snap : (P : Command → Type 0) (rest : List ℕ) → ((sub : ℕ) → is_sub_word sub ≡ true → AreNumbers 1 rest (sub ∷ []) → P (Snap sub []))
+    → (command : Command) → is_served_command command ≡ true → IsTextOf (codes "snap" ++ rest) command → P command
+unfolding command_text is_in_grammar
+only_snap P rest snap (Snap sub []) served is =
+    let parts = and_parts (is_sub_word sub) true is.in_grammar in
+    snap sub parts.0 (numbers_of (codes "snap") (is.spelled ∙ snap_text sub) (sub_fit sub parts.0))
+only_snap P rest snap (Snap sub (group ∷ groups)) served is = absurd cc
+only_snap P rest snap command served is = let first = ap mark is.spelled in absurd (omega (arith, first))
+
+pub snap_read : {rest numbers groups : List ℕ} {sub : ℕ} → AreNumbers 1 rest numbers → IsSubRead sub (get_or numbers 0 0) → groups ≡ []
+    → IsTextOf (codes "snap" ++ rest) (Snap sub groups)
+unfolding is_in_grammar
+snap_read {rest} {numbers} {groups} {sub} are of none =
+    let behind = are.whole ∙ ap (flat_map then_number) (one numbers are) in
+    rw (of.1, none) (record { spelled = ap (λ (xs : List ℕ). codes "snap" ++ xs) behind ∙ sym (snap_text _); in_grammar = and_from _ _ of.0 refl })

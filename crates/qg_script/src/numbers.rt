@@ -57,6 +57,17 @@ pub(crate) fn numbers<const N: usize>(text: &[u8]) -> Option<[u64; N]>
     if rest.is_empty() { Some(numbers) } else { None }
 }
 
+/// A subvolume by its number; `None` exactly where no line may have this.
+pub(crate) fn sub_of(sub: u64) -> Option<RootId>
+    ensures { SomeIff result (IsTrue (is_sub_word sub)) sub }
+{
+    if sub < NUMBERS_END {
+        Some(RootId::new(sub))
+    } else {
+        None
+    }
+}
+
 /// A file by the numbers of its subvolume and itself; `None` exactly where no line may have these.
 pub(crate) fn file_of(sub: u64, ino: u64) -> Option<(RootId, Ino)>
     ensures { SomeIff result (IsTrue (is_sub_word sub && is_ino_word ino)) (sub, ino) }

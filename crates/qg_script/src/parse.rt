@@ -5,8 +5,8 @@ ghost use Rattle.qg_grammar.specs.Served.{is_served_command};
 ghost use Rattle.qg_script.specs.Reading.{IsParted, IsTextOf, Reads};
 ghost use Rattle.qg_script.specs.ServedLines.{IsServedLineOf};
 
-use crate::numbers::{file_of, first_word, numbers};
-use qg_num::{Command, NoMemory};
+use crate::numbers::{file_of, first_word, numbers, sub_of};
+use qg_num::{Command, GroupList, NoMemory};
 use std::alloc::Global;
 
 /// The most bytes that a line may have.
@@ -66,8 +66,38 @@ fn read_ls(rest: &[u8]) -> Option<Command>
     Some(Command::Ls { sub, ino })
 }
 
+// The command of `snap` and what is behind it, without groups.
+fn read_snap(alloc: Global, rest: &[u8]) -> Option<Command>
+    ensures served { IfSome result (λ command. IsTrue (is_served_command command)) }
+    ensures found { IfSome result (IsTextOf (codes "snap" ++ rest.now)) }
+    ensures none { IfNone result ((command : Command) → IsTrue (is_served_command command)
+        → IsTextOf (codes "snap" ++ rest.now) command → ⊥) }
+{
+    let [sub] = numbers::<1>(rest)?;
+    let sub = sub_of(sub)?;
+    let groups = GroupList::new(alloc);
+    Some(Command::Snap { sub, groups })
+}
+
+// The command of `delete` and what is behind it.
+fn read_delete(rest: &[u8]) -> Option<Command>
+    ensures { Reads (codes "delete" ++ rest.now) result }
+{
+    let [sub] = numbers::<1>(rest)?;
+    let sub = sub_of(sub)?;
+    Some(Command::Delete { sub })
+}
+
+// The command of `owners` and what is behind it.
+fn read_owners(rest: &[u8]) -> Option<Command>
+    ensures { Reads (codes "owners" ++ rest.now) result }
+{
+    let [address] = numbers::<1>(rest)?;
+    Some(Command::Owners { address })
+}
+
 // The command of a text, if it is served.
-fn command_of(text: &[u8]) -> Option<Command>
+fn command_of(alloc: Global, text: &[u8]) -> Option<Command>
     ensures served { IfSome result (λ command. IsTrue (is_served_command command)) }
     ensures found { IfSome result (IsTextOf text.now) }
     ensures none { IfNone result ((command : Command) → IsTrue (is_served_command command) → IsTextOf text.now command → ⊥) }
@@ -77,6 +107,9 @@ fn command_of(text: &[u8]) -> Option<Command>
     }
     if text == b"show".as_slice() {
         return Some(Command::Show);
+    }
+    if text == b"sub create".as_slice() {
+        return Some(Command::SubCreate);
     }
     let (word, rest) = first_word(text);
     if word == b"write".as_slice() {
@@ -89,6 +122,12 @@ fn command_of(text: &[u8]) -> Option<Command>
         read_unlink(rest)
     } else if word == b"ls".as_slice() {
         read_ls(rest)
+    } else if word == b"snap".as_slice() {
+        read_snap(alloc, rest)
+    } else if word == b"delete".as_slice() {
+        read_delete(rest)
+    } else if word == b"owners".as_slice() {
+        read_owners(rest)
     } else {
         None
     }
@@ -100,7 +139,7 @@ pub fn parse_line(alloc: Global, line: &[u8]) -> Result<Option<Command>, NoMemor
     ensures none { IfOk result (λ found. IfNone found ((command : Command) → IsServedLineOf line.now command → ⊥)) }
 {
     if line.len() <= LONGEST_LINE {
-        Ok(command_of(line))
+        Ok(command_of(alloc, line))
     } else {
         Ok(None)
     }

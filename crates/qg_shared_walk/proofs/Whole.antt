@@ -1,11 +1,12 @@
 -- The tree of a subvolume, and the trees of all.
 use Rattle.std.proofs.Common.{◌≡◌, ℕ, zero, suc, ◌+◌, ◌<◌, ◌≤◌, true, false, List, [], ◌∷◌, ◌++◌, map, length, take, drop, get_or, append_assoc, arith, refl, sym, ap, subst, ◌∙◌, Option, Some, None, inl, inr}
-use Rattle.std.specs.Prelude.{Bool, IsTrue}
+use Rattle.std.specs.Prelude.{All, Bool, IsTrue}
 use Rattle.std.specs.List.{Contains}
 use Rattle.std.proofs.lemmas.List.{take-append-drop, take_more}
 use Rattle.std.proofs.lemmas.List.Elements.{Contains-append_cases, Contains-append_left, Contains-append_right}
 use Rattle.std.proofs.lemmas.Option.{IfSome_then}
 use Rattle.qg_device.specs.History.{Event, content}
+use Rattle.qg_bytes.specs.Fields.{IsBytes}
 use Rattle.qg_num.specs.declared.rule.Rule.TheVariants as rule
 use Rattle.qg_node.specs.declared.item.Item.{Item}
 use Rattle.qg_node.specs.declared.node.Node.{Node}
@@ -36,7 +37,8 @@ use Rattle.qg_shared_walk.specs.declared.digest.Digest.{Digest}
 use Rattle.qg_shared_walk.specs.Wells.{all_failure, AreThese, found_of}
 use Rattle.qg_shared_walk.specs.Reading.{Denies}
 use Rattle.qg_shared_walk.specs.Memo.{Remembers, Walks}
-use Rattle.qg_shared_walk.specs.Found.{AreFound, HasTree, HasTrees}
+use Rattle.qg_gathered.specs.Found.{AreFound}
+use Rattle.qg_shared_walk.specs.Found.{HasTree, HasTrees}
 use Rattle.qg_shared_walk.proofs.Wells.{parts_ascend}
 
 -- ---- the failures of one subvolume
@@ -114,6 +116,7 @@ module _ {N : Type 0} (super : Super) (events : List Event) (keeps : N → List 
           | inl before ↦ inl before
           | inr there ↦ inr (subst (λ (nodes : List Node). Contains nodes n) same there)
         ];
+        bytes = walk.bytes;
       }
 
 -- ---- the trees of all
@@ -125,6 +128,7 @@ no_trees super events keeps digests reader remembers = record {
   remembers = remembers;
   all = λ entry n has there. absurd (none_contained entry has);
   only = λ n has. absurd (none_contained n has);
+  bytes = λ entry has. absurd (none_contained entry has);
 }
 
 pub one_more_tree : {N : Type 0} (super : Super) (events : List Event) (keeps : N → List Node → Type 0) (roots : List (ℕ × RootItem)) (entry : ℕ × RootItem) (digests digests' : List (ℕ × Digest)) (reader reader' : N)
@@ -144,6 +148,13 @@ one_more_tree super events keeps roots entry digests digests' reader reader' tre
     | inl before ↦ let one = trees.only n before in (one.0, Contains-append_left roots (entry ∷ []) one.0 one.1, one.2)
     | inr there ↦ (entry, Contains-append_right roots (entry ∷ []) entry (contains_here entry []), there)
   ];
+  bytes = λ other has. elim (Contains-append_cases roots (entry ∷ []) other has) [
+    | inl early ↦ trees.bytes other early
+    | inr late ↦ elim (contains_cases entry [] other late) [
+      | inl is ↦ subst (λ (e : ℕ × RootItem). All (λ item. IsBytes item.body) (items_of_root Files super (content events) e.1)) is tree.bytes
+      | inr none ↦ absurd (none_contained other none)
+    ]
+  ];
 }
 
 pub all_found : {N : Type 0} (super : Super) (events : List Event) (keeps : N → List Node → Type 0) (roots : List (ℕ × RootItem)) (digests : List (ℕ × Digest)) (reader : N)
@@ -155,6 +166,7 @@ all_found super events keeps roots digests reader trees = record {
   distinct = trees.remembers.distinct;
   all = trees.all;
   only = trees.only;
+  bytes = trees.bytes;
 }
 
 -- ---- what holds of some, and of one more

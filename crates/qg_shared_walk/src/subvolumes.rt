@@ -8,7 +8,7 @@ ghost use Rattle.qg_verdict.specs.Failure.{first_failure};
 ghost use Rattle.qg_verdict.specs.Verdict.{subvolume_failure};
 ghost use Rattle.qg_walk.specs.Fault.{FailsAs};
 ghost use Rattle.qg_walk.specs.Held.{AreInSlots};
-ghost use Rattle.qg_shared_walk.specs.Found.{AreFound};
+ghost use Rattle.qg_gathered.specs.Found.{AreFound};
 
 use crate::memo::Memo;
 use crate::tree::read_tree;

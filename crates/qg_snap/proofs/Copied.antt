@@ -1,4 +1,5 @@
--- A state that is held, once a subvolume has a snapshot: what the book counts, its marks, and that it is settled.
+-- A state that is held, once a root was made and its children got references: what the book counts, its marks, and that
+-- it is settled.
 use Rattle.std.proofs.Common.{◌≡◌, ◌≢◌, ℕ, ◌+◌, Bool, true, false, List, [], ◌∷◌, Option, Some, None, arith, refl, sym, ap, subst, ◌∙◌, inl, inr}
 use Rattle.std.specs.Prelude.{◌||◌, IsTrue}
 use Rattle.std.specs.Option.{option_or}
@@ -8,10 +9,9 @@ use Rattle.qg_device.specs.History.{Event}
 use Rattle.qg_items.specs.declared.extent.Reference.{Reference}
 use Rattle.qg_super.specs.Places.{is_slot}
 use Rattle.qg_super.specs.declared.sizes.Sizes.{Sizes}
-use Rattle.qg_image.specs.Table.{value_at, with_value}
-use Rattle.qg_state.specs.State.{Placed, State, next_generation}
+use Rattle.qg_image.specs.Table.{value_at}
+use Rattle.qg_state.specs.State.{Placed, State}
 use Rattle.qg_state.specs.Owed.{Owing}
-use Rattle.qg_machine.specs.Step.{Snapshots, copy_of}
 use Rattle.qg_cow.specs.Children.{way_to}
 use Rattle.qg_blocks.specs.Told.{told}
 use Rattle.qg_ground.specs.declared.ground.Ground.{Ground}
@@ -30,6 +30,7 @@ use Rattle.qg_tree_refs.proofs.Times.{times-append, times-nil}
 use Rattle.qg_tree_refs.proofs.Whole.{nothing-kept}
 use Rattle.qg_forest.specs.Standing.{HoldsNode, HoldsState}
 use Rattle.qg_forest.proofs.Known.{Settled-known}
+use Rattle.qg_snap.proofs.More.{OneMore}
 
 -- a node is made, and nothing else becomes of references
 abbrev pub nothing_else : Exchange
@@ -41,7 +42,7 @@ or_nothing false = refl
 
 module _ (old made given : Book) (book : TreeRefs) (now level : ℕ) (children : List Owing) (first : IsBook old)
     (done : Exchanges old made nothing_else (coming_of book level (Made now))) (gives : Gives made given children) where
-  -- the counts are those before, with the way to the copy and what the children got
+  -- the counts are those before, with the way to the node and what the children got
   pub counts-then : (at : ℕ) (reference : Reference) → count_at given at reference
       ≡ count_at old at reference + times (way_to now book.tree ∷ []) at reference
       + times children at reference
@@ -87,43 +88,33 @@ module _ (old made given : Book) (book : TreeRefs) (now level : ℕ) (children :
   pub bare-then : full_in (given now) ≡ false
   bare-then = marks-then now ∙ ap full_in (nothing-kept old now first done.first)
 
-module _ (before after : State) (sub copy : ℕ) (parents : List ℕ) (snap : Snapshots before sub parents copy after)
-    (land new : Ground) (history : Option (List Event)) (old given : TreeRefs)
-    (holds : HoldsState land history old before)
-    (sizes : new.space.sizes ≡ land.space.sizes) (slot : IsTrue (is_slot before.sizes snap.address))
-    (others : (q : ℕ) → q ≢ snap.address → told new.blocks.draft history q ≡ told land.blocks.draft history q)
-    (here : told new.blocks.draft history snap.address
-    ≡ Some (copy_of (next_generation before) copy snap.address snap.root))
+module _ (before after : State) (sub : ℕ) (more : OneMore before after sub) (land new : Ground)
+    (history : Option (List Event)) (old given : TreeRefs) (holds : HoldsState land history old before)
+    (sizes : new.space.sizes ≡ land.space.sizes) (slot : IsTrue (is_slot before.sizes more.made.root))
+    (others : (q : ℕ) → q ≢ more.made.root → told new.blocks.draft history q ≡ told land.blocks.draft history q)
+    (here : told new.blocks.draft history more.made.root ≡ Some more.placed.node)
     (marks : (q : ℕ) → full_in (book_of given.refs q) ≡ full_in (book_of old.refs q))
-    (bare : full_in (book_of given.refs snap.address) ≡ false) where
-  made_node : Placed
-  made_node = record { node = copy_of (next_generation before) copy snap.address snap.root; full = false }
-
-  layout_is : after.layout ≡ with_value snap.address made_node before.layout
-  unfolding made_node
-  layout_is = ap (λ (state : State). state.layout) snap.copied
-
-  copy_held : (placed : Placed) → made_node ≡ placed → HoldsNode new history given snap.address placed
-  unfolding made_node
-  copy_held placed same = record {
-    slot = subst (λ (s : Sizes). IsTrue (is_slot s snap.address)) (holds.sizes ∙ sym sizes) slot;
+    (bare : full_in (book_of given.refs more.made.root) ≡ false) where
+  made_held : (placed : Placed) → more.placed ≡ placed → HoldsNode new history given more.made.root placed
+  made_held placed same = record {
+    slot = subst (λ (s : Sizes). IsTrue (is_slot s more.made.root)) (holds.sizes ∙ sym sizes) slot;
     told = here ∙ ap (λ (p : Placed). Some p.node) same;
-    mark = bare ∙ ap (λ (p : Placed). p.full) same;
+    mark = bare ∙ sym more.bare ∙ ap (λ (p : Placed). p.full) same;
   }
 
   -- the layout's nodes are held
   pub nodes-then : (at : ℕ) (placed : Placed) → value_at at after.layout ≡ Some placed
       → HoldsNode new history given at placed
-  nodes-then at placed there = elim (eqb_tells snap.address at) [
+  nodes-then at placed there = elim (eqb_tells more.made.root at) [
     | inl (equal, same) ↦
-        let value = sym (value_at-with_same snap.address made_node before.layout)
-        ∙ ap (λ (table : List (ℕ × Placed)). value_at snap.address table) (sym layout_is)
+        let value = sym (value_at-with_same more.made.root more.placed before.layout)
+        ∙ ap (λ (table : List (ℕ × Placed)). value_at more.made.root table) (sym more.layout)
         ∙ ap (λ (q : ℕ). value_at q after.layout) same ∙ there in
         subst (λ (q : ℕ). HoldsNode new history given q placed) same
-        (copy_held placed (same_Some made_node placed value))
+        (made_held placed (same_Some more.placed placed value))
     | inr (unequal, differ) ↦
-        let value = sym (value_at-with_other snap.address at made_node before.layout differ)
-        ∙ ap (λ (table : List (ℕ × Placed)). value_at at table) (sym layout_is) ∙ there in
+        let value = sym (value_at-with_other more.made.root at more.placed before.layout differ)
+        ∙ ap (λ (table : List (ℕ × Placed)). value_at at table) (sym more.layout) ∙ there in
         let was = holds.nodes at placed value in
         record {
           slot = subst (λ (s : Sizes). IsTrue (is_slot s at)) (sym sizes) was.slot;

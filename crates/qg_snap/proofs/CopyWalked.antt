@@ -27,10 +27,10 @@ use Rattle.qg_descent.specs.Tree.{found_in}
 
 -- ---- failures
 
-both_none : (a b : Option Failure) → a ≡ None → b ≡ None → first_failure (a ∷ b ∷ []) ≡ None
+pub both_none : (a b : Option Failure) → a ≡ None → b ≡ None → first_failure (a ∷ b ∷ []) ≡ None
 both_none a b first last = rw (first, last) refl
 
-three_none : (a b c : Option Failure) → a ≡ None → b ≡ None → c ≡ None → first_failure (a ∷ b ∷ c ∷ []) ≡ None
+pub three_none : (a b c : Option Failure) → a ≡ None → b ≡ None → c ≡ None → first_failure (a ∷ b ∷ c ∷ []) ≡ None
 three_none a b c first second third = rw (first, second, third) refl
 
 of_three : (a b c : Option Failure) → first_failure (a ∷ b ∷ c ∷ []) ≡ None → (b ≡ None) × (c ≡ None)
@@ -83,7 +83,7 @@ root_none = root_expected None None
 
 module _ (super : Super) (generation copy address at : ℕ) (number : is_subvolume_number copy ≡ true)
     (some : 0 < generation) (by : generation ≤ super.generation) where
-  way_copied : (root : Node) → way_failure Files super root_none address (copy_of generation copy address root) ≡ None
+  pub way_copied : (root : Node) → way_failure Files super root_none address (copy_of generation copy address root) ≡ None
   unfolding way_failure
   way_copied (Leaf header items) =
       four_none (is_subvolume_number copy) (true && nat_lt 0 generation && nat_le generation super.generation) address

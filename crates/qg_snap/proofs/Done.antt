@@ -1,9 +1,7 @@
 -- What the calls of a snapshot do, where nodes, disk and book hold a state.
-use Rattle.std.proofs.Common.{◌≡◌, ℕ, ◌+◌, ◌<◌, ◌≤◌, ◌^◌, true, false, List, [], ◌∷◌, Option, Some, None, arith, refl, sym, ap, subst, ◌∙◌, inl, inr}
-use Rattle.std.specs.Prelude.{◌==◌, ◌&&◌, is_some, not, nat_le, nat_lt}
-use Rattle.std.specs.Option.{option_map, option_or}
-use Rattle.std.proofs.lemmas.Bool.{and_parts, eqb-true, ltb-true, or_cases, true≢false}
-use Rattle.std.proofs.lemmas.List.Elements.{All-nil}
+use Rattle.std.proofs.Common.{◌≡◌, ℕ, ◌+◌, ◌<◌, ◌^◌, true, false, List, [], ◌∷◌, Option, Some, None, arith, refl, sym, ap, subst, ◌∙◌}
+use Rattle.std.specs.Prelude.{not}
+use Rattle.std.specs.Option.{option_map}
 use Rattle.std.proofs.lemmas.Option.{same_Some}
 use Rattle.qg_device.specs.History.{Event}
 use Rattle.qg_node.specs.declared.node.Node.{Node}
@@ -12,13 +10,9 @@ use Rattle.qg_node.specs.Fits.{HeaderFits, NodeFits}
 use Rattle.qg_node.specs.Nodes.{header_of}
 use Rattle.qg_node.specs.NodeText.{IsNode}
 use Rattle.qg_items.specs.declared.extent.Reference.{Reference}
-use Rattle.qg_super.specs.declared.sizes.Sizes.{Sizes}
 use Rattle.qg_super.specs.declared.superblock.Super.{Super}
-use Rattle.qg_super.proofs.Served.{SizesFit-is_served}
-use Rattle.qg_super.proofs.Slots.{slot_ends}
 use Rattle.qg_image.specs.ItemMeaning.{is_subvolume_number}
 use Rattle.qg_image.specs.Table.{value_at, with_value}
-use Rattle.qg_state.specs.Owed.{Owing}
 use Rattle.qg_state.specs.State.{Placed, State, Subvolume, has_subvolume, layout_of, next_generation, node_at}
 use Rattle.qg_state.specs.Reach.{level_of}
 use Rattle.qg_verdict.specs.declared.expected.Expected.{Expected}
@@ -36,25 +30,26 @@ use Rattle.qg_ground.specs.Land.{IsGround}
 use Rattle.qg_ground.specs.Tellings.{node_copy}
 use Rattle.qg_ground.specs.Tellings.Telling.{Made}
 use Rattle.qg_ground.proofs.Lands.{node_copy-generation, told-fresh_at}
-use Rattle.qg_ground.proofs.Slots.{free-parts}
 use Rattle.qg_reach.proofs.Layouts.{value_at-with_same}
 use Rattle.qg_refs.specs.Book.{count_at}
 use Rattle.qg_extents.specs.Table.{IsTable, book_of}
 use Rattle.qg_descent.specs.Tree.{Root}
 use Rattle.qg_descent.specs.Way.{IsVisited}
 use Rattle.qg_tree_refs.specs.declared.tree_refs.TreeRefs.{TreeRefs}
-use Rattle.qg_tree_refs.specs.Exchange.{CanGive, Exchanges, Gives, IsKnown, times}
-use Rattle.qg_tree_refs.specs.Following.{IsProper, Step, coming_of}
+use Rattle.qg_tree_refs.specs.Exchange.{CanGive, Exchanges, Gives, times}
+use Rattle.qg_tree_refs.specs.Following.{Step, coming_of}
 use Rattle.qg_tree_refs.specs.Settled.{IsSettled}
-use Rattle.qg_tree_refs.proofs.Times.{times-append, times-nil}
 use Rattle.qg_forest.specs.Standing.{HoldsState, root_of, tree_of}
 use Rattle.qg_forest.proofs.Meeting.{root-valued}
 use Rattle.qg_forest.proofs.Roots.{root_level-value, root_of-value}
 use Rattle.qg_snap.proofs.Copied.{nothing_else}
 use Rattle.qg_snap.proofs.Held.{IsDone, holds-then}
 use Rattle.qg_snap.proofs.CopyWalked.{copy-level}
-use Rattle.qg_snap.proofs.Referred.{free-count, free-none, free-slot, free-state}
+use Rattle.qg_snap.proofs.More.{OneMore}
+use Rattle.qg_snap.proofs.Putting.{address-low, counts-made, exchanged, no-node, no-value, nodes-small, noted-refs, number-fits}
+use Rattle.qg_snap.proofs.Referred.{free-none, free-slot, free-state}
 use Rattle.qg_snap.proofs.Room.{can-give}
+use Rattle.qg_snap.proofs.Snapped.{copy-address, copy-tree, more, owes-children}
 use Rattle.qg_snap.proofs.Source.{HasRoot, has-root, level-is, node-there, root-reached, root-told}
 
 -- ---- the copy
@@ -85,17 +80,6 @@ copy_fits generation owner address (Leaf header items) dated own lies fits =
 copy_fits generation owner address (Inner header pointers) dated own lies fits =
     (record { address = lies; generation = dated; owner = own; level = fits.0.level }, fits.1)
 
--- a subvolume's number fits its field
-number_fits : (owner : ℕ) → is_subvolume_number owner ≡ true → owner < 2 ^ 64
-unfolding is_subvolume_number
-number_fits owner is = elim (or_cases (owner == 5) (nat_le 256 owner && nat_lt owner (2 ^ 48)) is) [
-  | inl top ↦ let same : owner ≡ 5 = eqb-true owner 5 top in omega arith
-  | inr free ↦
-      let parts = and_parts (nat_le 256 owner) (nat_lt owner (2 ^ 48)) free in
-      let low : owner < 2 ^ 48 = ltb-true owner (2 ^ 48) parts.1 in
-      omega arith
-]
-
 -- a generation fits its field, where a copy's header does
 pub generation-low : (copy node : Node) (owner generation : ℕ)
     → copy ≡ node_copy node (header_of node).address owner generation → HeaderFits (header_of copy)
@@ -113,16 +97,6 @@ pub peeked-alone : (super : Super) (expected : Expected) (draft : Draft) (histor
 peeked-alone super expected draft history held address at peeked same visited here node there =
     let told_there = ap (λ (q : ℕ). told draft history q) same ∙ there in
     visited.alone node told_there ∙ same_Some visited.node peeked (sym visited.is ∙ here)
-
--- ---- the book
-
-none_or : (first last : Option ℕ) → first ≡ None → option_or first last ≡ None → last ≡ None
-none_or None last first none = none
-none_or (Some at) last first none = absurd cc
-
-first_misfit : (first last : Option ℕ) → first ≡ None → last ≡ None → option_or first last ≡ None
-first_misfit None last first none = none
-first_misfit (Some at) last first none = absurd cc
 
 -- what the calls of a snapshot answer: the source's root was visited, its copy made, and its children given a
 -- reference each
@@ -149,10 +123,6 @@ pub record Calls (land mid new : Ground) (history : Option (List Event)) (old ma
   pub held_runs : new.space.held_runs ≡ mid.space.held_runs
   pub dated : source.next < 2 ^ 64
 
-no_value : {A : Type 0} (o : Option A) → not (is_some o) ≡ true → o ≡ None
-no_value {A} None none = refl
-no_value {A} (Some x) none = absurd (true≢false (sym none))
-
 -- ---- a state that is held
 
 module _ (state : State) (sub copy now : ℕ) (land : Ground) (history : Option (List Event)) (old : TreeRefs)
@@ -160,7 +130,7 @@ module _ (state : State) (sub copy now : ℕ) (land : Ground) (history : Option 
     (unused : not (has_subvolume state copy) ≡ true) (ground : IsGround land)
     (free : is_free_slot land.space now ≡ true) where
   pub other : value_at copy state.subvolumes ≡ None
-  other = no_value (value_at copy state.subvolumes) unused
+  other = no-value (value_at copy state.subvolumes) unused
 
   abbrev pub root_source : HasRoot state sub
   root_source = has-root state sub holds.whole has
@@ -170,73 +140,18 @@ module _ (state : State) (sub copy now : ℕ) (land : Ground) (history : Option 
       root-valued copy state.subvolumes
       ∙ ap (λ (o : Option Subvolume). option_map (λ (subvolume : Subvolume). subvolume.root) o) other
 
-  no_node : node_at state.layout now ≡ None
-  no_node =
-      ap (λ (o : Option Placed). option_map (λ (placed : Placed). placed.node) o)
-      (free-none land history old state holds now free)
-
-  small : state.sizes.nodesize ≤ 16384
-  small =
-      let fits = (SizesFit-is_served land.space.sizes ground.served).nodesize in
-      let same = ap (λ (sizes : Sizes). sizes.nodesize) holds.sizes in
-      omega (arith, fits, same)
-
-  low : now < 2 ^ 64
-  low =
-      let ends = slot_ends land.space.sizes now (SizesFit-is_served land.space.sizes ground.served)
-      (free-parts land.space now free).0 in
-      omega (arith, ends)
-
-  -- ---- no misfit is met
-
-  proper : IsTable old.refs → IsProper (Made now) old
-  proper first = record {
-    can = record {
-      there = record { there = λ at reference. let none = times-nil at reference in omega (arith, none) };
-      room = record {
-        room = λ at reference.
-            let none = times-nil at reference in
-            let fits = first.fitting at reference in
-            omega (arith, none, fits);
-        known = All-nil (λ (owing : Owing). IsKnown (book_of old.refs) owing.address);
-      };
-      first = λ reference. free-count land history old state holds now free reference;
-    };
-    level = tt;
-  }
-
-  pub fits-made : (made : TreeRefs) → IsTable old.refs → Step old (Made now) made → made.misfit ≡ None
-  fits-made made first step =
-      ap (λ (book : TreeRefs). book.misfit) step.noted
-      ∙ first_misfit old.misfit step.misfit holds.fits (step.proper (proper first))
-
-  -- ---- children may get their references
-
-  exchanged : (made : TreeRefs) (step : Step old (Made now) made) → made.misfit ≡ None
-      → Exchanges (book_of old.refs) (book_of made.refs) nothing_else (coming_of old step.level (Made now))
-  exchanged made step fits =
-      step.done (none_or old.misfit step.misfit holds.fits
-      (sym (ap (λ (book : TreeRefs). book.misfit) step.noted) ∙ fits))
-
-  counts_made : (made : TreeRefs) → Step old (Made now) made → made.misfit ≡ None → (at : ℕ) (reference : Reference)
-      → count_at (book_of made.refs) at reference
-      ≡ count_at (book_of old.refs) at reference + times (way_to now old.tree ∷ []) at reference
-  counts_made made step fits at reference =
-      let put = (exchanged made step fits).counts at reference in
-      let none = times-nil at reference in
-      let both = times-append (way_to now old.tree ∷ []) [] at reference in
-      omega (arith, put, none, both)
-
+  -- children may get their references
   pub can-give-children : (made : TreeRefs) (peeked : Node) → IsTable old.refs → old.tree ≡ copy
       → Step old (Made now) made → made.misfit ≡ None → root_source.placed.node ≡ peeked
       → CanGive (book_of made.refs) (keyed_children peeked copy)
   can-give-children made peeked first tree step fits same =
       subst (λ (node : Node). CanGive (book_of made.refs) (keyed_children node copy)) same
-      (can-give state sub copy now holds.whole holds.home root_source other_root no_node small (book_of old.refs)
-      (book_of made.refs) holds.agrees first.fitting
+      (can-give state sub copy now holds.whole holds.home root_source other_root
+      (no-node state now land history old holds free) (nodes-small state now land history old holds free ground)
+      (book_of old.refs) (book_of made.refs) holds.agrees first.fitting
       (subst (λ (n : ℕ). (at : ℕ) (reference : Reference) → count_at (book_of made.refs) at reference
       ≡ count_at (book_of old.refs) at reference + times (way_to now n ∷ []) at reference) tree
-      (counts_made made step fits)))
+      (counts-made state now land history old holds free made step fits)))
 
   -- ---- what is left is the machine's state
 
@@ -297,19 +212,20 @@ module _ (state : State) (sub copy now : ℕ) (land : Ground) (history : Option 
 
     fits : NodeFits (copy_of generation copy now root)
     fits =
-        copy_fits generation copy now root dated (number_fits copy number) low
+        copy_fits generation copy now root dated (number-fits copy number)
+        (address-low state now land history old holds free ground)
         (root-reached state sub root_source holds.whole).fits
 
-    noted : made ≡ record old { refs = made.refs }
-    noted =
-        calls.step.noted
-        ∙ ap (λ (misfit : Option ℕ). record old { refs = made.refs; misfit = misfit })
-        (sym (ap (λ (book : TreeRefs). book.misfit) calls.step.noted) ∙ calls.fits ∙ sym holds.fits)
-
     done : Exchanges (book_of old.refs) (book_of made.refs) nothing_else (coming_of old calls.step.level (Made now))
-    done = exchanged made calls.step calls.fits
+    done = exchanged state now land history old holds free made calls.step calls.fits
 
-    is_done : IsDone state after sub copy parents snapshot land new history old made given
+    none_there : value_at now state.layout ≡ None
+    none_there = free-none land history old state holds now free
+
+    abbrev one_more : OneMore state after copy
+    one_more = more state after sub copy parents snapshot holds.whole holds.numbers other none_there
+
+    is_done : IsDone state after copy one_more (keyed_children root copy) land new history old made given
     is_done = record {
       tree = calls.tree;
       level = calls.step.level;
@@ -317,18 +233,21 @@ module _ (state : State) (sub copy now : ℕ) (land : Ground) (history : Option 
       mid = done.book;
       last = calls.last.book;
       done = done;
-      noted = noted;
+      noted = noted-refs state now land history old holds free made calls.step calls.fits;
       gives = subst (λ (node : Node). Gives (book_of made.refs) (book_of given.refs) (keyed_children node copy))
           (sym same_root) calls.gives;
       others = calls.others;
+      owes = owes-children state after sub copy parents snapshot holds.whole holds.numbers other none_there;
       settled = calls.settled holds.fits holds.settled;
       slot = free-slot land history old state holds now free;
-      free = free-none land history old state holds now free;
       elsewhere = λ q differ. calls.makes.puts.others history q differ
           ∙ ap (λ (draft : Draft). told draft history q) calls.draft;
       here = here;
+      placed = copy-address generation copy now root;
       sound = sound;
       fits = fits;
+      own = copy-tree state after sub copy parents snapshot holds.whole holds.numbers other none_there holds.home
+          number;
       sizes = calls.sizes ∙ ap (λ (space : Holding). space.sizes) calls.space;
       runs = calls.runs ∙ ap (λ (space : Holding). space.runs) calls.space;
       held_slots = calls.held_slots ∙ ap (λ (space : Holding). space.held_slots) calls.space;
@@ -336,8 +255,7 @@ module _ (state : State) (sub copy now : ℕ) (land : Ground) (history : Option 
     }
 
     pub held : HoldsState new history given after
-    held =
-        holds-then state after sub copy parents snapshot land new history old made given holds number other is_done
+    held = holds-then state after copy one_more (keyed_children root copy) land new history old made given holds is_done
 
     made_there : value_at copy after.subvolumes
         ≡ Some (record { files = root_source.source.files; root = now; last_snapshot = generation })

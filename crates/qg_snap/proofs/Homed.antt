@@ -1,22 +1,21 @@
--- Once a subvolume has a snapshot, each node that is not full is reached by its owner still.
-use Rattle.std.proofs.Common.{◌≡◌, ◌≢◌, ℕ, ◌≤◌, true, false, List, [], map, Option, Some, None, arith, refl, sym, ap, subst, ◌∙◌, inl, inr}
+-- With one subvolume more, each node that is not full is reached by its owner still.
+use Rattle.std.proofs.Common.{◌≡◌, ◌≢◌, ℕ, ◌≤◌, true, false, List, map, Option, Some, None, arith, refl, sym, ap, subst, ◌∙◌, inl, inr}
 use Rattle.std.specs.List.Sorted.{IsStrictlyIncreasing}
 use Rattle.std.specs.Option.{option_map}
 use Rattle.std.proofs.lemmas.Bool.{true≢false}
 use Rattle.std.proofs.lemmas.Bool.Decides.{eqb_tells}
 use Rattle.std.proofs.lemmas.Option.{same_Some}
 use Rattle.qg_node.specs.declared.node.Node.{Node}
-use Rattle.qg_node.specs.declared.node.Node.TheVariants.{Leaf, Inner}
 use Rattle.qg_node.specs.Nodes.{header_of}
+use Rattle.qg_super.specs.declared.sizes.Sizes.{Sizes}
 use Rattle.qg_image.specs.Table.{keys_of, value_at, with_value}
 use Rattle.qg_state.specs.declared.element.Element.{Element}
 use Rattle.qg_state.specs.Owed.{homeless}
 use Rattle.qg_state.specs.Reach.{is_among, level_of, reach, reach_of, reach_of_root, reach_under, reaches}
-use Rattle.qg_state.specs.State.{Placed, State, Subvolume, layout_of, next_generation, node_at}
+use Rattle.qg_state.specs.State.{Placed, State, Subvolume, layout_of, node_at}
 use Rattle.qg_verdict.specs.declared.tree.Tree.TheVariants.{Files}
 use Rattle.qg_verdict.specs.Walk.{deepest, node_failure, root_expected}
 use Rattle.qg_machine.specs.Layout.{IsTreeOf, IsWhole, super_to_come}
-use Rattle.qg_machine.specs.Step.{Snapshots, copy_of}
 use Rattle.qg_files.proofs.Ascending.{Ascends-increasing, ascends-with_value, increasing-Ascends}
 use Rattle.qg_descent.specs.Tree.{Reaches}
 use Rattle.qg_descent.proofs.BranchFrames.{reach-top}
@@ -24,9 +23,9 @@ use Rattle.qg_reach.proofs.Layouts.{value_at-with_other, value_at-with_same}
 use Rattle.qg_forest.proofs.Homes.{all-home, met-own, owner-reaches}
 use Rattle.qg_forest.proofs.Reach.{met-same}
 use Rattle.qg_forest.proofs.Snapshotted.{root_entry}
-use Rattle.qg_forest.proofs.Tables.{map-with}
 use Rattle.qg_forest.proofs.Walked.{reaches-deeper, walked-found}
 use Rattle.qg_forest.proofs.Meeting.{each-there, root-low, root-valued}
+use Rattle.qg_snap.proofs.More.{OneMore, no-root}
 
 -- ---- trees of a whole state
 
@@ -53,67 +52,55 @@ module _ (before : State) (whole : IsWhole before) where
       → level_of (node_at before.layout subvolume.root) ≤ 7
   tree-low subvolume tree = root-low before whole before.subvolumes whole.trees subvolume tree
 
--- ---- a snapshot
+-- ---- one subvolume more
 
-module _ (before after : State) (sub copy : ℕ) (parents : List ℕ) (snap : Snapshots before sub parents copy after)
-    (whole : IsWhole before) (home : homeless (layout_of before) ≡ None)
-    (up : IsStrictlyIncreasing (keys_of before.subvolumes)) (other : value_at copy before.subvolumes ≡ None)
-    (free : value_at snap.address before.layout ≡ None) where
-  marked : Subvolume
-  marked = record snap.source { last_snapshot = next_generation before }
-
-  made : Subvolume
-  made = record { files = snap.source.files; root = snap.address; last_snapshot = next_generation before }
-
-  placed_copy : Placed
-  placed_copy = record { node = copy_of (next_generation before) copy snap.address snap.root; full = false }
-
-  subvolumes_are : after.subvolumes ≡ with_value copy made (with_value sub marked before.subvolumes)
-  unfolding marked made
-  subvolumes_are = ap (λ (state : State). state.subvolumes) snap.copied
-
-  layout_is : after.layout ≡ with_value snap.address placed_copy before.layout
-  unfolding placed_copy
-  layout_is = ap (λ (state : State). state.layout) snap.copied
+module _ (before after : State) (sub : ℕ) (more : OneMore before after sub) (whole : IsWhole before)
+    (home : homeless (layout_of before) ≡ None) where
+  abbrev now : ℕ
+  now = more.made.root
 
   nodesize_is : after.sizes.nodesize ≡ before.sizes.nodesize
-  nodesize_is = ap (λ (state : State). state.sizes.nodesize) snap.copied
+  nodesize_is = ap (λ (sizes : Sizes). sizes.nodesize) more.sizes
 
   -- nodes elsewhere are as they were
-  pub node_same : (q : ℕ) → snap.address ≢ q → node_at after.layout q ≡ node_at before.layout q
+  pub node_same : (q : ℕ) → now ≢ q → node_at after.layout q ≡ node_at before.layout q
   node_same q differ =
       ap (λ (o : Option Placed). option_map (λ (placed : Placed). placed.node) o)
-      (ap (λ (table : List (ℕ × Placed)). value_at q table) layout_is
-      ∙ value_at-with_other snap.address q placed_copy before.layout differ)
+      (ap (λ (table : List (ℕ × Placed)). value_at q table) more.layout
+      ∙ value_at-with_other now q more.placed before.layout differ)
 
-  pub not_new : (q : ℕ) (node : Node) → node_at before.layout q ≡ Some node → snap.address ≢ q
+  pub not_new : (q : ℕ) (node : Node) → node_at before.layout q ≡ Some node → now ≢ q
   not_new q node there same =
       let wrong : ◌≡◌ {A = Option Node} None (Some node) =
-      sym (ap (λ (o : Option Placed). option_map (λ (placed : Placed). placed.node) o) free)
+      sym (ap (λ (o : Option Placed). option_map (λ (placed : Placed). placed.node) o) more.free)
       ∙ ap (λ (at : ℕ). node_at before.layout at) same ∙ there in absurd cc
 
-  -- roots are as they were
-  pub root_same : (owner root : ℕ) → owner ≢ copy → value_at owner (layout_of before).roots ≡ Some root
-      → value_at owner (layout_of after).roots ≡ Some root
-  unfolding marked
-  root_same owner root differ there =
-      let roots = ap (λ (table : List (ℕ × Subvolume)). value_at owner (map root_entry table)) subvolumes_are in
-      let past = value_at-with_other copy owner made (with_value sub marked before.subvolumes)
-      (λ same. differ (sym same)) in
-      let still = map-with root_entry sub snap.source marked refl 0 before.subvolumes
-      (Ascends-increasing before.subvolumes up) snap.there in
-      roots ∙ root-valued owner (with_value copy made (with_value sub marked before.subvolumes))
-      ∙ ap (λ (o : Option Subvolume). option_map (λ (subvolume : Subvolume). subvolume.root) o) past
-      ∙ sym (root-valued owner (with_value sub marked before.subvolumes))
-      ∙ ap (λ (table : List (ℕ × ℕ)). value_at owner table) still ∙ there
+  -- the new node lies where it was put
+  pub placed_now : value_at now after.layout ≡ Some more.placed
+  placed_now =
+      ap (λ (table : List (ℕ × Placed)). value_at now table) more.layout
+      ∙ value_at-with_same now more.placed before.layout
 
-  pub copy_root : value_at copy (layout_of after).roots ≡ Some snap.address
-  unfolding made
-  copy_root =
-      ap (λ (table : List (ℕ × Subvolume)). value_at copy (map root_entry table)) subvolumes_are
-      ∙ root-valued copy (with_value copy made (with_value sub marked before.subvolumes))
+  pub node_now : node_at after.layout now ≡ Some more.placed.node
+  node_now = ap (λ (o : Option Placed). option_map (λ (placed : Placed). placed.node) o) placed_now
+
+  -- roots are as they were
+  pub root_same : (owner root : ℕ) → owner ≢ sub → value_at owner (layout_of before).roots ≡ Some root
+      → value_at owner (layout_of after).roots ≡ Some root
+  root_same owner root differ there =
+      ap (λ (table : List (ℕ × Subvolume)). value_at owner (map root_entry table)) more.subvolumes
+      ∙ root-valued owner (with_value sub more.made more.others)
       ∙ ap (λ (o : Option Subvolume). option_map (λ (subvolume : Subvolume). subvolume.root) o)
-      (value_at-with_same copy made (with_value sub marked before.subvolumes))
+      (value_at-with_other sub owner more.made more.others (λ same. differ (sym same)))
+      ∙ sym (root-valued owner more.others)
+      ∙ ap (λ (roots : List (ℕ × ℕ)). value_at owner roots) more.roots ∙ there
+
+  pub made_root : value_at sub (layout_of after).roots ≡ Some now
+  made_root =
+      ap (λ (table : List (ℕ × Subvolume)). value_at sub (map root_entry table)) more.subvolumes
+      ∙ root-valued sub (with_value sub more.made more.others)
+      ∙ ap (λ (o : Option Subvolume). option_map (λ (subvolume : Subvolume). subvolume.root) o)
+      (value_at-with_same sub more.made more.others)
 
   -- what is met from the root of a subvolume that was there is met as before
   met_root : (owner : ℕ) (subvolume : Subvolume) → value_at owner before.subvolumes ≡ Some subvolume
@@ -164,55 +151,46 @@ module _ (before after : State) (sub copy : ℕ) (parents : List ℕ) (snap : Sn
         absurd (true≢false (sym is ∙ nothing))
     by (Some root) there =
         let its = subvolume_of owner root (value_at owner before.subvolumes) refl there in
-        let differ : owner ≢ copy = λ same.
-        let wrong : ◌≡◌ {A = Option Subvolume} None (Some its.0) =
-        sym other ∙ ap (λ (n : ℕ). value_at n before.subvolumes) (sym same) ∙ its.1 in absurd cc in
-        let now = ap (λ (o : Option ℕ). is_among at (reach_of (layout_of after) o))
+        let differ : owner ≢ sub = λ same.
+        let wrong : ◌≡◌ {A = Option ℕ} None (Some root) =
+        sym (no-root before after sub more)
+        ∙ ap (λ (n : ℕ). value_at n (layout_of before).roots) (sym same) ∙ there in absurd cc in
+        let then = ap (λ (o : Option ℕ). is_among at (reach_of (layout_of after) o))
         (root_same owner root differ there) in
         let was = ap (λ (o : Option ℕ). is_among at (reach_of (layout_of before) o)) there in
         let met = ap (λ (r : ℕ). is_among at (reach_of_root (layout_of after) r)) (sym its.2)
         ∙ ap (λ (elements : List Element). is_among at elements) (met_root owner its.0 its.1)
         ∙ ap (λ (r : ℕ). is_among at (reach_of_root (layout_of before) r)) its.2 in
-        now ∙ met ∙ sym was ∙ is
+        then ∙ met ∙ sym was ∙ is
 
-  -- the copy is reached by the new subvolume
-  pub copy-reached : reaches (layout_of after) copy snap.address ≡ true
-  unfolding reach reach_of_root placed_copy
-  copy-reached =
-      ap (λ (o : Option ℕ). is_among snap.address (reach_of (layout_of after) o)) copy_root
-      ∙ met-own (node_at after.layout) after.sizes.nodesize (level_of (node_at after.layout snap.address)) snap.address
-      (copy_of (next_generation before) copy snap.address snap.root)
-      (ap (λ (o : Option Placed). option_map (λ (placed : Placed). placed.node) o)
-      (ap (λ (table : List (ℕ × Placed)). value_at snap.address table) layout_is
-      ∙ value_at-with_same snap.address placed_copy before.layout))
-
-  owner_copy : (node : Node) → (header_of (copy_of (next_generation before) copy snap.address node)).owner ≡ copy
-  owner_copy (Leaf header items) = refl
-  owner_copy (Inner header pointers) = refl
+  -- the new node is reached by the new subvolume
+  pub made-reached : reaches (layout_of after) sub now ≡ true
+  unfolding reach reach_of_root
+  made-reached =
+      ap (λ (o : Option ℕ). is_among now (reach_of (layout_of after) o)) made_root
+      ∙ met-own (node_at after.layout) after.sizes.nodesize (level_of (node_at after.layout now)) now more.placed.node
+      node_now
 
   home_at : (at : ℕ) (placed : Placed) → value_at at after.layout ≡ Some placed → placed.full ≡ false
       → reaches (layout_of after) (header_of placed.node).owner at ≡ true
-  unfolding placed_copy
-  home_at at placed there bare = elim (eqb_tells snap.address at) [
+  home_at at placed there bare = elim (eqb_tells now at) [
     | inl (equal, same) ↦
-        let value = same_Some placed_copy placed
-        (sym (value_at-with_same snap.address placed_copy before.layout)
-        ∙ ap (λ (table : List (ℕ × Placed)). value_at snap.address table) (sym layout_is)
-        ∙ ap (λ (q : ℕ). value_at q after.layout) same ∙ there) in
-        let owner = ap (λ (p : Placed). (header_of p.node).owner) (sym value) ∙ owner_copy snap.root in
+        let value = same_Some more.placed placed
+        (sym placed_now ∙ ap (λ (q : ℕ). value_at q after.layout) same ∙ there) in
+        let owner = ap (λ (p : Placed). (header_of p.node).owner) (sym value) ∙ more.owner in
         ap (λ (n : ℕ). reaches (layout_of after) n at) owner
-        ∙ ap (λ (q : ℕ). reaches (layout_of after) copy q) (sym same) ∙ copy-reached
+        ∙ ap (λ (q : ℕ). reaches (layout_of after) sub q) (sym same) ∙ made-reached
     | inr (unequal, differ) ↦
-        let value = sym (value_at-with_other snap.address at placed_copy before.layout differ)
-        ∙ ap (λ (table : List (ℕ × Placed)). value_at at table) (sym layout_is) ∙ there in
+        let value = sym (value_at-with_other now at more.placed before.layout differ)
+        ∙ ap (λ (table : List (ℕ × Placed)). value_at at table) (sym more.layout) ∙ there in
         reaches-still (header_of placed.node).owner at (owner-reaches (layout_of before) home at placed value bare)
   ]
 
   pub ascending-then : IsStrictlyIncreasing (keys_of after.layout)
   ascending-then =
-      subst (λ (table : List (ℕ × Placed)). IsStrictlyIncreasing (keys_of table)) (sym layout_is)
-      (increasing-Ascends 0 (with_value snap.address placed_copy before.layout)
-      (ascends-with_value 0 snap.address placed_copy before.layout (omega arith)
+      subst (λ (table : List (ℕ × Placed)). IsStrictlyIncreasing (keys_of table)) (sym more.layout)
+      (increasing-Ascends 0 (with_value now more.placed before.layout)
+      (ascends-with_value 0 now more.placed before.layout (omega arith)
       (Ascends-increasing before.layout whole.ascending)))
 
   pub home-then : homeless (layout_of after) ≡ None

@@ -1,28 +1,19 @@
--- Once a subvolume has a snapshot, the present files name the same extents.
-use Rattle.std.proofs.Common.{◌≡◌, ◌≢◌, ℕ, List, map, Option, Some, None, arith, refl, sym, ap, subst, ◌∙◌, inl, inr}
+-- With one subvolume more the present files name the same extents.
+use Rattle.std.proofs.Common.{◌≡◌, ◌≢◌, ℕ, List, Option, Some, None, arith, refl, sym, ap, subst, ◌∙◌, inl, inr}
 use Rattle.std.specs.Prelude.{◌↔◌}
 use Rattle.std.specs.List.{Contains, flat_map}
 use Rattle.std.specs.List.Sorted.{IsStrictlyIncreasing}
 use Rattle.std.proofs.lemmas.Bool.Decides.{eqb_tells}
 use Rattle.std.proofs.lemmas.Option.{same_Some}
-use Rattle.qg_image.specs.declared.file.File.{File}
 use Rattle.qg_image.specs.Table.{keys_of, value_at, with_value}
 use Rattle.qg_state.specs.declared.element.Element.{Element}
-use Rattle.qg_state.specs.Reach.{extent_of}
 use Rattle.qg_state.specs.Space.{present_extents}
-use Rattle.qg_state.specs.State.{State, Subvolume, next_generation}
-use Rattle.qg_machine.specs.Step.{Snapshots}
+use Rattle.qg_state.specs.State.{State, Subvolume}
 use Rattle.qg_files.proofs.Ascending.{Ascends-increasing, ascends-with_value, increasing-Ascends}
 use Rattle.qg_home.proofs.Reaching.{entry_of_value, value_of_entry}
 use Rattle.qg_reach.proofs.Layouts.{value_at-with_other, value_at-with_same}
 use Rattle.qg_reach.proofs.Members.{contains_flat_map, one_flat_mapped}
-
--- the extents that a subvolume's files name
-abbrev named_by : Subvolume → List Element
-named_by subvolume = flat_map (λ (file : ℕ × File). map extent_of file.1.pieces) subvolume.files
-
-abbrev named_in : ℕ × Subvolume → List Element
-named_in entry = named_by entry.1
+use Rattle.qg_snap.proofs.More.{OneMore, named_by, named_in}
 
 present_is : (state : State) → present_extents state ≡ flat_map named_in state.subvolumes
 unfolding present_extents
@@ -41,95 +32,58 @@ module _ (table : List (ℕ × Subvolume)) (up : IsStrictlyIncreasing (keys_of t
   of_number n subvolume there has =
       contains_flat_map named_in table (n, subvolume) run (entry_of_value n subvolume table there) has
 
-module _ (before after : State) (sub copy : ℕ) (parents : List ℕ) (snap : Snapshots before sub parents copy after)
-    (up : IsStrictlyIncreasing (keys_of before.subvolumes)) (other : value_at copy before.subvolumes ≡ None) where
-  marked : Subvolume
-  marked = record snap.source { last_snapshot = next_generation before }
+module _ (before after : State) (sub : ℕ) (more : OneMore before after sub) where
+  abbrev all : List (ℕ × Subvolume)
+  all = with_value sub more.made more.others
 
-  made : Subvolume
-  made = record { files = snap.source.files; root = snap.address; last_snapshot = next_generation before }
-
-  are : after.subvolumes ≡ with_value copy made (with_value sub marked before.subvolumes)
-  unfolding marked made
-  are = ap (λ (state : State). state.subvolumes) snap.copied
-
-  apart : (n : ℕ) (subvolume : Subvolume) → value_at n before.subvolumes ≡ Some subvolume → copy ≢ n
-  apart n subvolume there same =
-      let wrong : ◌≡◌ {A = Option Subvolume} None (Some subvolume) =
-      sym other ∙ ap (λ (m : ℕ). value_at m before.subvolumes) same ∙ there in absurd cc
+  up_all : IsStrictlyIncreasing (keys_of all)
+  up_all =
+      increasing-Ascends 0 all
+      (ascends-with_value 0 sub more.made more.others (omega arith) (Ascends-increasing more.others more.numbers))
 
   -- numbers ascend still
   pub numbers-then : IsStrictlyIncreasing (keys_of after.subvolumes)
   numbers-then =
-      subst (λ (table : List (ℕ × Subvolume)). IsStrictlyIncreasing (keys_of table)) (sym are)
-      (increasing-Ascends 0 (with_value copy made (with_value sub marked before.subvolumes))
-      (ascends-with_value 0 copy made (with_value sub marked before.subvolumes) (omega arith)
-      (ascends-with_value 0 sub marked before.subvolumes (omega arith) (Ascends-increasing before.subvolumes up))))
+      subst (λ (table : List (ℕ × Subvolume)). IsStrictlyIncreasing (keys_of table)) (sym more.subvolumes) up_all
 
-  -- a subvolume that was there names what it named
-  same_after : (n : ℕ) (subvolume : Subvolume) → value_at n before.subvolumes ≡ Some subvolume
-      → (now : Subvolume) × (value_at n after.subvolumes ≡ Some now) × (named_by now ≡ named_by subvolume)
-  unfolding marked
-  same_after n subvolume there =
-      let past = ap (λ (table : List (ℕ × Subvolume)). value_at n table) are
-      ∙ value_at-with_other copy n made (with_value sub marked before.subvolumes) (apart n subvolume there) in
-      elim (eqb_tells sub n) [
+  apart : (n : ℕ) (subvolume : Subvolume) → value_at n more.others ≡ Some subvolume → sub ≢ n
+  apart n subvolume there same =
+      let wrong : ◌≡◌ {A = Option Subvolume} None (Some subvolume) =
+      sym more.unused ∙ ap (λ (m : ℕ). value_at m more.others) same ∙ there in absurd cc
+
+  -- what one of all names was named
+  named_before : (run : Element) → Contains (flat_map named_in all) run
+      → Contains (flat_map named_in before.subvolumes) run
+  named_before run has =
+      let found = by_number all up_all run has in
+      elim (eqb_tells sub found.0) [
         | inl (equal, same) ↦
-            let value = same_Some snap.source subvolume
-            (sym snap.there ∙ ap (λ (m : ℕ). value_at m before.subvolumes) same ∙ there) in (
-              marked,
-              past
-                  ∙ ap (λ (m : ℕ). value_at m (with_value sub marked before.subvolumes)) (sym same)
-                  ∙ value_at-with_same sub marked before.subvolumes,
-              ap named_by value,
-            )
+            let value = same_Some more.made found.1
+            (sym (value_at-with_same sub more.made more.others) ∙ ap (λ (n : ℕ). value_at n all) same ∙ found.2) in
+            more.named run (subst (λ (s : Subvolume). Contains (named_by s) run) (sym value) found.3)
         | inr (unequal, differ) ↦
-            (subvolume, past ∙ value_at-with_other sub n marked before.subvolumes differ ∙ there, refl)
+            let there = sym (value_at-with_other sub found.0 more.made more.others differ) ∙ found.2 in
+            subst (λ (list : List Element). Contains list run) more.names
+            (of_number more.others more.numbers run found.0 found.1 there found.3)
       ]
 
-  -- and what one names now was named
-  same_before : (n : ℕ) (now : Subvolume) → value_at n after.subvolumes ≡ Some now
-      → (m : ℕ) × (subvolume : Subvolume) × (value_at m before.subvolumes ≡ Some subvolume)
-      × (named_by subvolume ≡ named_by now)
-  unfolding marked made
-  same_before n now there =
-      let moved = sym (ap (λ (table : List (ℕ × Subvolume)). value_at n table) are) ∙ there in
-      elim (eqb_tells copy n) [
-        | inl (equal, same) ↦
-            let value = same_Some made now
-            (sym (value_at-with_same copy made (with_value sub marked before.subvolumes))
-            ∙ ap (λ (m : ℕ). value_at m (with_value copy made (with_value sub marked before.subvolumes))) same
-            ∙ moved) in
-            (sub, snap.source, snap.there, ap named_by value)
-        | inr (unequal, differ) ↦
-            let rest = sym (value_at-with_other copy n made (with_value sub marked before.subvolumes) differ) ∙ moved in
-            elim (eqb_tells sub n) [
-              | inl (alike, source) ↦
-                  let value = same_Some marked now
-                  (sym (value_at-with_same sub marked before.subvolumes)
-                  ∙ ap (λ (m : ℕ). value_at m (with_value sub marked before.subvolumes)) source ∙ rest) in
-                  (sub, snap.source, snap.there, ap named_by value)
-              | inr (unlike, apart) ↦
-                  (n, now, sym (value_at-with_other sub n marked before.subvolumes apart) ∙ rest, refl)
-            ]
-      ]
+  -- and what was named is
+  named_after : (run : Element) → Contains (flat_map named_in before.subvolumes) run
+      → Contains (flat_map named_in all) run
+  named_after run has =
+      let found = by_number more.others more.numbers run
+      (subst (λ (list : List Element). Contains list run) (sym more.names) has) in
+      let differ = apart found.0 found.1 found.2 in
+      of_number all up_all run found.0 found.1
+      (value_at-with_other sub found.0 more.made more.others differ ∙ found.2) found.3
+
+  present_after : present_extents after ≡ flat_map named_in all
+  present_after = present_is after ∙ ap (λ (table : List (ℕ × Subvolume)). flat_map named_in table) more.subvolumes
 
   pub extents-then : (run : Element) → Contains (present_extents after) run ↔ Contains (present_extents before) run
-  extents-then run = (back, forth) where
-    back : Contains (present_extents after) run → Contains (present_extents before) run
-    back has =
-        let found = by_number after.subvolumes numbers-then run
-        (subst (λ (list : List Element). Contains list run) (present_is after) has) in
-        let was = same_before found.0 found.1 found.2 in
-        subst (λ (list : List Element). Contains list run) (sym (present_is before))
-        (of_number before.subvolumes up run was.0 was.1 was.2
-        (subst (λ (list : List Element). Contains list run) (sym was.3) found.3))
-
-    forth : Contains (present_extents before) run → Contains (present_extents after) run
-    forth has =
-        let found = by_number before.subvolumes up run
-        (subst (λ (list : List Element). Contains list run) (present_is before) has) in
-        let now = same_after found.0 found.1 found.2 in
-        subst (λ (list : List Element). Contains list run) (sym (present_is after))
-        (of_number after.subvolumes numbers-then run found.0 now.0 now.1
-        (subst (λ (list : List Element). Contains list run) (sym now.2) found.3))
+  extents-then run = (
+    λ has. subst (λ (list : List Element). Contains list run) (sym (present_is before))
+        (named_before run (subst (λ (list : List Element). Contains list run) present_after has)),
+    λ has. subst (λ (list : List Element). Contains list run) (sym present_after)
+        (named_after run (subst (λ (list : List Element). Contains list run) (present_is before) has)),
+  )

@@ -1,5 +1,5 @@
 // A subvolume that begins as another one is.
-ghost use Rattle.std.specs.Prelude.{◌≡◌, ◌+◌, ◌<◌, ◌≤◌, ℕ, List, Option, Some, IfOk, OnOk, IsTrue, not};
+ghost use Rattle.std.specs.Prelude.{◌≡◌, ◌+◌, ◌<◌, ◌≤◌, ℕ, List, Some, IfOk, OnOk, IsTrue, not};
 ghost use Rattle.qg_device.specs.Cause.{HasCause};
 ghost use Rattle.qg_device.specs.History.{Event};
 ghost use Rattle.qg_image.specs.ItemMeaning.{is_subvolume_number};
@@ -12,6 +12,7 @@ ghost use Rattle.qg_tree_edits.specs.Editing.{IsEditable};
 ghost use Rattle.qg_tree_edits.specs.Rooting.{LeavesBe};
 ghost use Rattle.qg_heavier.specs.Heavier.{BookGetsHeavier, node_bytes};
 ghost use Rattle.qg_forest.specs.Standing.{HoldsState, tree_of};
+ghost use Rattle.qg_snap.specs.Beginning.{BookGoesOn};
 
 use crate::copying::copy_node;
 use crate::sharing::{give_all, keyed_children, misfit_at};
@@ -59,7 +60,7 @@ pub fn snapshot<D: Disk, L: Ledger>(
     ensures tree { IfOk result (λ tree. (tree ≡ record source.now { address = tree.address; owner = copy })
         × IsTrue (is_free_slot land.old.space tree.address)) }
     ensures slots { OnOk result (free_slots land.old.space ≤ 1 + free_slots land.new.space) }
-    ensures book { OnOk result ((book.new.tree ≡ book.old.tree) × (book.new.nodesize ≡ book.old.nodesize) × (book.new.next ≡ book.old.next)) }
+    ensures book { OnOk result (BookGoesOn book.old book.new) }
     ensures heavier { OnOk result (BookGetsHeavier book.old book.new (node_bytes + capacity land.old.space.sizes.nodesize)) }
     ensures rests { LeavesBe land.old land.new (D.history disk.old) (D.history disk.new) (D.size disk.old) (D.size disk.new)
         source.now.next }

@@ -1,7 +1,9 @@
 -- What the present state has of an image: how many slots, and how many bytes of runs. Addresses and lengths are in bytes.
-use Rattle.std.proofs.Common.{◌≡◌, ℕ, ◌+◌, ◌*◌, ◌≤◌, Bool, true, false, List, [], ◌∷◌, map, length, get_or, refl, sym, ap, subst, ◌∙◌, arith, inl, inr, cond}
-use Rattle.std.specs.List.{Contains, count_by, range_with_len, sum_by}
+use Rattle.std.proofs.Common.{◌≡◌, ℕ, ◌+◌, ◌*◌, ◌<◌, ◌≤◌, Bool, true, false, List, [], ◌∷◌, ◌++◌, map, length, get_or, take, refl, sym, ap, subst, ◌∙◌, arith, inl, inr, cond}
+use Rattle.std.specs.List.{Contains, count_by, filter, range_with_len, sum_by}
 use Rattle.std.proofs.lemmas.Bool.{cases_Bool}
+use Rattle.std.proofs.lemmas.List.{append-nil, map-append}
+use Rattle.std.proofs.lemmas.List.Elements.{filter_more}
 use Rattle.std.proofs.lemmas.List.FromFn.{length-map-range_with_len}
 use Rattle.std.proofs.lemmas.List.Sums.{count_by-le-length, sum_by-cons}
 use Rattle.qg_super.specs.declared.sizes.Sizes.{Sizes}
@@ -105,3 +107,31 @@ bytes_from sizes from (run ∷ runs) within apart =
 -- so they have no more than the data area
 pub bytes_within : (sizes : Sizes) (runs : List Run) → LieApart sizes data_begin runs → sum_by bytes_if_present runs ≤ sizes.sectors * sector
 bytes_within sizes runs apart = omega (arith, bytes_from sizes data_begin runs (omega arith) apart)
+
+-- ---- the runs of the present state, one after the other
+
+module _ (runs : List Run) (i : ℕ) (run : Run) (now new : List Element) (inside : i < length runs)
+    (is : run ≡ get_or runs i run) where
+  one_more : filter (λ (r : Run). r.present) (take (i + 1) runs)
+      ≡ filter (λ (r : Run). r.present) (take i runs) ++ cond run.present (run ∷ []) []
+  one_more =
+      filter_more (λ (r : Run). r.present) runs i run inside
+      ∙ ap (λ (r : Run). filter (λ (one : Run). one.present) (take i runs) ++ cond r.present (r ∷ []) []) (sym is)
+
+  pub present-more : run.present ≡ true → now ≡ present_of (take i runs) → new ≡ now ++ run.extent ∷ []
+      → new ≡ present_of (take (i + 1) runs)
+  present-more there so_far put =
+      put ∙ ap (λ (list : List Element). list ++ run.extent ∷ []) so_far
+      ∙ sym (map-append (λ (r : Run). r.extent) (filter (λ (r : Run). r.present) (take i runs)) (run ∷ []))
+      ∙ ap (λ (b : Bool). map (λ (r : Run). r.extent)
+      (filter (λ (r : Run). r.present) (take i runs) ++ cond b (run ∷ []) [])) (sym there)
+      ∙ ap (map (λ (r : Run). r.extent)) (sym one_more)
+
+  pub present-less : run.present ≡ false → now ≡ present_of (take i runs) → new ≡ now
+      → new ≡ present_of (take (i + 1) runs)
+  present-less none so_far same =
+      same ∙ so_far
+      ∙ ap (map (λ (r : Run). r.extent)) (sym (append-nil (filter (λ (r : Run). r.present) (take i runs))))
+      ∙ ap (λ (b : Bool). map (λ (r : Run). r.extent)
+      (filter (λ (r : Run). r.present) (take i runs) ++ cond b (run ∷ []) [])) (sym none)
+      ∙ ap (map (λ (r : Run). r.extent)) (sym one_more)

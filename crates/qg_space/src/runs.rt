@@ -11,7 +11,7 @@ ghost use Rattle.qg_space.specs.Holding.{AscendApart, is_clear, first_clear, is_
 ghost use Rattle.qg_space.specs.Lying.{LieApart, extents_of, present_of, held_of, given_back, is_used, with_held, run_of_both, end_of_last, IsFront, SameBefore};
 
 use crate::run::Run;
-use qg_num::Address;
+use qg_num::{Address, Sequence};
 use qg_state::Element;
 use qg_super::{DATA_BEGIN, Sizes};
 use std::alloc::{AllocError, Global};
@@ -243,6 +243,19 @@ pub(crate) fn present_bytes(sizes: &Sizes, runs: &[Run]) -> u64
         }
     }
     bytes
+}
+
+/// The runs that the present state holds.
+pub(crate) fn present_runs(alloc: Global, runs: &[Run]) -> Result<Sequence<Element>, AllocError>
+    ensures { IfOk result (λ list. list ≡ present_of runs.now) }
+{
+    let mut list = Sequence::new(alloc);
+    for run in runs {
+        if run.is_present() {
+            list.push(run.extent())?;
+        }
+    }
+    Ok(list)
 }
 
 /// Drops the runs that the present state doesn't hold, and has the last commit hold the others.

@@ -8,8 +8,8 @@ ghost use Rattle.qg_space.specs.Holding.{nothing_held, AscendApart, is_free_run,
 
 use crate::run::Run;
 use crate::runs::{
-    commit_runs, first_gap, has_run, packed_runs, present_bytes, put_run, runs_of_both,
-    take_out_run, take_out_runs,
+    commit_runs, first_gap, has_run, packed_runs, present_bytes, present_runs, put_run,
+    runs_of_both, take_out_run, take_out_runs,
 };
 use crate::slots::{
     Slot, address_of, commit_slots, count_present, count_unused, first_unused, first_unused_slots,
@@ -218,6 +218,13 @@ impl Space {
         ensures apart { AscendApart self.now.sizes data_begin self.now.runs }
     {
         present_bytes(&self.sizes, &self.runs)
+    }
+
+    /// The runs that the present state has, ascending.
+    pub fn run_list(&self, alloc: Global) -> Result<Sequence<Element>, NoMemory>
+        ensures { IfOk result (λ runs. runs ≡ self.now.runs) }
+    {
+        Ok(present_runs(alloc, &self.runs)?)
     }
 
     /// The first so many free slots, ascending; fewer exactly where there are not so many.

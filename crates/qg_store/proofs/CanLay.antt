@@ -1,38 +1,51 @@
 -- The trees of a plan can be laid out. Weights are in bytes.
-use Rattle.std.proofs.Common.{◌≡◌, ℕ, ◌+◌, ◌-◌, ◌*◌, ◌/◌, ◌<◌, ◌≤◌, Bool, true, false, List, [], ◌∷◌, length, Some}
-use Rattle.std.proofs.Common.{None, inl, inr, sym, ap, subst, ◌∙◌, arith, slice_index_or}
-use Rattle.std.specs.Prelude.{◌==◌, ◌&&◌, if◌then◌else◌}
+use Rattle.std.proofs.Common.{◌≡◌, ℕ, ◌+◌, ◌-◌, ◌*◌, ◌/◌, ◌<◌, ◌≤◌, Bool, true, false, List, [], ◌∷◌, length, map}
+use Rattle.std.proofs.Common.{Some, inl, inr, refl, sym, ap, subst, ◌∙◌, arith}
+use Rattle.std.specs.Prelude.{◌==◌, ◌&&◌, ◌||◌, All, IsTrue, if◌then◌else◌}
 use Rattle.std.specs.BTreeMap.{is_at}
-use Rattle.std.specs.List.{AllByRecursion}
+use Rattle.std.specs.List.{AllByRecursion, Contains, list_all, list_any}
+use Rattle.std.specs.List.Sorted.{IsStrictlyIncreasing}
 use Rattle.std.specs.Map.{lookup}
 use Rattle.std.specs.Ordering.{nat_cmp}
 use Rattle.std.proofs.Math.Nat.{div-mul-le_self}
 use Rattle.std.proofs.lemmas.Bool.{cases_Bool, cond-false, cond-true}
-use Rattle.std.proofs.lemmas.List.Elements.{recursion_from_All}
+use Rattle.std.proofs.lemmas.List.{length-map}
+use Rattle.std.proofs.lemmas.List.Elements.{All-cons, All-contains, All-nil, recursion_from_All}
+use Rattle.std.proofs.lemmas.List.Sorted.{Contains-permutation, IsPermutation-sym}
 use Rattle.std.proofs.lemmas.Nat.{le-div}
+use Rattle.qg_num.specs.declared.counters.Counters.{Counters}
 use Rattle.qg_node.specs.NodeText.{IsNodeSize}
 use Rattle.qg_node.specs.Nodes.{items_bytes}
 use Rattle.qg_items.specs.declared.root.RootItem.{RootItem}
 use Rattle.qg_items.specs.declared.tree.TheConstants.{TOP_LEVEL}
 use Rattle.qg_super.specs.Places.{capacity}
-use Rattle.qg_image.specs.Table.{keys_of}
+use Rattle.qg_image.specs.ItemMeaning.{is_subvolume_number}
+use Rattle.qg_image.specs.Table.{has_key, keys_of, value_at}
 use Rattle.qg_state.specs.declared.quota.Group.{Group}
 use Rattle.qg_state.specs.declared.quota.Quota.{Quota}
 use Rattle.qg_state.specs.Need.{nodes_filled}
+use Rattle.qg_state.specs.Stage.{serves_groups, serves_subvolumes}
+use Rattle.qg_state.proofs.Contained.{contains_here, contains_later}
+use Rattle.qg_verdict.specs.Verdict.{is_group_number}
+use Rattle.qg_reach.proofs.Members.{contains_map, one_mapped}
+use Rattle.qg_home.proofs.Reaching.{value_of_entry}
 use Rattle.qg_contents.specs.Writable.{IsRootBy}
 use Rattle.qg_refs.specs.declared.kept.What.{What}
 use Rattle.qg_refs.specs.declared.kept.Kept.{Kept as Reference}
 use Rattle.qg_refs.specs.Book.{what_in}
 use Rattle.qg_extents.specs.Written.{items_of_book}
-use Rattle.qg_other_trees.specs.Telling.{one_group}
-use Rattle.qg_other_trees.specs.Trees.{AreEnough, AreGroups, AreSubvolumes, nodes_of_trees, quota_tree_bytes}
-use Rattle.qg_other_trees.specs.Trees.{root_tree_bytes}
-use Rattle.qg_other_trees.proofs.One.{one_named, one_told}
-use Rattle.qg_fs_commit.specs.Committing.{IsRootNow}
+use Rattle.qg_descent.specs.Tree.{Root}
+use Rattle.qg_fs_tree.specs.Standing.{trees_of}
+use Rattle.qg_check.specs.Editable.{AreGroups, AreSubvolumes, is_plain_group}
+use Rattle.qg_other_trees.specs.Trees.{AreEnough, nodes_of_trees}
+use Rattle.qg_other_trees.specs.Trees.{quota_tree_bytes, root_tree_bytes}
+use Rattle.qg_fs_laws.specs.Keeping.{group_after, quota_after}
+use Rattle.qg_fs_laws.specs.Committing.{IsRootNow}
 use Rattle.qg_store.specs.declared.kept.Kept.{Kept}
 use Rattle.qg_store.specs.declared.planning.Plan.{Plan}
-use Rattle.qg_store.specs.Committing.{IsPlanOf, counters_now, group_now}
-use Rattle.qg_store.specs.Keeping.{IsFitted, book_weight}
+use Rattle.qg_store.specs.Committing.{AreRootsOf, IsPlanOf}
+use Rattle.qg_store.specs.Keeping.{IsFitted, book_weight, quota_weight, root_weight}
+use Rattle.qg_store.specs.Planning.{IsPlanSo}
 use Rattle.qg_store.proofs.Looked.{node-size}
 
 div-more : (a b k : ℕ) → 0 < k → a ≤ b → a / k ≤ b / k
@@ -57,7 +70,7 @@ stamp-by false before generation early = omega arith
 abbrev IsEarly : ℕ → ℕ × Reference → Type 0
 IsEarly next entry = entry.1.what.generation ≤ next
 
-early-known : (next : ℕ) (what : What) (test : ℕ → Bool) (table : List (ℕ × Reference))
+pub early-known : (next : ℕ) (what : What) (test : ℕ → Bool) (table : List (ℕ × Reference))
     → AllByRecursion (IsEarly next) table → what_in (lookup test table) ≡ Some what → what.generation ≤ next
 early-known next what test [] all is = absurd cc
 early-known next what test (entry ∷ table) all is = elim (cases_Bool (test entry.0)) [
@@ -72,105 +85,216 @@ early-known next what test (entry ∷ table) all is = elim (cases_Bool (test ent
       early-known next what test table all.1 (ap what_in (sym later) ∙ is)
 ]
 
--- a leaf holds the items of a root tree with one subvolume, and those of a quota tree with one group
-one-root_node : (nodesize : ℕ) → IsNodeSize nodesize → nodes_filled nodesize (root_tree_bytes 1) ≡ 1
-one-root_node nodesize (inl is) = ap (λ (n : ℕ). nodes_filled n (root_tree_bytes 1)) is
-one-root_node nodesize (inr is) = ap (λ (n : ℕ). nodes_filled n (root_tree_bytes 1)) is
+-- ---- lists
 
-one-quota_node : (nodesize : ℕ) → IsNodeSize nodesize → nodes_filled nodesize (quota_tree_bytes 1) ≡ 1
-one-quota_node nodesize (inl is) = ap (λ (n : ℕ). nodes_filled n (quota_tree_bytes 1)) is
-one-quota_node nodesize (inr is) = ap (λ (n : ℕ). nodes_filled n (quota_tree_bytes 1)) is
+pub All-from-contains : {A : Type 0} (P : A → Type 0) (xs : List A) → ((x : A) → Contains xs x → P x) → All P xs
+All-from-contains P [] each = All-nil P
+All-from-contains P (x ∷ xs) each =
+    All-cons P x xs (each x (contains_here x xs))
+    (All-from-contains P xs (λ y has. each y (contains_later x xs y has)))
 
-three-trees : (book root quota given need : ℕ) → root ≡ 1 → quota ≡ 1 → book ≤ given → 5 * given + 13 ≤ need
-    → 5 * (book + root + quota) + 3 ≤ need
-three-trees book root quota given need one other less enough = omega (arith, one, other, less, enough)
+-- whether there is a number is told by the numbers
+pub key_by : {A : Type 0} (n : ℕ) (table : List (ℕ × A)) → has_key n table ≡ list_any (λ m. m == n) (keys_of table)
+key_by n [] = refl
+key_by {A} n (entry ∷ table) = from (key_by n table) (entry.0 == n) refl where
+  from : has_key n table ≡ list_any (λ m. m == n) (keys_of table) → (b : Bool) → (entry.0 == n) ≡ b
+      → has_key n (entry ∷ table) ≡ list_any (λ m. m == n) (keys_of (entry ∷ table))
+  from rest true is = rw is refl
+  from rest false is = rw is rest
 
--- the ROOT_ITEM of a tree
-pub of-root : (kept : Kept) (root : RootItem) → IsRootNow kept.fs kept.fs.tree kept.root.last_snapshot root
-    → (root.refs ≡ 1) × (root.last_snapshot ≡ kept.root.last_snapshot)
-of-root kept root now = (
-  ap (λ (r : RootItem). r.refs) now.root_is,
-  ap (λ (r : RootItem). r.last_snapshot) now.root_is,
-)
+pub all_by : {A : Type 0} (table : List (ℕ × A))
+    → list_all (λ entry. entry.0 == TOP_LEVEL) table ≡ list_all (λ n. n == TOP_LEVEL) (keys_of table)
+all_by [] = refl
+all_by (entry ∷ table) = ap (λ (b : Bool). (entry.0 == TOP_LEVEL) && b) (all_by table)
 
-pub stamp-early : (kept : Kept) → IsFitted kept → (group_now kept).stamp ≤ kept.fs.tree.next
-stamp-early kept fits =
-    let old = fits.stamp in
-    let next = fits.next in
-    stamp-by ((kept.group.counters.rfer == (counters_now kept).rfer)
-    && (kept.group.counters.excl == (counters_now kept).excl)) kept.group.stamp kept.fs.tree.next
-    (omega (arith, old, next))
+three-trees : (book root quota given more most need : ℕ) → book ≤ given → root ≡ more → quota ≡ most
+    → 5 * (given + more + most) + 3 ≤ need → 5 * (book + root + quota) + 3 ≤ need
+three-trees book root quota given more most need less same other enough = omega (arith, less, same, other, enough)
 
--- the only group has no limit
-pub counted_one : (quota : Quota) (group : Group) → quota ≡ record { groups = (TOP_LEVEL, group) ∷ []; pairs = [] }
-    → group.max_rfer ≡ None → group.max_excl ≡ None → quota ≡ one_group group.counters group.stamp
-counted_one quota group is rfer excl =
-    let unlimited : group ≡ record group { max_rfer = None; max_excl = None } =
-    λ i. record group { max_rfer = rfer i; max_excl = excl i } in
-    is
-    ∙ ap (λ (one : Group). let alone : Quota = record { groups = (TOP_LEVEL, one) ∷ []; pairs = [] } in alone)
-    unlimited
+-- ---- the ROOT_ITEMs
 
--- and it is the first of the groups
-pub group-only : (groups : List (ℕ × Group)) (first : ℕ × Group) (quota : Quota) (group : Group) → groups ≡ quota.groups
-    → quota ≡ record { groups = (TOP_LEVEL, group) ∷ []; pairs = [] } → (slice_index_or groups 0 first).1 ≡ group
-group-only groups first quota group are counted =
-    ap (λ (list : List (ℕ × Group)). (slice_index_or list 0 first).1) (are ∙ ap (λ (q : Quota). q.groups) counted)
-
-module _ (kept : Kept) (plan : Plan) (fits : IsFitted kept) (is : IsPlanOf kept plan) where
-  -- the root's generation is one that is known
-  made-early : plan.root.generation ≤ kept.fs.tree.next
-  made-early =
-      subst (λ (root : RootItem). root.generation ≤ kept.fs.tree.next) (sym is.root.root_is)
-      (early-known kept.fs.tree.next is.root.what (is_at (nat_cmp kept.fs.tree.address)) kept.fs.refs.refs
-      (recursion_from_All (IsEarly kept.fs.tree.next) kept.fs.refs.refs is.earlier) is.root.known)
-
-  root-early : IsRootBy kept.fs.tree.next plan.root
-  root-early = record {
-    made = made-early;
-    copied = let same = (of-root kept plan.root is.root).1 in
-        let old = fits.copied in
-        let next = fits.next in
-        omega (arith, same, old, next);
+module _ (kept : Kept) (fits : IsFitted kept) (roots : List (ℕ × RootItem)) (are : AreRootsOf kept roots)
+    (known : All (λ entry. entry.1.what.generation ≤ kept.fs.tree.next) kept.fs.refs.refs) where
+  -- a root's generation is one that is known, and its snapshot one that is told
+  root_by : (tree : Root) (snapshot : ℕ) (root : RootItem) → IsRootNow kept.fs tree snapshot root
+      → snapshot ≤ kept.fs.tree.next → IsRootBy kept.fs.tree.next root
+  root_by tree snapshot root now early = record {
+    made = subst (λ (r : RootItem). r.generation ≤ kept.fs.tree.next) (sym now.root_is)
+        (early-known kept.fs.tree.next now.what (is_at (nat_cmp tree.address)) kept.fs.refs.refs
+        (recursion_from_All (IsEarly kept.fs.tree.next) kept.fs.refs.refs known) now.known);
+    copied = subst (λ (r : RootItem). r.last_snapshot ≤ kept.fs.tree.next) (sym now.root_is) early;
   }
 
-  -- the subvolumes and the groups that the plan tells are one
-  pub plan-named : AreSubvolumes kept.fs.tree.next plan.roots
-  plan-named =
-      subst (λ (roots : List (ℕ × RootItem)). AreSubvolumes kept.fs.tree.next roots) (sym is.roots)
-      (one_named kept.fs.tree.next plan.root (of-root kept plan.root is.root).0 root-early)
+  ascending : IsStrictlyIncreasing (keys_of roots)
+  ascending = subst (λ (ns : List ℕ). IsStrictlyIncreasing ns) (sym are.numbers) fits.subvolumes.ascending
 
-  pub plan-quota : plan.quota ≡ one_group (group_now kept).counters (group_now kept).stamp
-  plan-quota = counted_one plan.quota (group_now kept) is.quota fits.no_max_rfer fits.no_max_excl
+  -- the snapshot of a ROOT_ITEM's number
+  snapshot_at : (entry : ℕ × RootItem) → Contains roots entry
+      → (snapshot : ℕ × ℕ) × Contains kept.snapshots snapshot × (snapshot.0 ≡ entry.0)
+  snapshot_at entry has =
+      one_mapped (λ (e : ℕ × ℕ). e.0) kept.snapshots entry.0
+      (subst (λ (ns : List ℕ). Contains ns entry.0) are.numbers
+      (contains_map (λ (e : ℕ × RootItem). e.0) roots entry has))
+
+  -- the tree of a ROOT_ITEM's number
+  tree_at : (entry : ℕ × RootItem) → Contains roots entry
+      → (tree : Root) × Contains (trees_of kept.fs) tree × (tree.owner ≡ entry.0)
+  tree_at entry has =
+      let among = subst (λ (ns : List ℕ). Contains ns entry.0) are.numbers
+      (contains_map (λ (e : ℕ × RootItem). e.0) roots entry has) in
+      one_mapped (λ (t : Root). t.owner) (trees_of kept.fs) entry.0
+      (Contains-permutation (keys_of kept.snapshots) (map (λ (t : Root). t.owner) (trees_of kept.fs)) entry.0
+      (IsPermutation-sym (map (λ (t : Root). t.owner) (trees_of kept.fs)) (keys_of kept.snapshots) fits.trees) among)
+
+  pub root-now : (entry : ℕ × RootItem) → Contains roots entry
+      → (tree : Root) × (snapshot : ℕ × ℕ) × Contains kept.snapshots snapshot × (snapshot.0 ≡ entry.0)
+      × IsRootNow kept.fs tree snapshot.1 entry.1
+  root-now entry has =
+      let tree = tree_at entry has in
+      let snapshot = snapshot_at entry has in
+      let value = value_of_entry kept.snapshots snapshot.0 fits.subvolumes.ascending snapshot.1 in
+      let there = ap (λ (n : ℕ). value_at n kept.snapshots) (tree.2 ∙ sym snapshot.2) ∙ value in
+      let named = ap (λ (n : ℕ). value_at n roots) tree.2 ∙ value_of_entry roots entry ascending has in
+      (tree.0, snapshot.0, snapshot.1, snapshot.2, are.each tree.0 snapshot.0.1 entry.1 tree.1 there named)
+
+  -- each is of no later generation, and its tree has one reference
+  pub each-by : (entry : ℕ × RootItem) → Contains roots entry
+      → (entry.1.refs ≡ 1) × IsRootBy kept.fs.tree.next entry.1
+  each-by entry has =
+      let now = root-now entry has in
+      let early = All-contains (λ (e : ℕ × ℕ). e.1 ≤ kept.fs.tree.next) kept.snapshots now.1 fits.subvolumes.copied
+      now.2 in
+      (ap (λ (r : RootItem). r.refs) now.4.root_is, root_by now.0 now.1.1 entry.1 now.4 early)
+
+  same_key : (n : ℕ) → has_key n roots ≡ has_key n kept.snapshots
+  same_key n = key_by n roots ∙ ap (λ (ns : List ℕ). list_any (λ m. m == n) ns) are.numbers ∙ sym (key_by n kept.snapshots)
+
+  -- the root tree can name them
+  pub named-subvolumes : AreSubvolumes kept.fs.tree.next roots
+  named-subvolumes = record {
+    few = let many = ap (λ (ns : List ℕ). length ns) are.numbers in
+        let mine = length-map roots (λ (e : ℕ × RootItem). e.0) in
+        let theirs = length-map kept.snapshots (λ (e : ℕ × ℕ). e.0) in
+        let few = fits.subvolumes.few in
+        omega (arith, many, mine, theirs, few);
+    ascending = ascending;
+    numbers = All-from-contains (λ (e : ℕ × RootItem). IsTrue (is_subvolume_number e.0)) roots
+        (λ entry has. let snapshot = snapshot_at entry has in
+        subst (λ (n : ℕ). IsTrue (is_subvolume_number n)) snapshot.2
+        (All-contains (λ (e : ℕ × ℕ). IsTrue (is_subvolume_number e.0)) kept.snapshots snapshot.0
+        fits.subvolumes.numbers snapshot.1));
+    top_level = same_key TOP_LEVEL ∙ fits.subvolumes.top_level;
+    counted = All-from-contains (λ (e : ℕ × RootItem). e.1.refs ≡ 1) roots (λ entry has. (each-by entry has).0);
+    by = All-from-contains (λ (e : ℕ × RootItem). IsRootBy kept.fs.tree.next e.1) roots
+        (λ entry has. (each-by entry has).1);
+    served = ap (λ (b : Bool). serves_subvolumes || b)
+        (all_by roots ∙ ap (λ (ns : List ℕ). list_all (λ n. n == TOP_LEVEL) ns) are.numbers
+        ∙ sym (all_by kept.snapshots)) ∙ fits.subvolumes.served;
+  }
+
+-- ---- the groups
+
+module _ (generation : ℕ) (counters : ℕ → Counters) (subvolumes : List ℕ) (quota : Quota)
+    (groups : AreGroups generation subvolumes quota) where
+  keys_after : (table : List (ℕ × Group)) → keys_of (map (group_after generation counters) table) ≡ keys_of table
+  keys_after [] = refl
+  keys_after (entry ∷ table) = ap (λ (ns : List ℕ). entry.0 ∷ ns) (keys_after table)
+
+  pub keys-then : keys_of (quota_after generation counters quota).groups ≡ keys_of quota.groups
+  keys-then = keys_after quota.groups
+
+  before : (entry : ℕ × Group) → Contains (quota_after generation counters quota).groups entry
+      → (old : ℕ × Group) × Contains quota.groups old × (group_after generation counters old ≡ entry)
+  before entry has = one_mapped (group_after generation counters) quota.groups entry has
+
+  plain_after : (table : List (ℕ × Group))
+      → list_all is_plain_group (map (group_after generation counters) table) ≡ list_all is_plain_group table
+  plain_after [] = refl
+  plain_after (entry ∷ table) = ap (λ (b : Bool). is_plain_group entry && b) (plain_after table)
+
+  -- the quota tree can tell them with other counters
+  pub told-groups : AreGroups generation subvolumes (quota_after generation counters quota)
+  told-groups = record {
+    few = let many = length-map quota.groups (group_after generation counters) in
+        let few = groups.few in
+        omega (arith, many, few);
+    ascending = subst (λ (ns : List ℕ). IsStrictlyIncreasing ns) (sym keys-then) groups.ascending;
+    numbers = All-from-contains (λ (e : ℕ × Group). IsTrue (is_group_number e.0))
+        (quota_after generation counters quota).groups
+        (λ entry has. let old = before entry has in
+        subst (λ (n : ℕ). IsTrue (is_group_number n)) (ap (λ (e : ℕ × Group). e.0) old.2)
+        (All-contains (λ (e : ℕ × Group). IsTrue (is_group_number e.0)) quota.groups old.0 groups.numbers old.1));
+    own = All-from-contains (λ (sub : ℕ). IsTrue (has_key sub (quota_after generation counters quota).groups)) subvolumes
+        (λ sub has.
+        key_by sub (quota_after generation counters quota).groups
+        ∙ ap (λ (ns : List ℕ). list_any (λ m. m == sub) ns) keys-then ∙ sym (key_by sub quota.groups)
+        ∙ All-contains (λ (s : ℕ). IsTrue (has_key s quota.groups)) subvolumes sub groups.own has);
+    stamped = All-from-contains (λ (e : ℕ × Group). e.1.stamp ≤ generation)
+        (quota_after generation counters quota).groups
+        (λ entry has. let old = before entry has in
+        subst (λ (e : ℕ × Group). e.1.stamp ≤ generation) old.2
+        (stamp-by ((old.0.1.counters.rfer == (counters old.0.0).rfer) && (old.0.1.counters.excl == (counters old.0.0).excl))
+        old.0.1.stamp generation
+        (All-contains (λ (e : ℕ × Group). e.1.stamp ≤ generation) quota.groups old.0 groups.stamped old.1)));
+    alone = groups.alone;
+    served = ap (λ (b : Bool). serves_groups || b) (plain_after quota.groups) ∙ groups.served;
+  }
+
+-- and so it can in a later generation
+pub groups-later : (generation next : ℕ) (subvolumes : List ℕ) (quota : Quota) → generation ≤ next
+    → AreGroups generation subvolumes quota → AreGroups next subvolumes quota
+groups-later generation next subvolumes quota later groups = record {
+  few = groups.few;
+  ascending = groups.ascending;
+  numbers = groups.numbers;
+  own = groups.own;
+  stamped = λ k d below. let old = groups.stamped k d below in omega (arith, old, later);
+  alone = groups.alone;
+  served = groups.served;
+}
+
+-- ---- the plan
+
+module _ (kept : Kept) (plan : Plan) (fits : IsFitted kept) (so : IsPlanSo kept plan) where
+  is : IsPlanOf kept so.counters plan
+  is = so.is
+
+  pub plan-named : AreSubvolumes kept.fs.tree.next plan.roots
+  plan-named = named-subvolumes kept fits plan.roots is.roots is.earlier
 
   pub plan-told : AreGroups kept.fs.tree.next (keys_of plan.roots) plan.quota
   plan-told =
-      subst (λ (roots : List (ℕ × RootItem)). AreGroups kept.fs.tree.next (keys_of roots) plan.quota) (sym is.roots)
-      (subst (λ (quota : Quota). AreGroups kept.fs.tree.next (TOP_LEVEL ∷ []) quota) (sym plan-quota)
-      (one_told kept.fs.tree.next (group_now kept).counters (group_now kept).stamp (stamp-early kept fits)))
+      subst (λ (numbers : List ℕ). AreGroups kept.fs.tree.next numbers plan.quota) (sym is.roots.numbers)
+      (subst (λ (quota : Quota). AreGroups kept.fs.tree.next (keys_of kept.snapshots) quota) (sym is.quota)
+      (told-groups kept.fs.tree.next so.counters (keys_of kept.snapshots) kept.quota fits.groups))
 
-  root-room : nodes_filled kept.superblock.nodesize (root_tree_bytes (length plan.roots)) ≡ 1
-  root-room =
-      ap (λ (roots : List (ℕ × RootItem)). nodes_filled kept.superblock.nodesize (root_tree_bytes (length roots)))
-      is.roots
-      ∙ one-root_node kept.superblock.nodesize (node-size kept fits)
+  root_count : length plan.roots ≡ length kept.snapshots
+  root_count =
+      let many = ap (λ (ns : List ℕ). length ns) is.roots.numbers in
+      let mine = length-map plan.roots (λ (e : ℕ × RootItem). e.0) in
+      let theirs = length-map kept.snapshots (λ (e : ℕ × ℕ). e.0) in
+      omega (arith, many, mine, theirs)
 
-  quota-room : nodes_filled kept.superblock.nodesize (quota_tree_bytes (length plan.quota.groups)) ≡ 1
-  quota-room =
-      ap (λ (quota : Quota). nodes_filled kept.superblock.nodesize (quota_tree_bytes (length quota.groups))) plan-quota
-      ∙ one-quota_node kept.superblock.nodesize (node-size kept fits)
+  group_count : length plan.quota.groups ≡ length kept.quota.groups
+  group_count =
+      ap (λ (quota : Quota). length quota.groups) is.quota
+      ∙ length-map kept.quota.groups (group_after kept.fs.tree.next so.counters)
 
   pub room : items_bytes (items_of_book kept.fs.refs.refs) ≤ book_weight kept
       → AreEnough (5 * nodes_of_trees kept.superblock.nodesize kept.fs.refs.refs plan.roots plan.quota + 3) plan.slots
   room light =
-      let fewer = fewer-filled kept.superblock.nodesize (items_bytes (items_of_book kept.fs.refs.refs))
-      (book_weight kept) (node-size kept fits) light in
+      let nodesize = kept.superblock.nodesize in
+      let fewer = fewer-filled nodesize (items_bytes (items_of_book kept.fs.refs.refs)) (book_weight kept)
+      (node-size kept fits) light in
+      let roots = ap (λ (n : ℕ). nodes_filled nodesize (root_tree_bytes n)) root_count in
+      let groups = ap (λ (n : ℕ). nodes_filled nodesize (quota_tree_bytes n)) group_count in
+      let enough = is.enough in
       record {
         apart = is.free.apart;
         few = is.few;
-        enough = three-trees (nodes_filled kept.superblock.nodesize (items_bytes (items_of_book kept.fs.refs.refs)))
-            (nodes_filled kept.superblock.nodesize (root_tree_bytes (length plan.roots)))
-            (nodes_filled kept.superblock.nodesize (quota_tree_bytes (length plan.quota.groups)))
-            (nodes_filled kept.superblock.nodesize (book_weight kept)) (length plan.slots) root-room quota-room fewer
-            is.enough;
+        enough = three-trees (nodes_filled nodesize (items_bytes (items_of_book kept.fs.refs.refs)))
+            (nodes_filled nodesize (root_tree_bytes (length plan.roots)))
+            (nodes_filled nodesize (quota_tree_bytes (length plan.quota.groups)))
+            (nodes_filled nodesize (book_weight kept)) (nodes_filled nodesize (root_weight kept))
+            (nodes_filled nodesize (quota_weight kept)) (length plan.slots) fewer roots groups enough;
       }

@@ -23,13 +23,15 @@ use Rattle.qg_weighed.specs.Weight.{weight_of}
 use Rattle.qg_weighed.proofs.Law.{no-less}
 use Rattle.qg_other_trees.specs.declared.laying.OtherTrees.{OtherTrees}
 use Rattle.qg_other_trees.specs.declared.laying.Told.{Told}
-use Rattle.qg_other_trees.specs.Trees.{AreEnough, AreGroups, AreSubvolumes, CanBeLaid, nodes_of_trees}
+use Rattle.qg_check.specs.Editable.{AreGroups, AreSubvolumes}
+use Rattle.qg_other_trees.specs.Trees.{AreEnough, CanBeLaid, nodes_of_trees}
 use Rattle.qg_other_trees.proofs.Weight.{records_weigh}
 use Rattle.qg_tree_commit.specs.Writing.{AreWritable, IsLaying, StopsLaying}
 use Rattle.qg_store.specs.declared.kept.Kept.{Kept}
 use Rattle.qg_store.specs.declared.planning.Plan.{Plan}
-use Rattle.qg_store.specs.Committing.{IsPlanOf, LaysSoFar}
+use Rattle.qg_store.specs.Committing.{LaysSoFar}
 use Rattle.qg_store.specs.Keeping.{IsFitted}
+use Rattle.qg_store.specs.Planning.{IsPlanSo}
 use Rattle.qg_store.proofs.CanLay.{plan-named, plan-told, room}
 use Rattle.qg_store.proofs.Planned.{slots-lie}
 
@@ -75,13 +77,13 @@ can-be-written kept fits sizes is =
     }
 
 -- and the plan's slots are the image's
-pub slots-there : (kept : Kept) (plan : Plan) → IsFitted kept → IsPlanOf kept plan → (sizes : Sizes) (slots : List ℕ)
+pub slots-there : (kept : Kept) (plan : Plan) → IsFitted kept → IsPlanSo kept plan → (sizes : Sizes) (slots : List ℕ)
     → sizes ≡ sizes_of kept.superblock → slots ≡ plan.slots → All (λ slot. IsTrue (is_slot sizes slot)) slots
 slots-there kept plan fits is sizes slots same are =
     subst (λ (list : List ℕ). All (λ slot. IsTrue (is_slot sizes slot)) list) (sym are)
-    (slots-lie kept.fs.land.space sizes plan.slots (fits.sizes ∙ sym same) is.free)
+    (slots-lie kept.fs.land.space sizes plan.slots (fits.sizes ∙ sym same) is.is.free)
 
-module _ (kept : Kept) (plan : Plan) (fits : IsFitted kept) (is : IsPlanOf kept plan) where
+module _ (kept : Kept) (plan : Plan) (fits : IsFitted kept) (is : IsPlanSo kept plan) where
   module _ (sizes : Sizes) (next : ℕ) (told : Told) (slots : List ℕ)
       (tells : TellsPlan kept plan sizes next told slots) where
     named-by : AreSubvolumes next told.roots.now
@@ -98,16 +100,16 @@ module _ (kept : Kept) (plan : Plan) (fits : IsFitted kept) (is : IsPlanOf kept 
     knows-by : KnowsBy next told.book.now
     knows-by =
         subst (λ (book : List (ℕ × Reference)). KnowsBy next book) (sym tells.book)
-        (subst (λ (generation : ℕ). KnowsBy generation kept.fs.refs.refs) (sym tells.next_is) is.earlier)
+        (subst (λ (generation : ℕ). KnowsBy generation kept.fs.refs.refs) (sym tells.next_is) is.is.earlier)
 
     has-room : HaveRoom sizes told.book.now told.roots.now told.quota.now slots
     has-room =
         subst (λ (T : Type 0). T)
         (λ i. HaveRoom (sym tells.sizes_are i) (sym tells.book i) (sym tells.roots i) (sym tells.quota i)
         (sym tells.slots_are i))
-        (room kept plan fits is (book-light kept.fs.refs.held kept.fs.refs.refs is.table))
+        (room kept plan fits is (book-light kept.fs.refs.held kept.fs.refs.refs is.is.table))
 
-    pub can-be-laid : kept.superblock.generation ≤ 2 ^ 63 → CanBeLaid sizes next told slots
+    pub can-be-laid : kept.superblock.generation ≤ 2 ^ 63 + 1 → CanBeLaid sizes next told slots
     can-be-laid early =
         let next_is = tells.next_is in
         let after = fits.next in

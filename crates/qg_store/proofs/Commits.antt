@@ -1,5 +1,5 @@
 -- What the machine does at a commit, told by what is kept.
-use Rattle.std.proofs.Common.{◌≡◌, ℕ, ◌<◌, ◌≤◌, Bool, true, false, List, [], ◌∷◌, length, None, Some, Option, refl, sym, ap, subst, ◌∙◌, arith}
+use Rattle.std.proofs.Common.{◌≡◌, ℕ, ◌<◌, ◌≤◌, Bool, true, false, List, [], ◌∷◌, length, None, Some, Option, refl, sym, ap, subst, ◌∙◌, arith, ◌⊎◌, inl, inr}
 use Rattle.std.specs.Prelude.{MatchBool, MatchOption, if◌then◌else◌, nat_lt}
 use Rattle.std.specs.Bool.{then_some}
 use Rattle.std.proofs.lemmas.Bool.{lt-ltb, le-ltb}
@@ -13,9 +13,15 @@ use Rattle.qg_state.specs.State.{State}
 use Rattle.qg_machine.specs.Refusals.{is_pending, last_generation, no_generation, refusal}
 use Rattle.qg_machine.specs.Step.{Commits, Step}
 use Rattle.qg_machine.specs.Step as machine
+use Rattle.qg_node.specs.declared.node.Node.{Node}
+use Rattle.qg_super.specs.declared.superblock.Super.{Super}
+use Rattle.qg_commit.specs.Calls.{MadeFront, commit_calls, node_calls, superblock_calls, with_commit, with_nodes}
+use Rattle.qg_commit.proofs.Fronts.{comes-all, comes-behind}
 use Rattle.qg_store.specs.declared.kept.Kept.{Kept}
-use Rattle.qg_store.specs.Answering.{Answered}
+use Rattle.qg_store.specs.Answering.{Answered, AnswersOn}
 use Rattle.qg_store.specs.Keeping.{IsFitted, IsKeptOf}
+use Rattle.qg_store.specs.Making.{StartsCommit}
+use Rattle.qg_store.specs.Planning.{CommitsOn, StartsCommitOf}
 
 -- ---- what is refused
 
@@ -43,6 +49,15 @@ StepBy old reply commits new refused =
 
 abbrev CommitsBy : State → List State → State → Bool → Type 0
 CommitsBy old commits new pending = MatchBool pending (Commits old new × (commits ≡ new ∷ [])) ((new ≡ old) × (commits ≡ []))
+
+-- all calls of a commit were made
+pub all-made : (super : Super) (nodes : List Node) (events : List Event)
+    → MadeFront (commit_calls super nodes) events (Some (with_commit super nodes events))
+all-made super nodes events =
+    comes-behind (node_calls super.nodesize nodes) (superblock_calls super) (Some events)
+    (Some (with_nodes super.nodesize nodes events)) (Some (with_commit super nodes events)) refl
+    (comes-all (superblock_calls super) (Some (with_nodes super.nodesize nodes events))
+    (Some (with_commit super nodes events)) refl) events refl
 
 -- nothing is pending
 idle_step : (state : State) (reply : Answer) → length state.pending ≡ 0 → reply ≡ answer.Commit state.generation → Step state command.Commit reply [] state
@@ -90,3 +105,64 @@ does_refuse kept state history fits keeps some late = record {
       (omega (arith, generation-kept kept state history fits keeps, late));
   keeps = keeps;
 }
+
+-- ---- what was committed
+
+module _ (state : State) (events : List Event) (history : Option (List Event)) (some : 0 < length state.pending)
+    (early : state.generation ≤ last_generation) where
+  -- it is what the machine does
+  pub starts-step : StartsCommitOf state events history → StartsCommit state events history
+  starts-step starts = record {
+    new = starts.new;
+    step = commit_step state starts.new (answer.Commit starts.new.generation) some early starts.commits refl;
+    super = starts.super;
+    nodes = starts.nodes;
+    brings = starts.brings;
+    made = starts.made;
+  }
+
+  pub far-step : (history ≡ Some events) ⊎ StartsCommitOf state events history
+      → (history ≡ Some events) ⊎ StartsCommit state events history
+  far-step (inl nothing) = inl nothing
+  far-step (inr starts) = inr (starts-step starts)
+
+  pub commits-step : (kept : Kept) → IsFitted kept → CommitsOn state kept events history
+      → AnswersOn state command.Commit (answer.Commit kept.superblock.generation) kept events history
+  commits-step kept fits on = (
+    on.new ∷ [],
+    record {
+      new = on.new;
+      step = commit_step state on.new (answer.Commit kept.superblock.generation) some early on.commits
+          (ap (λ (generation : ℕ). answer.Commit generation) (sym (generation-kept kept on.new history fits on.keeps)));
+      keeps = on.keeps;
+    },
+    record {
+      after = with_commit on.super on.nodes events;
+      told = on.told;
+      made = (on.super, on.nodes, on.brings, refl);
+    },
+  )
+
+-- all calls of a commit came
+pub commits-start : (state : State) (kept : Kept) (events : List Event) (history : Option (List Event))
+    → CommitsOn state kept events history → StartsCommitOf state events history
+commits-start state kept events history on = record {
+  new = on.new;
+  commits = on.commits;
+  super = on.super;
+  nodes = on.nodes;
+  brings = on.brings;
+  made = subst (λ (after : Option (List Event)). MadeFront (commit_calls on.super on.nodes) events after)
+      (sym on.told) (all-made on.super on.nodes events);
+}
+
+-- something is pending of the state too
+pub pending-state : (kept : Kept) (state : State) (history : Option (List Event)) → IsKeptOf kept state history
+    → 0 < kept.pending → 0 < length state.pending
+pending-state kept state history keeps some = omega (arith, keeps.pending, some)
+
+pub early-state : (kept : Kept) (state : State) (history : Option (List Event)) → IsFitted kept
+    → IsKeptOf kept state history → kept.superblock.generation ≤ last_generation
+    → state.generation ≤ last_generation
+early-state kept state history fits keeps early =
+    let same = generation-kept kept state history fits keeps in omega (arith, early, same)

@@ -1,14 +1,20 @@
 -- What is kept after an edit of the tree, over any disk.
-use Rattle.std.proofs.Common.{◌≡◌, ℕ, ◌≤◌, List, Option, refl, sym, subst, ◌∙◌}
+use Rattle.std.proofs.Common.{◌≡◌, ℕ, ◌≤◌, List, ◌∷◌, map, Option, refl, sym, subst, ◌∙◌}
 use Rattle.std.specs.Prelude.{IfNone, None}
+use Rattle.std.specs.List.{Contains}
+use Rattle.std.specs.List.Sorted.{IsPermutation, IsStrictlyIncreasing}
 use Rattle.qg_device.specs.History.{Event}
 use Rattle.qg_num.specs.declared.refusal.Refusal.{Refusal}
 use Rattle.qg_super.specs.Places.{total_bytes}
 use Rattle.qg_super.specs.SuperText.{sizes_of}
+use Rattle.qg_image.specs.Table.{keys_of}
+use Rattle.qg_descent.specs.Tree.{Root}
 use Rattle.qg_fs_tree.specs.declared.fs_tree.FsTree.{FsTree}
+use Rattle.qg_fs_tree.specs.Standing.{AreNumbered, CanTurn, trees_of}
 use Rattle.qg_file_edits.specs.Files.{LeavesHeld, StaysOwn}
 use Rattle.qg_store.specs.declared.kept.Kept.{Kept}
-use Rattle.qg_store.specs.Keeping.{IsKept}
+use Rattle.qg_check.specs.Editable.{AreGroups}
+use Rattle.qg_store.specs.Keeping.{AreSubvolumesBy, IsKept}
 use Rattle.qg_store.proofs.Stepped.{edited}
 
 -- what is said where nothing is refused
@@ -19,6 +25,28 @@ if-none refused P none said = subst (λ (o : Option Refusal). IfNone o P) none s
 others_items : (old new : FsTree) → new.others ≡ old.others → new.others.items ≡ old.others.items
 others_items old new same = rw same refl
 
+module _ (old new : FsTree) (others : new.others.items ≡ old.others.items) where
+  other-there : (other : Root) → Contains new.others.items other → Contains old.others.items other
+  other-there other has = subst (λ (trees : List Root). Contains trees other) others has
+
+  -- the numbers of the trees stay where that of the one at hand does
+  owners-same : new.tree.owner ≡ old.tree.owner
+      → map (λ (tree : Root). tree.owner) (trees_of new) ≡ map (λ (tree : Root). tree.owner) (trees_of old)
+  owners-same owner = λ i. owner i ∷ map (λ (tree : Root). tree.owner) (others i)
+
+  numbered-same : new.tree.owner ≡ old.tree.owner → AreNumbered old → AreNumbered new
+  numbered-same owner numbered = record {
+    ascending = subst (λ (trees : List Root). IsStrictlyIncreasing (map (λ (tree : Root). tree.owner) trees)) (sym others)
+        numbered.ascending;
+    apart_at = λ other has is. numbered.apart_at other (other-there other has) (is ∙ owner);
+  }
+
+  turns-same : new.tree.next ≡ old.tree.next → CanTurn old → CanTurn new
+  turns-same next turns = record {
+    next = λ other has. turns.next other (other-there other has) ∙ sym next;
+    owner = λ other has. turns.owner other (other-there other has);
+  }
+
 pub kept-edited : (old : Kept) (fs : FsTree) (new : Kept) (before after : Option (List Event)) (bytes left : ℕ)
     → IsKept old before bytes → LeavesHeld old.fs fs before after bytes left → StaysOwn old.fs fs → new ≡ edited old fs
     → IsKept new after left
@@ -26,12 +54,12 @@ kept-edited old fs new before after bytes left kept held stays is =
     subst (λ (k : Kept). IsKept k after left) (sym is) (record {
       fitted = record {
         superblock = kept.fitted.superblock;
-        copied = kept.fitted.copied;
-        stamp = kept.fitted.stamp;
-        no_max_rfer = kept.fitted.no_max_rfer;
-        no_max_excl = kept.fitted.no_max_excl;
-        own = stays.owner ∙ kept.fitted.own;
-        none = others_items old.fs fs held.others ∙ kept.fitted.none;
+        subvolumes = subst (λ (n : ℕ). AreSubvolumesBy n old.snapshots) (sym stays.next) kept.fitted.subvolumes;
+        trees = subst (λ (owners : List ℕ). IsPermutation owners (keys_of old.snapshots))
+            (sym (owners-same old.fs fs (others_items old.fs fs held.others) stays.owner)) kept.fitted.trees;
+        numbered = numbered-same old.fs fs (others_items old.fs fs held.others) stays.owner kept.fitted.numbered;
+        turn = turns-same old.fs fs (others_items old.fs fs held.others) stays.next kept.fitted.turn;
+        groups = subst (λ (n : ℕ). AreGroups n (keys_of old.snapshots) old.quota) (sym stays.next) kept.fitted.groups;
         next = stays.next ∙ kept.fitted.next;
         sizes = held.sizes ∙ kept.fitted.sizes;
         drafted = held.subvolume.editable.drafted;

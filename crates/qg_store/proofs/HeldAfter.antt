@@ -12,7 +12,7 @@ use Rattle.qg_state.specs.State.{Committed, State, Subvolume}
 use Rattle.qg_machine.specs.FileChange.{FileChange, file_change}
 use Rattle.qg_machine.specs.Refusals.{is_pending, refusal}
 use Rattle.qg_machine.specs.Run.{Turn}
-use Rattle.qg_machine.specs.Step.{Commits, CommitsPending, Does, DoesChange, DoesStructural, Stays, Step, with_tree}
+use Rattle.qg_machine.specs.Step.{Commits, Does, DoesChange, DoesStructural, Stays, with_tree}
 use Rattle.qg_store.proofs.Synced.{held_after}
 
 -- the commits lead from what the old state held to what the new one holds

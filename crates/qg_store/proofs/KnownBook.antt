@@ -1,29 +1,22 @@
--- What the book of a tree knows that is kept of a state: its root, and nothing of a later generation.
-use Rattle.std.proofs.Common.{◌≡◌, ℕ, ◌≤◌, List, Option, None, sym, subst, ◌∙◌}
+-- The book of trees that are kept of a state knows nothing of a later generation.
+use Rattle.std.proofs.Common.{◌≡◌, ℕ, ◌≤◌, List, Option, sym, subst}
 use Rattle.std.specs.Prelude.{All}
 use Rattle.std.specs.List.{flat_map}
 use Rattle.qg_device.specs.History.{Event}
+use Rattle.qg_state.specs.Record.{Record}
 use Rattle.qg_state.specs.State.{State}
 use Rattle.qg_contents.specs.Written.{items_of_file}
 use Rattle.qg_refs.specs.declared.kept.Kept.{Kept as Reference}
-use Rattle.qg_refs.specs.Book.{what_in}
-use Rattle.qg_extents.specs.Table.{IsTable, book_of}
+use Rattle.qg_extents.specs.Table.{IsTable}
 use Rattle.qg_exchange.specs.Named.{named}
-use Rattle.qg_standing.proofs.Known.{knows-root, no-later}
+use Rattle.qg_standing.proofs.Known.{no-later}
 use Rattle.qg_store.specs.declared.kept.Kept.{Kept}
 use Rattle.qg_store.specs.Committing.{KnowsNoLater}
-use Rattle.qg_store.specs.Keeping.{IsKept, IsKeptOf}
+use Rattle.qg_store.specs.Keeping.{IsKept, IsKeptWith}
 use Rattle.qg_store.proofs.Looked.{is-subvolume}
 
-module _ (kept : Kept) (state : State) (history : Option (List Event)) (bytes : ℕ) (fits : IsKept kept history bytes)
-    (keeps : IsKeptOf kept state history) where
-  pub root-there : what_in (book_of kept.fs.refs.refs kept.fs.tree.address) ≡ None → ⊥
-  root-there none =
-      let root = knows-root kept.fs history bytes (flat_map items_of_file keeps.files) (named keeps.files)
-      (is-subvolume kept history bytes fits) keeps.keeps.holds.stands in
-      let both = sym none ∙ root.known in
-      absurd cc
-
+module _ (kept : Kept) (state : State) (history : Option (List Event)) (bytes : ℕ) (names : List Record)
+    (fits : IsKept kept history bytes) (keeps : IsKeptWith kept state history names) where
   pub none-later : IsTable kept.fs.refs.refs → KnowsNoLater kept
   none-later table =
       no-later kept.fs history bytes (flat_map items_of_file keeps.files) (named keeps.files) table

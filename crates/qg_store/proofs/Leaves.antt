@@ -1,9 +1,8 @@
 -- What an edit leaves follows the state, and leaves the slots that a commit may want. Weights are in bytes.
-use Rattle.std.proofs.Common.{◌≡◌, ℕ, ◌+◌, ◌*◌, ◌^◌, ◌<◌, ◌≤◌, List, Option, None, refl, sym, ap, subst, ◌∙◌, arith}
+use Rattle.std.proofs.Common.{◌≡◌, ℕ, ◌+◌, ◌-◌, ◌*◌, ◌^◌, ◌<◌, ◌≤◌, List, Option, sym, ap, subst, arith}
 use Rattle.std.proofs.Common.{inl, inr}
 use Rattle.qg_device.specs.History.{Event}
 use Rattle.qg_node.specs.NodeText.{IsNodeSize}
-use Rattle.qg_items.specs.declared.tree.TheConstants.{TOP_LEVEL}
 use Rattle.qg_super.specs.declared.sizes.Sizes.{Sizes}
 use Rattle.qg_image.specs.declared.file.File.{File}
 use Rattle.qg_state.specs.Need.{file_copies, nodes_filled}
@@ -16,14 +15,15 @@ use Rattle.qg_heavier.proofs.Covered.{leaves-need}
 use Rattle.qg_heavier.proofs.Sums.{held-heavier}
 use Rattle.qg_fs_tree.specs.declared.fs_tree.FsTree.{FsTree}
 use Rattle.qg_file_edits.specs.Files.{LeavesFiles, LeavesHeld}
-use Rattle.qg_other_trees.specs.Trees.{quota_tree_bytes, root_tree_bytes}
-use Rattle.qg_fs_step.specs.Keeping.{FollowsCommand, mine_after, state_after}
-use Rattle.qg_fs_step.specs.Keeping as step
-use Rattle.qg_fs_step.proofs.Followed.{follows}
-use Rattle.qg_fs_commit.specs.Committing.{AreShort}
+use Rattle.qg_fs_laws.specs.Keeping.{FollowsCommand, mine_after, state_after}
+use Rattle.qg_fs_laws.specs.Keeping as step
+use Rattle.qg_fs_laws.proofs.Followed.{follows}
+use Rattle.qg_fs_laws.specs.Committing.{AreShort}
 use Rattle.qg_store.specs.declared.kept.Kept.{Kept}
-use Rattle.qg_store.specs.Keeping.{IsKept, IsKeptOf, book_weight, commit_need, need_of}
+use Rattle.qg_store.specs.Keeping.{IsKept, IsKeptOf, book_weight, commit_need, filled_by, need_of, quota_weight}
+use Rattle.qg_store.specs.Keeping.{root_weight}
 use Rattle.qg_store.proofs.Looked.{node-size}
+use Rattle.qg_store.proofs.Room.{fills-apart}
 use Rattle.qg_store.proofs.Stepped.{Follows, edited, tree-kept}
 
 wide : (nodesize : ℕ) → IsNodeSize nodesize → 4096 ≤ nodesize
@@ -39,8 +39,13 @@ pub copies-free : (kept : Kept) (pieces : ℕ) → need_of kept pieces ≤ free_
     → 10 * file_copies kept.fs.tree.height pieces ≤ free_slots kept.fs.land.space
 copies-free kept pieces enough =
     part-free (10 * file_copies kept.fs.tree.height pieces)
-    (8 * nodes_filled kept.superblock.nodesize (book_weight kept + root_tree_bytes 1 + quota_tree_bytes 1))
+    (8 * filled_by kept)
     (free_slots kept.fs.land.space) enough
+
+-- so the slots that are enough for all together are for the three parts
+pub parts-need : (book root quota all left : ℕ) → book + root + quota ≤ all + 2 → 5 * all + 13 ≤ left
+    → 5 * (book + root + quota) + 3 ≤ left
+parts-need book root quota all left parts enough = omega (arith, parts, enough)
 
 -- a tree that is left for the next edit, with a table of references
 module _ (old : Kept) (fs : FsTree) (before after : Option (List Event)) (bytes left : ℕ) (state : State)
@@ -72,18 +77,19 @@ module _ (old : Kept) (fs : FsTree) (before after : Option (List Event)) (bytes 
   nodesize-is : old.fs.land.space.sizes.nodesize ≡ old.superblock.nodesize
   nodesize-is = ap (λ (sizes : Sizes). sizes.nodesize) fits.fitted.sizes
 
-  after-most : (before after first second : ℕ) → after ≤ before + (first + second)
-      → after ≤ before + root_tree_bytes 1 + quota_tree_bytes 1 + first + second
-  after-most before after first second most = omega (arith, most)
+  after-most : (before after root quota first second : ℕ) → after ≤ before + (first + second)
+      → after + root + quota ≤ before + root + quota + first + second
+  after-most before after root quota first second most = omega (arith, most)
 
   heavier-by : GetsHeavierBy old.superblock.nodesize old.fs.tree.height pieces 3 (pieces + 3) names
-      (book_weight old + root_tree_bytes 1 + quota_tree_bytes 1) (book_weight (edited old fs))
+      (book_weight old + root_weight old + quota_weight old)
+      (book_weight (edited old fs) + root_weight old + quota_weight old)
   heavier-by = record {
     size = wide old.superblock.nodesize (node-size old fits.fitted);
     low = omega arith;
     few_edits = omega arith;
     few_names = omega arith;
-    after_most = after-most (book_weight old) (book_weight (edited old fs))
+    after_most = after-most (book_weight old) (book_weight (edited old fs)) (root_weight old) (quota_weight old)
         ((pieces + 3) * edit_bytes old.superblock.nodesize 3) (names * name_new_bytes)
         (subst (λ (nodesize : ℕ). book_weight (edited old fs) ≤ book_weight old
         + ((pieces + 3) * edit_bytes nodesize 3 + names * name_new_bytes)) nodesize-is weighs);
@@ -91,22 +97,28 @@ module _ (old : Kept) (fs : FsTree) (before after : Option (List Event)) (bytes 
 
   reserved : commit_need (edited old fs) ≤ free_slots fs.land.space
   reserved =
-      leaves-need old.superblock.nodesize old.fs.tree.height pieces 3 (pieces + 3) names
-      (book_weight old + root_tree_bytes 1 + quota_tree_bytes 1) (book_weight (edited old fs))
-      (free_slots old.fs.land.space) (free_slots fs.land.space) heavier-by enough leaves.free
+      let nodesize = old.superblock.nodesize in
+      let whole = leaves-need nodesize old.fs.tree.height pieces 3 (pieces + 3) names
+      (book_weight old + root_weight old + quota_weight old)
+      (book_weight (edited old fs) + root_weight old + quota_weight old) (free_slots old.fs.land.space)
+      (free_slots fs.land.space) heavier-by enough leaves.free in
+      parts-need (nodes_filled nodesize (book_weight (edited old fs))) (nodes_filled nodesize (root_weight old))
+      (nodes_filled nodesize (quota_weight old))
+      (nodes_filled nodesize (book_weight (edited old fs) + root_weight old + quota_weight old))
+      (free_slots fs.land.space)
+      (fills-apart nodesize (book_weight (edited old fs)) (root_weight old) (quota_weight old)
+      (wide nodesize (node-size old fits.fitted))) whole
 
   copied : (last : Accepted) → FollowsCommand fs before state (state_after state files fs before last)
-      (mine_after keeps.mine files fs) files TOP_LEVEL (file_copies old.fs.tree.height pieces)
+      (mine_after keeps.mine files fs) files old.fs.tree.owner (file_copies old.fs.tree.height pieces)
   copied last =
-      subst (λ (sub : ℕ). FollowsCommand fs before state (state_after state files fs before last)
-      (mine_after keeps.mine files fs) files sub (file_copies old.fs.tree.height pieces)) fits.fitted.own
-      (follows old.fs fs before bytes left pieces state keeps.mine keeps.files files last
-      (tree-kept old state before bytes fits keeps table) keeps.keeps tree-now leaves held.held_runs)
+      follows old.fs fs before bytes left pieces state keeps.mine keeps.files files last
+      (tree-kept old state before bytes fits keeps table) keeps.keeps tree-now leaves held.held_runs
 
   pub follows-edit : Follows old fs state keeps.mine before files pieces
   follows-edit = record {
     copied = copied;
-    owner = leaves.moved.owner ∙ fits.fitted.own;
+    owner = leaves.moved.owner;
     short = short;
     held = heavier.held;
     reserved = reserved;

@@ -1,7 +1,9 @@
 -- What is kept may be read, and is left so by a reading.
-use Rattle.std.proofs.Common.{◌≡◌, ℕ, ◌+◌, ◌^◌, ◌<◌, ◌≤◌, List, length, Option, Some, refl, sym, ap, subst, ◌∙◌, arith}
+use Rattle.std.proofs.Common.{◌≡◌, ℕ, ◌^◌, ◌<◌, ◌≤◌, List, length, map, Option, Some, refl, sym, ap, subst, ◌∙◌, arith}
 use Rattle.std.specs.Prelude.{IsTrue}
-use Rattle.std.specs.List.{flat_map}
+use Rattle.std.specs.List.{Contains, flat_map}
+use Rattle.std.proofs.lemmas.List.Elements.{All-contains}
+use Rattle.std.proofs.lemmas.List.Sorted.{Contains-permutation}
 use Rattle.qg_device.specs.History.{Event}
 use Rattle.qg_num.specs.declared.piece.Piece.{Piece}
 use Rattle.qg_node.specs.declared.item.Item.{Item}
@@ -12,16 +14,21 @@ use Rattle.qg_super.specs.SuperText.{sizes_of}
 use Rattle.qg_super.proofs.Served.{SizesFit-is_served, SuperFits-is_super}
 use Rattle.qg_image.specs.declared.file.File.{File}
 use Rattle.qg_image.specs.ItemMeaning.{is_subvolume_number}
-use Rattle.qg_verdict.specs.declared.tree.Tree.TheVariants.{Files}
-use Rattle.qg_verdict.specs.Walk.{is_owner}
+use Rattle.qg_image.specs.Table.{keys_of}
+use Rattle.qg_state.specs.Record.{Record}
+use Rattle.qg_state.specs.State.{State, Subvolume}
+use Rattle.qg_state.proofs.Contained.{contains_here}
 use Rattle.qg_contents.specs.Written.{items_of_file}
 use Rattle.qg_contents.proofs.FileTree.{file_items-told}
-use Rattle.qg_blocks.specs.Held.{Draft, Held}
+use Rattle.qg_blocks.specs.Held.{Draft, Held, nothing_fresh}
 use Rattle.qg_blocks.specs.Told.{fresh_at}
+use Rattle.qg_blocks.specs.Told.{IsBacked}
+use Rattle.qg_ground.specs.declared.ground.Ground.{Ground}
 use Rattle.qg_ground.proofs.Editing.{ArePlaced-drafted}
 use Rattle.qg_descent.specs.Way.{HasRead, IsReadable}
 use Rattle.qg_fs_tree.specs.declared.fs_tree.FsTree.{FsTree}
-use Rattle.qg_fs_tree.specs.Standing.{IsSubvolume, Stands}
+use Rattle.qg_fs_tree.specs.Standing.{IsSubvolume, Stands, trees_of}
+use Rattle.qg_fs_tree.proofs.Lists.{from-mapped, has-mapped}
 use Rattle.qg_inodes.specs.Told.{TellsFiles}
 use Rattle.qg_exchange.specs.Named.{named}
 use Rattle.qg_file_edits.specs.Files.{HoldsFiles}
@@ -29,15 +36,32 @@ use Rattle.qg_standing.specs.Committing.{StandsStill}
 use Rattle.qg_standing.proofs.Alike.{stands-alike}
 use Rattle.qg_space.specs.Holding.{free_slots}
 use Rattle.qg_weighed.specs.Laws.{IsRecorded}
-use Rattle.qg_other_trees.specs.Telling.{one_group}
-use Rattle.qg_state.specs.State.{State, Subvolume}
-use Rattle.qg_fs_step.specs.Keeping.{KeepsState}
-use Rattle.qg_fs_commit.proofs.KeptStill.{kept-still}
+use Rattle.qg_descent.specs.Tree.{Root}
+use Rattle.qg_fs_laws.specs.Keeping.{KeepsState, other_names}
+use Rattle.qg_fs_laws.proofs.KeptStill.{kept-still}
 use Rattle.qg_store.specs.declared.kept.Kept.{Kept}
-use Rattle.qg_store.specs.Editing.{HasLooked}
-use Rattle.qg_store.specs.Keeping.{IsFitted, IsKept, IsKeptOf, SameButClean, commit_need}
+use Rattle.qg_store.specs.Editing.{HasReadNodes}
+use Rattle.qg_store.specs.Keeping.{IsFitted, IsKept, IsKeptWith, commit_need}
 
 -- ---- what may be done
+
+-- a tree's number is one of the subvolumes', and may be a subvolume's
+pub tree-listed : (kept : Kept) → IsFitted kept → (tree : Root) → Contains (trees_of kept.fs) tree
+    → Contains (keys_of kept.snapshots) tree.owner
+tree-listed kept fits tree among =
+    Contains-permutation (map (λ (tree : Root). tree.owner) (trees_of kept.fs)) (keys_of kept.snapshots) tree.owner
+    fits.trees (has-mapped (λ (tree : Root). tree.owner) (trees_of kept.fs) tree among)
+
+pub tree-numbered : (kept : Kept) → IsFitted kept → (tree : Root) → Contains (trees_of kept.fs) tree
+    → IsTrue (is_subvolume_number tree.owner)
+tree-numbered kept fits tree among =
+    let entry = from-mapped (λ (entry : ℕ × ℕ). entry.0) kept.snapshots tree.owner (tree-listed kept fits tree among) in
+    subst (λ (n : ℕ). IsTrue (is_subvolume_number n)) entry.2
+    (All-contains (λ (entry : ℕ × ℕ). IsTrue (is_subvolume_number entry.0)) kept.snapshots entry.0
+    fits.subvolumes.numbers entry.1)
+
+pub hand-among : (fs : FsTree) → Contains (trees_of fs) fs.tree
+hand-among fs = contains_here fs.tree fs.others.items
 
 module _ (kept : Kept) (history : Option (List Event)) (bytes : ℕ) (fits : IsKept kept history bytes) where
   pub has-room : second_place ≤ bytes
@@ -54,7 +78,7 @@ module _ (kept : Kept) (history : Option (List Event)) (bytes : ℕ) (fits : IsK
   is-subvolume = record {
     editable = record { backed = fits.backed; drafted = fits.fitted.drafted; room = has-room };
     makes = record {
-      owner = subst (λ (owner : ℕ). IsTrue (is_owner Files owner)) (sym fits.fitted.own) refl;
+      owner = tree-numbered kept fits.fitted kept.fs.tree (hand-among kept.fs);
       next = omega (arith, fits.fitted.next);
     };
   }
@@ -78,12 +102,11 @@ pub fitted-blocks : (kept : Kept) (blocks : Held) → blocks.draft ≡ kept.fs.l
     → IsFitted (with_blocks kept blocks)
 fitted-blocks kept blocks same fits = record {
   superblock = fits.superblock;
-  copied = fits.copied;
-  stamp = fits.stamp;
-  no_max_rfer = fits.no_max_rfer;
-  no_max_excl = fits.no_max_excl;
-  own = fits.own;
-  none = fits.none;
+  subvolumes = fits.subvolumes;
+  trees = fits.trees;
+  numbered = record { ascending = fits.numbered.ascending; apart_at = fits.numbered.apart_at };
+  turn = record { next = fits.turn.next; owner = fits.turn.owner };
+  groups = fits.groups;
   next = fits.next;
   sizes = fits.sizes;
   drafted = record {
@@ -138,7 +161,7 @@ holds-clean fs clean history files holds = record {
 
 -- so it has them after a reading
 pub holds-looked : (old new : Kept) (before after : Option (List Event)) (bytes left : ℕ) (files : List (ℕ × File))
-    → HasLooked old new before after bytes left → HoldsFiles old.fs before files → HoldsFiles new.fs after files
+    → HasReadNodes old new before after bytes left → HoldsFiles old.fs before files → HoldsFiles new.fs after files
 holds-looked old new before after bytes left files looked holds =
     subst (λ (history : Option (List Event)). HoldsFiles new.fs history files) (sym looked.history)
     (subst (λ (kept : Kept). HoldsFiles kept.fs before files) (sym looked.same)
@@ -147,17 +170,45 @@ holds-looked old new before after bytes left files looked holds =
 -- what is read leaves all but clean nodes
 pub looked-read : (kept : Kept) (blocks : Held) (before after : Option (List Event)) (bytes left : ℕ)
     → HasRead kept.fs.land.blocks blocks before after bytes left
-    → HasLooked kept (with_blocks kept blocks) before after bytes left
+    → HasReadNodes kept (with_blocks kept blocks) before after bytes left
 looked-read kept blocks before after bytes left read = record {
   same = λ i. with_blocks kept (record blocks { draft = read.draft i; bound = read.bound i });
   history = read.history;
   size = read.size;
 }
 
+-- so does what leaves the space
+pub looked-land : (kept : Kept) (land : Ground) (before after : Option (List Event)) (bytes left : ℕ)
+    → HasRead kept.fs.land.blocks land.blocks before after bytes left → land.space ≡ kept.fs.land.space
+    → HasReadNodes kept (record kept { fs = record kept.fs { land = land } }) before after bytes left
+looked-land kept land before after bytes left read space = record {
+  same = λ i. record kept {
+    fs = record kept.fs {
+      land = record land {
+        blocks = record land.blocks { draft = read.draft i; bound = read.bound i };
+        space = space i;
+      };
+    };
+  };
+  history = read.history;
+  size = read.size;
+}
+
+-- what was read fits together over any disk, where clean nodes are the disk's
+pub kept-looked : (old new : Kept) (before after : Option (List Event)) (bytes left : ℕ) → IsKept old before bytes
+    → HasReadNodes old new before after bytes left → IsBacked new.fs.land.blocks after → IsKept new after left
+kept-looked old new before after bytes left fits looked backed = record {
+  fitted = subst (λ (kept : Kept). IsFitted kept) (sym looked.same)
+      (fitted-blocks old (record old.fs.land.blocks { clean = new.fs.land.blocks.clean }) refl fits.fitted);
+  backed = backed;
+  long = subst (λ (kept : Kept). total_bytes (sizes_of kept.superblock) ≤ left) (sym looked.same)
+      (subst (λ (n : ℕ). total_bytes (sizes_of old.superblock) ≤ n) (sym looked.size) fits.long);
+}
+
 -- what is read and then read again is read
 pub looked-again : (old mid new : Kept) (before then after : Option (List Event)) (bytes between left : ℕ)
-    → HasLooked old mid before then bytes between → HasLooked mid new then after between left
-    → HasLooked old new before after bytes left
+    → HasReadNodes old mid before then bytes between → HasReadNodes mid new then after between left
+    → HasReadNodes old new before after bytes left
 looked-again old mid new before then after bytes between left first second = record {
   same = second.same
       ∙ ap (λ (kept : Kept). with_blocks kept (record kept.fs.land.blocks { clean = new.fs.land.blocks.clean })) first.same;
@@ -165,15 +216,15 @@ looked-again old mid new before then after bytes between left first second = rec
   size = second.size ∙ first.size;
 }
 
--- what was read was as it is, but for clean nodes
-pub looked-back : (old new : Kept) (before after : Option (List Event)) (bytes left : ℕ)
-    → HasLooked old new before after bytes left → HasLooked new old after before left bytes
-looked-back old new before after bytes left looked = record {
-  same = ap (λ (kept : Kept). with_blocks kept (record kept.fs.land.blocks { clean = old.fs.land.blocks.clean }))
-      (sym looked.same);
-  history = sym looked.history;
-  size = sym looked.size;
-}
+-- the same subvolume's tree is at hand
+pub owner-read : (old new : Kept) (before after : Option (List Event)) (bytes left : ℕ)
+    → HasReadNodes old new before after bytes left → old.fs.tree.owner ≡ new.fs.tree.owner
+owner-read old new before after bytes left looked = ap (λ (kept : Kept). kept.fs.tree.owner) (sym looked.same)
+
+-- and the last commit is
+pub superblock-read : (old new : Kept) (before after : Option (List Event)) (bytes left : ℕ)
+    → HasReadNodes old new before after bytes left → new.superblock ≡ old.superblock
+superblock-read old new before after bytes left looked = ap (λ (kept : Kept). kept.superblock) looked.same
 
 -- ---- where it is kept of a state
 
@@ -184,8 +235,8 @@ keeps-clean fs clean history state mine files keeps =
     kept-still fs (with_clean fs clean) history history state mine files refl refl refl
     (still-clean fs clean history (flat_map items_of_file files) (named files) keeps.holds.stands) keeps
 
-module _ (old new : Kept) (before after : Option (List Event)) (bytes left : ℕ) (state : State)
-    (looked : HasLooked old new before after bytes left) (keeps : IsKeptOf old state before) where
+module _ (old new : Kept) (before after : Option (List Event)) (bytes left : ℕ) (state : State) (names : List Record)
+    (looked : HasReadNodes old new before after bytes left) (keeps : IsKeptWith old state before names) where
   pub state-looked : KeepsState new.fs after state keeps.mine keeps.files
   state-looked =
       subst (λ (history : Option (List Event)). KeepsState new.fs history state keeps.mine keeps.files)
@@ -193,12 +244,12 @@ module _ (old new : Kept) (before after : Option (List Event)) (bytes left : ℕ
       (subst (λ (kept : Kept). KeepsState kept.fs before state keeps.mine keeps.files) (sym looked.same)
       (keeps-clean old.fs new.fs.land.blocks.clean before state keeps.mine keeps.files keeps.keeps))
 
-  pub copied-looked : keeps.mine.last_snapshot ≡ new.root.last_snapshot
-  copied-looked = keeps.copied ∙ ap (λ (kept : Kept). kept.root.last_snapshot) (sym looked.same)
+  pub snapshots-looked : map (λ (entry : ℕ × Subvolume). (entry.0, entry.1.last_snapshot)) state.subvolumes
+      ≡ new.snapshots
+  snapshots-looked = keeps.snapshots ∙ ap (λ (kept : Kept). kept.snapshots) (sym looked.same)
 
-  pub quota-looked : state.quota ≡ Some (one_group new.group.counters new.group.stamp)
-  quota-looked =
-      keeps.quota ∙ ap (λ (kept : Kept). Some (one_group kept.group.counters kept.group.stamp)) (sym looked.same)
+  pub quota-looked : state.quota ≡ Some new.quota
+  quota-looked = keeps.quota ∙ ap (λ (kept : Kept). Some kept.quota) (sym looked.same)
 
   pub pending-looked : length state.pending ≡ new.pending
   pending-looked = keeps.pending ∙ ap (λ (kept : Kept). kept.pending) (sym looked.same)
@@ -211,18 +262,24 @@ module _ (old new : Kept) (before after : Option (List Event)) (bytes left : ℕ
       subst (λ (kept : Kept). 0 < kept.pending → commit_need kept ≤ free_slots kept.fs.land.space) (sym looked.same)
       keeps.reserved
 
+  pub idle-looked : new.pending ≡ 0 → names ≡ other_names state
+      → new.fs.land.blocks.draft ≡ nothing_fresh new.fs.land.blocks.draft.sizes
+  idle-looked =
+      subst (λ (kept : Kept). kept.pending ≡ 0 → names ≡ other_names state
+      → kept.fs.land.blocks.draft ≡ nothing_fresh kept.fs.land.blocks.draft.sizes) (sym looked.same) keeps.idle
+
   -- after a reading it is kept of the state still, with the same files
-  abbrev pub keeps-looked : IsKeptOf new state after
+  abbrev pub keeps-looked : IsKeptWith new state after names
   keeps-looked = record {
     files = keeps.files;
     mine = keeps.mine;
     keeps = state-looked;
-    only = keeps.only;
     short = keeps.short;
-    copied = copied-looked;
+    snapshots = snapshots-looked;
     quota = quota-looked;
     pending = pending-looked;
     recorded = recorded-looked;
     others = keeps.others;
     reserved = reserved-looked;
+    idle = idle-looked;
   }

@@ -1,11 +1,10 @@
 -- What is made of a sound image that was just opened is kept of the state that the image stands for.
-use Rattle.std.proofs.Common.{◌≡◌, ℕ, ◌+◌, ◌≤◌, Bool, true, false, List, [], ◌∷◌, ◌++◌, length, map, Option, Some, None, append-nil}
+use Rattle.std.proofs.Common.{◌≡◌, ◌≤◌, ℕ, Bool, true, false, cond, List, [], ◌∷◌, ◌++◌, length, map, Option, Some}
 use Rattle.std.proofs.Common.{refl, sym, ap, subst, ◌∙◌, inl, inr, arith}
-use Rattle.std.specs.Prelude.{◌↔◌, ◌&&◌, ◌||◌, ◌==◌, nat_le, IsTrue, Result, Ok, Err, IfOk, IsErrAnd}
-use Rattle.std.specs.List.{AllByRecursion, Contains, flat_map}
+use Rattle.std.specs.Prelude.{◌↔◌, ◌&&◌, ◌||◌, ◌==◌, nat_le, not, IsTrue, Result, Ok, Err, IfOk, IsErrAnd}
+use Rattle.std.specs.List.{AllByRecursion, Contains, filter, flat_map}
 use Rattle.std.proofs.lemmas.List.Elements.{Contains-append_cases, Contains-append_left, Contains-append_right}
 use Rattle.qg_device.specs.History.{Event, content}
-use Rattle.qg_node.specs.declared.node.Node.{Node}
 use Rattle.qg_items.specs.declared.root.RootItem.{RootItem}
 use Rattle.qg_items.specs.declared.tree.TheConstants.{TOP_LEVEL}
 use Rattle.qg_super.specs.declared.superblock.Super.{Super}
@@ -15,68 +14,39 @@ use Rattle.qg_image.specs.declared.file.File.{File}
 use Rattle.qg_image.specs.Table.{value_at}
 use Rattle.qg_state.specs.declared.element.Element.{Element}
 use Rattle.qg_state.specs.declared.quota.Quota.{Quota}
-use Rattle.qg_state.specs.Reach.{extent_of}
 use Rattle.qg_state.specs.Space.{present_extents}
 use Rattle.qg_state.specs.State.{State, Subvolume}
+use Rattle.qg_state.proofs.Contained.{contains_cases, none_contained}
 use Rattle.qg_verdict.specs.declared.tree.Tree.TheVariants.{Files}
-use Rattle.qg_verdict.specs.ImageState.{addresses_of, extent_parts, nodes_of_root, quota_in, state_in, super_of}
+use Rattle.qg_verdict.specs.ImageState.{addresses_of, extent_parts, nodes_of_root, quota_in, roots_in, state_in}
+use Rattle.qg_verdict.specs.ImageState.{subvolume_in, subvolume_roots, subvolumes_in, super_of}
 use Rattle.qg_verdict.specs.StateOf.{StateOf}
 use Rattle.qg_verdict.specs.Verdict.{extent_set}
 use Rattle.qg_reach.specs.Sets.{HaveSame}
 use Rattle.qg_reach.proofs.ExtentSets.{extent_set_same}
-use Rattle.qg_blocks.specs.Held.{nothing_fresh, slots_of}
+use Rattle.qg_reach.proofs.Members.{contains_map}
+use Rattle.qg_home.proofs.Reaching.{entry_of_value}
+use Rattle.qg_blocks.specs.Held.{Draft, nothing_fresh, slots_of}
 use Rattle.qg_refs.specs.declared.kept.Kept.{Kept as Reference}
 use Rattle.qg_extents.specs.Table.{IsTable, book_of}
 use Rattle.qg_extents.specs.Told.{IsTold}
 use Rattle.qg_weighed.specs.Laws.{IsRecorded}
 use Rattle.qg_tree_refs.specs.TreeBook.{TreeBook}
 use Rattle.qg_check.specs.declared.image.Image.{Image}
-use Rattle.qg_check.specs.IsImage.{IsEditable, IsImage}
+use Rattle.qg_check.specs.IsImage.{IsEditable, IsImage, IsSubvolumeOf}
 use Rattle.qg_descent.specs.Tree.{Root}
-use Rattle.qg_standing.specs.Opening.{IsOpened, IsSoundImage, opened_nodes}
-use Rattle.qg_standing.proofs.Alone.{alone-others, alone-tree}
-use Rattle.qg_other_trees.specs.Telling.{one_group}
-use Rattle.qg_fs_step.specs.Keeping.{KeepsState, NamesOthers, other_names}
-use Rattle.qg_fs_open.specs.Opening.{AreBytes, HasBytes, HoldsCommit, HoldsOthers, IsOf, mine_opened}
-use Rattle.qg_fs_commit.specs.Committing.{AreShort}
-use Rattle.qg_fs_open.proofs.OpenedKept.{opened-kept}
-use Rattle.qg_fs_open.proofs.OpenedNames.{opened-names}
-use Rattle.qg_fs_open.proofs.OpenedRecords.{opened-recorded}
-use Rattle.qg_fs_open.proofs.SoundImage.{image-known, others-known}
+use Rattle.qg_standing.specs.Opening.{IsOpened, IsSoundImage, opened_nodes, opened_tree, opened_trees}
+use Rattle.qg_fs_laws.specs.Keeping.{KeepsState, NamesOthers, other_names}
+use Rattle.qg_fs_laws.specs.Opening.{AreBytes, HasBytes, HoldsCommit, HoldsOthers, IsOf, mine_opened}
+use Rattle.qg_fs_laws.proofs.OpenedKept.{opened-kept}
+use Rattle.qg_fs_laws.proofs.OpenedNames.{opened-names}
+use Rattle.qg_fs_laws.proofs.OpenedRecords.{opened-recorded}
+use Rattle.qg_fs_laws.proofs.SoundImage.{image-known, others-known}
+use Rattle.qg_fs_laws.proofs.Short.{spaced-short}
 use Rattle.qg_store.specs.declared.kept.Kept.{Kept}
 use Rattle.qg_store.specs.Keeping.{IsKeptOf}
-use Rattle.qg_store.proofs.ShortRead.{files-short}
-
--- What is made of an image: the tree at its root, for the generation to come, and no other beside it; no node fresh;
--- the slots of its nodes, which the last commit holds besides those of the other trees; the runs that its files name;
--- and its book, held too
-pub record IsMadeOf (kept : Kept) (image : Image) : Type 0 where
-  pub superblock : kept.superblock ≡ image.superblock
-  pub root : kept.root ≡ image.root
-  pub counted : image.quota ≡ one_group kept.group.counters kept.group.stamp
-  pub idle : kept.pending ≡ 0
-  pub tree : kept.fs.tree ≡ record {
-    address = image.root.bytenr;
-    height = image.root.level;
-    owner = TOP_LEVEL;
-    next = image.superblock.generation + 1;
-  }
-  pub none : kept.fs.others.items ≡ []
-  pub draft : kept.fs.land.blocks.draft ≡ nothing_fresh (slots_of image.superblock.nodesize image.superblock.slots)
-  pub sizes : kept.fs.land.space.sizes ≡ sizes_of image.superblock
-  pub slots : (slot : ℕ) → Contains kept.fs.land.space.slots slot ↔ Contains image.nodes slot
-  pub held_slots : (slot : ℕ)
-      → Contains kept.fs.land.space.held_slots slot ↔ Contains (image.others ++ image.nodes) slot
-  pub runs : kept.fs.land.space.runs ≡ image.extents
-  pub held_runs : kept.fs.land.space.held_runs ≡ image.extents
-  pub refs : kept.fs.refs ≡ record {
-    refs = image.book;
-    held = image.book;
-    tree = TOP_LEVEL;
-    nodesize = image.superblock.nodesize;
-    next = image.superblock.generation + 1;
-    misfit = None;
-  }
+use Rattle.qg_store.specs.Opened.{snapshot_of}
+use Rattle.qg_store.proofs.OpenedFits.{IsMadeOf}
 
 -- what failed is not there
 pub never-ok : {A E : Type 0} (P : A → Type 0) (result : Result A E) (Q : E → Type 0) → IsErrAnd result Q
@@ -105,12 +75,44 @@ quota_there : (super : Super) (bytes : List ℕ) → (state_in super bytes).quot
 unfolding state_in
 quota_there super bytes = refl
 
-present_there : (state : State) (mine : Subvolume) → state.subvolumes ≡ (TOP_LEVEL, mine) ∷ []
-    → present_extents state ≡ flat_map (λ file. map extent_of file.1.pieces) mine.files
-unfolding present_extents
-present_there state mine are =
-    ap (flat_map (λ (entry : ℕ × Subvolume). flat_map (λ file. map extent_of file.1.pieces) entry.1.files)) are
-    ∙ append-nil (flat_map (λ (file : ℕ × File). map extent_of file.1.pieces) mine.files)
+pending_there : (super : Super) (bytes : List ℕ) → length (state_in super bytes).pending ≡ 0
+unfolding state_in
+pending_there super bytes = refl
+
+copied_roots : (super : Super) (bytes : List ℕ) (roots : List (ℕ × RootItem))
+    → map (λ (entry : ℕ × Subvolume). (entry.0, entry.1.last_snapshot))
+    (map (λ (entry : ℕ × RootItem). (entry.0, subvolume_in super bytes entry.1)) roots) ≡ map snapshot_of roots
+copied_roots super bytes [] = refl
+copied_roots super bytes (entry ∷ roots) =
+    ap (λ (table : List (ℕ × ℕ)). (entry.0, entry.1.last_snapshot) ∷ table) (copied_roots super bytes roots)
+
+snapshots_there : (super : Super) (bytes : List ℕ)
+    → map (λ (entry : ℕ × Subvolume). (entry.0, entry.1.last_snapshot)) (state_in super bytes).subvolumes
+    ≡ map snapshot_of (subvolume_roots (roots_in super bytes))
+unfolding state_in subvolumes_in
+snapshots_there super bytes = copied_roots super bytes (subvolume_roots (roots_in super bytes))
+
+weaker : {A : Type 0} (P Q : A → Type 0) → ((x : A) → P x → Q x) → (xs : List A) → AllByRecursion P xs
+    → AllByRecursion Q xs
+weaker P Q step [] all = tt
+weaker P Q step (x ∷ xs) all = (step x all.0, weaker P Q step xs all.1)
+
+each_contained : {A : Type 0} (P : A → Type 0) (xs : List A) (x : A) → AllByRecursion P xs → Contains xs x → P x
+each_contained P [] x all has = absurd (none_contained x has)
+each_contained P (y ∷ ys) x all has = elim (contains_cases y ys x has) [
+  | inl is ↦ subst P is all.0
+  | inr later ↦ each_contained P ys x all.1 later
+]
+
+filter_mapped : {A B : Type 0} (f : A → B) (p : B → Bool) (xs : List A)
+    → map f (filter (λ x. p (f x)) xs) ≡ filter p (map f xs)
+filter_mapped f p [] = refl
+filter_mapped {A} {B} f p (x ∷ xs) = from (p (f x)) (filter_mapped f p xs) where
+  from : (b : Bool) → map f (filter (λ y. p (f y)) xs) ≡ filter p (map f xs)
+      → map f (cond b (x ∷ filter (λ y. p (f y)) xs) (filter (λ y. p (f y)) xs))
+      ≡ cond b (f x ∷ filter p (map f xs)) (filter p (map f xs))
+  from true rest = ap (λ (ys : List B). f x ∷ ys) rest
+  from false rest = rest
 
 -- a sound image is as long as its superblock says
 pub image-long : (image : Image) (bytes : List ℕ) → IsTrue (is_super image.superblock) → IsImage bytes image
@@ -120,22 +122,31 @@ image-long image bytes fits is =
     image-known image.superblock bytes is.sound is.chosen fits is.kept.agrees is.kept.home in
     sound.long
 
-module _ (kept : Kept) (image : Image) (made : IsMadeOf kept image) (fits : IsEditable image)
-    (table : IsTable image.book) (events : List Event) (is : IsImage (content events) image) where
+-- which slots and runs the space has that it is made of
+pub record HoldsImage (kept : Kept) (image : Image) : Type 0 where
+  pub slots : (slot : ℕ) → Contains kept.fs.land.space.slots slot ↔ Contains image.nodes slot
+  pub held_slots : (slot : ℕ)
+      → Contains kept.fs.land.space.held_slots slot ↔ Contains (image.others ++ image.nodes) slot
+  pub runs : kept.fs.land.space.runs ≡ image.extents
+  pub held_runs : kept.fs.land.space.held_runs ≡ image.extents
+
+module _ (kept : Kept) (image : Image) (made : IsMadeOf kept image) (holds : HoldsImage kept image)
+    (fits : IsEditable image) (table : IsTable image.book) (events : List Event)
+    (is : IsImage (content events) image) where
   abbrev state : State
   state = state_in image.superblock (content events)
 
-  abbrev files : List (ℕ × File)
-  files = is.kept.files
+  abbrev root : RootItem
+  root = made.trees.root
 
-  -- ---- the tree
+  -- ---- the trees
 
   sound : IsSoundImage image.superblock (content events)
   sound =
       image-known image.superblock (content events) is.sound is.chosen fits.superblock is.kept.agrees is.kept.home
 
   runs_are : kept.fs.land.space.runs ≡ extent_set (present_extents state)
-  runs_are = made.runs ∙ is.kept.extents
+  runs_are = holds.runs ∙ is.kept.extents
 
   runs_opened : (run : Element) → Contains kept.fs.land.space.runs run ↔ Contains (present_extents state) run
   runs_opened run = (
@@ -146,44 +157,58 @@ module _ (kept : Kept) (image : Image) (made : IsMadeOf kept image) (fits : IsEd
   )
 
   refs_are : kept.fs.refs.refs ≡ image.book
-  refs_are = ap (λ (book : TreeBook). book.refs) made.refs
+  refs_are = ap (λ (book : TreeBook). book.refs) made.trees.refs ∙ made.refs
 
   held_are : kept.fs.refs.held ≡ image.book
-  held_are = ap (λ (book : TreeBook). book.held) made.refs
+  held_are = ap (λ (book : TreeBook). book.held) made.trees.refs ∙ made.held
 
   owner_is : kept.fs.tree.owner ≡ TOP_LEVEL
-  owner_is = ap (λ (tree : Root). tree.owner) made.tree
+  owner_is = ap (λ (tree : Root). tree.owner) made.trees.tree
 
-  -- the nodes of all subvolumes are those of the only one
-  nodes_are : opened_nodes image.superblock (content events)
-      ≡ nodes_of_root Files image.superblock (content events) image.root
-  nodes_are =
-      ap (λ (roots : List (ℕ × RootItem)).
-      flat_map (λ entry. nodes_of_root Files image.superblock (content events) entry.1) roots) is.kept.only
-      ∙ append-nil (nodes_of_root Files image.superblock (content events) image.root)
+  -- the ROOT_ITEM of the top-level subvolume
+  root_among : Contains image.roots (TOP_LEVEL, root)
+  root_among = entry_of_value TOP_LEVEL root image.roots made.trees.there
+
+  trees_are : map (opened_tree image.superblock) image.roots ≡ opened_trees image.superblock (content events)
+  trees_are = ap (λ (roots : List (ℕ × RootItem)). map (opened_tree image.superblock) roots) (sym is.kept.roots)
+
+  hand_among : Contains (opened_trees image.superblock (content events)) kept.fs.tree
+  hand_among =
+      subst (λ (trees : List Root). Contains trees kept.fs.tree) trees_are
+      (subst (λ (tree : Root). Contains (map (opened_tree image.superblock) image.roots) tree) (sym made.trees.tree)
+      (contains_map (opened_tree image.superblock) image.roots (TOP_LEVEL, root) root_among))
+
+  others_are : kept.fs.others.items
+      ≡ filter (λ tree. not (tree.owner == TOP_LEVEL)) (opened_trees image.superblock (content events))
+  others_are =
+      made.trees.others
+      ∙ filter_mapped (opened_tree image.superblock) (λ (tree : Root). not (tree.owner == TOP_LEVEL)) image.roots
+      ∙ ap (λ (trees : List Root). filter (λ (tree : Root). not (tree.owner == TOP_LEVEL)) trees) trees_are
 
   nodes_have : HaveSame image.nodes (addresses_of (opened_nodes image.superblock (content events)))
-  nodes_have = subst (λ (nodes : List Node). HaveSame image.nodes (addresses_of nodes)) (sym nodes_are) is.kept.nodes
+  nodes_have = subst (λ (roots : List (ℕ × RootItem)). HaveSame image.nodes (addresses_of
+      (flat_map (λ entry. nodes_of_root Files image.superblock (content events) entry.1) roots))) (sym is.kept.roots)
+      is.kept.nodes
 
   opened : IsOpened kept.fs image.superblock (content events)
   opened = record {
-    tree = alone-tree image.superblock (content events) image.root is.kept.only kept.fs.tree made.tree;
+    tree = hand_among;
     number = owner_is;
-    others = alone-others image.superblock (content events) image.root is.kept.only kept.fs.others.items made.none;
-    draft = made.draft;
+    others = others_are;
+    draft = made.trees.draft;
     sizes = made.sizes;
     slots = λ slot. (
-      λ has. nodes_have.into slot ((made.slots slot).0 has),
-      λ has. (made.slots slot).1 (nodes_have.back slot has),
+      λ has. nodes_have.into slot ((holds.slots slot).0 has),
+      λ has. (holds.slots slot).1 (nodes_have.back slot has),
     );
     held_slots = λ slot has.
-        (made.held_slots slot).1 (Contains-append_right image.others image.nodes slot ((made.slots slot).0 has));
+        (holds.held_slots slot).1 (Contains-append_right image.others image.nodes slot ((holds.slots slot).0 has));
     runs = runs_opened;
     refs = λ i. record kept.fs.refs {
-      tree = (made.refs i).tree;
-      nodesize = (made.refs i).nodesize;
-      next = (made.refs i).next;
-      misfit = (made.refs i).misfit;
+      tree = (made.trees.refs i).tree;
+      nodesize = (made.trees.refs i).nodesize;
+      next = (made.trees.refs i).next;
+      misfit = (made.trees.refs i).misfit;
     };
     told = subst
         (λ (book : List (ℕ × Reference)). IsTold image.superblock.nodesize
@@ -198,19 +223,19 @@ module _ (kept : Kept) (image : Image) (made : IsMadeOf kept image) (fits : IsEd
   commit : HoldsCommit kept.fs image.superblock (content events)
   commit = record {
     slots = λ slot. (
-      λ has. elim (Contains-append_cases image.others image.nodes slot ((made.held_slots slot).0 has)) [
+      λ has. elim (Contains-append_cases image.others image.nodes slot ((holds.held_slots slot).0 has)) [
         | inl other ↦ inl (subst (λ (slots : List ℕ). Contains slots slot) is.kept.others other)
-        | inr own ↦ inr ((made.slots slot).1 own)
+        | inr own ↦ inr ((holds.slots slot).1 own)
       ],
-      λ has. (made.held_slots slot).1 (elim has [
+      λ has. (holds.held_slots slot).1 (elim has [
         | inl other ↦
             Contains-append_left image.others image.nodes slot
             (subst (λ (slots : List ℕ). Contains slots slot) (sym is.kept.others) other)
-        | inr own ↦ Contains-append_right image.others image.nodes slot ((made.slots slot).0 own)
+        | inr own ↦ Contains-append_right image.others image.nodes slot ((holds.slots slot).0 own)
       ]),
     );
     runs =
-        let same = made.held_runs ∙ sym made.runs in
+        let same = holds.held_runs ∙ sym holds.runs in
         λ run. (
           λ has. subst (λ (runs : List Element). Contains runs run) same has,
           λ has. subst (λ (runs : List Element). Contains runs run) (sym same) has,
@@ -221,58 +246,60 @@ module _ (kept : Kept) (image : Image) (made : IsMadeOf kept image) (fits : IsEd
   have_bytes : HasBytes image.superblock (content events)
   have_bytes = subst
       (λ (roots : List (ℕ × RootItem)). AllByRecursion
-      (λ entry. AreBytes image.superblock (content events) entry.1) roots) (sym is.kept.only) (is.kept.bodies, tt)
+      (λ entry. AreBytes image.superblock (content events) entry.1) roots) (sym is.kept.roots)
+      (weaker (λ (entry : ℕ × RootItem). IsSubvolumeOf image.superblock (content events) entry.1)
+      (λ (entry : ℕ × RootItem). AreBytes image.superblock (content events) entry.1) (λ entry own. own.bodies)
+      image.roots is.kept.each)
 
-  is_of : IsOf image.superblock (content events) kept.fs.tree.owner image.root files
-  is_of = record { there = λ i. value_at (owner_is i) (is.kept.only i); are = is.kept.told }
+  top : IsSubvolumeOf image.superblock (content events) root
+  top = each_contained (λ (entry : ℕ × RootItem). IsSubvolumeOf image.superblock (content events) entry.1)
+      image.roots (TOP_LEVEL, root) is.kept.each root_among
 
-  state_there : KeepsState kept.fs (Some events) state (mine_opened files image.root) files
+  abbrev files : List (ℕ × File)
+  files = top.files
+
+  is_of : IsOf image.superblock (content events) kept.fs.tree.owner root files
+  is_of = record {
+    there = (λ i. value_at (owner_is i) (is.kept.roots i)) ∙ made.trees.there;
+    are = top.told;
+  }
+
+  state_there : KeepsState kept.fs (Some events) state (mine_opened files root) files
   state_there =
-      opened-kept kept.fs image.superblock events image.root files table_there sound opened commit have_bytes is_of
+      opened-kept kept.fs image.superblock events root files table_there sound opened commit have_bytes is_of
 
   -- ---- the other trees
 
-  counted : quota_in image.superblock (content events) ≡ Some (one_group kept.group.counters kept.group.stamp)
-  counted =
-      sym (quota_there image.superblock (content events)) ∙ ap (λ (s : State). s.quota) is.kept.state
-      ∙ ap (λ (quota : Quota). Some quota) made.counted
+  counted : quota_in image.superblock (content events) ≡ Some kept.quota
+  counted = is.kept.quota ∙ ap (λ (quota : Quota). Some quota) (sym made.quota)
 
-  abbrev quota : Quota
-  quota = one_group kept.group.counters kept.group.stamp
-
-  others : HoldsOthers image.superblock (content events) quota
-  others = others-known image.superblock (content events) is.sound is.chosen quota counted
+  others : HoldsOthers image.superblock (content events) kept.quota
+  others = others-known image.superblock (content events) is.sound is.chosen kept.quota counted
 
   recorded : IsRecorded state kept.fs.refs.held
   recorded =
-      opened-recorded kept.fs image.superblock (content events) quota table_there sound opened commit others
+      opened-recorded kept.fs image.superblock (content events) kept.quota table_there sound opened commit others
 
   named : NamesOthers state.held (other_names state)
-  named = opened-names image.superblock (content events) quota counted others
+  named = opened-names image.superblock (content events) kept.quota counted others
 
   -- ---- what is kept
-
-  only : state.subvolumes ≡ (TOP_LEVEL, mine_opened files image.root) ∷ []
-  only = ap (λ (s : State). s.subvolumes) is.kept.state
-
-  short : AreShort files
-  short =
-      files-short (sizes_of image.superblock) files (present_extents state)
-      (present_there state (mine_opened files image.root) only) sound.space
 
   kept_there : IsKeptOf kept state (Some events)
   kept_there = record {
     files = files;
-    mine = mine_opened files image.root;
+    mine = mine_opened files root;
     keeps = state_there;
-    only = only;
-    short = short;
-    copied = ap (λ (root : RootItem). root.last_snapshot) (sym made.root);
+    short = spaced-short (sizes_of image.superblock) state sound.space;
+    snapshots = snapshots_there image.superblock (content events) ∙ ap (map snapshot_of) is.kept.roots
+        ∙ sym made.snapshots;
     quota = quota_there image.superblock (content events) ∙ counted;
-    pending = ap (λ (s : State). length s.pending) is.kept.state ∙ sym made.idle;
+    pending = pending_there image.superblock (content events) ∙ sym made.idle;
     recorded = recorded;
     others = named;
-    reserved = λ some. absurd (omega (arith, some, made.idle));
+    reserved = λ some. let none = made.idle in absurd (omega (arith, some, none));
+    idle = λ none same. made.trees.draft
+        ∙ ap nothing_fresh (sym (ap (λ (draft : Draft). draft.sizes) made.trees.draft));
   }
 
   -- what is made of an image is kept of the state that it stands for

@@ -1,5 +1,5 @@
 -- The slots of a plan are free, and enough. Addresses are in bytes.
-use Rattle.std.proofs.Common.{◌≡◌, ℕ, ◌≤◌, List, get_or, length, true, refl, sym, ap, subst, ◌∙◌, arith}
+use Rattle.std.proofs.Common.{◌≡◌, ℕ, ◌≤◌, List, get_or, length, true, ap, subst, arith}
 use Rattle.std.specs.Prelude.{◌==◌, All, IsTrue, min}
 use Rattle.std.specs.List.{IsDistinct, list_all}
 use Rattle.std.proofs.lemmas.List.Sums.{AllPass-from_list_all}

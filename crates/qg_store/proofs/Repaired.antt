@@ -21,7 +21,7 @@ use Rattle.qg_fs_tree.specs.Standing.{nodes_of}
 use Rattle.qg_standing.specs.Committing.{StandsStill}
 use Rattle.qg_standing.proofs.Alike.{stands-alike, superblocks-keep, syncs-keep, told-alike}
 use Rattle.qg_exchange.specs.Named.{named}
-use Rattle.qg_fs_step.specs.Keeping.{KeepsState}
+use Rattle.qg_fs_laws.specs.Keeping.{KeepsState}
 use Rattle.qg_store.specs.declared.kept.Kept.{Kept}
 use Rattle.qg_store.specs.Keeping.{IsFitted, IsKeptOf}
 
@@ -62,14 +62,14 @@ kept-told kept before after state alike keeps = record {
   files = keeps.files;
   mine = keeps.mine;
   keeps = state-told kept.fs before after state keeps.mine keeps.files alike keeps.keeps;
-  only = keeps.only;
   short = keeps.short;
-  copied = keeps.copied;
+  snapshots = keeps.snapshots;
   quota = keeps.quota;
   pending = keeps.pending;
   recorded = keeps.recorded;
   others = keeps.others;
   reserved = keeps.reserved;
+  idle = keeps.idle;
 }
 
 -- ---- the repair

@@ -10,7 +10,7 @@ use Rattle.qg_state.specs.Space as present
 use Rattle.qg_space.specs.Holding.{Holding, first_run, is_free_run}
 use Rattle.qg_space.proofs.Firsts.{is_free_run-first}
 use Rattle.qg_extents.specs.Table.{IsTable}
-use Rattle.qg_fs_step.proofs.Free.{space-told}
+use Rattle.qg_fs_laws.proofs.Free.{space-told}
 use Rattle.qg_store.specs.declared.kept.Kept.{Kept}
 use Rattle.qg_store.specs.Keeping.{IsKept, IsKeptOf}
 use Rattle.qg_store.proofs.Stepped.{tree-kept}

@@ -10,9 +10,8 @@ use Rattle.qg_num.specs.declared.refusal.Refusal.TheVariants as why
 use Rattle.qg_state.specs.declared.quota.Quota.{Quota}
 use Rattle.qg_state.specs.State.{State}
 use Rattle.qg_machine.specs.Refusals.{refusal, refuse}
-use Rattle.qg_machine.specs.Step.{Step, rows_of}
+use Rattle.qg_machine.specs.Step.{rows_of}
 use Rattle.qg_machine.specs.Step as machine
-use Rattle.qg_other_trees.specs.Telling.{one_group}
 use Rattle.qg_store.specs.declared.kept.Kept.{Kept}
 use Rattle.qg_store.specs.Answering.{Answered}
 use Rattle.qg_store.specs.Keeping.{IsKeptOf}
@@ -24,7 +23,7 @@ unrefused state quota is = ap (λ (o : Option Quota). refuse (not (is_some o)) w
 
 -- the state stays
 pub does_show : (kept : Kept) (state : State) (reply : Answer) (history : Option (List Event)) → IsKeptOf kept state history
-    → reply ≡ Shown (rows_of (Some (one_group kept.group.counters kept.group.stamp)))
+    → reply ≡ Shown (rows_of (Some kept.quota))
     → Answered state Show reply [] kept history
 does_show kept state reply history keeps is =
     let told : reply ≡ Shown (rows_of state.quota) =
@@ -33,6 +32,6 @@ does_show kept state reply history keeps is =
       new = state;
       step = subst (λ (refused : Option Refusal). MatchOption refused (machine.Does state Show reply [] state)
           (λ reason. (reply ≡ Refused reason) × machine.Stays state [] state))
-          (sym (unrefused state (one_group kept.group.counters kept.group.stamp) keeps.quota)) (told, (refl, refl));
+          (sym (unrefused state kept.quota keeps.quota)) (told, (refl, refl));
       keeps = keeps;
     }

@@ -4,7 +4,6 @@ use Rattle.qg_device.specs.History.{Event}
 use Rattle.qg_num.specs.declared.answer.Answer.TheVariants.{Done, Refused}
 use Rattle.qg_num.specs.declared.command.Command.TheVariants.{Truncate}
 use Rattle.qg_num.specs.declared.refusal.Refusal.{Refusal}
-use Rattle.qg_items.specs.declared.tree.TheConstants.{TOP_LEVEL}
 use Rattle.qg_image.specs.declared.file.File.{File}
 use Rattle.qg_image.specs.Table.{value_at}
 use Rattle.qg_state.specs.State.{State}
@@ -19,9 +18,9 @@ use Rattle.qg_store.specs.Answering.{Answered}
 use Rattle.qg_store.specs.Editing.{size_refusal, slots_refusal}
 use Rattle.qg_store.specs.Keeping.{IsKept, IsKeptOf, need_of}
 use Rattle.qg_store.proofs.Refused.{early-size, late-size}
-use Rattle.qg_store.proofs.Changed.{changes-top}
+use Rattle.qg_store.proofs.Changed.{changes-here, hand-short}
 use Rattle.qg_store.proofs.Leaves.{follows-edit}
-use Rattle.qg_fs_commit.proofs.Short.{short-left}
+use Rattle.qg_fs_laws.proofs.Short.{short-left}
 use Rattle.qg_store.proofs.Stepped.{Follows, IsLate, change_to, does_edit, does_nothing, edited}
 use Rattle.qg_store.proofs.Stepped.{late-refusal}
 
@@ -36,24 +35,24 @@ refuses-size kept state history sub ino size reason keeps is =
 -- it may go on, and so many pieces are touched
 module _ (kept : Kept) (state : State) (history : Option (List Event)) (bytes sub ino size pieces : ℕ) (file : File)
     (fits : IsKept kept history bytes) (keeps : IsKeptOf kept state history) (table : IsTable kept.fs.refs.refs)
-    (top : sub ≡ TOP_LEVEL) (passes : size_refusal state TOP_LEVEL ino size ≡ None)
+    (top : sub ≡ kept.fs.tree.owner) (passes : size_refusal state kept.fs.tree.owner ino size ≡ None)
     (there : value_at ino keeps.files ≡ Some file) (touched : pieces ≡ pieces_past size file.pieces) where
   abbrev pub files_now : List (ℕ × File)
   files_now = files_cut kept.fs.tree.next ino size file keeps.files
 
-  pub is-late : IsLate state (Truncate TOP_LEVEL ino size) files_now 0 pieces
+  pub is-late : IsLate state (Truncate kept.fs.tree.owner ino size) kept.fs.tree.owner files_now 0 pieces
   is-late = record {
-    late = late-size state TOP_LEVEL ino size passes;
-    change = (changes-top kept state history bytes fits keeps table).cut ino size file there
-        ∙ ap (λ (n : ℕ). Some (change_to files_now 0 n)) (sym touched);
+    late = late-size state kept.fs.tree.owner ino size passes;
+    change = (changes-here kept state history bytes fits keeps table).cut ino size file there
+        ∙ ap (λ (n : ℕ). Some (change_to kept.fs.tree.owner files_now 0 n)) (sym touched);
   }
 
   pub lacks-slots : (reason : Refusal) → Some reason ≡ slots_refusal kept pieces
       → Answered state (Truncate sub ino size) (Refused reason) [] kept history
   lacks-slots reason is =
       subst (λ (sub : ℕ). Answered state (Truncate sub ino size) (Refused reason) [] kept history) (sym top)
-      (does_nothing kept state history (Truncate TOP_LEVEL ino size) reason keeps
-      (late-refusal kept state history bytes fits keeps table (Truncate TOP_LEVEL ino size) files_now 0 pieces is-late
+      (does_nothing kept state history (Truncate kept.fs.tree.owner ino size) reason keeps
+      (late-refusal kept state history bytes fits keeps table (Truncate kept.fs.tree.owner ino size) files_now 0 pieces is-late
       ∙ sym is))
 
   pub sizes : (fs : FsTree) (after : Option (List Event)) → None ≡ slots_refusal kept pieces
@@ -61,7 +60,7 @@ module _ (kept : Kept) (state : State) (history : Option (List Event)) (bytes su
       → Answered state (Truncate sub ino size) Done [] (edited kept fs) after
   sizes fs after enough follows same =
       subst (λ (sub : ℕ). Answered state (Truncate sub ino size) Done [] (edited kept fs) after) (sym top)
-      (does_edit kept fs history after bytes state (Truncate TOP_LEVEL ino size) Done files_now 0 pieces fits keeps
+      (does_edit kept fs history after bytes state (Truncate kept.fs.tree.owner ino size) Done files_now 0 pieces fits keeps
       table is-late enough refl follows same (λ done. done))
 
   -- the file was cut, or grew
@@ -77,4 +76,4 @@ module _ (kept : Kept) (state : State) (history : Option (List Event)) (bytes su
       (follows-edit kept fs history after bytes left state files_now pieces fits keeps table
       (subst (λ (k : Kept). IsTable k.fs.refs.refs) is table_new) held
       (subst (λ (n : ℕ). LeavesFiles kept.fs fs history files_now n) (sym touched) leaves)
-      ((short-left kept.fs.tree.next keeps.files keeps.short).cut ino size file there) enough) held.history)
+      ((short-left kept.fs.tree.next keeps.files (hand-short kept state history keeps)).cut ino size file there) enough) held.history)

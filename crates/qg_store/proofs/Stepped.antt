@@ -1,20 +1,23 @@
 -- What the machine does where nothing changes, and where files are edited, by what is kept. Weights are in bytes.
-use Rattle.std.proofs.Common.{◌≡◌, ℕ, ◌+◌, ◌*◌, ◌≤◌, List, [], ◌∷◌, ◌++◌, None, Some, Option, refl, sym, ap, subst, ◌∙◌}
+use Rattle.std.proofs.Common.{◌≡◌, ℕ, ◌+◌, ◌*◌, ◌≤◌, true, List, [], ◌∷◌, None, Some, Option, map, refl, sym, ap, subst, ◌∙◌}
 use Rattle.std.proofs.Common.{arith}
-use Rattle.std.specs.Prelude.{◌<◌, MatchOption, length, nat_lt}
+use Rattle.std.specs.Prelude.{MatchOption, length, nat_lt}
+use Rattle.std.specs.List.{All, Contains}
+use Rattle.std.specs.List.Sorted.{IsStrictlyIncreasing}
+use Rattle.std.proofs.lemmas.List.{length-map}
+use Rattle.std.proofs.lemmas.List.Elements.{All-contains}
 use Rattle.qg_device.specs.History.{Event}
 use Rattle.qg_num.specs.declared.answer.Answer.{Answer}
 use Rattle.qg_num.specs.declared.answer.Answer.TheVariants.{Refused}
 use Rattle.qg_num.specs.declared.command.Command.{Command}
-use Rattle.qg_num.specs.declared.counters.Counters.{Counters}
 use Rattle.qg_num.specs.declared.refusal.Refusal.{Refusal}
 use Rattle.qg_num.specs.declared.refusal.Refusal.TheVariants as why
-use Rattle.qg_items.specs.declared.tree.TheConstants.{EXTENT_TREE, QUOTA_TREE, TOP_LEVEL}
 use Rattle.qg_super.specs.declared.sizes.Sizes.{Sizes}
 use Rattle.qg_image.specs.declared.file.File.{File}
+use Rattle.qg_image.specs.ItemMeaning.{is_subvolume_number}
+use Rattle.qg_image.specs.Table.{keys_of, value_at, with_value}
 use Rattle.qg_state.specs.Need.{file_copies, held_records, nodes_filled, weight}
-use Rattle.qg_state.specs.Record.{Record, records_bytes}
-use Rattle.qg_state.specs.Record.{InfoOf, LimitOf, RootOf, Status}
+use Rattle.qg_state.specs.Record.{Record}
 use Rattle.qg_state.specs.State.{Accepted, Committed, State, Subvolume}
 use Rattle.qg_state.specs.Space as present
 use Rattle.qg_machine.specs.FileChange.{FileChange, file_change}
@@ -28,20 +31,23 @@ use Rattle.qg_refs.specs.declared.kept.Kept.{Kept as Reference}
 use Rattle.qg_weighed.specs.Laws.{IsRecorded, is_among}
 use Rattle.qg_weighed.specs.Weight.{records_in}
 use Rattle.qg_fs_tree.specs.declared.fs_tree.FsTree.{FsTree}
+use Rattle.qg_fs_tree.proofs.Lists.{has-mapped}
 use Rattle.qg_fs_layout.specs.Laying.{nodes_in}
-use Rattle.qg_other_trees.specs.Telling.{one_group}
-use Rattle.qg_other_trees.specs.Trees.{quota_tree_bytes, root_tree_bytes}
-use Rattle.qg_fs_step.specs.Keeping.{FollowsCommand, NamesOthers, mine_after, other_names, other_weight, state_after}
-use Rattle.qg_fs_step.specs.Keeping as step
-use Rattle.qg_fs_step.proofs.Free.{space-told}
-use Rattle.qg_fs_step.proofs.Kept.{level-told}
-use Rattle.qg_fs_step.proofs.Others.{weight-told}
-use Rattle.qg_fs_commit.specs.Committing.{AreShort}
+use Rattle.qg_other_trees.specs.Trees.{root_tree_bytes}
+use Rattle.qg_fs_laws.specs.Keeping.{FollowsCommand, NamesOthers, mine_after, other_names, other_weight, state_after}
+use Rattle.qg_fs_laws.specs.Keeping as step
+use Rattle.qg_fs_laws.proofs.Free.{space-told}
+use Rattle.qg_fs_laws.proofs.Kept.{level-told}
+use Rattle.qg_fs_laws.proofs.OtherWeight.{others-weigh}
+use Rattle.qg_fs_laws.proofs.Others.{weight-told}
+use Rattle.qg_fs_laws.specs.Committing.{AreShort, IsShort}
 use Rattle.qg_store.specs.declared.kept.Kept.{Kept}
 use Rattle.qg_store.specs.Answering.{Answered}
 use Rattle.qg_store.specs.Editing.{slots_refusal}
-use Rattle.qg_store.specs.Keeping.{IsKept, IsKeptOf, book_weight, commit_need, need_of}
+use Rattle.qg_store.specs.Keeping.{IsFitted, IsKept, IsKeptOf, IsKeptWith, book_weight, commit_need, need_of, quota_weight}
+use Rattle.qg_store.specs.Keeping.{root_weight}
 use Rattle.qg_store.proofs.Looked.{is-near, is-subvolume}
+use Rattle.qg_store.proofs.Tables.{all-of, all-put, keys-mapped, map-put}
 
 -- ---- what is refused
 
@@ -58,35 +64,56 @@ does_nothing kept state history command reason keeps refused = record {
 
 -- ---- what the root and the quota tree name
 
--- where there is one subvolume, and its group
-abbrev names_alone : List Record
-names_alone =
-    RootOf EXTENT_TREE ∷ RootOf TOP_LEVEL ∷ RootOf QUOTA_TREE ∷ Status ∷ InfoOf TOP_LEVEL ∷ LimitOf TOP_LEVEL ∷ []
+weigh-all : (whole book others root quota : ℕ) → whole ≡ book + others → others ≡ root + quota
+    → whole ≡ book + root + quota
+weigh-all whole book others root quota is same = omega (arith, is, same)
 
-pub named-alone : (state : State) (mine : Subvolume) (counters : Counters) (stamp : ℕ)
-    → state.subvolumes ≡ (TOP_LEVEL, mine) ∷ [] → state.quota ≡ Some (one_group counters stamp)
-    → other_names state ≡ names_alone
-named-alone state mine counters stamp only quota = rw (only, quota) refl
-
--- what their items take
-weigh-alone : (names : List Record) → names ≡ names_alone
-    → records_bytes (names ++ names) ≡ root_tree_bytes 1 + quota_tree_bytes 1
-weigh-alone names are = rw are refl
-
-weigh-all : (whole book others : ℕ) → whole ≡ book + others → others ≡ root_tree_bytes 1 + quota_tree_bytes 1
-    → whole ≡ book + root_tree_bytes 1 + quota_tree_bytes 1
-weigh-all whole book others is same = omega (arith, is, same)
+-- the names are those of the numbers
+pub names-same : (state : State) (table : List (ℕ × Subvolume)) → keys_of table ≡ keys_of state.subvolumes
+    → other_names (record state { subvolumes = table }) ≡ other_names state
+names-same state table same = rw same refl
 
 -- ---- the slots that are needed
 
--- the change of the files of the top-level subvolume
-abbrev pub change_to : List (ℕ × File) → ℕ → ℕ → FileChange
-change_to files amount pieces = record { sub = TOP_LEVEL; files = files; amount = amount; pieces = pieces }
+-- the change of the files of a subvolume
+abbrev pub change_to : ℕ → List (ℕ × File) → ℕ → ℕ → FileChange
+change_to sub files amount pieces = record { sub = sub; files = files; amount = amount; pieces = pieces }
 
--- Only too few slots may refuse a command, which changes these files so
-pub record IsLate (state : State) (command : Command) (files : List (ℕ × File)) (amount pieces : ℕ) : Type 0 where
-  pub late : refusal state command ≡ no_nodes_for state (file_change state command)
-  pub change : file_change state command ≡ Some (change_to files amount pieces)
+-- Only too few slots may refuse a command, which changes these files of a subvolume so
+pub record IsLate (state : State) (command : Command) (sub : ℕ) (files : List (ℕ × File)) (amount pieces : ℕ) : Type 0
+  where
+    pub late : refusal state command ≡ no_nodes_for state (file_change state command)
+    pub change : file_change state command ≡ Some (change_to sub files amount pieces)
+
+-- where it is kept of a state, whatever the last commit's items name
+module _ (kept : Kept) (state : State) (history : Option (List Event)) (names : List Record) (fits : IsFitted kept)
+    (keeps : IsKeptWith kept state history names) where
+  pub keys-kept : keys_of state.subvolumes ≡ keys_of kept.snapshots
+  keys-kept =
+      sym (keys-mapped (λ (subvolume : Subvolume). subvolume.last_snapshot) state.subvolumes)
+      ∙ ap (λ (table : List (ℕ × ℕ)). keys_of table) keeps.snapshots
+
+  pub ascend-kept : IsStrictlyIncreasing (keys_of state.subvolumes)
+  ascend-kept = subst (λ (keys : List ℕ). IsStrictlyIncreasing keys) (sym keys-kept) fits.subvolumes.ascending
+
+  pub numbers-kept : All (λ (entry : ℕ × Subvolume). is_subvolume_number entry.0 ≡ true) state.subvolumes
+  numbers-kept = all-of (λ (entry : ℕ × Subvolume). is_subvolume_number entry.0 ≡ true) state.subvolumes
+      (λ entry has.
+      let listed = subst (λ (table : List (ℕ × ℕ)). Contains table (entry.0, entry.1.last_snapshot)) keeps.snapshots
+      (has-mapped (λ (entry : ℕ × Subvolume). (entry.0, entry.1.last_snapshot)) state.subvolumes entry has) in
+      All-contains (λ (entry : ℕ × ℕ). is_subvolume_number entry.0 ≡ true) kept.snapshots
+      (entry.0, entry.1.last_snapshot) fits.subvolumes.numbers listed)
+
+  pub many-kept : length state.subvolumes ≡ length kept.snapshots
+  many-kept =
+      sym (length-map state.subvolumes (λ (entry : ℕ × Subvolume). (entry.0, entry.1.last_snapshot)))
+      ∙ ap (λ (table : List (ℕ × ℕ)). length table) keeps.snapshots
+
+  -- what the other trees' items take now
+  pub others-kept : other_weight (other_names state) state ≡ root_weight kept + quota_weight kept
+  others-kept =
+      others-weigh state kept.quota keeps.quota ascend-kept fits.groups.ascending fits.groups.alone numbers-kept
+      ∙ ap (λ (n : ℕ). root_tree_bytes n + quota_weight kept) many-kept
 
 module _ (kept : Kept) (state : State) (history : Option (List Event)) (bytes : ℕ) (fits : IsKept kept history bytes)
     (keeps : IsKeptOf kept state history) (table : IsTable kept.fs.refs.refs) where
@@ -100,35 +127,31 @@ module _ (kept : Kept) (state : State) (history : Option (List Event)) (bytes : 
   pub free-told : present.free_slots state ≡ free_slots kept.fs.land.space
   free-told = sym (space-told kept.fs history bytes state keeps.mine keeps.files tree-kept keeps.keeps).slots
 
-  pub level-kept : root_level state TOP_LEVEL ≡ kept.fs.tree.height
-  level-kept =
-      subst (λ (sub : ℕ). root_level state sub ≡ kept.fs.tree.height) fits.fitted.own
-      (level-told kept.fs history bytes state keeps.mine keeps.files tree-kept keeps.keeps)
+  pub level-kept : root_level state kept.fs.tree.owner ≡ kept.fs.tree.height
+  level-kept = level-told kept.fs history bytes state keeps.mine keeps.files tree-kept keeps.keeps
 
-  others-weigh : other_weight (other_names state) state ≡ root_tree_bytes 1 + quota_tree_bytes 1
-  others-weigh =
-      weigh-alone (other_names state)
-      (named-alone state keeps.mine kept.group.counters kept.group.stamp keeps.only keeps.quota)
-
-  weight-kept : weight state ≡ book_weight kept + root_tree_bytes 1 + quota_tree_bytes 1
+  pub weight-kept : weight state ≡ book_weight kept + root_weight kept + quota_weight kept
   weight-kept =
-      weigh-all (weight state) (book_weight kept) (other_weight (other_names state) state)
+      weigh-all (weight state) (book_weight kept) (other_weight (other_names state) state) (root_weight kept)
+      (quota_weight kept)
       (weight-told kept.fs history bytes state keeps.mine keeps.files tree-kept keeps.keeps (other_names state)
-      keeps.recorded keeps.others) others-weigh
+      keeps.recorded keeps.others)
+      (others-kept kept state history (other_names state) fits.fitted keeps)
 
-  nodesize-kept : state.sizes.nodesize ≡ kept.superblock.nodesize
+  pub nodesize-kept : state.sizes.nodesize ≡ kept.superblock.nodesize
   nodesize-kept =
       ap (λ (sizes : Sizes). sizes.nodesize) keeps.keeps.laid.sizes
       ∙ ap (λ (sizes : Sizes). sizes.nodesize) fits.fitted.sizes
 
   need-kept : (files : List (ℕ × File)) (amount pieces : ℕ)
-      → change_need state (change_to files amount pieces) ≡ need_of kept pieces
+      → change_need state (change_to kept.fs.tree.owner files amount pieces) ≡ need_of kept pieces
   need-kept files amount pieces =
       λ i. 10 * file_copies (level-kept i) pieces + 8 * nodes_filled (nodesize-kept i) (weight-kept i) + 40
 
   -- so many pieces are touched
   pub late-refusal : (command : Command) (files : List (ℕ × File)) (amount pieces : ℕ)
-      → IsLate state command files amount pieces → refusal state command ≡ slots_refusal kept pieces
+      → IsLate state command kept.fs.tree.owner files amount pieces
+      → refusal state command ≡ slots_refusal kept pieces
   late-refusal command files amount pieces is =
       is.late ∙ ap (no_nodes_for state) is.change
       ∙ (λ i. refuse (nat_lt (free-told i) (need-kept files amount pieces i))
@@ -146,50 +169,56 @@ Edits state command reply new =
 abbrev pub edited : Kept → FsTree → Kept
 edited old fs = record old { fs = fs; pending = old.pending + 1 }
 
--- A command changed the tree: it follows the state by copy on write, it is the top-level subvolume's still, what the last
--- commit recorded stays, and a commit finds its slots
+-- A command changed the tree at hand: it follows the state by copy on write, it is the same subvolume's still, what the
+-- last commit recorded stays, and a commit finds its slots
 pub record Follows (old : Kept) (fs : FsTree) (state : State) (mine : Subvolume) (history : Option (List Event))
     (files : List (ℕ × File)) (pieces : ℕ) : Type 0 where
   pub copied : (last : Accepted) → FollowsCommand fs history state (state_after state files fs history last)
-      (mine_after mine files fs) files TOP_LEVEL (file_copies old.fs.tree.height pieces)
-  pub owner : fs.tree.owner ≡ TOP_LEVEL
+      (mine_after mine files fs) files old.fs.tree.owner (file_copies old.fs.tree.height pieces)
+  pub owner : fs.tree.owner ≡ old.fs.tree.owner
   pub short : AreShort files
   pub held : fs.refs.held ≡ old.fs.refs.held
   pub reserved : commit_need (edited old fs) ≤ free_slots fs.land.space
 
-tree_is : (state : State) (mine : Subvolume) (files : List (ℕ × File)) (root : ℕ)
-    → state.subvolumes ≡ (TOP_LEVEL, mine) ∷ []
-    → with_tree state TOP_LEVEL files root
-    ≡ record state { subvolumes = (TOP_LEVEL, record mine { files = files; root = root }) ∷ [] }
-tree_is state mine files root alone = rw alone refl
+tree_is : (state : State) (sub : ℕ) (mine : Subvolume) (files : List (ℕ × File)) (root : ℕ)
+    → value_at sub state.subvolumes ≡ Some mine
+    → with_tree state sub files root
+    ≡ record state { subvolumes = with_value sub (record mine { files = files; root = root }) state.subvolumes }
+tree_is state sub mine files root there = rw there refl
 
 module _ (old : Kept) (fs : FsTree) (before after : Option (List Event)) (bytes : ℕ) (state : State)
     (command : Command) (reply : Answer) (files : List (ℕ × File)) (amount pieces : ℕ) (fits : IsKept old before bytes)
     (keeps : IsKeptOf old state before) (table : IsTable old.fs.refs.refs)
-    (late : IsLate state command files amount pieces) (enough : None ≡ slots_refusal old pieces)
+    (late : IsLate state command old.fs.tree.owner files amount pieces) (enough : None ≡ slots_refusal old pieces)
     (answers : file_answer state command ≡ Some reply)
     (follows : Follows old fs state keeps.mine before files pieces) (same : after ≡ before) where
+  abbrev own : ℕ
+  own = old.fs.tree.owner
+
   abbrev last : Accepted
-  last = accepted state command (change_to files amount pieces) 0
+  last = accepted state command (change_to own files amount pieces) 0
 
   abbrev pub state_now : State
   state_now = state_after state files fs before last
 
+  abbrev mine_now : Subvolume
+  mine_now = mine_after keeps.mine files fs
+
   tree-now : with_tree state fs.tree.owner files fs.tree.address
-      ≡ record state { subvolumes = (TOP_LEVEL, mine_after keeps.mine files fs) ∷ [] }
+      ≡ record state { subvolumes = with_value own mine_now state.subvolumes }
   tree-now =
       ap (λ (sub : ℕ). with_tree state sub files fs.tree.address) follows.owner
-      ∙ tree_is state keeps.mine files fs.tree.address keeps.only
+      ∙ tree_is state own keeps.mine files fs.tree.address keeps.keeps.there
 
   held-now : state_now.held ≡ state.held
   held-now = ap (λ (s : State). s.held) tree-now
 
-  copied-now : CopiesOnWrite state state_now TOP_LEVEL (change_copies state (change_to files amount pieces))
+  copied-now : CopiesOnWrite state state_now own (change_copies state (change_to own files amount pieces))
   copied-now =
-      subst (λ (level : ℕ). CopiesOnWrite state state_now TOP_LEVEL (file_copies level pieces))
+      subst (λ (level : ℕ). CopiesOnWrite state state_now own (file_copies level pieces))
       (sym (level-kept old state before bytes fits keeps table)) (follows.copied last).copied
 
-  changes : ChangesFiles state command (change_to files amount pieces) state_now
+  changes : ChangesFiles state command (change_to own files amount pieces) state_now
   changes = record {
     root = fs.tree.address;
     layout = nodes_in fs before;
@@ -218,35 +247,61 @@ module _ (old : Kept) (fs : FsTree) (before after : Option (List Event)) (bytes 
             ≡ is_among (records_in old.fs.refs.held) one) (sym held-now) (first.same one is);
       })
 
-  only-now : state_now.subvolumes ≡ (TOP_LEVEL, mine_after keeps.mine files fs) ∷ []
-  only-now = ap (λ (s : State). s.subvolumes) tree-now
+  -- ---- the subvolumes
 
-  quota-now : state_now.quota ≡ Some (one_group old.group.counters old.group.stamp)
+  subvolumes-now : state_now.subvolumes ≡ with_value own mine_now state.subvolumes
+  subvolumes-now = ap (λ (s : State). s.subvolumes) tree-now
+
+  ascend : IsStrictlyIncreasing (keys_of state.subvolumes)
+  ascend = ascend-kept old state before (other_names state) fits.fitted keeps
+
+  snapshots-now : map (λ (entry : ℕ × Subvolume). (entry.0, entry.1.last_snapshot)) state_now.subvolumes
+      ≡ old.snapshots
+  snapshots-now =
+      ap (λ (table : List (ℕ × Subvolume)). map (λ (entry : ℕ × Subvolume). (entry.0, entry.1.last_snapshot)) table)
+      subvolumes-now
+      ∙ map-put (λ (entry : ℕ × Subvolume). (entry.0, entry.1.last_snapshot)) own keeps.mine mine_now state.subvolumes
+      refl ascend keeps.keeps.there
+      ∙ keeps.snapshots
+
+  keys-now : keys_of (with_value own mine_now state.subvolumes) ≡ keys_of state.subvolumes
+  keys-now =
+      map-put (λ (entry : ℕ × Subvolume). entry.0) own keeps.mine mine_now state.subvolumes refl ascend
+      keeps.keeps.there
+
+  short-now : IsShort state_now
+  short-now =
+      subst (λ (table : List (ℕ × Subvolume)). All (λ (entry : ℕ × Subvolume). AreShort entry.1.files) table)
+      (sym subvolumes-now)
+      (all-put (λ (entry : ℕ × Subvolume). AreShort entry.1.files) own mine_now state.subvolumes follows.short
+      keeps.short)
+
+  quota-now : state_now.quota ≡ Some old.quota
   quota-now = ap (λ (s : State). s.quota) tree-now ∙ keeps.quota
 
-  names-now : other_names state ≡ other_names state_now
+  names-now : other_names state_now ≡ other_names state
   names-now =
-      named-alone state keeps.mine old.group.counters old.group.stamp keeps.only keeps.quota
-      ∙ sym (named-alone state_now (mine_after keeps.mine files fs) old.group.counters old.group.stamp only-now quota-now)
+      ap (λ (s : State). other_names s) tree-now
+      ∙ names-same state (with_value own mine_now state.subvolumes) keys-now
 
   others-now : NamesOthers state_now.held (other_names state_now)
   others-now =
-      subst (λ (names : List Record). NamesOthers state_now.held names) names-now
+      subst (λ (names : List Record). NamesOthers state_now.held names) (sym names-now)
       (subst (λ (held : Committed). NamesOthers held (other_names state)) (sym held-now) keeps.others)
 
   keeps-now : IsKeptOf (edited old fs) state_now before
   keeps-now = record {
     files = files;
-    mine = mine_after keeps.mine files fs;
+    mine = mine_now;
     keeps = (follows.copied last).keeps;
-    only = only-now;
-    short = follows.short;
-    copied = keeps.copied;
+    short = short-now;
+    snapshots = snapshots-now;
     quota = quota-now;
     pending = omega (arith, keeps.pending);
     recorded = recorded-now;
     others = others-now;
     reserved = λ some. follows.reserved;
+    idle = λ none same. absurd (omega (arith, none));
   }
 
   -- a command that changes files and is not refused

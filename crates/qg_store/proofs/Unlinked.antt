@@ -4,7 +4,6 @@ use Rattle.qg_device.specs.History.{Event}
 use Rattle.qg_num.specs.declared.answer.Answer.TheVariants.{Done, Refused}
 use Rattle.qg_num.specs.declared.command.Command.TheVariants.{Unlink}
 use Rattle.qg_num.specs.declared.refusal.Refusal.{Refusal}
-use Rattle.qg_items.specs.declared.tree.TheConstants.{TOP_LEVEL}
 use Rattle.qg_image.specs.declared.file.File.{File}
 use Rattle.qg_image.specs.Table.{value_at, without_key}
 use Rattle.qg_state.specs.State.{State}
@@ -17,9 +16,9 @@ use Rattle.qg_store.specs.Answering.{Answered}
 use Rattle.qg_store.specs.Editing.{slots_refusal, unlink_refusal}
 use Rattle.qg_store.specs.Keeping.{IsKept, IsKeptOf, need_of}
 use Rattle.qg_store.proofs.Refused.{early-unlink, late-unlink}
-use Rattle.qg_store.proofs.Changed.{changes-top}
+use Rattle.qg_store.proofs.Changed.{changes-here, hand-short}
 use Rattle.qg_store.proofs.Leaves.{follows-edit}
-use Rattle.qg_fs_commit.proofs.Short.{short-left}
+use Rattle.qg_fs_laws.proofs.Short.{short-left}
 use Rattle.qg_store.proofs.Stepped.{Follows, IsLate, change_to, does_edit, does_nothing, edited}
 use Rattle.qg_store.proofs.Stepped.{late-refusal}
 
@@ -33,24 +32,24 @@ refuses-unlink kept state history sub ino reason keeps is =
 -- it may go on, and so many pieces are touched
 module _ (kept : Kept) (state : State) (history : Option (List Event)) (bytes sub ino pieces : ℕ) (file : File)
     (fits : IsKept kept history bytes) (keeps : IsKeptOf kept state history) (table : IsTable kept.fs.refs.refs)
-    (top : sub ≡ TOP_LEVEL) (passes : unlink_refusal state TOP_LEVEL ino ≡ None)
+    (top : sub ≡ kept.fs.tree.owner) (passes : unlink_refusal state kept.fs.tree.owner ino ≡ None)
     (there : value_at ino keeps.files ≡ Some file) (touched : pieces ≡ length file.pieces) where
   abbrev pub files_now : List (ℕ × File)
   files_now = without_key ino keeps.files
 
-  pub is-late : IsLate state (Unlink TOP_LEVEL ino) files_now 0 pieces
+  pub is-late : IsLate state (Unlink kept.fs.tree.owner ino) kept.fs.tree.owner files_now 0 pieces
   is-late = record {
-    late = late-unlink state TOP_LEVEL ino passes;
-    change = (changes-top kept state history bytes fits keeps table).unlink ino file there
-        ∙ ap (λ (n : ℕ). Some (change_to files_now 0 n)) (sym touched);
+    late = late-unlink state kept.fs.tree.owner ino passes;
+    change = (changes-here kept state history bytes fits keeps table).unlink ino file there
+        ∙ ap (λ (n : ℕ). Some (change_to kept.fs.tree.owner files_now 0 n)) (sym touched);
   }
 
   pub lacks-slots : (reason : Refusal) → Some reason ≡ slots_refusal kept pieces
       → Answered state (Unlink sub ino) (Refused reason) [] kept history
   lacks-slots reason is =
       subst (λ (sub : ℕ). Answered state (Unlink sub ino) (Refused reason) [] kept history) (sym top)
-      (does_nothing kept state history (Unlink TOP_LEVEL ino) reason keeps
-      (late-refusal kept state history bytes fits keeps table (Unlink TOP_LEVEL ino) files_now 0 pieces is-late
+      (does_nothing kept state history (Unlink kept.fs.tree.owner ino) reason keeps
+      (late-refusal kept state history bytes fits keeps table (Unlink kept.fs.tree.owner ino) files_now 0 pieces is-late
       ∙ sym is))
 
   pub unlinks : (fs : FsTree) (after : Option (List Event)) → None ≡ slots_refusal kept pieces
@@ -58,7 +57,7 @@ module _ (kept : Kept) (state : State) (history : Option (List Event)) (bytes su
       → Answered state (Unlink sub ino) Done [] (edited kept fs) after
   unlinks fs after enough follows same =
       subst (λ (sub : ℕ). Answered state (Unlink sub ino) Done [] (edited kept fs) after) (sym top)
-      (does_edit kept fs history after bytes state (Unlink TOP_LEVEL ino) Done files_now 0 pieces fits keeps table
+      (does_edit kept fs history after bytes state (Unlink kept.fs.tree.owner ino) Done files_now 0 pieces fits keeps table
       is-late enough refl follows same (λ done. done))
 
   -- the file went
@@ -74,4 +73,4 @@ module _ (kept : Kept) (state : State) (history : Option (List Event)) (bytes su
       (follows-edit kept fs history after bytes left state files_now pieces fits keeps table
       (subst (λ (k : Kept). IsTable k.fs.refs.refs) is table_new) held
       (subst (λ (n : ℕ). LeavesFiles kept.fs fs history files_now n) (sym touched) leaves)
-      ((short-left kept.fs.tree.next keeps.files keeps.short).unlinked ino) enough) held.history)
+      ((short-left kept.fs.tree.next keeps.files (hand-short kept state history keeps)).unlinked ino) enough) held.history)

@@ -6,7 +6,7 @@ use Rattle.std.specs.List.{Contains, list_all}
 use Rattle.std.specs.List.Sorted.{IsPermutation}
 use Rattle.std.proofs.lemmas.List.{append_assoc, length-map, take-append-le, take_all}
 use Rattle.std.proofs.lemmas.List.Elements.{All-contains, Contains-append_left, Contains-get_or}
-use Rattle.std.proofs.lemmas.List.Sorted.{Contains-permutation, IsPermutation-append_comm, IsPermutation-map, IsPermutation-sym}
+use Rattle.std.proofs.lemmas.List.Sorted.{Contains-permutation, IsPermutation-append_comm, IsPermutation-map, IsPermutation-sym, length_permutation}
 use Rattle.std.proofs.lemmas.List.Sums.{list_all-from_AllPass}
 use Rattle.qg_node.specs.declared.node.Node.{Node}
 use Rattle.qg_items.specs.declared.root.RootItem.{RootItem}
@@ -84,6 +84,19 @@ module _ (sizes : Sizes) (generation : ℕ) (roots : List (ℕ × RootItem)) (bo
         Contains-permutation (map address_of in_order) (map address_of (nodes_laid trees)) slot moved,
         Contains-permutation (map address_of (nodes_laid trees)) (map address_of in_order) slot back,
       )
+
+  -- each node lies in one of the slots, and there are no more nodes
+  pub laid-among : (slot : ℕ) → Contains (map address_of (nodes_laid trees)) slot → Contains slots slot
+  laid-among slot has =
+      subst (λ (list : List ℕ). Contains list slot) (take-append-drop count slots)
+      (Contains-append_left (take count slots) (drop count slots) slot ((same-slots slot).1 has))
+
+  pub laid-many : length (map address_of (nodes_laid trees)) ≤ length slots
+  laid-many =
+      let moved = length_permutation (map address_of in_order) (map address_of (nodes_laid trees))
+      (IsPermutation-map address_of in_order (nodes_laid trees) turned) in
+      let inside = within in
+      omega (arith, moved, counted, inside)
 
 -- the first so many of free slots are free
 pub front-free : (space : Holding) (slots : List ℕ) (n : ℕ) → AreFree space slots

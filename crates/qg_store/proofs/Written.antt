@@ -1,18 +1,16 @@
 -- What comes of a write whose range may be written, told by what is kept. Positions and lengths are in bytes.
-use Rattle.std.proofs.Common.{◌≡◌, ℕ, ◌+◌, ◌≤◌, List, [], Some, None, Option, refl, sym, ap, subst, ◌∙◌}
+use Rattle.std.proofs.Common.{◌≡◌, ℕ, ◌+◌, ◌≤◌, List, [], Some, None, Option, sym, ap, subst, ◌∙◌}
 use Rattle.std.specs.Option.{option_map}
 use Rattle.qg_device.specs.History.{Event}
 use Rattle.qg_num.specs.declared.answer.Answer.TheVariants.{Extent, Refused}
 use Rattle.qg_num.specs.declared.command.Command.TheVariants.{Write}
 use Rattle.qg_num.specs.declared.refusal.Refusal.{Refusal}
 use Rattle.qg_num.specs.declared.refusal.Refusal.TheVariants as why
-use Rattle.qg_items.specs.declared.tree.TheConstants.{TOP_LEVEL}
 use Rattle.qg_image.specs.declared.file.File.{File}
 use Rattle.qg_state.specs.State.{State}
 use Rattle.qg_state.specs.Space.{first_run}
 use Rattle.qg_verdict.specs.Verdict.{longest_extent}
 use Rattle.qg_machine.specs.FileChange.{pieces_meeting}
-use Rattle.qg_machine.specs.Step.{file_answer}
 use Rattle.qg_space.specs.Holding.{free_slots}
 use Rattle.qg_extents.specs.Table.{IsTable}
 use Rattle.qg_fs_tree.specs.declared.fs_tree.FsTree.{FsTree}
@@ -21,12 +19,12 @@ use Rattle.qg_file_edits.specs.Files.{LeavesFiles, LeavesHeld, pieces_of}
 use Rattle.qg_store.specs.declared.kept.Kept.{Kept}
 use Rattle.qg_store.specs.Answering.{Answered}
 use Rattle.qg_store.specs.Editing.{range_refusal, slots_refusal}
-use Rattle.qg_store.specs.Keeping.{IsKept, IsKeptOf, need_of}
+use Rattle.qg_store.specs.Keeping.{IsFitted, IsKept, IsKeptOf, need_of}
 use Rattle.qg_store.proofs.Known.{no-limit}
 use Rattle.qg_store.proofs.Refused.{early-write, late-write, runless-write}
-use Rattle.qg_store.proofs.Changed.{changes-top}
+use Rattle.qg_store.proofs.Changed.{changes-here, hand-short}
 use Rattle.qg_store.proofs.Leaves.{follows-edit}
-use Rattle.qg_fs_commit.proofs.Short.{short-left}
+use Rattle.qg_fs_laws.proofs.Short.{short-left}
 use Rattle.qg_store.proofs.Stepped.{Follows, IsLate, change_to, does_edit, does_nothing, edited}
 use Rattle.qg_store.proofs.Stepped.{late-refusal}
 
@@ -40,17 +38,17 @@ refuses-range kept state history sub ino off len reason keeps is =
 
 -- no run is free
 pub lacks-run : (kept : Kept) (state : State) (history : Option (List Event)) (sub ino off len : ℕ)
-    → IsKeptOf kept state history → None ≡ range_refusal state sub off len → None ≡ first_run state len
-    → Answered state (Write sub ino off len) (Refused why.NoRun) [] kept history
-lacks-run kept state history sub ino off len keeps range none =
+    → IsFitted kept → IsKeptOf kept state history → None ≡ range_refusal state sub off len
+    → None ≡ first_run state len → Answered state (Write sub ino off len) (Refused why.NoRun) [] kept history
+lacks-run kept state history sub ino off len fits keeps range none =
     does_nothing kept state history (Write sub ino off len) why.NoRun keeps
     (runless-write state sub ino off len (sym range)
-    (no-limit kept state history keeps sub (len + state.sizes.nodesize)) (sym none))
+    (no-limit kept state history keeps fits sub (len + state.sizes.nodesize)) (sym none))
 
 -- a run is free, and so many pieces are touched
 module _ (kept : Kept) (state : State) (history : Option (List Event)) (bytes sub ino off len run pieces : ℕ)
     (fits : IsKept kept history bytes) (keeps : IsKeptOf kept state history) (table : IsTable kept.fs.refs.refs)
-    (top : sub ≡ TOP_LEVEL) (range : None ≡ range_refusal state sub off len) (found : Some run ≡ first_run state len)
+    (top : sub ≡ kept.fs.tree.owner) (range : None ≡ range_refusal state sub off len) (found : Some run ≡ first_run state len)
     (touched : pieces ≡ pieces_meeting off (off + len) (pieces_of ino keeps.files)) where
   abbrev pub files_now : List (ℕ × File)
   files_now = files_written kept.fs.tree.next ino off len run keeps.files
@@ -58,21 +56,21 @@ module _ (kept : Kept) (state : State) (history : Option (List Event)) (bytes su
   abbrev pub amount : ℕ
   amount = len + kept.fs.land.space.sizes.nodesize
 
-  pub is-late : IsLate state (Write TOP_LEVEL ino off len) files_now amount pieces
+  pub is-late : IsLate state (Write kept.fs.tree.owner ino off len) kept.fs.tree.owner files_now amount pieces
   is-late = record {
-    late = late-write state TOP_LEVEL ino off len run
+    late = late-write state kept.fs.tree.owner ino off len run
         (ap (λ (sub : ℕ). range_refusal state sub off len) (sym top) ∙ sym range)
-        (no-limit kept state history keeps TOP_LEVEL (len + state.sizes.nodesize)) (sym found);
-    change = (changes-top kept state history bytes fits keeps table).write ino off len run (sym found)
-        ∙ ap (λ (n : ℕ). Some (change_to files_now amount n)) (sym touched);
+        (no-limit kept state history keeps fits.fitted kept.fs.tree.owner (len + state.sizes.nodesize)) (sym found);
+    change = (changes-here kept state history bytes fits keeps table).write ino off len run (sym found)
+        ∙ ap (λ (n : ℕ). Some (change_to kept.fs.tree.owner files_now amount n)) (sym touched);
   }
 
   pub lacks-slots : (reason : Refusal) → Some reason ≡ slots_refusal kept pieces
       → Answered state (Write sub ino off len) (Refused reason) [] kept history
   lacks-slots reason is =
       subst (λ (sub : ℕ). Answered state (Write sub ino off len) (Refused reason) [] kept history) (sym top)
-      (does_nothing kept state history (Write TOP_LEVEL ino off len) reason keeps
-      (late-refusal kept state history bytes fits keeps table (Write TOP_LEVEL ino off len) files_now amount pieces
+      (does_nothing kept state history (Write kept.fs.tree.owner ino off len) reason keeps
+      (late-refusal kept state history bytes fits keeps table (Write kept.fs.tree.owner ino off len) files_now amount pieces
       is-late ∙ sym is))
 
   pub writes : (fs : FsTree) (after : Option (List Event)) → None ≡ slots_refusal kept pieces
@@ -80,7 +78,7 @@ module _ (kept : Kept) (state : State) (history : Option (List Event)) (bytes su
       → Answered state (Write sub ino off len) (Extent run) [] (edited kept fs) after
   writes fs after enough follows same =
       subst (λ (sub : ℕ). Answered state (Write sub ino off len) (Extent run) [] (edited kept fs) after) (sym top)
-      (does_edit kept fs history after bytes state (Write TOP_LEVEL ino off len) (Extent run) files_now amount pieces
+      (does_edit kept fs history after bytes state (Write kept.fs.tree.owner ino off len) (Extent run) files_now amount pieces
       fits keeps table is-late enough (ap (option_map (λ (extent : ℕ). Extent extent)) (sym found)) follows same
       (λ done. done))
 
@@ -97,4 +95,4 @@ module _ (kept : Kept) (state : State) (history : Option (List Event)) (bytes su
       (follows-edit kept fs history after bytes left state files_now pieces fits keeps table
       (subst (λ (k : Kept). IsTable k.fs.refs.refs) is table_new) held
       (subst (λ (n : ℕ). LeavesFiles kept.fs fs history files_now n) (sym touched) leaves)
-      ((short-left kept.fs.tree.next keeps.files keeps.short).written ino off len run few) enough) held.history)
+      ((short-left kept.fs.tree.next keeps.files (hand-short kept state history keeps)).written ino off len run few) enough) held.history)

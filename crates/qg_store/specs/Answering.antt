@@ -1,15 +1,16 @@
 -- What a store answers (this project's own).
-use Rattle.std.specs.Prelude.{◌≡◌, ◌⊎◌, List, Option, Some, Bool, true, false}
+use Rattle.std.specs.Prelude.{◌≡◌, ◌⊎◌, List, Option, None, Some, Bool, true, false, IsTrue}
 use Rattle.qg_device.specs.History.{Event}
 use Rattle.qg_num.specs.declared.answer.Answer.{Answer}
 use Rattle.qg_num.specs.declared.answer.Answer.TheVariants as answer
 use Rattle.qg_num.specs.declared.command.Command.{Command}
-use Rattle.qg_num.specs.declared.command.Command.TheVariants.{Commit}
+use Rattle.qg_num.specs.declared.command.Command.TheVariants.{Commit, Delete, Snap, SubCreate}
 use Rattle.qg_state.specs.State.{State}
+use Rattle.qg_machine.specs.Refusals.{refusal}
 use Rattle.qg_machine.specs.Step.{Step}
 use Rattle.qg_store.specs.declared.kept.Kept.{Kept}
 use Rattle.qg_store.specs.Keeping.{IsKeptOf}
-use Rattle.qg_store.specs.Making.{MadeCommits, StartsCommit}
+use Rattle.qg_store.specs.Making.{MadeCommits, StartsCommit, StartsSecond}
 
 -- the machine answers a command so with these commits, and what is kept is that of the state that it comes to, over a
 -- disk with this history
@@ -25,19 +26,35 @@ AnswersOn old command answer kept before history =
     (commits : List State) × Answered old command answer commits kept history
     × MadeCommits old.held commits before history
 
--- what a command has done to the disk, whatever is answered: nothing, or the calls of a commit that the machine does,
--- as far as they came
+-- a structural command, which commits besides its own change
+abbrev pub is_structural : Command → Bool
+is_structural SubCreate = true
+is_structural (Snap sub groups) = true
+is_structural (Delete sub) = true
+is_structural _ = false
+
+-- a command that comes to the disk: a commit, or a structural one
+abbrev pub comes_to_disk : Command → Bool
+comes_to_disk Commit = true
+comes_to_disk command = is_structural command
+
+-- The calls of the commits that a command makes came so far, and perhaps were not all answered. It is one that comes to
+-- the disk, and is not refused. They are those of the commit of what was pending; or all of these, where something was,
+-- and behind them those of the commit of what a structural command changed
+pub record StartsCommits (old : State) (command : Command) (events : List Event) (history : Option (List Event)) : Type 0
+  where
+    pub comes : IsTrue (comes_to_disk command)
+    pub unrefused : refusal old command ≡ None
+    pub calls : StartsCommit old events history ⊎ StartsSecond old command events history
+
+-- what a command has done to the disk, whatever is answered: nothing, or calls of the commits that it makes
 abbrev pub IsDoneSoFar : State → Command → List Event → Option (List Event) → Type 0
-IsDoneSoFar old command events history = (history ≡ Some events) ⊎ ((command ≡ Commit) × StartsCommit old events history)
+IsDoneSoFar old command events history = (history ≡ Some events) ⊎ StartsCommits old command events history
 
 -- an answer that says that nothing was changed
 abbrev pub is_unchanging : Answer → Bool
 is_unchanging (answer.Refused why) = true
 is_unchanging (answer.Shown rows) = true
 is_unchanging (answer.File size pieces) = true
+is_unchanging (answer.Owners owners) = true
 is_unchanging _ = false
-
--- a command that comes to the disk
-abbrev pub comes_to_disk : Command → Bool
-comes_to_disk Commit = true
-comes_to_disk _ = false

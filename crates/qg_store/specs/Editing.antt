@@ -4,33 +4,35 @@ use Rattle.std.specs.Prelude.{◌≡◌, ℕ, ◌+◌, ◌==◌, ◌&&◌, List,
 use Rattle.qg_device.specs.History.{Event}
 use Rattle.qg_num.specs.declared.refusal.Refusal.{Refusal}
 use Rattle.qg_num.specs.declared.refusal.Refusal.TheVariants as why
-use Rattle.qg_image.specs.declared.file.File.{File}
 use Rattle.qg_image.specs.FilesOf.{is_aligned}
 use Rattle.qg_image.specs.ItemMeaning.{first_some}
 use Rattle.qg_state.specs.State.{State}
 use Rattle.qg_verdict.specs.Verdict.{longest_extent}
 use Rattle.qg_machine.specs.Refusals.{no_align, no_far, no_file, no_source, no_sub, refuse, share_a_byte, too_many_pending}
 use Rattle.qg_space.specs.Holding.{free_slots}
-use Rattle.qg_file_edits.specs.Files.{LeavesFiles}
 use Rattle.qg_store.specs.declared.kept.Kept.{Kept}
 use Rattle.qg_store.specs.Keeping.{SameButClean, need_of}
 
 -- ---- what is read
 
--- what is kept was only read by: clean nodes alone may be others, and the disk was not written
+-- Nodes were read, or put out of memory: clean nodes alone may be others, the tree at hand is the same, and the disk was
+-- not written
+pub record HasReadNodes (old new : Kept) (before after : Option (List Event)) (bytes left : ℕ) : Type 0 where
+  pub same : new ≡ record old {
+    fs = record old.fs {
+      land = record old.fs.land {
+        blocks = record old.fs.land.blocks { clean = new.fs.land.blocks.clean };
+      };
+    };
+  }
+  pub history : after ≡ before
+  pub size : left ≡ bytes
+
+-- so it is where another tree may be at hand
 pub record HasLooked (old new : Kept) (before after : Option (List Event)) (bytes left : ℕ) : Type 0 where
   pub same : SameButClean old new
   pub history : after ≡ before
   pub size : left ≡ bytes
-
--- ---- what is left
-
--- the tree has these files now, of slots it took at most so many more than it gave back, one command more is pending,
--- and all else stays
-pub record IsEdited (old new : Kept) (history : Option (List Event)) (files : List (ℕ × File)) (copies : ℕ) : Type 0
-  where
-    pub rest : new ≡ record old { fs = new.fs; pending = old.pending + 1 }
-    pub leaves : LeavesFiles old.fs new.fs history files copies
 
 -- ---- why a command is refused, before the free slots are counted: the first that holds
 

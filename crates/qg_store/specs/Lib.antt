@@ -6,3 +6,7 @@ pub mod Editing
 pub mod Ranges
 pub mod Slots
 pub mod Committing
+pub mod Structural
+pub mod Planning
+pub mod Opened
+pub mod Owning

@@ -3,7 +3,9 @@ use Rattle.std.specs.Prelude.{◌≡◌, ℕ, List, [], ◌∷◌, Option, Some}
 use Rattle.std.specs.List.{All}
 use Rattle.std.specs.List.Sorted.{IsPermutation}
 use Rattle.qg_device.specs.History.{Event, Moment, content}
+use Rattle.qg_num.specs.declared.answer.Answer.{Answer}
 use Rattle.qg_num.specs.declared.answer.Answer.TheVariants as answer
+use Rattle.qg_num.specs.declared.command.Command.{Command}
 use Rattle.qg_num.specs.declared.command.Command.TheVariants as command
 use Rattle.qg_node.specs.declared.node.Node.{Node}
 use Rattle.qg_super.specs.declared.superblock.Super.{Super}
@@ -11,7 +13,7 @@ use Rattle.qg_state.specs.declared.quota.Quota.{Quota}
 use Rattle.qg_state.specs.Counts.{direct_count}
 use Rattle.qg_state.specs.Members.{hierarchy_of}
 use Rattle.qg_state.specs.State.{Committed, State, layout_of}
-use Rattle.qg_machine.specs.Step.{Step}
+use Rattle.qg_machine.specs.Step.{Changes, Commits, CommitsPending, Step}
 use Rattle.qg_machine.specs.Written.{new_nodes}
 use Rattle.qg_verdict.specs.StateOf.{StateOf}
 use Rattle.qg_commit.specs.Calls.{MadeFront, commit_calls, with_commit}
@@ -53,6 +55,33 @@ pub record StartsCommit (old : State) (events : List Event) (history : Option (L
   pub nodes : List Node
   pub brings : BringsTo old.held new events super nodes
   pub made : MadeFront (commit_calls super nodes) events history
+
+-- What was pending is committed, by calls that a disk was given, and no more was done
+pub record MadeFirst (old : State) (events : List Event) (history : Option (List Event)) : Type 0 where
+  pub before : State
+  pub earlier : List State
+  pub first : CommitsPending old earlier before
+  pub between : List Event
+  pub told : history ≡ Some between
+  pub made : Makes old.held earlier events between
+
+-- What was pending is committed, a structural command made its change, and the calls of a commit of that came so far
+pub record StartsSecond (old : State) (given : Command) (events : List Event) (history : Option (List Event)) : Type 0
+  where
+    pub before : State
+    pub earlier : List State
+    pub first : CommitsPending old earlier before
+    pub between : List Event
+    pub made_first : Makes old.held earlier events between
+    pub reply : Answer
+    pub changed : State
+    pub changes : Changes before given reply changed
+    pub new : State
+    pub second : Commits changed new
+    pub super : Super
+    pub nodes : List Node
+    pub brings : BringsTo changed.held new between super nodes
+    pub made : MadeFront (commit_calls super nodes) between history
 
 -- commits of these states, the earliest first, made sure of what a disk held three times each, the newest first: each third time it is
 -- the state committed

@@ -1,5 +1,5 @@
 -- How slots are taken and given back, many at once (this project's own).
-use Rattle.std.specs.Prelude.{◌≡◌, ℕ, ◌↔◌, List}
+use Rattle.std.specs.Prelude.{◌≡◌, ℕ, ◌↔◌}
 use Rattle.std.specs.List.{Contains}
 use Rattle.qg_space.specs.Holding.{Holding}
 

@@ -1,8 +1,9 @@
 -- A store as its callers see it (this project's own).
-use Rattle.std.specs.Prelude.{◌≡◌, ◌<◌, Bool, true, false, List, Option, None, Some, Result, Ok, Err, IsTrue}
+use Rattle.std.specs.Prelude.{◌≡◌, ◌⊎◌, ◌+◌, ◌<◌, Bool, true, false, List, Option, None, Some, Result, Ok, Err, IsTrue}
 use Rattle.qg_device.specs.History.{Event}
 use Rattle.qg_num.specs.declared.answer.Answer.{Answer}
 use Rattle.qg_num.specs.declared.command.Command.{Command}
+use Rattle.qg_num.specs.declared.command.Command.TheVariants.{Commit}
 use Rattle.qg_num.specs.declared.fault.BlockFault.{BlockFault}
 use Rattle.qg_num.specs.declared.fault.BlockFault.TheVariants as fault
 use Rattle.qg_num.specs.declared.fault.Stop.{Stop}
@@ -12,8 +13,9 @@ use Rattle.qg_super.specs.SuperText.{sizes_of}
 use Rattle.qg_state.specs.State.{State}
 use Rattle.qg_blocks.specs.Told.{IsBacked}
 use Rattle.qg_store.specs.declared.kept.Kept.{Kept}
-use Rattle.qg_store.specs.Answering.{comes_to_disk}
+use Rattle.qg_store.specs.Answering.{comes_to_disk, is_structural}
 use Rattle.qg_store.specs.Keeping.{IsFitted, IsKeptOf, SameButClean}
+use Rattle.qg_store.specs.Making.{MadeFirst, StartsSecond}
 
 -- what it keeps, and why it stopped, if it did
 pub record Stored : Type 0 where
@@ -38,33 +40,50 @@ pub record IsUnchanged (old new : Stored) : Type 0 where
   pub stopped : new.stopped ≡ old.stopped
   pub kept : SameButClean old.kept new.kept
 
--- a command is a commit of something that is pending in a store that has not stopped
+-- a command comes to the disk in a store that has not stopped: a commit where something is pending, or a structural one
 pub record ComesToDisk (store : Stored) (command : Command) : Type 0 where
   pub running : store.stopped ≡ None
   pub commits : IsTrue (comes_to_disk command)
-  pub some : 0 < store.kept.pending
+  pub some : command ≡ Commit → 0 < store.kept.pending
 
 -- the sizes of its image
 abbrev pub sizes_stored : Stored → Sizes
 sizes_stored store = sizes_of store.kept.superblock
 
--- a store stops for a fault, and knows the last commit still
-pub record StopsBy (cause : BlockFault) (old new : Stored) : Type 0 where
+-- The last commit is the first of the two that a structural command makes: something was pending, and is committed, as
+-- the next generation. A disk that tells what it held was given all calls of that commit, and of the second some or none
+pub record HasMadeFirst (command : Command) (old new : Kept) (before after : Option (List Event)) : Type 0 where
+  pub structural : IsTrue (is_structural command)
+  pub some : 0 < old.pending
+  pub next : new.superblock.generation ≡ old.superblock.generation + 1
+  pub given : (state : State) (events : List Event) → IsKeptOf old state before → before ≡ Some events
+      → MadeFirst state events after ⊎ StartsSecond state command events after
+
+-- the last commit is known still: it is the one before a command, or the first of the two of a structural one
+abbrev pub KnowsLast : Command → Kept → Kept → Option (List Event) → Option (List Event) → Type 0
+KnowsLast command old new before after =
+    (new.superblock ≡ old.superblock) ⊎ HasMadeFirst command old new before after
+
+-- a store stops for a fault, over a disk with these histories before a command and now, and knows the last commit still
+pub record StopsBy (cause : BlockFault) (command : Command) (old new : Stored) (before after : Option (List Event))
+    : Type 0 where
   pub running : old.stopped ≡ None
   pub stopped : new.stopped ≡ Some cause
-  pub last : new.kept.superblock ≡ old.kept.superblock
+  pub last : KnowsLast command old.kept new.kept before after
 
 -- a command stops a store, or finds that it has stopped
-abbrev pub Stops : Stop → Stored → Stored → Type 0
-Stops (Aborted cause) old new = (old.stopped ≡ Some cause) × (new ≡ old)
-Stops NoMemory old new = StopsBy fault.NoMemory old new
-Stops Disk old new = StopsBy fault.Disk old new
-Stops (Image rule address) old new = StopsBy (fault.Image rule address) old new
+abbrev pub Stops : Stop → Command → Stored → Stored → Option (List Event) → Option (List Event) → Type 0
+Stops (Aborted cause) command old new before after = (old.stopped ≡ Some cause) × (new ≡ old)
+Stops NoMemory command old new before after = StopsBy fault.NoMemory command old new before after
+Stops Disk command old new before after = StopsBy fault.Disk command old new before after
+Stops (Image rule address) command old new before after =
+    StopsBy (fault.Image rule address) command old new before after
 
 -- a store that answers was running, and is so still; else it stops
-abbrev pub RunsOrStops : Result Answer Stop → Stored → Stored → Type 0
-RunsOrStops (Ok answer) old new = (old.stopped ≡ None) × (new.stopped ≡ None)
-RunsOrStops (Err stop) old new = Stops stop old new
+abbrev pub RunsOrStops : Result Answer Stop → Command → Stored → Stored → Option (List Event) → Option (List Event)
+    → Type 0
+RunsOrStops (Ok answer) command old new before after = (old.stopped ≡ None) × (new.stopped ≡ None)
+RunsOrStops (Err stop) command old new before after = Stops stop command old new before after
 
 -- a store stops for a rule that the image breaks
 abbrev pub is_of_image : Stop → Bool

@@ -1,5 +1,5 @@
 // What is pending is committed.
-ghost use Rattle.std.specs.Prelude.{◌≡◌, ◌⊎◌, ◌≤◌, ◌^◌, ℕ, All, List, None, Option, Some, IfOk, IfErr, IsTrue, OnErr, OnOk};
+ghost use Rattle.std.specs.Prelude.{◌≡◌, ◌⊎◌, ◌+◌, ◌≤◌, ◌^◌, ℕ, All, List, None, Option, Some, IfOk, IfErr, IsTrue, OnErr, OnOk};
 ghost use Rattle.std.specs.Option.{option_map};
 ghost use Rattle.qg_device.specs.Cause.{HasCause};
 ghost use Rattle.qg_device.specs.History.{Event};
@@ -7,33 +7,41 @@ ghost use Rattle.qg_num.specs.declared.command.Command.TheVariants.{Commit};
 ghost use Rattle.qg_num.specs.declared.piece.Piece.{Piece};
 ghost use Rattle.qg_node.specs.declared.item.Item.{Item};
 ghost use Rattle.qg_super.specs.SuperText.{sizes_of};
+ghost use Rattle.qg_state.specs.Record.{Record};
 ghost use Rattle.qg_state.specs.State.{State};
 ghost use Rattle.qg_blocks.specs.Told.{BreaksNone, IsBacked, fresh_at};
 ghost use Rattle.qg_blocks.specs.Writing.{AreWritten};
 ghost use Rattle.qg_commit.specs.Calls.{IsReadBack};
-ghost use Rattle.qg_fs_tree.specs.Standing.{IsSubvolume, Stands};
+ghost use Rattle.qg_space.specs.Holding.{free_slots};
+ghost use Rattle.qg_fs_tree.specs.Standing.{CanTurn, IsSubvolume, Stands};
 ghost use Rattle.qg_standing.specs.Committing.{StandsStill, WritesTree};
 ghost use Rattle.qg_tree_commit.specs.Holds.{AreForgotten, with_tree_commit};
 ghost use Rattle.qg_tree_commit.specs.Writing.{fresh_nodes};
 ghost use Rattle.qg_store.specs.Answering.{AnswersOn, is_unchanging};
-ghost use Rattle.qg_store.specs.Committing.{IsLaidBy, IsPlanOf, KeepsCommit, LaysSoFar};
+ghost use Rattle.qg_store.specs.Committing.{IsLaidBy, KeepsCommit, LaysSoFar};
 ghost use Rattle.qg_store.specs.Editing.{HasLooked};
-ghost use Rattle.qg_store.specs.Keeping.{IsFitted, IsKept, IsKeptOf};
+ghost use Rattle.qg_store.specs.Keeping.{IsFitted, IsKept, IsKeptOf, IsKeptWith, commit_need};
 ghost use Rattle.qg_store.specs.Making.{StartsCommit};
+ghost use Rattle.qg_store.specs.Planning.{CommitsOn, IsPlanSo, LeavesRoom, StartsCommitOf};
 
 use crate::kept::Kept;
 use crate::planning::{Plan, plan_of};
 use qg_blocks::Blocks;
 use qg_disk::Disk;
-use qg_num::{Address, Answer, BlockFault, NoMemory, Refusal};
+use qg_num::{Address, Answer, BlockFault, NoMemory, Refusal, Steps};
 use qg_other_trees::{OtherTrees, Told};
 use qg_standing::committed;
+use std::sync::ledger::Ledger;
 
 /// The greatest committed generation that a commit may meet.
-const LAST_GENERATION: u64 = 1 << 63;
+pub(crate) const LAST_GENERATION: u64 = 1 << 63;
 
 /// Commits what is pending, or refuses to. Where nothing is pending, nothing is done.
-pub(crate) fn commit<D: Disk>(kept: &mut Kept, disk: &mut D) -> Result<Answer, BlockFault>
+pub(crate) fn commit<D: Disk, L: Ledger>(
+    kept: &mut Kept,
+    disk: &mut D,
+    reads: &mut Steps<L>,
+) -> Result<Answer, BlockFault>
     requires kept { IsKept kept.old (D.history disk.old) (D.size disk.old) }
     ensures kept { IfOk result (λ answer. IsKept kept.new (D.history disk.new) (D.size disk.new)) }
     ensures step { (state : State) (events : List Event) → IsKeptOf kept.old state (D.history disk.old)
@@ -59,11 +67,43 @@ pub(crate) fn commit<D: Disk>(kept: &mut Kept, disk: &mut D) -> Result<Answer, B
     if kept.superblock.generation.value() > LAST_GENERATION {
         return Ok(Answer::Refused(Refusal::NoGeneration));
     }
-    let plan = plan_of(kept)?;
+    commit_now(kept, disk, reads)?;
+    Ok(Answer::Commit(kept.superblock.generation))
+}
+
+/// Commits what is kept, whatever is pending, and refuses nothing. The second commit of a structural command begins one
+/// generation later than any that is let in.
+pub(crate) fn commit_now<D: Disk, L: Ledger>(
+    kept: &mut Kept,
+    disk: &mut D,
+    reads: &mut Steps<L>,
+) -> Result<(), BlockFault>
+    requires kept { IsKept kept.old (D.history disk.old) (D.size disk.old) }
+    requires early { kept.old.superblock.generation ≤ 2 ^ 63 + 1 }
+    ensures kept { IfOk result (λ done. IsKept kept.new (D.history disk.new) (D.size disk.new)) }
+    ensures commits { (state : State) (events : List Event) (names : List Record)
+        → IsKeptWith kept.old state (D.history disk.old) names
+        → commit_need kept.old ≤ free_slots kept.old.fs.land.space → D.history disk.old ≡ Some events
+        → IfOk result (λ done. CommitsOn state kept.new events (D.history disk.new)) }
+    ensures so_far { (state : State) (events : List Event) (names : List Record)
+        → IsKeptWith kept.old state (D.history disk.old) names
+        → commit_need kept.old ≤ free_slots kept.old.fs.land.space → D.history disk.old ≡ Some events
+        → (D.history disk.new ≡ Some events) ⊎ StartsCommitOf state events (D.history disk.new) }
+    ensures sound { (state : State) (events : List Event) (names : List Record)
+        → IsKeptWith kept.old state (D.history disk.old) names
+        → commit_need kept.old ≤ free_slots kept.old.fs.land.space → D.history disk.old ≡ Some events
+        → BreaksNone result }
+    ensures leaves { OnOk result (LeavesRoom kept.old kept.new) }
+    ensures err { IfErr result (λ fault. kept.new.superblock ≡ kept.old.superblock) }
+    ensures sizes { (sizes_of kept.new.superblock ≡ sizes_of kept.old.superblock)
+        × (D.size disk.old ≤ D.size disk.new) }
+    ensures cause { HasCause BlockFault.Disk (D.faults disk.old) (D.faults disk.new) result }
+{
+    let plan = plan_of(kept, disk, reads)?;
     forget_slots(&mut kept.fs.land.blocks, plan.slots.as_slice());
     let trees = write_trees(kept, disk, &plan)?;
-    keep_commit(kept, disk, &plan, &trees)?;
-    Ok(Answer::Commit(kept.superblock.generation))
+    keep_commit(kept, disk, plan, &trees)?;
+    Ok(())
 }
 
 // Forgets what is in memory at slots where no fresh node lies.
@@ -81,8 +121,8 @@ fn forget_slots(blocks: &mut Blocks, slots: &[Address])
 // Lays the root, extent and quota trees out in the slots of a plan, and writes them and the fresh nodes.
 fn write_trees<D: Disk>(kept: &Kept, disk: &mut D, plan: &Plan) -> Result<OtherTrees, BlockFault>
     requires kept { IsKept kept.now (D.history disk.old) (D.size disk.old) }
-    requires early { kept.now.superblock.generation ≤ 2 ^ 63 }
-    requires plan { IsPlanOf kept.now plan.now }
+    requires early { kept.now.superblock.generation ≤ 2 ^ 63 + 1 }
+    requires plan { IsPlanSo kept.now plan.now }
     ensures laid { IfOk result (λ trees. IsLaidBy kept.now plan.now trees) }
     ensures calls { IfOk result (λ trees. D.history disk.new
         ≡ option_map (with_tree_commit kept.now.fs trees) (D.history disk.old)) }
@@ -116,16 +156,16 @@ fn write_trees<D: Disk>(kept: &Kept, disk: &mut D, plan: &Plan) -> Result<OtherT
 fn keep_commit<D: Disk>(
     kept: &mut Kept,
     disk: &D,
-    plan: &Plan,
+    plan: Plan,
     trees: &OtherTrees,
 ) -> Result<(), NoMemory>
     requires fitted { IsFitted kept.old }
-    requires early { kept.old.superblock.generation ≤ 2 ^ 63 }
-    requires plan { IsPlanOf kept.old plan.now }
-    requires laid { IsLaidBy kept.old plan.now trees.now }
+    requires early { kept.old.superblock.generation ≤ 2 ^ 63 + 1 }
+    requires plan { IsPlanSo kept.old plan }
+    requires laid { IsLaidBy kept.old plan trees.now }
     requires backed { IsBacked kept.old.fs.land.blocks (D.history disk.now) }
     requires written { AreWritten kept.old.fs.land.blocks.draft (D.history disk.now) }
-    ensures keeps { OnOk result (KeepsCommit kept.old plan.now trees.now kept.new) }
+    ensures keeps { OnOk result (KeepsCommit kept.old plan trees.now kept.new × CanTurn kept.new.fs) }
     ensures subvolume { (before : Option (List Event)) (bytes : ℕ) → IsSubvolume kept.old.fs before bytes
         → bytes ≤ D.size disk.now
         → OnOk result (IsSubvolume kept.new.fs (D.history disk.now) (D.size disk.now)) }
@@ -138,11 +178,9 @@ fn keep_commit<D: Disk>(
 {
     let count = trees.extents.nodes.len() + trees.quotas.nodes.len() + trees.roots.nodes.len();
     let (others, _) = plan.slots.as_slice().split_at(count);
-    let group = plan.quota.groups.as_slice()[0].1;
     committed(&mut kept.fs, disk, others)?;
     kept.superblock = trees.superblock;
-    kept.root = plan.root;
-    kept.group = group;
+    kept.quota = plan.quota;
     kept.pending = 0;
     Ok(())
 }

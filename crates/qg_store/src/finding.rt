@@ -9,7 +9,7 @@ ghost use Rattle.qg_blocks.specs.Told.{BreaksNone};
 ghost use Rattle.qg_files.specs.Apart.{AreApart};
 ghost use Rattle.qg_file_items.specs.Pieces.{pieces_met};
 ghost use Rattle.qg_file_edits.specs.Files.{Finds, HoldsFiles, pieces_of};
-ghost use Rattle.qg_store.specs.Editing.{HasLooked};
+ghost use Rattle.qg_store.specs.Editing.{HasReadNodes};
 ghost use Rattle.qg_store.specs.Keeping.{IsKept};
 
 use crate::kept::Kept;
@@ -34,7 +34,7 @@ pub(crate) fn inode_in<D: Disk, L: Ledger>(
     ensures sound { (files : List (ℕ × FileValue)) → HoldsFiles kept.old.fs (D.history disk.old) files
         → BreaksNone result }
     ensures kept { IsKept kept.new (D.history disk.new) (D.size disk.new) }
-    ensures looked { HasLooked kept.old kept.new (D.history disk.old) (D.history disk.new) (D.size disk.old)
+    ensures looked { HasReadNodes kept.old kept.new (D.history disk.old) (D.history disk.new) (D.size disk.old)
         (D.size disk.new) }
     ensures cause { HasCause BlockFault.Disk (D.faults disk.old) (D.faults disk.new) result }
 {
@@ -65,7 +65,7 @@ pub(crate) fn pieces_in<D: Disk, L: Ledger>(
         → BreaksNone result }
     ensures apart { IfOk result (λ pieces. AreApart pieces) }
     ensures kept { IsKept kept.new (D.history disk.new) (D.size disk.new) }
-    ensures looked { HasLooked kept.old kept.new (D.history disk.old) (D.history disk.new) (D.size disk.old)
+    ensures looked { HasReadNodes kept.old kept.new (D.history disk.old) (D.history disk.new) (D.size disk.old)
         (D.size disk.new) }
     ensures cause { HasCause BlockFault.Disk (D.faults disk.old) (D.faults disk.new) result }
 {
@@ -98,7 +98,7 @@ pub(crate) fn found_in<D: Disk, L: Ledger>(
         → BreaksNone result }
     ensures apart { IfOk result (λ found. AreApart found.met) }
     ensures kept { IsKept kept.new (D.history disk.new) (D.size disk.new) }
-    ensures looked { HasLooked kept.old kept.new (D.history disk.old) (D.history disk.new) (D.size disk.old)
+    ensures looked { HasReadNodes kept.old kept.new (D.history disk.old) (D.history disk.new) (D.size disk.old)
         (D.size disk.new) }
     ensures cause { HasCause BlockFault.Disk (D.faults disk.old) (D.faults disk.new) result }
 {

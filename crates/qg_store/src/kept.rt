@@ -3,26 +3,26 @@ ghost use Rattle.std.specs.Prelude.{◌≡◌, ◌+◌, ◌<◌};
 ghost use Rattle.qg_extents.specs.Table.{IsTable};
 
 use qg_fs_tree::FsTree;
-use qg_items::RootItem;
-use qg_state::Group;
+use qg_num::{Generation, RootId, Sequence};
+use qg_state::Quota;
 use qg_super::Super;
 use std::alloc::Global;
 
-/// The last commit's superblock, root and counters, the subvolume's tree as it is now, and how much is pending (this
-/// project's own).
+/// The last commit's superblock, the subvolumes and the groups, the subvolumes' trees as they are now, and how much is
+/// pending (this project's own).
 ///
-/// The tree has with it what is free of the image and what the last commit holds, and the references with those that
-/// the last commit recorded. Of its nodes only fresh ones are in memory, and some clean ones.
+/// The trees have with them what is free of the image and what the last commit holds, and the references with those that
+/// the last commit recorded. Of their nodes only fresh ones are in memory, and some clean ones.
 #[derive(Drop)]
 pub struct Kept {
     pub alloc: Global,
     /// The superblock of the last commit.
     pub superblock: Super,
-    /// The ROOT_ITEM of the top-level subvolume, as the last commit wrote it.
-    pub root: RootItem,
-    /// The group of the top-level subvolume.
-    pub group: Group,
-    /// The tree of the top-level subvolume.
+    /// The generation of each subvolume's last snapshot, by the subvolume's number.
+    pub snapshots: Sequence<(RootId, Generation)>,
+    /// The quota groups, with the counters of the last commit.
+    pub quota: Quota,
+    /// The trees of the subvolumes, one of them at hand.
     pub fs: FsTree,
     /// How many file commands are pending.
     pub pending: u64,

@@ -10,9 +10,9 @@ ghost use Rattle.qg_store.specs.Editing.{HasLooked};
 ghost use Rattle.qg_store.specs.Keeping.{IsKept, IsKeptOf};
 
 use crate::kept::Kept;
+use crate::turning::turn_to;
 use qg_disk::Disk;
 use qg_inodes::file_of;
-use qg_items::tree::TOP_LEVEL;
 use qg_num::{Answer, BlockFault, Ino, Refusal, RootId, Steps};
 use std::sync::ledger::Ledger;
 
@@ -34,7 +34,7 @@ pub(crate) fn list<D: Disk, L: Ledger>(
         (D.size disk.new) }
     ensures cause { HasCause BlockFault.Disk (D.faults disk.old) (D.faults disk.new) result }
 {
-    if sub.value() != TOP_LEVEL {
+    if !turn_to(kept, sub) {
         return Ok(Answer::Refused(Refusal::NoSub));
     }
     let file = file_of(

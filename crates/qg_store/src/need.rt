@@ -5,24 +5,34 @@ ghost use Rattle.qg_state.specs.Need.{nodes_filled};
 ghost use Rattle.qg_extents.specs.Table.{IsTable};
 ghost use Rattle.qg_space.specs.Holding.{free_slots};
 ghost use Rattle.qg_store.specs.Editing.{slots_refusal};
-ghost use Rattle.qg_store.specs.Keeping.{commit_need, need_of};
+ghost use Rattle.qg_store.specs.Keeping.{
+  commit_need,
+  filled_by,
+  need_of,
+  quota_weight,
+  root_weight,
+  structural_need_of,
+};
 
 use crate::kept::Kept;
 use qg_items::{QGROUP_INFO_BYTES, QGROUP_LIMIT_BYTES, QGROUP_STATUS_BYTES, ROOT_ITEM_BYTES};
 use qg_node::{HEADER_BYTES, ITEM_HEADER_BYTES};
 use qg_num::{NoMemory, Refusal};
 
-/// What the items of the root and quota trees take where there is one subvolume, and its group, in bytes.
-const OTHER_BYTES: u64 = (6 * ITEM_HEADER_BYTES
-    + 3 * ROOT_ITEM_BYTES
-    + QGROUP_STATUS_BYTES
-    + QGROUP_INFO_BYTES
-    + QGROUP_LIMIT_BYTES) as u64;
+/// What a ROOT_ITEM takes in bytes, the item of the quota tree's status, and the two of a group.
+const ROOT_BYTES: u64 = (ITEM_HEADER_BYTES + ROOT_ITEM_BYTES) as u64;
 
-/// The most bytes of items that memory can tell of, and the most pieces that it can hold.
-const MOST_BYTES: u64 = 1 << 62;
+const STATUS_BYTES: u64 = (ITEM_HEADER_BYTES + QGROUP_STATUS_BYTES) as u64;
+
+const GROUP_BYTES: u64 = (2 * ITEM_HEADER_BYTES + QGROUP_INFO_BYTES + QGROUP_LIMIT_BYTES) as u64;
+
+/// The most bytes of items that memory can tell of, the most pieces or copied nodes that a command can tell of, and the
+/// most subvolumes, or groups, that memory can hold.
+const MOST_BYTES: u64 = 1 << 61;
 
 const MOST_PIECES: u64 = 1 << 48;
+
+const MOST_ENTRIES: usize = 1 << 48;
 
 /// Why a command is refused that touches so many pieces, where it doesn't find the slots that it needs.
 pub(crate) fn no_nodes(kept: &Kept, pieces: u64) -> Result<Option<Refusal>, NoMemory>
@@ -40,31 +50,86 @@ pub(crate) fn no_nodes(kept: &Kept, pieces: u64) -> Result<Option<Refusal>, NoMe
     Ok(None)
 }
 
-// The slots that a command needs which touches so many pieces. More items than take 2^62 bytes, or more pieces than
-// 2^48, are told in no memory.
+// The slots that a command needs which touches so many pieces. More pieces than 2^48 are told in no memory.
 fn need_of(kept: &Kept, pieces: u64) -> Result<u64, NoMemory>
     requires size { IsNodeSize kept.now.superblock.nodesize }
     ensures { IfOk result (λ need. need ≡ need_of kept.now pieces) }
 {
-    let weight = kept.fs.refs.bytes();
-    if weight > MOST_BYTES || pieces > MOST_PIECES {
+    let filled = filled_by(kept)?;
+    if pieces > MOST_PIECES {
         return Err(NoMemory);
     }
     let copies = 3 * (u64::from(kept.fs.tree.height()) + 2) * (pieces + 3);
-    Ok(10 * copies + 8 * filled(kept.superblock.nodesize, weight + OTHER_BYTES) + 40)
+    Ok(10 * copies + 8 * filled + 40)
 }
 
-/// The slots that a commit may take for the root, extent and quota trees. More items than take 2^62 bytes are told in no
+/// The slots that a structural command needs whose change may copy so many nodes. More nodes than 2^48 are told in no
+/// memory.
+pub(crate) fn structural_need(kept: &Kept, copies: u64) -> Result<u64, NoMemory>
+    requires size { IsNodeSize kept.now.superblock.nodesize }
+    ensures { IfOk result (λ need. need ≡ structural_need_of kept.now copies) }
+{
+    let filled = filled_by(kept)?;
+    if copies > MOST_PIECES {
+        return Err(NoMemory);
+    }
+    Ok(10 * copies + 16 * filled + 80)
+}
+
+/// The slots that a commit may take for the root, extent and quota trees. More items than take 2^61 bytes are told in no
 /// memory.
 pub(crate) fn commit_need(kept: &Kept) -> Result<u64, NoMemory>
     requires size { IsNodeSize kept.now.superblock.nodesize }
     ensures { IfOk result (λ need. need ≡ commit_need kept.now) }
 {
+    let nodesize = kept.superblock.nodesize;
     let weight = kept.fs.refs.bytes();
     if weight > MOST_BYTES {
         return Err(NoMemory);
     }
-    Ok(5 * filled(kept.superblock.nodesize, weight) + 13)
+    let book = filled(nodesize, weight);
+    let roots = filled(nodesize, root_bytes(kept)?);
+    let quota = filled(nodesize, quota_bytes(kept)?);
+    Ok(5 * (book + roots + quota) + 3)
+}
+
+// The nodes that the items of all three trees fill, that the last commit holds or one now would hold.
+fn filled_by(kept: &Kept) -> Result<u64, NoMemory>
+    requires size { IsNodeSize kept.now.superblock.nodesize }
+    ensures value { IfOk result (λ nodes. nodes ≡ filled_by kept.now) }
+    ensures few { IfOk result (λ nodes. nodes ≤ 2 ^ 59) }
+{
+    let weight = kept.fs.refs.bytes();
+    if weight > MOST_BYTES {
+        return Err(NoMemory);
+    }
+    let roots = root_bytes(kept)?;
+    let quota = quota_bytes(kept)?;
+    Ok(filled(kept.superblock.nodesize, weight + roots + quota))
+}
+
+// What the items of the root tree take, in bytes.
+fn root_bytes(kept: &Kept) -> Result<u64, NoMemory>
+    ensures value { IfOk result (λ bytes. bytes ≡ root_weight kept.now) }
+    ensures few { IfOk result (λ bytes. bytes ≤ 2 ^ 58) }
+{
+    let count = kept.snapshots.len();
+    if count > MOST_ENTRIES {
+        return Err(NoMemory);
+    }
+    Ok(ROOT_BYTES * (count as u64 + 2))
+}
+
+// What the items of the quota tree take, in bytes.
+fn quota_bytes(kept: &Kept) -> Result<u64, NoMemory>
+    ensures value { IfOk result (λ bytes. bytes ≡ quota_weight kept.now) }
+    ensures few { IfOk result (λ bytes. bytes ≤ 2 ^ 58) }
+{
+    let count = kept.quota.groups.len();
+    if count > MOST_ENTRIES {
+        return Err(NoMemory);
+    }
+    Ok(STATUS_BYTES + GROUP_BYTES * count as u64)
 }
 
 // The nodes that so many bytes fill.

@@ -1,11 +1,16 @@
 // What is kept of an image that was just opened.
-ghost use Rattle.std.specs.Prelude.{◌≡◌, List, Option, Some, IfOk};
+ghost use Rattle.std.specs.Prelude.{◌≡◌, ◌==◌, List, Option, Some, IfOk, IsTrue, map, not};
+ghost use Rattle.std.specs.List.{filter};
 ghost use Rattle.qg_device.specs.History.{Event, content};
+ghost use Rattle.qg_items.specs.declared.tree.TheConstants.{TOP_LEVEL as TOP};
+ghost use Rattle.qg_super.specs.SuperText.{is_super};
+ghost use Rattle.qg_image.specs.Table.{has_key};
 ghost use Rattle.qg_state.specs.State.{State};
 ghost use Rattle.qg_verdict.specs.StateOf.{StateOf};
 ghost use Rattle.qg_blocks.specs.Told.{IsBacked};
 ghost use Rattle.qg_check.specs.IsImage.{IsEditable, IsImage};
 ghost use Rattle.qg_store.specs.Keeping.{IsFitted, IsKeptOf};
+ghost use Rattle.qg_store.specs.Opened.{AreTreesIn, snapshot_of, tree_for};
 
 use crate::holding::space_of;
 use crate::kept::Kept;
@@ -14,14 +19,18 @@ use qg_check::Image;
 use qg_descent::Tree;
 use qg_fs_tree::FsTree;
 use qg_ground::Ground;
+use qg_items::RootItem;
 use qg_items::tree::TOP_LEVEL;
-use qg_num::{Generation, NoMemory, RootId};
+use qg_num::{Generation, NoMemory, RootId, Sequence};
+use qg_rules::root_of;
+use qg_space::Space;
+use qg_super::Super;
 use qg_tree_refs::TreeRefs;
 use qg_weighed::Weighed;
-use std::alloc::Global;
+use std::alloc::{AllocError, Global};
 
-/// What is kept of an image. Nothing is pending and no node is in memory; the present state holds what the subvolume
-/// reaches, and the last commit the nodes of the other trees too.
+/// What is kept of an image. Nothing is pending and no node is in memory; the present state holds what the subvolumes
+/// reach, and the last commit the nodes of the other trees too.
 pub(crate) fn kept_of(alloc: Global, image: Image) -> Result<Kept, NoMemory>
     requires { IsEditable image }
     ensures fitted { IfOk result (λ kept. IsFitted kept) }
@@ -33,8 +42,6 @@ pub(crate) fn kept_of(alloc: Global, image: Image) -> Result<Kept, NoMemory>
     ensures idle { IfOk result (λ kept. kept.pending ≡ 0) }
 {
     let superblock = image.superblock;
-    let root = image.root;
-    let group = image.quota.groups.as_slice()[0].1;
     let space = space_of(
         alloc,
         &superblock,
@@ -42,23 +49,75 @@ pub(crate) fn kept_of(alloc: Global, image: Image) -> Result<Kept, NoMemory>
         image.nodes.as_slice(),
         image.extents.as_slice(),
     )?;
-    let blocks = Blocks::new(alloc, superblock.nodesize, superblock.slots)?;
     let _ascending = image.book.len();
     let refs = Weighed::new(image.book)?;
-    let owner = RootId::new(TOP_LEVEL);
-    let next = Generation::new(superblock.generation.value() + 1);
-    let fs = FsTree {
-        tree: Tree::at(root.bytenr, root.level, owner, next),
-        others: Vec::new(alloc),
-        land: Ground { blocks, space },
-        refs: TreeRefs::new(refs, owner, u64::from(superblock.nodesize), next),
-    };
+    let fs = trees_in(alloc, &superblock, image.roots.as_slice(), space, refs)?;
     Ok(Kept {
         alloc,
         superblock,
-        root,
-        group,
+        snapshots: snapshots_of(alloc, image.roots.as_slice())?,
+        quota: image.quota,
         fs,
         pending: 0,
     })
+}
+
+// The trees of an image's subvolumes, that of the top-level one at hand, for the generation to come. No node is in
+// memory.
+fn trees_in(
+    alloc: Global,
+    superblock: &Super,
+    roots: &[(RootId, RootItem)],
+    space: Space,
+    refs: Weighed,
+) -> Result<FsTree, NoMemory>
+    requires superblock { IsTrue (is_super superblock.now) }
+    requires top_level { IsTrue (has_key TOP roots.now) }
+    ensures { IfOk result (λ fs. AreTreesIn superblock.now roots.now space refs fs) }
+{
+    let owner = RootId::new(TOP_LEVEL);
+    let next = Generation::new(superblock.generation.value() + 1);
+    let blocks = Blocks::new(alloc, superblock.nodesize, superblock.slots)?;
+    let Some(root) = root_of(owner, roots) else {
+        unreachable!()
+    };
+    Ok(FsTree {
+        tree: Tree::at(root.bytenr, root.level, owner, next),
+        others: others_of(alloc, roots, owner, next)?,
+        land: Ground { blocks, space },
+        refs: TreeRefs::new(refs, owner, u64::from(superblock.nodesize), next),
+    })
+}
+
+// The trees of the other subvolumes than the one of a number, in their order, for a generation to come.
+fn others_of(
+    alloc: Global,
+    roots: &[(RootId, RootItem)],
+    number: RootId,
+    next: Generation,
+) -> Result<Vec<Tree>, AllocError>
+    ensures { IfOk result (λ trees. trees.items
+        ≡ map (tree_for next) (filter (λ entry. not (entry.0 == number)) roots.now)) }
+{
+    let mut trees = Vec::new(alloc);
+    for entry in roots {
+        if entry.0 != number {
+            trees.push(Tree::at(entry.1.bytenr, entry.1.level, entry.0, next))?;
+        }
+    }
+    Ok(trees)
+}
+
+// The generation of each subvolume's last snapshot, by number.
+fn snapshots_of(
+    alloc: Global,
+    roots: &[(RootId, RootItem)],
+) -> Result<Sequence<(RootId, Generation)>, AllocError>
+    ensures { IfOk result (λ snapshots. snapshots ≡ map snapshot_of roots.now) }
+{
+    let mut snapshots = Sequence::new(alloc);
+    for entry in roots {
+        snapshots.push((entry.0, entry.1.last_snapshot))?;
+    }
+    Ok(snapshots)
 }

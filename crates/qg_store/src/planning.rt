@@ -1,50 +1,75 @@
 // What a commit tells besides the references, and where it may lie.
-ghost use Rattle.std.specs.Prelude.{◌≡◌, ◌<◌, ◌≤◌, ℕ, All, Option, List, [], ◌∷◌, IfErr, IfNone, IfOk, IfSome, length};
+ghost use Rattle.std.specs.Prelude.{◌≡◌, ◌≤◌, All, List, Some, IfErr, IfNone, IfOk, IfSome, length};
+ghost use Rattle.std.specs.List.{Contains};
+ghost use Rattle.qg_device.specs.Cause.{HasCause};
 ghost use Rattle.qg_device.specs.History.{Event};
+ghost use Rattle.qg_image.specs.Table.{keys_of};
+ghost use Rattle.qg_state.specs.Record.{Record};
 ghost use Rattle.qg_state.specs.State.{State};
 ghost use Rattle.qg_blocks.specs.Told.{BreaksNone};
 ghost use Rattle.qg_extents.specs.Table.{IsTable};
 ghost use Rattle.qg_space.specs.Holding.{free_slots};
+ghost use Rattle.qg_descent.specs.Tree.{Root};
 ghost use Rattle.qg_tree_commit.specs.Holds.{AreFree};
-ghost use Rattle.qg_fs_commit.specs.Committing.{IsInOrder, IsRootNow};
-ghost use Rattle.qg_store.specs.Committing.{IsPlanOf, counters_now, group_now};
-ghost use Rattle.qg_store.specs.Keeping.{IsFitted, IsKept, IsKeptOf, commit_need};
+ghost use Rattle.qg_store.specs.Keeping.{IsFitted, IsKept, IsKeptWith, commit_need};
+ghost use Rattle.qg_store.specs.Planning.{
+  AreRootsBy,
+  HasSurveyed,
+  IsPlanSo,
+  IsPlanTold,
+  IsRootIn,
+  KnowsRoot,
+  numbers_of,
+};
 
+use crate::counting::{counts_now, quota_now};
 use crate::kept::Kept;
 use crate::need::commit_need;
+use crate::surveying::trees_by_number;
+use qg_descent::Tree;
+use qg_disk::Disk;
 use qg_extents::Extents;
 use qg_items::RootItem;
-use qg_items::tree::TOP_LEVEL;
-use qg_num::{
-    Address, BlockFault, Counters, Generation, GroupId, NoMemory, RootId, Rule, Sequence,
-};
-use qg_other_trees::stamp_after;
-use qg_state::{Group, Quota};
-use std::alloc::Global;
+use qg_num::{Address, BlockFault, Generation, RootId, Rule, Sequence, Steps};
+use qg_state::Quota;
+use std::sync::ledger::Ledger;
 
-/// The subvolume's ROOT_ITEM, alone and by number, and the quota groups, as a commit is to store them; and free slots
-/// in which the root, extent and quota trees may lie: their addresses in bytes.
+/// The subvolumes' ROOT_ITEMs by number, and the quota groups, as a commit is to store them; and free slots in which the
+/// root, extent and quota trees may lie: their addresses in bytes.
 #[derive(Drop)]
 pub(crate) struct Plan {
-    pub(crate) root: RootItem,
     pub(crate) roots: Sequence<(RootId, RootItem)>,
     pub(crate) quota: Quota,
     pub(crate) slots: Sequence<Address>,
 }
 
-/// What a commit tells of what is kept, and where it may lie.
+/// What a commit tells of what is kept, and where it may lie. All nodes that subvolumes reach are read once each, and
+/// nothing else is done.
 ///
-/// `Image` comes only where the tree has the items of no files: with the rule `Refs` where the root is not known, or
-/// something is of a generation past the one to come, and with the rule `Shape` and the root's address where too few
-/// slots are free.
-pub(crate) fn plan_of(kept: &Kept) -> Result<Plan, BlockFault>
-    requires fitted { IsFitted kept.now }
-    ensures plan { IfOk result (λ plan. IsPlanOf kept.now plan) }
-    ensures sound { (state : State) (history : Option (List Event)) (bytes : ℕ) → IsKept kept.now history bytes
-        → IsKeptOf kept.now state history → 0 < kept.now.pending → BreaksNone result }
-    ensures apart { IfErr result (λ fault. fault ≡ BlockFault.Disk → ⊥) }
+/// `Image` comes only where the trees have the items of no files: as the survey says it; with the rule `Refs` where a
+/// root is not known, or something is of a generation past the one to come; and with the rule `Shape` and the address of
+/// the root at hand where too few slots are free.
+pub(crate) fn plan_of<D: Disk, L: Ledger>(
+    kept: &mut Kept,
+    disk: &mut D,
+    reads: &mut Steps<L>,
+) -> Result<Plan, BlockFault>
+    requires kept { IsKept kept.old (D.history disk.old) (D.size disk.old) }
+    ensures plan { IfOk result (λ plan. IsPlanSo kept.new plan) }
+    ensures told { (state : State) (names : List Record) → IsKeptWith kept.old state (D.history disk.old) names
+        → IfOk result (λ plan. IsPlanTold state kept.new plan) }
+    ensures sound { (state : State) (events : List Event) (names : List Record)
+        → D.history disk.old ≡ Some events → IsKeptWith kept.old state (D.history disk.old) names
+        → commit_need kept.old ≤ free_slots kept.old.fs.land.space → BreaksNone result }
+    ensures kept { IsKept kept.new (D.history disk.new) (D.size disk.new) }
+    ensures looked { HasSurveyed kept.old kept.new (D.history disk.old) (D.history disk.new) (D.size disk.old)
+        (D.size disk.new) }
+    ensures cause { HasCause BlockFault.Disk (D.faults disk.old) (D.faults disk.new) result }
 {
-    let root = root_now(kept)?;
+    let _ascending = kept.fs.refs.refs().len();
+    let trees = trees_by_number(kept.alloc, &kept.fs)?;
+    let counts = counts_now(kept, disk, trees.as_slice(), reads)?;
+    let roots = roots_now(kept, trees.as_slice(), kept.snapshots.as_slice())?;
     if let Some(address) = first_later(kept.fs.refs.refs(), kept.fs.tree.next()) {
         return Err(BlockFault::Image {
             rule: Rule::Refs,
@@ -52,46 +77,49 @@ pub(crate) fn plan_of(kept: &Kept) -> Result<Plan, BlockFault>
         });
     }
     let slots = slots_for(kept)?;
-    let roots = one_root(kept.alloc, &root)?;
-    let quota = one_group(kept.alloc, group_now(kept))?;
+    let generation = kept.fs.tree.next();
+    let quota = quota_now(
+        kept.alloc,
+        &kept.quota,
+        trees.as_slice(),
+        counts.as_slice(),
+        generation,
+    )?;
     Ok(Plan {
-        root,
         roots,
         quota,
         slots,
     })
 }
 
-// The top-level subvolume's ROOT_ITEM, as the only one.
-fn one_root(alloc: Global, root: &RootItem) -> Result<Sequence<(RootId, RootItem)>, NoMemory>
-    ensures { IfOk result (λ roots. roots ≡ (TOP_LEVEL, root.now) ∷ []) }
+// The ROOT_ITEMs of subvolumes, whose trees stand in the order of these numbers.
+fn roots_now(
+    kept: &Kept,
+    trees: &[Tree],
+    snapshots: &[(RootId, Generation)],
+) -> Result<Sequence<(RootId, RootItem)>, BlockFault>
+    requires lockstep { numbers_of trees.now ≡ keys_of snapshots.now }
+    ensures roots { IfOk result (λ roots. AreRootsBy kept.now trees.now snapshots.now roots) }
+    ensures sound { ((tree : Root) → Contains trees.now tree → KnowsRoot kept.now.fs.refs.refs tree)
+        → BreaksNone result }
+    ensures apart { IfErr result (λ fault. fault ≡ BlockFault.Disk → ⊥) }
 {
-    let mut roots = Sequence::new(alloc);
-    roots.push((RootId::new(TOP_LEVEL), *root))?;
+    let mut roots = Sequence::new(kept.alloc);
+    for (i, entry) in snapshots.iter().enumerate() {
+        let root = root_now(kept.fs.refs.refs(), &trees[i], entry.1)?;
+        roots.push((entry.0, root))?;
+    }
     Ok(roots)
 }
 
-// Quota with one group, that of the top-level subvolume.
-fn one_group(alloc: Global, group: Group) -> Result<Quota, NoMemory>
-    ensures { IfOk result (λ quota. quota ≡ record { groups = (TOP_LEVEL, group) ∷ []; pairs = [] }) }
-{
-    let mut groups = Sequence::new(alloc);
-    groups.push((GroupId::from_number(TOP_LEVEL), group))?;
-    Ok(Quota {
-        groups,
-        pairs: Sequence::new(alloc),
-    })
-}
-
-// The subvolume's ROOT_ITEM: what is known of its root says of which generation that is.
-fn root_now(kept: &Kept) -> Result<RootItem, BlockFault>
-    ensures root { IfOk result (λ root. IsRootNow kept.now.fs kept.now.fs.tree kept.now.root.last_snapshot root) }
-    ensures sound { (state : State) (history : Option (List Event)) (bytes : ℕ) → IsKept kept.now history bytes
-        → IsKeptOf kept.now state history → BreaksNone result }
+// A tree's ROOT_ITEM: what is known of its root says of which generation that is.
+fn root_now(book: &Extents, tree: &Tree, last_snapshot: Generation) -> Result<RootItem, BlockFault>
+    ensures root { IfOk result (λ root. IsRootIn book.now tree.now last_snapshot root) }
+    ensures sound { KnowsRoot book.now tree.now → BreaksNone result }
     ensures apart { IfErr result (λ fault. fault ≡ BlockFault.Disk → ⊥) }
 {
-    let address = kept.fs.tree.root();
-    match kept.fs.refs.refs().known(address) {
+    let address = tree.root();
+    match book.known(address) {
         None => Err(BlockFault::Image {
             rule: Rule::Refs,
             address,
@@ -99,9 +127,9 @@ fn root_now(kept: &Kept) -> Result<RootItem, BlockFault>
         Some(what) => Ok(RootItem {
             generation: what.generation,
             bytenr: address,
-            last_snapshot: kept.root.last_snapshot,
+            last_snapshot,
             refs: 1,
-            level: kept.fs.tree.height(),
+            level: tree.height(),
         }),
     }
 }
@@ -126,6 +154,7 @@ fn slots_for(kept: &Kept) -> Result<Sequence<Address>, BlockFault>
     ensures free { IfOk result (λ slots. AreFree kept.now.fs.land.space slots) }
     ensures few { IfOk result (λ slots. length slots ≤ 16128) }
     ensures enough { IfOk result (λ slots. commit_need kept.now ≤ length slots) }
+    ensures most { IfOk result (λ slots. length slots ≤ commit_need kept.now) }
     ensures sound { commit_need kept.now ≤ free_slots kept.now.fs.land.space → BreaksNone result }
     ensures apart { IfErr result (λ fault. fault ≡ BlockFault.Disk → ⊥) }
 {
@@ -138,39 +167,4 @@ fn slots_for(kept: &Kept) -> Result<Sequence<Address>, BlockFault>
         });
     }
     Ok(slots)
-}
-
-// The group as a commit stores it: its stamp is the generation to come where the counters change.
-fn group_now(kept: &Kept) -> Group
-    requires fitted { IsFitted kept.now }
-    ensures group { result ≡ group_now kept.now }
-    ensures order { IsInOrder kept.now.fs.land.space }
-{
-    let counters = counters_now(kept);
-    let stamp = stamp_after(
-        &kept.group.counters,
-        &counters,
-        kept.group.stamp,
-        kept.fs.tree.next(),
-    );
-    Group {
-        counters,
-        max_rfer: kept.group.max_rfer,
-        max_excl: kept.group.max_excl,
-        stamp,
-    }
-}
-
-// The group's counters: what its only member reaches are the slots and the runs that the present state has.
-fn counters_now(kept: &Kept) -> Counters
-    requires fitted { IsFitted kept.now }
-    ensures counters { result ≡ counters_now kept.now }
-    ensures order { IsInOrder kept.now.fs.land.space }
-{
-    let slots = kept.fs.land.space.taken_slots();
-    let bytes = u64::from(kept.superblock.nodesize) * slots + kept.fs.land.space.taken_bytes();
-    Counters {
-        rfer: bytes,
-        excl: bytes,
-    }
 }

@@ -7,7 +7,7 @@ ghost use Rattle.qg_machine.specs.Refusals.{most_pending, no_align, no_far, refu
 ghost use Rattle.qg_verdict.specs.Verdict.{longest_extent};
 ghost use Rattle.qg_store.specs.Ranges.{IsClonable, IsWritable};
 
-use qg_num::{Ino, Refusal};
+use qg_num::{Ino, Refusal, RootId};
 use qg_reach::LONGEST_EXTENT;
 use qg_rules::LARGEST_SIZE;
 use qg_super::SECTOR;
@@ -66,10 +66,18 @@ pub(crate) fn refusal_of_clone(
 }
 
 /// Whether two ranges of one length are in the same file and share a byte.
-pub(crate) fn do_overlap(ino: Ino, off: u64, to_ino: Ino, to_off: u64, len: u64) -> bool
-    ensures { result ≡ ((ino == to_ino) && share_a_byte off to_off len) }
+pub(crate) fn do_overlap(
+    sub: RootId,
+    ino: Ino,
+    off: u64,
+    to_sub: RootId,
+    to_ino: Ino,
+    to_off: u64,
+    len: u64,
+) -> bool
+    ensures { result ≡ ((sub == to_sub) && (ino == to_ino) && share_a_byte off to_off len) }
 {
-    ino == to_ino && do_meet(off, to_off, len)
+    sub == to_sub && ino == to_ino && do_meet(off, to_off, len)
 }
 
 // Whether two ranges of one length share a byte.

@@ -1,5 +1,5 @@
 // A file is cut to a size, or grows to it.
-ghost use Rattle.std.specs.Prelude.{◌≡◌, ◌≤◌, ◌<◌, ◌∷◌, [], ℕ, not, List, Option, Some, IfNone, IfOk, IsTrue, nat_le};
+ghost use Rattle.std.specs.Prelude.{◌≡◌, ◌≤◌, ◌<◌, ◌∷◌, [], not, List, Option, Some, IfNone, IfOk, IsTrue, nat_le};
 ghost use Rattle.qg_device.specs.Cause.{HasCause};
 ghost use Rattle.qg_device.specs.History.{Event};
 ghost use Rattle.qg_num.specs.declared.command.Command.TheVariants.{Truncate};
@@ -16,9 +16,9 @@ use crate::finding::{inode_in, pieces_in};
 use crate::kept::{Kept, count_pending};
 use crate::need::no_nodes;
 use crate::ranges::MOST_PENDING;
+use crate::turning::turn_to;
 use qg_disk::Disk;
 use qg_file_edits::Found;
-use qg_items::tree::TOP_LEVEL;
 use qg_num::{Answer, BlockFault, Ino, Refusal, RootId, Steps};
 use qg_rules::LARGEST_SIZE;
 use qg_super::SECTOR;
@@ -44,7 +44,7 @@ pub(crate) fn truncate<D: Disk, L: Ledger>(
     ensures apart { (D.history disk.new ≡ D.history disk.old) × (D.size disk.new ≡ D.size disk.old) }
     ensures cause { HasCause BlockFault.Disk (D.faults disk.old) (D.faults disk.new) result }
 {
-    if sub.value() != TOP_LEVEL {
+    if !turn_to(kept, sub) {
         return Ok(Answer::Refused(Refusal::NoSub));
     }
     let Some(inode) = inode_in(kept, disk, ino, reads)? else {

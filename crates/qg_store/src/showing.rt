@@ -1,26 +1,32 @@
 // The stored counters are shown.
-ghost use Rattle.std.specs.Prelude.{◌≡◌, None, Some, IfOk};
+ghost use Rattle.std.specs.Prelude.{◌≡◌, Some, IfOk, map};
 ghost use Rattle.qg_num.specs.declared.answer.Answer.TheVariants.{Shown};
-ghost use Rattle.qg_machine.specs.Step.{rows_of};
-ghost use Rattle.qg_other_trees.specs.Telling.{one_group};
+ghost use Rattle.qg_machine.specs.Step.{row_of, rows_of};
 
-use qg_items::tree::TOP_LEVEL;
 use qg_num::{Answer, GroupId, NoMemory, Row, Rows};
-use qg_state::Group;
-use std::alloc::Global;
+use qg_state::{Group, Quota};
+use std::alloc::{AllocError, Global};
 
-/// The stored counters and limits of the top-level subvolume's group.
-pub(crate) fn show(alloc: Global, group: &Group) -> Result<Answer, NoMemory>
-    requires no_max_rfer { group.now.max_rfer ≡ None }
-    requires no_max_excl { group.now.max_excl ≡ None }
-    ensures { IfOk result (λ answer. answer ≡ Shown (rows_of (Some (one_group group.now.counters group.now.stamp)))) }
+/// The stored counters and limits of all groups, ascending by number.
+pub(crate) fn show(alloc: Global, quota: &Quota) -> Result<Answer, NoMemory>
+    ensures { IfOk result (λ answer. answer ≡ Shown (rows_of (Some quota.now))) }
+{
+    let rows = rows_of(alloc, quota.groups.as_slice())?;
+    Ok(Answer::Shown(rows))
+}
+
+// A row for each group.
+fn rows_of(alloc: Global, groups: &[(GroupId, Group)]) -> Result<Rows, AllocError>
+    ensures { IfOk result (λ rows. rows ≡ map row_of groups.now) }
 {
     let mut rows = Rows::new(alloc);
-    rows.push(Row {
-        group: GroupId::from_number(TOP_LEVEL),
-        counters: group.counters,
-        max_rfer: group.max_rfer,
-        max_excl: group.max_excl,
-    })?;
-    Ok(Answer::Shown(rows))
+    for entry in groups {
+        rows.push(Row {
+            group: entry.0,
+            counters: entry.1.counters,
+            max_rfer: entry.1.max_rfer,
+            max_excl: entry.1.max_excl,
+        })?;
+    }
+    Ok(rows)
 }

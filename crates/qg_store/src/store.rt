@@ -1,8 +1,9 @@
 // The store, and its one step.
-ghost use Rattle.std.specs.Prelude.{◌≡◌, ◌⊎◌, ◌≤◌, ◌∷◌, List, None, Some, IfOk, IfErr, IsTrue, false};
+ghost use Rattle.std.specs.Prelude.{◌≡◌, ◌<◌, ◌≤◌, ◌∷◌, List, None, Some, IfOk, IfErr, IsTrue, false};
 ghost use Rattle.qg_device.specs.Cause.{HasCause};
 ghost use Rattle.qg_device.specs.History.{Event, Synced, content};
 ghost use Rattle.qg_num.specs.declared.answer.Answer.{Answer};
+ghost use Rattle.qg_num.specs.declared.command.Command.TheVariants.{Commit};
 ghost use Rattle.qg_num.specs.Fault.{stop_of};
 ghost use Rattle.qg_super.specs.Places.{total_bytes};
 ghost use Rattle.qg_super.specs.SuperText.{sizes_of};
@@ -18,20 +19,22 @@ ghost use Rattle.qg_commit.specs.Opening.{IsUntouched};
 ghost use Rattle.qg_store.specs.Answering.{AnswersOn, IsDoneSoFar, comes_to_disk, is_unchanging};
 ghost use Rattle.qg_store.specs.Editing.{HasLooked};
 ghost use Rattle.qg_store.specs.Keeping.{IsKept, IsKeptOf};
-ghost use Rattle.qg_store.specs.Stored.{ComesToDisk, IsStoreOf, IsStoreOver, IsUnchanged, RunsOrStops, is_of_image, sizes_stored};
+ghost use Rattle.qg_store.specs.Stored.{ComesToDisk, IsStoreOf, IsStoreOver, IsUnchanged, KnowsLast, RunsOrStops, is_of_image, sizes_stored};
 
 use crate::cloning::clone;
 use crate::committing::commit;
 use crate::kept::Kept;
 use crate::listing::list;
 use crate::opening::kept_of;
+use crate::owners::owners;
 use crate::resizing::truncate;
 use crate::showing::show;
+use crate::structural::{create, delete, snap};
 use crate::unlinking::unlink;
 use crate::writing::write;
 use qg_commit::{OpenFault, open};
 use qg_disk::Disk;
-use qg_num::{Answer, BlockFault, Command, Generation, Steps, Stop};
+use qg_num::{Address, Answer, BlockFault, Command, Generation, Steps, Stop};
 use std::alloc::Global;
 use std::marker::Model;
 use std::sync::ledger::Ledger;
@@ -87,11 +90,11 @@ impl Store {
         })
     }
 
-    /// Does a command or refuses it, by one step of the machine (this project's own). Served are `write`, `clone`,
-    /// `truncate`, `unlink`, `commit`, `show` and `ls`. A file command that is done edits the subvolume's tree in
-    /// memory, and stays pending until a commit brings it to the disk; what is refused or asked changes nothing, but
-    /// that nodes were read. After a `Stop` the store does nothing more, and the image is to be opened again: `Image`
-    /// comes where the disk no longer holds what the last call left there.
+    /// Does a command or refuses it, by one step of the machine (this project's own). Which are served the grammar says.
+    /// A file command that is done edits its subvolume's tree in memory, and stays pending until a commit brings it to
+    /// the disk. A structural command commits what is pending, makes its change, and commits that. What is refused or
+    /// asked changes nothing, but that nodes were read. After a `Stop` the store does nothing more, and the image is to
+    /// be opened again: `Image` comes where the disk no longer holds what the last call left there.
     ///
     /// Each node that is asked for counts as one step of `reads`, none of `looks` so far.
     pub fn apply<D: Disk, L: Ledger, M: Ledger>(
@@ -119,15 +122,15 @@ impl Store {
             → D.history disk.old ≡ Some events
             → IfErr result (λ stop. is_of_image stop ≡ false) }
 
-        // Over any disk. What is refused or asked changes nothing but clean nodes, and only a commit of something comes
-        // to the disk.
+        // Over any disk. What is refused or asked changes nothing but clean nodes and which tree is at hand, and only a
+        // commit of something, or a structural command, comes to the disk.
         ensures unchanged { IfOk result (λ answer. IsTrue (is_unchanging answer)
             → IsUnchanged self.old self.new × (D.history disk.new ≡ D.history disk.old) × (D.size disk.new ≡ D.size disk.old)) }
         ensures still { (ComesToDisk self.old command.now → ⊥)
             → (D.history disk.new ≡ D.history disk.old) × (D.size disk.new ≡ D.size disk.old) }
 
         // After a stop nothing is done any more.
-        ensures stops { RunsOrStops result self.old self.new }
+        ensures stops { RunsOrStops result command.now self.old self.new (D.history disk.old) (D.history disk.new) }
         ensures cause { HasCause Stop.Disk (D.faults disk.old) (D.faults disk.new) result }
 
         ensures backed { IsStoreOver self.new (D.history disk.new) }
@@ -190,11 +193,10 @@ fn answer<D: Disk, M: Ledger>(
         → IsKeptOf kept.old state (D.history disk.old) → BreaksNone result }
     ensures unchanged { IfOk result (λ answer. IsTrue (is_unchanging answer)
         → HasLooked kept.old kept.new (D.history disk.old) (D.history disk.new) (D.size disk.old) (D.size disk.new)) }
-    ensures apart { comes_to_disk command.now ≡ false
+    ensures still { (IsTrue (comes_to_disk command.now) → (command.now ≡ Commit → 0 < kept.old.pending) → ⊥)
         → (D.history disk.new ≡ D.history disk.old) × (D.size disk.new ≡ D.size disk.old) }
-    ensures idle { kept.old.pending ≡ 0
-        → (D.history disk.new ≡ D.history disk.old) × (D.size disk.new ≡ D.size disk.old) }
-    ensures err { IfErr result (λ fault. kept.new.superblock ≡ kept.old.superblock) }
+    ensures err { IfErr result
+        (λ fault. KnowsLast command.now kept.old kept.new (D.history disk.old) (D.history disk.new)) }
     ensures sizes { (sizes_of kept.new.superblock ≡ sizes_of kept.old.superblock)
         × (D.size disk.old ≤ D.size disk.new) }
     ensures cause { HasCause BlockFault.Disk (D.faults disk.old) (D.faults disk.new) result }
@@ -214,9 +216,13 @@ fn answer<D: Disk, M: Ledger>(
         ),
         Command::Truncate { sub, ino, size } => truncate(kept, disk, *sub, *ino, *size, reads),
         Command::Unlink { sub, ino } => unlink(kept, disk, *sub, *ino, reads),
-        Command::Commit => commit(kept, disk),
-        Command::Show => Ok(show(kept.alloc, &kept.group)?),
+        Command::Commit => commit(kept, disk, reads),
+        Command::SubCreate => create(kept, disk, reads),
+        Command::Snap { sub, .. } => snap(kept, disk, *sub, reads),
+        Command::Delete { sub } => delete(kept, disk, *sub, reads),
+        Command::Show => Ok(show(kept.alloc, &kept.quota)?),
         Command::Ls { sub, ino } => list(kept, disk, *sub, *ino, reads),
+        Command::Owners { address } => owners(kept, disk, Address::new(*address), reads),
         _ => unreachable!(),
     }
 }

@@ -12,8 +12,8 @@ use crate::finding::{inode_in, pieces_in};
 use crate::kept::{Kept, count_pending};
 use crate::need::no_nodes;
 use crate::ranges::MOST_PENDING;
+use crate::turning::turn_to;
 use qg_disk::Disk;
-use qg_items::tree::TOP_LEVEL;
 use qg_num::{Answer, BlockFault, Ino, Refusal, RootId, Steps};
 use qg_rules::LARGEST_SIZE;
 use std::sync::ledger::Ledger;
@@ -37,7 +37,7 @@ pub(crate) fn unlink<D: Disk, L: Ledger>(
     ensures apart { (D.history disk.new ≡ D.history disk.old) × (D.size disk.new ≡ D.size disk.old) }
     ensures cause { HasCause BlockFault.Disk (D.faults disk.old) (D.faults disk.new) result }
 {
-    if sub.value() != TOP_LEVEL {
+    if !turn_to(kept, sub) {
         return Ok(Answer::Refused(Refusal::NoSub));
     }
     if inode_in(kept, disk, ino, reads)?.is_none() {

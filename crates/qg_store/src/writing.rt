@@ -1,5 +1,5 @@
 // A range of a file is written.
-ghost use Rattle.std.specs.Prelude.{◌≡◌, ◌+◌, ◌≤◌, ◌<◌, ℕ, [], List, Option, Some, IfNone, IfOk, IfSome, IsTrue};
+ghost use Rattle.std.specs.Prelude.{◌≡◌, ◌≤◌, ◌<◌, ℕ, [], List, Option, Some, IfOk, IfSome, IsTrue};
 ghost use Rattle.qg_device.specs.Cause.{HasCause};
 ghost use Rattle.qg_device.specs.History.{Event};
 ghost use Rattle.qg_num.specs.declared.command.Command.TheVariants.{Write};
@@ -9,16 +9,14 @@ ghost use Rattle.qg_state.specs.State.{State};
 ghost use Rattle.qg_blocks.specs.Told.{BreaksNone};
 ghost use Rattle.qg_space.specs.Holding.{is_free_run};
 ghost use Rattle.qg_store.specs.Answering.{Answered, is_unchanging};
-ghost use Rattle.qg_store.specs.Editing.{range_refusal};
-ghost use Rattle.qg_store.specs.Keeping.{IsFitted, IsKept, IsKeptOf, SameButClean};
-ghost use Rattle.qg_store.specs.Ranges.{IsWritable};
+ghost use Rattle.qg_store.specs.Keeping.{IsKept, IsKeptOf, SameButClean};
 
 use crate::finding::found_in;
 use crate::kept::{Kept, count_pending};
 use crate::need::no_nodes;
 use crate::ranges::refusal_of_write;
+use crate::turning::turn_to;
 use qg_disk::Disk;
-use qg_items::tree::TOP_LEVEL;
 use qg_num::{Address, Answer, BlockFault, Ino, Refusal, RootId, Steps};
 use qg_super::SECTOR;
 use std::sync::ledger::Ledger;
@@ -46,7 +44,10 @@ pub(crate) fn write<D: Disk, L: Ledger>(
     ensures apart { (D.history disk.new ≡ D.history disk.old) × (D.size disk.new ≡ D.size disk.old) }
     ensures cause { HasCause BlockFault.Disk (D.faults disk.old) (D.faults disk.new) result }
 {
-    if let Some(why) = refusal_of_range(kept, sub, off, len) {
+    if !turn_to(kept, sub) {
+        return Ok(Answer::Refused(Refusal::NoSub));
+    }
+    if let Some(why) = refusal_of_write(off, len, kept.pending) {
         return Ok(Answer::Refused(why));
     }
     let Some(run) = run_for(kept, len) else {
@@ -69,21 +70,6 @@ pub(crate) fn write<D: Disk, L: Ledger>(
     )?;
     count_pending(kept);
     Ok(Answer::Extent(run))
-}
-
-// Why a range may not be written, before anything is looked for.
-fn refusal_of_range(kept: &Kept, sub: RootId, off: u64, len: u64) -> Option<Refusal>
-    requires fitted { IsFitted kept.now }
-    ensures value { (state : State) (history : Option (List Event)) → IsKeptOf kept.now state history
-        → result ≡ range_refusal state sub off len }
-    ensures writable { IfNone result (IsWritable off len) }
-    ensures few { IfNone result (kept.now.pending < 65536) }
-    ensures top { IfNone result (sub ≡ TOP_LEVEL) }
-{
-    if sub.value() != TOP_LEVEL {
-        return Some(Refusal::NoSub);
-    }
-    refusal_of_write(off, len, kept.pending)
 }
 
 // The free run of so many bytes with the least address.

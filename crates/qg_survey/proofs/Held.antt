@@ -1,13 +1,13 @@
 -- Where a state is held its subvolumes' trees are read, and so all nodes of its layout.
-use Rattle.std.proofs.Common.{◌≡◌, ℕ, ◌+◌, ◌≤◌, arith, true, List, [], ◌∷◌, map, length, Option, Some, None, refl, sym, ap, subst, ◌∙◌, inl, inr}
+use Rattle.std.proofs.Common.{◌≡◌, ℕ, ◌+◌, ◌≤◌, arith, List, [], ◌∷◌, map, length, Option, Some, refl, sym, subst}
 use Rattle.std.specs.Prelude.{IsSome}
 use Rattle.std.specs.List.{All, Contains}
 use Rattle.std.proofs.lemmas.List.Elements.{All-cons, All-nil, All-contains}
 use Rattle.std.specs.List.Sorted.{IsStrictlySortedBy}
 use Rattle.std.specs.Ordering.{nat_cmp}
 use Rattle.qg_device.specs.History.{Event}
-use Rattle.qg_image.specs.Table.{has_key, keys_of, value_at}
-use Rattle.qg_state.specs.State.{Placed, State, Subvolume, has_subvolume, next_generation, node_at}
+use Rattle.qg_image.specs.Table.{keys_of, value_at}
+use Rattle.qg_state.specs.State.{Placed, State, Subvolume, next_generation, node_at}
 use Rattle.qg_state.specs.Reach.{level_of}
 use Rattle.qg_state.proofs.Contained.{contains_here, contains_later}
 use Rattle.qg_reach.proofs.Members.{contains_map}
@@ -15,11 +15,10 @@ use Rattle.qg_machine.specs.Layout.{IsTreeOf}
 use Rattle.qg_machine.specs.Refusals.{root_level}
 use Rattle.qg_ground.specs.declared.ground.Ground.{Ground}
 use Rattle.qg_ground.specs.Land.{IsGround}
-use Rattle.qg_home.specs.declared.linked.Linked.{Linked}
+use Rattle.qg_direct.specs.declared.surveyed.Surveyed.{Surveyed}
 use Rattle.qg_refs.specs.declared.kept.Kept.{Kept}
 use Rattle.qg_extents.specs.Table.{book_of}
 use Rattle.qg_descent.specs.Tree.{Reaches, Root}
-use Rattle.qg_descent.specs.declared.way.Way.{Way}
 use Rattle.qg_tree_refs.specs.declared.tree_refs.TreeRefs.{TreeRefs}
 use Rattle.qg_forest.specs.Standing.{HoldsState, root_of, tree_of}
 use Rattle.qg_forest.proofs.Extents.{apart-held, node-met}
@@ -73,7 +72,7 @@ module _ (land : Ground) (history : Option (List Event)) (book : TreeRefs) (stat
       (λ sub has. refl))
 
   -- once all trees were read each node of the layout was
-  pub all-read : (trees : List Root) → trees ≡ trees_of state → (old new : List (ℕ × Linked)) (before after : ℕ)
+  pub all-read : (trees : List Root) → trees ≡ trees_of state → (old new : List (ℕ × Surveyed)) (before after : ℕ)
       → EndTrees state trees old new before after
       → (q : ℕ) (placed : Placed) → value_at q state.layout ≡ Some placed → IsSome (link_at new q)
   all-read trees same old new before after ends q placed there =
@@ -94,8 +93,8 @@ module _ (land : Ground) (history : Option (List Event)) (book : TreeRefs) (stat
   marks-told table same = subst (λ (t : List (ℕ × Kept)). MarksNodes (book_of t) state) (sym same) marks-held
 
   -- each node of the layout was read once at most, but for those on the way
-  pub once-read : (old new : List (ℕ × Linked)) (before after : ℕ) → GoesOn state 7 old new before after
-      → IsStrictlySortedBy nat_cmp (map (λ (e : ℕ × Linked). e.0) new) → after ≤ before + length state.layout + 8
+  pub once-read : (old new : List (ℕ × Surveyed)) (before after : ℕ) → GoesOn state 7 old new before after
+      → IsStrictlySortedBy nat_cmp (map (λ (e : ℕ × Surveyed). e.0) new) → after ≤ before + length state.layout + 8
   once-read old new before after goes sorted =
       let few = few-read state new goes.read sorted holds.whole.ascending in
       omega (arith, few, goes.once)

@@ -1,9 +1,9 @@
 -- Where a state is held, what is read of its nodes are the links of its layout: so who reaches a node is told by them.
-use Rattle.std.proofs.Common.{◌≡◌, ℕ, zero, suc, ◌+◌, Bool, true, false, List, [], ◌∷◌, map, Option, Some, None, refl, sym, ap, subst, ◌∙◌, arith, inl, inr}
-use Rattle.std.specs.Prelude.{is_some, slice_get}
+use Rattle.std.proofs.Common.{◌≡◌, ℕ, zero, suc, ◌+◌, Bool, true, false, List, [], ◌∷◌, map, Option, Some, refl, sym, ap, subst, ◌∙◌, arith, inl, inr}
+use Rattle.std.specs.Prelude.{is_some}
 use Rattle.std.specs.Option.{option_map}
 use Rattle.std.specs.List.{Contains}
-use Rattle.std.proofs.lemmas.Bool.{cases_Bool, true≢false}
+use Rattle.std.specs.List.Sorted.{IsStrictlyIncreasing}
 use Rattle.std.proofs.lemmas.Option.{same_Some}
 use Rattle.qg_device.specs.History.{Event}
 use Rattle.qg_node.specs.declared.node.Node.{Node}
@@ -13,10 +13,12 @@ use Rattle.qg_node.specs.Nodes.{header_of, own_pointers}
 use Rattle.qg_node.specs.declared.item.Item.{Item}
 use Rattle.qg_super.specs.declared.superblock.Super.{Super}
 use Rattle.qg_image.specs.Table.{has_key, keys_of, value_at}
+use Rattle.qg_state.specs.declared.element.Element.{Element}
 use Rattle.qg_state.specs.Owed.{layout_extents}
 use Rattle.qg_state.specs.Reach.{is_among, level_of}
 use Rattle.qg_state.specs.State.{Placed, State, Subvolume, layout_of, node_at}
 use Rattle.qg_state.proofs.Contained.{none_contained}
+use Rattle.qg_reach.specs.Sets.{HaveSame}
 use Rattle.qg_reach.proofs.Members.{contains_map, one_mapped}
 use Rattle.qg_verdict.specs.declared.tree.Tree.TheVariants.{Files}
 use Rattle.qg_machine.specs.Layout.{IsTreeOf, super_to_come}
@@ -26,6 +28,7 @@ use Rattle.qg_home.specs.Linked.{AreLinksOf, HasChildAt, HasNodeAt, linked_of}
 use Rattle.qg_home.specs.declared.linked.Linked.{Linked}
 use Rattle.qg_home.proofs.Listed.{index_of}
 use Rattle.qg_home.proofs.Reaching.{entry_of_value, value_of_entry}
+use Rattle.qg_direct.specs.Surveyed.{AreSurveyed, links_in, surveyed_of}
 use Rattle.qg_descent.specs.Branch.{IsBranch}
 use Rattle.qg_descent.specs.Tree.{Reaches}
 use Rattle.qg_descent.proofs.Branches.{branch-below, branch-top}
@@ -142,3 +145,27 @@ module _ (land : Ground) (history : Option (List Event)) (book : TreeRefs) (stat
   -- what is read are the links of the layout
   pub links-held : AreLinksOf (layout_of state) (layout_of state).roots links
   links-held = record { roots = refl; told = refl; begin = begins; below = below; apart = apart }
+
+  -- with the layout's data extents, ascending, it is what the direct counts ask
+  pub surveyed-held : (extents : List Element) → IsStrictlyIncreasing (map (λ extent. extent.address) extents)
+      → HaveSame extents (layout_extents (layout_of state))
+      → AreSurveyed (layout_of state) (layout_of state).roots
+      (map (λ (entry : ℕ × Placed). surveyed_of entry.0 entry.1) state.layout) state.sizes.nodesize extents
+  surveyed-held extents ascending named = record {
+    numbers = subst IsStrictlyIncreasing (sym (keys state.subvolumes)) holds.numbers;
+    links = subst (AreLinksOf (layout_of state) (layout_of state).roots) (sym (linked state.layout)) links-held;
+    told = refl;
+    bytes = refl;
+    ascending = ascending;
+    named = named;
+  } where
+    linked : (layout : List (ℕ × Placed))
+        → links_in (map (λ (entry : ℕ × Placed). surveyed_of entry.0 entry.1) layout)
+        ≡ map (λ (entry : ℕ × Placed). linked_of entry.0 entry.1) layout
+    linked [] = refl
+    linked (entry ∷ layout) = ap (λ (list : List Linked). linked_of entry.0 entry.1 ∷ list) (linked layout)
+
+    keys : (table : List (ℕ × Subvolume))
+        → keys_of (map (λ (entry : ℕ × Subvolume). (entry.0, entry.1.root)) table) ≡ keys_of table
+    keys [] = refl
+    keys (entry ∷ table) = ap (λ (list : List ℕ). entry.0 ∷ list) (keys table)

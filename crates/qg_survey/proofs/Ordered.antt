@@ -1,5 +1,5 @@
 -- Tables in the order of their numbers are one where they have the same at each number; so what was read of all nodes.
-use Rattle.std.proofs.Common.{◌≡◌, ℕ, suc, ◌+◌, ◌<◌, ◌≤◌, Bool, true, false, cond, List, [], ◌∷◌, map, length, Option, Some, None, refl, sym, ap, subst, ◌∙◌, arith, inl, inr}
+use Rattle.std.proofs.Common.{◌≡◌, ℕ, suc, ◌<◌, ◌≤◌, Bool, true, false, cond, List, [], ◌∷◌, map, length, Option, Some, None, refl, sym, ap, subst, ◌∙◌, arith, inl, inr}
 use Rattle.std.specs.Prelude.{◌==◌, nat_lt, Contains, IsSome}
 use Rattle.std.specs.BTreeMap.{is_at}
 use Rattle.std.specs.Cmp.{ranked}
@@ -15,8 +15,8 @@ use Rattle.std.proofs.lemmas.Option.{same_Some}
 use Rattle.qg_image.specs.Table.{keys_of, value_at}
 use Rattle.qg_state.specs.State.{Placed, State}
 use Rattle.qg_state.proofs.Contained.{contains_cases, contains_here, contains_later, none_contained}
-use Rattle.qg_home.specs.Linked.{linked_of}
-use Rattle.qg_home.specs.declared.linked.Linked.{Linked}
+use Rattle.qg_direct.specs.Surveyed.{surveyed_of}
+use Rattle.qg_direct.specs.declared.surveyed.Surveyed.{Surveyed}
 use Rattle.qg_survey.specs.Surveying.{AreRead, link_at}
 use Rattle.qg_survey.proofs.Reading.{is-there, there-is}
 
@@ -115,62 +115,62 @@ at_number : (q n : ℕ) → is_at (nat_cmp q) n ≡ (n == q)
 at_number q n = grind (arith, nat_tests)
 
 -- what a map has at a number
-pub link-value : (links : List (ℕ × Linked)) (q : ℕ) → link_at links q ≡ value_at q links
+pub link-value : (links : List (ℕ × Surveyed)) (q : ℕ) → link_at links q ≡ value_at q links
 link-value [] q = refl
 link-value (entry ∷ links) q =
-    ap (λ (o : Option Linked). cond (is_at (nat_cmp q) entry.0) (Some entry.1) o) (link-value links q)
+    ap (λ (o : Option Surveyed). cond (is_at (nat_cmp q) entry.0) (Some entry.1) o) (link-value links q)
     ∙ ap (λ (b : Bool). cond b (Some entry.1) (value_at q links)) (at_number q entry.0)
 
 -- the nodes of a layout, as they are read
-abbrev linked_there : ℕ × Placed → ℕ × Linked
-linked_there entry = (entry.0, linked_of entry.0 entry.1)
+abbrev linked_there : ℕ × Placed → ℕ × Surveyed
+linked_there entry = (entry.0, surveyed_of entry.0 entry.1)
 
 keys-linked : (layout : List (ℕ × Placed)) → keys_of (map linked_there layout) ≡ keys_of layout
 keys-linked [] = refl
 keys-linked (entry ∷ layout) = ap (λ (ns : List ℕ). entry.0 ∷ ns) (keys-linked layout)
 
-values-linked : (layout : List (ℕ × Placed)) → map (λ (e : ℕ × Linked). e.1) (map linked_there layout)
-    ≡ map (λ (e : ℕ × Placed). linked_of e.0 e.1) layout
+values-linked : (layout : List (ℕ × Placed)) → map (λ (e : ℕ × Surveyed). e.1) (map linked_there layout)
+    ≡ map (λ (e : ℕ × Placed). surveyed_of e.0 e.1) layout
 values-linked [] = refl
-values-linked (entry ∷ layout) = ap (λ (ls : List Linked). linked_of entry.0 entry.1 ∷ ls) (values-linked layout)
+values-linked (entry ∷ layout) = ap (λ (ls : List Surveyed). surveyed_of entry.0 entry.1 ∷ ls) (values-linked layout)
 
 value-linked : (layout : List (ℕ × Placed)) (q : ℕ) → value_at q (map linked_there layout)
-    ≡ option_map (linked_of q) (value_at q layout)
+    ≡ option_map (surveyed_of q) (value_at q layout)
 value-linked [] q = refl
 value-linked (entry ∷ layout) q = elim (cases_Bool (entry.0 == q)) [
   | inl is ↦
-      cond-true (entry.0 == q) _ _ is ∙ ap (λ (n : ℕ). Some (linked_of n entry.1)) (eqb-true entry.0 q is)
-      ∙ ap (option_map (linked_of q)) (sym (cond-true (entry.0 == q) (Some entry.1) (value_at q layout) is))
+      cond-true (entry.0 == q) _ _ is ∙ ap (λ (n : ℕ). Some (surveyed_of n entry.1)) (eqb-true entry.0 q is)
+      ∙ ap (option_map (surveyed_of q)) (sym (cond-true (entry.0 == q) (Some entry.1) (value_at q layout) is))
   | inr differs ↦
       cond-false (entry.0 == q) _ _ differs ∙ value-linked layout q
-      ∙ ap (option_map (linked_of q)) (sym (cond-false (entry.0 == q) (Some entry.1) (value_at q layout) differs))
+      ∙ ap (option_map (surveyed_of q)) (sym (cond-false (entry.0 == q) (Some entry.1) (value_at q layout) differs))
 ]
 
 -- where all nodes of a layout were read, what was read are they, by address
-pub links-are : (state : State) (links : List (ℕ × Linked)) → AreRead state links
+pub links-are : (state : State) (links : List (ℕ × Surveyed)) → AreRead state links
     → ((q : ℕ) (placed : Placed) → value_at q state.layout ≡ Some placed → IsSome (link_at links q))
-    → IsStrictlySortedBy nat_cmp (map (λ (e : ℕ × Linked). e.0) links) → IsStrictlyIncreasing (keys_of state.layout)
-    → map (λ (e : ℕ × Linked). e.1) links ≡ map (λ (e : ℕ × Placed). linked_of e.0 e.1) state.layout
+    → IsStrictlySortedBy nat_cmp (map (λ (e : ℕ × Surveyed). e.0) links) → IsStrictlyIncreasing (keys_of state.layout)
+    → map (λ (e : ℕ × Surveyed). e.1) links ≡ map (λ (e : ℕ × Placed). surveyed_of e.0 e.1) state.layout
 links-are state links read all sorted up =
-    ap (map (λ (e : ℕ × Linked). e.1)) (rises_same links (map linked_there state.layout)
+    ap (map (λ (e : ℕ × Surveyed). e.1)) (rises_same links (map linked_there state.layout)
     (rise_sorted (keys_of links) sorted)
     (subst Rise (sym (keys-linked state.layout))
     (rise_sorted (keys_of state.layout) (sorted_from_strictly_increasing (keys_of state.layout) up))) same)
     ∙ values-linked state.layout
   where
-    none : (q : ℕ) → value_at q state.layout ≡ None → (o : Option Linked) → link_at links q ≡ o → o ≡ None
+    none : (q : ℕ) → value_at q state.layout ≡ None → (o : Option Surveyed) → link_at links q ≡ o → o ≡ None
     none q missing None is = refl
     none q missing (Some link) is =
         let its = read.each q link is in
         absurd (let both : Some its.0 ≡ None = sym its.1 ∙ missing in cc)
 
-    at : (q : ℕ) (o : Option Placed) → value_at q state.layout ≡ o → link_at links q ≡ option_map (linked_of q) o
+    at : (q : ℕ) (o : Option Placed) → value_at q state.layout ≡ o → link_at links q ≡ option_map (surveyed_of q) o
     at q None missing = none q missing (link_at links q) refl
     at q (Some placed) has =
         let link = there-is (link_at links q) (all q placed has) in
         let its = read.each q link.0 link.1 in
         let one : its.0 ≡ placed = same_Some its.0 placed (sym its.1 ∙ has) in
-        link.1 ∙ ap (λ (l : Linked). Some l) (its.2 ∙ ap (linked_of q) one)
+        link.1 ∙ ap (λ (l : Surveyed). Some l) (its.2 ∙ ap (surveyed_of q) one)
 
     same : (q : ℕ) → value_at q links ≡ value_at q (map linked_there state.layout)
     same q = sym (link-value links q) ∙ at q (value_at q state.layout) refl ∙ sym (value-linked state.layout q)
@@ -241,8 +241,8 @@ length-keys [] = refl
 length-keys (entry ∷ table) = ap suc (length-keys table)
 
 -- no more nodes were read than a layout has
-pub few-read : (state : State) (links : List (ℕ × Linked)) → AreRead state links
-    → IsStrictlySortedBy nat_cmp (map (λ (e : ℕ × Linked). e.0) links) → IsStrictlyIncreasing (keys_of state.layout)
+pub few-read : (state : State) (links : List (ℕ × Surveyed)) → AreRead state links
+    → IsStrictlySortedBy nat_cmp (map (λ (e : ℕ × Surveyed). e.0) links) → IsStrictlyIncreasing (keys_of state.layout)
     → length links ≤ length state.layout
 few-read state links read sorted up =
     let least = few (keys_of links) (keys_of state.layout) (rise_sorted (keys_of links) sorted)

@@ -1,11 +1,10 @@
 -- What was read of nodes, and what one more brings.
-use Rattle.std.proofs.Common.{◌≡◌, ◌≢◌, ℕ, zero, suc, ◌+◌, ◌≤◌, ◌<◌, Bool, true, false, cond, List, [], ◌∷◌, map, Option, Some, None, arith, refl, sym, ap, subst, ◌∙◌, inl, inr}
-use Rattle.std.specs.Prelude.{◌⊎◌, IsErr, IsSome, OnOk, Result, Ok, Err, is_some, slice_get}
+use Rattle.std.proofs.Common.{◌≡◌, ◌≢◌, ℕ, zero, suc, ◌≤◌, Bool, false, cond, List, [], map, Option, Some, None, arith, refl, sym, ap, subst, ◌∙◌, inl, inr}
+use Rattle.std.specs.Prelude.{IsErr, IsSome, OnOk, Result, Ok, Err, is_some, slice_get}
 use Rattle.std.specs.BTreeMap.{is_at}
 use Rattle.std.specs.List.{Contains}
 use Rattle.std.specs.Option.{option_map}
 use Rattle.std.specs.Ordering.{nat_cmp}
-use Rattle.std.proofs.lemmas.Bool.{cases_Bool}
 use Rattle.std.proofs.lemmas.Bool.Decides.{eqb_tells}
 use Rattle.std.proofs.lemmas.Option.{same_Some}
 use Rattle.qg_node.specs.declared.pointer.Pointer.{Pointer}
@@ -17,16 +16,15 @@ use Rattle.qg_image.specs.Table.{value_at}
 use Rattle.qg_state.specs.State.{Placed, State, node_at}
 use Rattle.qg_state.proofs.Contained.{none_contained}
 use Rattle.qg_reach.proofs.Members.{contains_map}
-use Rattle.qg_home.specs.Linked.{linked_of}
-use Rattle.qg_home.specs.declared.linked.Linked.{Linked}
+use Rattle.qg_direct.specs.Surveyed.{surveyed_of}
+use Rattle.qg_direct.specs.declared.surveyed.Surveyed.{Surveyed}
 use Rattle.qg_home.proofs.Listed.{contains_at}
 use Rattle.qg_extents.proofs.Tables.{at_itself, at_other}
 use Rattle.qg_descent.specs.Tree.{Reaches}
-use Rattle.qg_forest.proofs.Meeting.{placed-there}
 use Rattle.qg_survey.specs.Surveying.{Adds, AreRead, HasBelow, link_at}
 
 abbrev Links : Type 0
-Links = List (ℕ × Linked)
+Links = List (ℕ × Surveyed)
 
 -- what is there
 pub there-is : {A : Type 0} (o : Option A) → IsSome o → (x : A) × (o ≡ Some x)
@@ -80,11 +78,11 @@ module _ (state : State) where
   nodes = node_at state.layout
 
   -- a child of a node that was read is one of those that were read of it
-  link_child : (q : ℕ) (placed : Placed) (link : Linked) (node : Node) → link ≡ linked_of q placed → placed.node ≡ node
+  link_child : (q : ℕ) (placed : Placed) (link : Surveyed) (node : Node) → link ≡ surveyed_of q placed → placed.node ≡ node
       → (place : ℕ) (pointer : Pointer) → slice_get (own_pointers node) place ≡ Some pointer
-      → Contains link.children pointer.child
+      → Contains link.linked.children pointer.child
   link_child q placed link node is same place pointer there =
-      subst (λ (l : Linked). Contains l.children pointer.child) (sym is)
+      subst (λ (l : Surveyed). Contains l.linked.children pointer.child) (sym is)
       (contains_map (λ (p : Pointer). p.child) (own_pointers placed.node) pointer
       (subst (λ (n : Node). Contains (own_pointers n) pointer) (sym same) (contains_at (own_pointers node) place pointer there)))
 
@@ -115,7 +113,7 @@ module _ (state : State) where
   reached-itself zero at = refl
   reached-itself (suc level) at = inl refl
 
-  module _ (mid new : Links) (at : ℕ) (link : Linked)
+  module _ (mid new : Links) (at : ℕ) (link : Surveyed)
       (put : (q : ℕ) → link_at new q ≡ cond (is_at (nat_cmp at) q) (Some link) (link_at mid q)) where
     pub put-there : link_at new at ≡ Some link
     put-there = put at ∙ ap (λ (b : Bool). cond b (Some link) (link_at mid at)) (at_itself at)
@@ -124,7 +122,7 @@ module _ (state : State) where
     put-elsewhere q other = put q ∙ ap (λ (b : Bool). cond b (Some link) (link_at mid q)) (at_other at q other)
 
     module _ (absent : link_at mid at ≡ None) where
-      pub put-adds : (level : ℕ) → link.level ≤ level → Adds level mid new
+      pub put-adds : (level : ℕ) → link.linked.level ≤ level → Adds level mid new
       put-adds level low = record {
         kept = λ q other is. elim (eqb_tells q at) [
           | inl (equal, same) ↦
@@ -134,19 +132,19 @@ module _ (state : State) where
         low = λ q other is. elim (eqb_tells q at) [
           | inl (equal, same) ↦
               let one : link ≡ other = same_Some link other (sym put-there ∙ ap (link_at new) (sym same) ∙ is) in
-              inr (subst (λ (l : Linked). l.level ≤ level) one low)
+              inr (subst (λ (l : Surveyed). l.linked.level ≤ level) one low)
           | inr (unequal, differ) ↦ inl (sym (put-elsewhere q differ) ∙ is)
         ];
       }
 
     module _ (read : AreRead state mid) (placed : Placed) (has : value_at at state.layout ≡ Some placed)
-        (is : link ≡ linked_of at placed)
-        (children : (child : ℕ) → Contains link.children child → IsSome (link_at mid child)) where
+        (is : link ≡ surveyed_of at placed)
+        (children : (child : ℕ) → Contains link.linked.children child → IsSome (link_at mid child)) where
       still : (q : ℕ) → IsSome (link_at mid q) → IsSome (link_at new q)
       still q some = elim (eqb_tells q at) [
         | inl (equal, same) ↦
             subst (λ (a : ℕ). IsSome (link_at new a)) (sym same) (is-there (link_at new at) link put-there)
-        | inr (unequal, differ) ↦ subst (λ (o : Option Linked). IsSome o) (sym (put-elsewhere q differ)) some
+        | inr (unequal, differ) ↦ subst (λ (o : Option Surveyed). IsSome o) (sym (put-elsewhere q differ)) some
       ]
 
       pub put-read : AreRead state new
@@ -156,14 +154,14 @@ module _ (state : State) where
               let one : link ≡ other = same_Some link other (sym put-there ∙ ap (link_at new) (sym same) ∙ there) in (
                 placed,
                 ap (λ (a : ℕ). value_at a state.layout) same ∙ has,
-                sym one ∙ is ∙ ap (λ (a : ℕ). linked_of a placed) (sym same),
+                sym one ∙ is ∙ ap (λ (a : ℕ). surveyed_of a placed) (sym same),
               )
           | inr (unequal, differ) ↦ read.each q other (sym (put-elsewhere q differ) ∙ there)
         ];
         closed = λ q other there child among. elim (eqb_tells q at) [
           | inl (equal, same) ↦
               let one : link ≡ other = same_Some link other (sym put-there ∙ ap (link_at new) (sym same) ∙ there) in
-              still child (children child (subst (λ (l : Linked). Contains l.children child) (sym one) among))
+              still child (children child (subst (λ (l : Surveyed). Contains l.linked.children child) (sym one) among))
           | inr (unequal, differ) ↦
               still child (read.closed q other (sym (put-elsewhere q differ) ∙ there) child among)
         ];
@@ -179,9 +177,9 @@ module _ (state : State) where
   none_below (Leaf header items) levelled low = refl
   none_below (Inner header pointers) levelled low = let high = levelled.0 in absurd (omega (arith, low, high))
 
-  pub no-children : (at : ℕ) (placed : Placed) (link : Linked) → IsLevelled placed.node → (header_of placed.node).level ≡ 0
-      → link ≡ linked_of at placed → (child : ℕ) → Contains link.children child → ⊥
+  pub no-children : (at : ℕ) (placed : Placed) (link : Surveyed) → IsLevelled placed.node → (header_of placed.node).level ≡ 0
+      → link ≡ surveyed_of at placed → (child : ℕ) → Contains link.linked.children child → ⊥
   no-children at placed link levelled low is child among =
-      let all = subst (λ (l : Linked). Contains l.children child) is among in
+      let all = subst (λ (l : Surveyed). Contains l.linked.children child) is among in
       none_contained child (subst (λ (pointers : List Pointer). Contains (map (λ (p : Pointer). p.child) pointers) child)
       (none_below placed.node levelled low) all)

@@ -1,5 +1,5 @@
 -- The nodes below those that ways lead to, one way after the other.
-use Rattle.std.proofs.Common.{◌≡◌, ℕ, ◌+◌, ◌≤◌, List, [], ◌∷◌, length, Some, None, arith, refl, sym, subst}
+use Rattle.std.proofs.Common.{◌≡◌, ℕ, ◌+◌, ◌≤◌, List, [], ◌∷◌, length, Some, None, arith, sym, subst}
 use Rattle.std.specs.Prelude.{IsSome}
 use Rattle.std.specs.List.{All}
 use Rattle.std.proofs.lemmas.List.Elements.{All-cons, All-nil}
@@ -8,24 +8,24 @@ use Rattle.qg_descent.specs.Tree.{Root}
 use Rattle.qg_descent.specs.declared.way.Way.{Way}
 use Rattle.qg_verdict.specs.Walk.{root_expected}
 use Rattle.qg_drop.specs.Counting.{LeadsToBranch}
-use Rattle.qg_home.specs.declared.linked.Linked.{Linked}
+use Rattle.qg_direct.specs.declared.surveyed.Surveyed.{Surveyed}
 use Rattle.qg_survey.specs.Surveying.{Adds, AreRead, EndBelow, EndTrees, EndsBelow, GoesOn, HasBelow, LeadsOn, link_at}
 use Rattle.qg_survey.proofs.Reading.{adds-higher, adds-none, adds-on, still-read}
 
 -- below the nodes that ways lead to all was read
-abbrev pub HaveBelow : State → ℕ → List Way → List (ℕ × Linked) → Type 0
+abbrev pub HaveBelow : State → ℕ → List Way → List (ℕ × Surveyed) → Type 0
 HaveBelow state level ways links = All (λ (way : Way). HasBelow state level way.address links) ways
 
 -- ways but for a rest were gone, and each node that came was read once
-pub record IsSurveyed (state : State) (level : ℕ) (ways rest : List Way) (old new : List (ℕ × Linked)) (before after : ℕ)
+pub record IsSurveyed (state : State) (level : ℕ) (ways rest : List Way) (old new : List (ℕ × Surveyed)) (before after : ℕ)
     : Type 0 where
   pub read : AreRead state new
   pub adds : Adds level old new
-  pub covers : (later : List (ℕ × Linked)) → ((q : ℕ) → IsSome (link_at new q) → IsSome (link_at later q))
+  pub covers : (later : List (ℕ × Surveyed)) → ((q : ℕ) → IsSome (link_at new q) → IsSome (link_at later q))
       → HaveBelow state level rest later → HaveBelow state level ways later
   pub once : after + length old ≤ before + length new
 
-pub surveyed-none : (state : State) (level : ℕ) (ways : List Way) (links : List (ℕ × Linked)) (reads : ℕ)
+pub surveyed-none : (state : State) (level : ℕ) (ways : List Way) (links : List (ℕ × Surveyed)) (reads : ℕ)
     → AreRead state links → IsSurveyed state level ways ways links links reads reads
 surveyed-none state level ways links reads read = record {
   read = read;
@@ -34,7 +34,7 @@ surveyed-none state level ways links reads read = record {
   once = omega arith;
 }
 
-pub surveyed-on : (state : State) (level : ℕ) (ways others : List Way) (way : Way) (old mid new : List (ℕ × Linked))
+pub surveyed-on : (state : State) (level : ℕ) (ways others : List Way) (way : Way) (old mid new : List (ℕ × Surveyed))
     (before then after : ℕ) → IsSurveyed state level ways (way ∷ others) old mid before then
     → GoesOn state level mid new then after → EndsBelow state level way.address mid new then after
     → IsSurveyed state level ways others old new before after
@@ -48,7 +48,7 @@ surveyed-on state level ways others way old mid new before then after first goes
 }
 
 -- where one way more was begun
-pub surveyed-stops : (state : State) (level : ℕ) (ways rest : List Way) (old mid new : List (ℕ × Linked))
+pub surveyed-stops : (state : State) (level : ℕ) (ways rest : List Way) (old mid new : List (ℕ × Surveyed))
     (before then after : ℕ) → IsSurveyed state level ways rest old mid before then
     → GoesOn state level mid new then after → GoesOn state level old new before after
 surveyed-stops state level ways rest old mid new before then after first goes = record {
@@ -58,7 +58,7 @@ surveyed-stops state level ways rest old mid new before then after first goes = 
 }
 
 -- where all were gone
-pub surveyed-all : (state : State) (level : ℕ) (ways : List Way) (old new : List (ℕ × Linked)) (before after : ℕ)
+pub surveyed-all : (state : State) (level : ℕ) (ways : List Way) (old new : List (ℕ × Surveyed)) (before after : ℕ)
     → IsSurveyed state level ways [] old new before after
     → GoesOn state level old new before after × EndBelow state level ways old new before after
 surveyed-all state level ways old new before after done = (
@@ -78,18 +78,18 @@ tree-leads state tree leads height way high address expected =
     subst (λ (n : ℕ). LeadsToBranch state n way) (sym high) (leads.leads way address expected)
 
 -- all nodes of some trees were read
-abbrev pub HaveTrees : State → List Root → List (ℕ × Linked) → Type 0
+abbrev pub HaveTrees : State → List Root → List (ℕ × Surveyed) → Type 0
 HaveTrees state trees links = All (λ (tree : Root). HasBelow state tree.height tree.address links) trees
 
 -- trees but for a rest were gone, and each node that came was read once
-pub record AreGone (state : State) (trees rest : List Root) (old new : List (ℕ × Linked)) (before after : ℕ) : Type 0 where
+pub record AreGone (state : State) (trees rest : List Root) (old new : List (ℕ × Surveyed)) (before after : ℕ) : Type 0 where
   pub read : AreRead state new
   pub adds : Adds 7 old new
-  pub covers : (later : List (ℕ × Linked)) → ((q : ℕ) → IsSome (link_at new q) → IsSome (link_at later q))
+  pub covers : (later : List (ℕ × Surveyed)) → ((q : ℕ) → IsSome (link_at new q) → IsSome (link_at later q))
       → HaveTrees state rest later → HaveTrees state trees later
   pub once : after + length old ≤ before + length new
 
-pub gone-none : (state : State) (trees : List Root) (links : List (ℕ × Linked)) (reads : ℕ) → AreRead state links
+pub gone-none : (state : State) (trees : List Root) (links : List (ℕ × Surveyed)) (reads : ℕ) → AreRead state links
     → AreGone state trees trees links links reads reads
 gone-none state trees links reads read = record {
   read = read;
@@ -98,7 +98,7 @@ gone-none state trees links reads read = record {
   once = omega arith;
 }
 
-pub gone-on : (state : State) (trees others : List Root) (tree : Root) (old mid new : List (ℕ × Linked))
+pub gone-on : (state : State) (trees others : List Root) (tree : Root) (old mid new : List (ℕ × Surveyed))
     (before then after : ℕ) → tree.height ≤ 7 → AreGone state trees (tree ∷ others) old mid before then
     → GoesOn state tree.height mid new then after → EndsBelow state tree.height tree.address mid new then after
     → AreGone state trees others old new before after
@@ -112,7 +112,7 @@ gone-on state trees others tree old mid new before then after low first goes end
 }
 
 -- where one tree more was begun
-pub gone-stops : (state : State) (trees rest : List Root) (tree : Root) (old mid new : List (ℕ × Linked))
+pub gone-stops : (state : State) (trees rest : List Root) (tree : Root) (old mid new : List (ℕ × Surveyed))
     (before then after : ℕ) → tree.height ≤ 7 → AreGone state trees rest old mid before then
     → GoesOn state tree.height mid new then after → GoesOn state 7 old new before after
 gone-stops state trees rest tree old mid new before then after low first goes = record {
@@ -122,7 +122,7 @@ gone-stops state trees rest tree old mid new before then after low first goes = 
 }
 
 -- where all were gone
-pub gone-all : (state : State) (trees : List Root) (old new : List (ℕ × Linked)) (before after : ℕ)
+pub gone-all : (state : State) (trees : List Root) (old new : List (ℕ × Surveyed)) (before after : ℕ)
     → AreGone state trees [] old new before after
     → GoesOn state 7 old new before after × EndTrees state trees old new before after
 gone-all state trees old new before after done = (

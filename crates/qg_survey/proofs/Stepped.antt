@@ -1,5 +1,5 @@
 -- One node that a way leads to, as it is read.
-use Rattle.std.proofs.Common.{◌≡◌, ℕ, zero, suc, ◌+◌, ◌-◌, ◌≤◌, Bool, false, true, cond, List, [], ◌∷◌, length, map, Option, Some, None, arith, refl, sym, ap, subst, ◌∙◌, inl, inr}
+use Rattle.std.proofs.Common.{◌≡◌, ℕ, suc, ◌+◌, ◌-◌, ◌≤◌, Bool, cond, List, [], ◌∷◌, length, Option, Some, None, arith, refl, sym, ap, subst, ◌∙◌, inl, inr}
 use Rattle.std.specs.Prelude.{IsSome}
 use Rattle.std.specs.BTreeMap.{is_at}
 use Rattle.std.specs.List.{All, Contains}
@@ -23,8 +23,8 @@ use Rattle.qg_walk.proofs.Failures.{IsFormed-form}
 use Rattle.qg_blocks.specs.Held.{Draft, Held}
 use Rattle.qg_blocks.specs.Told.{held_at}
 use Rattle.qg_refs.specs.Book.{Book, full_in}
-use Rattle.qg_home.specs.Linked.{linked_of}
-use Rattle.qg_home.specs.declared.linked.Linked.{Linked}
+use Rattle.qg_direct.specs.Surveyed.{surveyed_of}
+use Rattle.qg_direct.specs.declared.surveyed.Surveyed.{Surveyed}
 use Rattle.qg_descent.specs.Tree.{Reaches}
 use Rattle.qg_descent.specs.Way.{IsVisited}
 use Rattle.qg_descent.specs.declared.way.Way.{Way}
@@ -47,7 +47,7 @@ way-among to level (first ∷ pointers) pointer has = elim (contains_cases first
 ]
 
 -- nothing came, and one node at most was read
-pub goes-none : (state : State) (level : ℕ) (links : List (ℕ × Linked)) (before after : ℕ) → AreRead state links
+pub goes-none : (state : State) (level : ℕ) (links : List (ℕ × Surveyed)) (before after : ℕ) → AreRead state links
     → after ≤ before + 1 → GoesOn state level links links before after
 goes-none state level links before after read few = record {
   read = read;
@@ -56,7 +56,7 @@ goes-none state level links before after read few = record {
 }
 
 -- nodes below one were read on
-pub goes-higher : (state : State) (lower level : ℕ) (old new : List (ℕ × Linked)) (before then after : ℕ)
+pub goes-higher : (state : State) (lower level : ℕ) (old new : List (ℕ × Surveyed)) (before then after : ℕ)
     → level ≡ suc lower → then ≡ before + 1 → GoesOn state lower old new then after
     → GoesOn state level old new before after
 goes-higher state lower level old new before then after high one goes = record {
@@ -72,7 +72,7 @@ module _ (draft : Draft) (history : Option (List Event)) (book : Book) (state : 
   at = way.address
 
   -- where it was read before, all below it was
-  pub ends-there : (links : List (ℕ × Linked)) (reads : ℕ) → AreRead state links → IsSome (link_at links at)
+  pub ends-there : (links : List (ℕ × Surveyed)) (reads : ℕ) → AreRead state links → IsSome (link_at links at)
       → EndsBelow state level at links links reads reads
   ends-there links reads read some = record { below = below-read state links read level at some; once = omega arith }
 
@@ -86,8 +86,8 @@ module _ (draft : Draft) (history : Option (List Event)) (book : Book) (state : 
       (found.0, found.1)
 
   module _ (judge : Super) (held : Held) (visited : IsVisited Files judge way.expected draft history held at) (seen : Node)
-      (has : held_at held at ≡ Some seen) (link : Linked)
-      (is : link ≡ linked_of (header_of seen).address (record { node = seen; full = full_in (book at) })) where
+      (has : held_at held at ≡ Some seen) (link : Surveyed)
+      (is : link ≡ surveyed_of (header_of seen).address (record { node = seen; full = full_in (book at) })) where
     seen_is : seen ≡ placed.0.node
     seen_is =
         sym (same_Some visited.node seen (sym visited.is ∙ has))
@@ -106,23 +106,23 @@ module _ (draft : Draft) (history : Option (List Event)) (book : Book) (state : 
     address_is =
         ap (λ (n : Node). (header_of n).address) (seen_is ∙ sym visited_is) ∙ visited.kept.placed
 
-    link_is : link ≡ linked_of at placed.0
+    link_is : link ≡ surveyed_of at placed.0
     link_is =
-        is ∙ ap (λ (a : ℕ). linked_of a (record { node = seen; full = full_in (book at) })) address_is
-        ∙ ap (λ (n : Node). linked_of at (record { node = n; full = full_in (book at) })) seen_is
-        ∙ ap (λ (b : Bool). linked_of at (record { node = placed.0.node; full = b })) (marks at placed.0 placed.1)
+        is ∙ ap (λ (a : ℕ). surveyed_of a (record { node = seen; full = full_in (book at) })) address_is
+        ∙ ap (λ (n : Node). surveyed_of at (record { node = n; full = full_in (book at) })) seen_is
+        ∙ ap (λ (b : Bool). surveyed_of at (record { node = placed.0.node; full = b })) (marks at placed.0 placed.1)
 
-    link_low : link.level ≡ level
-    link_low = ap (λ (l : Linked). l.level) link_is ∙ level_is
+    link_low : link.linked.level ≡ level
+    link_low = ap (λ (l : Surveyed). l.linked.level) link_is ∙ level_is
 
     -- its children, where all below them was read
-    children : (ways : List Way) (to : Option Key) (lower : ℕ) (mid : List (ℕ × Linked))
+    children : (ways : List Way) (to : Option Key) (lower : ℕ) (mid : List (ℕ × Surveyed))
         → ways ≡ ways_told to lower (own_pointers seen)
         → All (λ (w : Way). HasBelow state lower w.address mid) ways
-        → (child : ℕ) → Contains link.children child → IsSome (link_at mid child)
+        → (child : ℕ) → Contains link.linked.children child → IsSome (link_at mid child)
     children ways to lower mid told all child among =
         let found = one_mapped (λ (p : Pointer). p.child) (own_pointers placed.0.node) child
-        (subst (λ (l : Linked). Contains l.children child) link_is among) in
+        (subst (λ (l : Surveyed). Contains l.linked.children child) link_is among) in
         let here = subst (λ (n : Node). Contains (own_pointers n) found.0) (sym seen_is) found.1 in
         let one = way-among to lower (own_pointers seen) found.0 here in
         let below = All-contains (λ (w : Way). HasBelow state lower w.address mid) ways one.0 all
@@ -131,22 +131,22 @@ module _ (draft : Draft) (history : Option (List Event)) (book : Book) (state : 
         (reached-itself state lower child))
 
     -- it was not read before, and lies above what came
-    absent : (old mid : List (ℕ × Linked)) (lower : ℕ) → level ≡ suc lower → AreRead state mid → link_at old at ≡ None
+    absent : (old mid : List (ℕ × Surveyed)) (lower : ℕ) → level ≡ suc lower → AreRead state mid → link_at old at ≡ None
         → Adds lower old mid → link_at mid at ≡ None
     absent old mid lower high read none adds = by (link_at mid at) refl where
-      by : (o : Option Linked) → link_at mid at ≡ o → o ≡ None
+      by : (o : Option Surveyed) → link_at mid at ≡ o → o ≡ None
       by None there = refl
       by (Some other) there = elim (adds.low at other there) [
         | inl before ↦ absurd (let both : Some other ≡ None = sym before ∙ none in cc)
         | inr low ↦
             let its = read.each at other there in
             let same : its.0 ≡ placed.0 = same_Some its.0 placed.0 (sym its.1 ∙ placed.1) in
-            let levels : other.level ≡ level =
-            ap (λ (l : Linked). l.level) its.2 ∙ ap (λ (p : Placed). (header_of p.node).level) same ∙ level_is in
+            let levels : other.linked.level ≡ level =
+            ap (λ (l : Surveyed). l.linked.level) its.2 ∙ ap (λ (p : Placed). (header_of p.node).level) same ∙ level_is in
             absurd (omega (arith, low, levels, high))
       ]
 
-    module _ (old mid new : List (ℕ × Linked)) (before then after : ℕ) (one : then ≡ before + 1)
+    module _ (old mid new : List (ℕ × Surveyed)) (before then after : ℕ) (one : then ≡ before + 1)
         (none : link_at old at ≡ None) (read : AreRead state mid)
         (put : (q : ℕ) → link_at new q ≡ cond (is_at (nat_cmp at) q) (Some link) (link_at mid q))
         (grown : link_at mid at ≡ None → length new ≡ length mid + 1) where
@@ -158,7 +158,7 @@ module _ (draft : Draft) (history : Option (List Event)) (book : Book) (state : 
       inner-goes lower high ways to told goes ends =
           let gone = absent old mid lower high read none goes.adds in
           let more = grown gone in
-          let low : link.level ≤ level = omega (arith, link_low) in
+          let low : link.linked.level ≤ level = omega (arith, link_low) in
           let least : lower ≤ level = omega (arith, high) in
           let kids = children ways to lower mid told ends.below in
           let adds = adds-on level old mid new (adds-higher lower level old mid least goes.adds)
@@ -179,15 +179,15 @@ module _ (draft : Draft) (history : Option (List Event)) (book : Book) (state : 
       pub leaf-goes : level ≡ 0 → mid ≡ old → after ≡ then
           → GoesOn state level old new before after × EndsBelow state level at old new before after
       leaf-goes low same last =
-          let gone : link_at mid at ≡ None = ap (λ (l : List (ℕ × Linked)). link_at l at) same ∙ none in
+          let gone : link_at mid at ≡ None = ap (λ (l : List (ℕ × Surveyed)). link_at l at) same ∙ none in
           let more = grown gone in
-          let sizes = ap (λ (l : List (ℕ × Linked)). length l) same in
-          let least : link.level ≤ level = omega (arith, link_low) in
+          let sizes = ap (λ (l : List (ℕ × Surveyed)). length l) same in
+          let least : link.linked.level ≤ level = omega (arith, link_low) in
           let flat : IsLevelled placed.0.node = subst (λ (n : Node). IsLevelled n) visited_is
           visited.kept.sound.levelled in
-          let kids : (child : ℕ) → Contains link.children child → IsSome (link_at mid child) =
+          let kids : (child : ℕ) → Contains link.linked.children child → IsSome (link_at mid child) =
           λ child among. absurd (no-children state at placed.0 link flat (level_is ∙ low) link_is child among) in
-          let adds = subst (λ (l : List (ℕ × Linked)). Adds level l new) same
+          let adds = subst (λ (l : List (ℕ × Surveyed)). Adds level l new) same
           (put-adds state mid new at link put gone level least) in
           let once : after + length old ≤ before + length new = omega (arith, more, sizes, one, last) in (
             record {

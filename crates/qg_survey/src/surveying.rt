@@ -7,7 +7,7 @@ ghost use Rattle.qg_device.specs.History.{Event};
 ghost use Rattle.qg_state.specs.State.{State as MachineState, next_generation};
 ghost use Rattle.qg_blocks.specs.Told.{BreaksNone};
 ghost use Rattle.qg_extents.specs.Table.{book_of};
-ghost use Rattle.qg_home.specs.Linked.{linked_of};
+ghost use Rattle.qg_direct.specs.Surveyed.{surveyed_of};
 ghost use Rattle.qg_descent.specs.Way.{HasRead, IsReadable};
 ghost use Rattle.qg_tree_edits.specs.Editing.{IsEditable};
 ghost use Rattle.qg_forest.specs.Standing.{HoldsState};
@@ -26,11 +26,11 @@ ghost use Rattle.qg_survey.specs.Surveying.{
 
 use qg_blocks::Blocks;
 use qg_descent::{Tree, Way};
+use qg_direct::{Surveyed, surveyed_of};
 use qg_disk::Disk;
 use qg_drop::ways_of;
 use qg_extents::Extents;
 use qg_ground::Ground;
-use qg_home::{Linked, linked_of};
 use qg_image::FilePart;
 use qg_num::{Address, BlockFault, NoMemory, Steps};
 use qg_tree_refs::TreeRefs;
@@ -38,8 +38,8 @@ use std::alloc::{AllocError, Global};
 use std::collections::BTreeMap;
 use std::sync::ledger::Ledger;
 
-/// What the rule `home` needs of each node that subvolumes reach, ascending by address. Each node is read once, however
-/// many subvolumes reach it.
+/// Each node that subvolumes reach, ascending by address: what the rule `home` needs of it, and the extents that it names.
+/// Each node is read once, however many subvolumes reach it.
 ///
 /// `trees` are those of all subvolumes. `Image` comes where a node is not what leads to it expects.
 pub fn survey<D: Disk, L: Ledger>(
@@ -49,13 +49,13 @@ pub fn survey<D: Disk, L: Ledger>(
     trees: &[Tree],
     book: &TreeRefs,
     reads: &mut Steps<L>,
-) -> Result<Vec<Linked>, BlockFault>
+) -> Result<Vec<Surveyed>, BlockFault>
     requires editable { IsEditable land.old (D.history disk.old) (D.size disk.old) book.now.next }
 
     // Where they hold a state.
     ensures surveyed { (state : MachineState) → HoldsState land.old (D.history disk.old) book.now state
         → trees.now ≡ trees_of state
-        → IfOk result (λ links. links.items ≡ map (λ entry. linked_of entry.0 entry.1) state.layout) }
+        → IfOk result (λ links. links.items ≡ map (λ entry. surveyed_of entry.0 entry.1) state.layout) }
     ensures sound { (state : MachineState) (events : List Event) → D.history disk.old ≡ Some events
         → HoldsState land.old (D.history disk.old) book.now state → trees.now ≡ trees_of state → BreaksNone result }
     ensures reads { (state : MachineState) → HoldsState land.old (D.history disk.old) book.now state
@@ -91,7 +91,7 @@ fn survey_trees<D: Disk, L: Ledger>(
     disk: &mut D,
     trees: &[Tree],
     book: &Extents,
-    links: &mut BTreeMap<u64, Linked>,
+    links: &mut BTreeMap<u64, Surveyed>,
     reads: &mut Steps<L>,
 ) -> Result<(), BlockFault>
     requires readable { IsReadable blocks.old (D.history disk.old) (D.size disk.old) }
@@ -125,7 +125,7 @@ fn survey_trees<D: Disk, L: Ledger>(
 }
 
 // What was read, by address.
-fn list_of(alloc: Global, links: BTreeMap<u64, Linked>) -> Result<Vec<Linked>, AllocError>
+fn list_of(alloc: Global, links: BTreeMap<u64, Surveyed>) -> Result<Vec<Surveyed>, AllocError>
     ensures { IfOk result (λ list. list.items ≡ map (λ entry. entry.1) links.entries) }
 {
     links.into_values().collect(alloc)
@@ -141,7 +141,7 @@ fn survey_under<D: Disk, L: Ledger>(
     way: &Way,
     level: u8,
     book: &Extents,
-    links: &mut BTreeMap<u64, Linked>,
+    links: &mut BTreeMap<u64, Surveyed>,
     reads: &mut Steps<L>,
 ) -> Result<(), BlockFault>
     requires readable { IsReadable blocks.old (D.history disk.old) (D.size disk.old) }
@@ -162,7 +162,7 @@ fn survey_under<D: Disk, L: Ledger>(
     }
     tree.visit::<FilePart, D, L>(blocks, disk, way, reads)?;
     let node = blocks.peek(way.address);
-    let link = linked_of(alloc, node, book.is_marked(way.address))?;
+    let link = surveyed_of(alloc, node, book.is_marked(way.address))?;
     let ways = ways_of(alloc, node, way.expected.to, level.saturating_sub(1))?;
     if level > 0 {
         survey_each::<D, L>(
@@ -191,7 +191,7 @@ fn survey_each<D: Disk, L: Ledger>(
     ways: &[Way],
     level: u8,
     book: &Extents,
-    links: &mut BTreeMap<u64, Linked>,
+    links: &mut BTreeMap<u64, Surveyed>,
     reads: &mut Steps<L>,
 ) -> Result<(), BlockFault>
     requires readable { IsReadable blocks.old (D.history disk.old) (D.size disk.old) }
@@ -217,7 +217,11 @@ fn survey_each<D: Disk, L: Ledger>(
 }
 
 // Puts what was read of a node under its address.
-fn put_link(links: &mut BTreeMap<u64, Linked>, at: Address, link: Linked) -> Result<(), NoMemory>
+fn put_link(
+    links: &mut BTreeMap<u64, Surveyed>,
+    at: Address,
+    link: Surveyed,
+) -> Result<(), NoMemory>
     ensures put { OnOk result (Updates nat_cmp links.old links.new at (Some link)) }
     ensures grown { OnOk result (link_at links.old.entries at ≡ None
         → length links.new.entries ≡ length links.old.entries + 1) }

@@ -84,6 +84,13 @@ impl TreeRefs {
         self.misfit
     }
 
+    /// Of which generation what comes is.
+    pub fn next(&self) -> Generation
+        ensures { result ≡ self.now.next }
+    {
+        self.next
+    }
+
     /// The references.
     pub fn refs(&self) -> &Extents
         ensures { result.now ≡ self.now.refs }

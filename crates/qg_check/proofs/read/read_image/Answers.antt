@@ -105,11 +105,9 @@ returns-clause-image g c = λ events told.
       kept = subst (λ (s : Super). StandsFor s (content events) (record c.in_ok-image.image { stale = c.stale-image.result })) (sym kept.same)
           (record {
             same = kept.same;
-            only = kept.only;
-            files = kept.files;
-            told = kept.told;
-            bodies = kept.bodies;
-            state = kept.state;
+            roots = kept.roots;
+            quota = kept.quota;
+            each = kept.each;
             others = kept.others;
             nodes = kept.nodes;
             ascending = kept.ascending;
@@ -123,4 +121,4 @@ returns-clause-image g c = λ events told.
 
 pub returns-clause-editable : goal.returns-clause-editable
 returns-clause-editable g c =
-    stale_editable c.in_ok-image.image c.stale-image.result (c.in_ok-image.ensures.editable c.in-Some.ensures.fits c.in_ok-trees.ensures.slots c.in_ok-trees.ensures.root)
+    stale_editable c.in_ok-image.image c.stale-image.result (c.in_ok-image.ensures.editable c.in-Some.ensures.fits c.in_ok-trees.ensures.slots)

@@ -1,63 +1,101 @@
-use Rattle.std.proofs.Common.{ap, ◌∙◌}
+use Rattle.std.proofs.Common.{◌≡◌, ℕ, List, map, sym, ap, subst, ◌∙◌}
 use Rattle.qg_device.specs.History.{content}
+use Rattle.qg_items.specs.declared.root.RootItem.{RootItem}
+use Rattle.qg_super.specs.declared.superblock.Super.{Super}
 use Rattle.qg_image.specs.Table.{keys_of}
-use Rattle.qg_state.specs.declared.quota.Quota.{Quota}
-use Rattle.qg_verdict.specs.Verdict.{together_failure}
+use Rattle.qg_verdict.specs.Failure.{first_failure}
+use Rattle.qg_verdict.specs.ImageState.{roots_in}
+use Rattle.qg_verdict.specs.Verdict.{subvolume_failure, together_failure}
+use Rattle.qg_check.specs.Editable.{AreGroups}
+use Rattle.qg_check.specs.Trees.{AreFileTrees, AreNamed, AreTrees}
+use Rattle.qg_check.specs.declared.judge.Read.{Read}
+use Rattle.qg_check.specs.declared.trees.Trees.{Trees}
 use Rattle.qg_check.proofs.Editable.{answer_editable}
 use Rattle.qg_check.proofs.Staging.{tells_first, pass_first, tells_same, fails_handed, fails_same}
 use Rattle.qg_check.proofs.Verdicts.{alone}
-use Rattle.qg_check.specs.declared.judge.Read.{Read}
 use Rattle.qg_check.proofs.read.read_trees.Goals as goal
+
+-- the root tree names what was handed on
+named_so : (super : Super) (bytes : List ℕ) (trees : Trees) (slice : List (ℕ × RootItem)) → slice ≡ trees.subvolumes → AreTrees super bytes trees
+    → AreNamed (roots_in super bytes) trees.extents trees.quotas slice
+named_so super bytes trees slice is are =
+    subst (λ (list : List (ℕ × RootItem)). AreNamed (roots_in super bytes) trees.extents trees.quotas list) (sym is) are.named
 
 pub returns-in_err-quotas-clause-failure : goal.returns-in_err-quotas-clause-failure
 returns-in_err-quotas-clause-failure g c = λ events told are.
     let fault = c.in_err-quotas.field-0.0 in
     let extents = c.in_ok-extents.ensures.failure events told in
-    let quotas = c.in_err-quotas.ensures.failure events c.args.trees.extents (c.in_ok-extents.ensures.history ∙ told) are.named in
+    let named = named_so c.args.superblock (content events) c.args.trees c.as_slice-subvolumes.result.now c.as_slice-subvolumes.ensures are in
+    let quotas = c.in_err-quotas.ensures.failure events c.args.trees.extents (c.in_ok-extents.ensures.history ∙ told) named in
     fails_handed c.from_residual-in_err-quotas.result fault _ c.from_residual-in_err-quotas.ensures.1 (tells_same fault (pass_first _ _ extents) (tells_first fault _ _ quotas))
 
-pub returns-in_err-subvolume-clause-failure : goal.returns-in_err-subvolume-clause-failure
-returns-in_err-subvolume-clause-failure g c = λ events told are.
-    let fault = c.in_err-subvolume.field-0.0 in
+pub returns-in_err-nodes-clause-failure : goal.returns-in_err-nodes-clause-failure
+returns-in_err-nodes-clause-failure g c = λ events told are.
+    let fault = c.in_err-nodes.field-0.0 in
     let told' = c.in_ok-extents.ensures.history ∙ told in
     let extents = c.in_ok-extents.ensures.failure events told in
-    let quotas = c.in_ok-quotas.ensures.failure events c.args.trees.extents told' are.named in
-    let files = c.in_err-subvolume.ensures.failure events (c.in_ok-quotas.ensures.history ∙ told') in
-    fails_handed c.from_residual-in_err-subvolume.result fault _ c.from_residual-in_err-subvolume.ensures.1
-    (tells_same fault (pass_first _ _ extents ∙ pass_first _ _ quotas) (tells_first fault _ _ files))
+    let named = named_so c.args.superblock (content events) c.args.trees c.as_slice-subvolumes.result.now c.as_slice-subvolumes.ensures are in
+    let quotas = c.in_ok-quotas.ensures.failure events c.args.trees.extents told' named in
+    let files = c.in_err-nodes.ensures.failure events (c.in_ok-quotas.ensures.history ∙ told') in
+    let same = ap (λ (roots : List (ℕ × RootItem)). first_failure (map (λ entry. subvolume_failure c.args.superblock (content events) entry.1) roots)) c.as_slice-subvolumes.ensures in
+    fails_handed c.from_residual-in_err-nodes.result fault _ c.from_residual-in_err-nodes.ensures.1
+    (tells_same fault (pass_first _ _ extents ∙ pass_first _ _ quotas) (tells_first fault _ _ (tells_same fault (sym same) files)))
 
 pub returns-clause-failure : goal.returns-clause-failure
 returns-clause-failure g c = λ events told are.
+    let super = c.args.superblock in
     let told' = c.in_ok-extents.ensures.history ∙ told in
     let last = c.in_ok-quotas.ensures.history ∙ told' in
+    let slice = c.as_slice-subvolumes in
     let extents = c.in_ok-extents.ensures.failure events told in
-    let quotas = c.in_ok-quotas.ensures.failure events c.args.trees.extents told' are.named in
-    let files = c.in_ok-subvolume.ensures.failure events last in
+    let named = named_so super (content events) c.args.trees slice.result.now slice.ensures are in
+    let quotas = c.in_ok-quotas.ensures.failure events c.args.trees.extents told' named in
+    let files = c.in_ok-nodes.ensures.failure events last in
+    let same = ap (λ (roots : List (ℕ × RootItem)). first_failure (map (λ entry. subvolume_failure c.args.superblock (content events) entry.1) roots)) slice.ensures in
+    let trees = subst (λ (roots : List (ℕ × RootItem)). AreFileTrees c.args.superblock (content events) roots c.in_ok-nodes.nodes) slice.ensures
+    (record { found = c.in_ok-nodes.ensures.found events last; sound = files }) in
     let together = c.judge_trees.ensures.failure (content events) (record {
       trees = are;
       extents = c.in_ok-extents.ensures.tree events told;
       quotas = c.in_ok-quotas.ensures.tree events told';
-      subvolume = c.in_ok-subvolume.ensures.tree events last;
+      subvolumes = trees;
     }) in
-    fails_same c.judge_trees.result (pass_first _ _ extents ∙ pass_first _ _ quotas ∙ pass_first _ _ files ∙ alone (together_failure c.args.superblock (content events))) together
+    fails_same c.judge_trees.result (pass_first _ _ extents ∙ pass_first _ _ quotas ∙ pass_first _ _ (sym same ∙ files) ∙ alone (together_failure super (content events))) together
+
+pub returns-clause-image : goal.returns-clause-image
+returns-clause-image g c = λ events told are.
+    let super = c.args.superblock in
+    let told' = c.in_ok-extents.ensures.history ∙ told in
+    let last = c.in_ok-quotas.ensures.history ∙ told' in
+    let slice = c.as_slice-subvolumes in
+    let files = c.in_ok-nodes.ensures.failure events last in
+    let trees = subst (λ (roots : List (ℕ × RootItem)). AreFileTrees c.args.superblock (content events) roots c.in_ok-nodes.nodes) slice.ensures
+    (record { found = c.in_ok-nodes.ensures.found events last; sound = files }) in
+    c.judge_trees.ensures.image (content events) (record {
+      trees = are;
+      extents = c.in_ok-extents.ensures.tree events told;
+      quotas = c.in_ok-quotas.ensures.tree events told';
+      subvolumes = trees;
+    })
 
 pub judge_trees-requires-clause-groups : goal.judge_trees-requires-clause-groups
-judge_trees-requires-clause-groups g c = ap (λ (quota : Quota). keys_of quota.groups) c.in_ok-quotas.ensures.group.counted
+judge_trees-requires-clause-groups g c =
+    subst (λ (roots : List (ℕ × RootItem)). AreGroups c.args.superblock.generation (keys_of roots) c.in_ok-quotas.quotas.quota) c.as_slice-subvolumes.ensures c.in_ok-quotas.ensures.groups
 
 pub returns-clause-editable : goal.returns-clause-editable
-returns-clause-editable g c = λ is roots root.
+returns-clause-editable g c = λ is roots.
     let read : Read = record {
       trees = c.args.trees;
       extents = c.in_ok-extents.extents;
       quotas = c.in_ok-quotas.quotas;
-      subvolume = c.in_ok-subvolume.subvolume;
+      nodes = c.in_ok-nodes.nodes;
     } in
     answer_editable c.args.superblock read c.judge_trees.result c.judge_trees.ensures.superblock c.judge_trees.ensures.keeps (record {
       superblock = is;
-      root = root;
+      subvolumes = c.requires.subvolumes;
       roots = roots;
       extents = c.in_ok-extents.ensures.slots;
       parts = c.in_ok-extents.ensures.parts;
       quotas = c.in_ok-quotas.ensures.slots;
-      group = c.in_ok-quotas.ensures.group;
+      groups = subst (λ (roots : List (ℕ × RootItem)). AreGroups c.args.superblock.generation (keys_of roots) c.in_ok-quotas.quotas.quota) c.as_slice-subvolumes.ensures c.in_ok-quotas.ensures.groups;
     })

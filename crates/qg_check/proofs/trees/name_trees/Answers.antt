@@ -1,9 +1,8 @@
-use Rattle.std.proofs.Common.{◌≡◌, ℕ, true, Option, Some, None, List, sym, ap, ◌∙◌}
+use Rattle.std.proofs.Common.{◌≡◌, ℕ, Option, Some, None, List, sym, ap, ◌∙◌}
 use Rattle.std.specs.Prelude.{IfNone}
 use Rattle.qg_items.specs.declared.root.RootItem.{RootItem}
 use Rattle.qg_image.specs.Table.{value_at}
-use Rattle.qg_verdict.specs.Verdict.{are_roots}
-use Rattle.qg_check.proofs.Named.{are_roots_asked, missing, only_top_level}
+use Rattle.qg_check.proofs.Named.{are_roots_asked, missing}
 use Rattle.qg_check.proofs.trees.name_trees.Goals as goal
 
 -- what contradicts holds of nothing
@@ -27,20 +26,11 @@ returns-in_err-root_of-2-clause-none c =
     let asked = are_roots_asked roots (sym c.are_roots.ensures ∙ c.if-not-are_roots.false) in
     none_of c.from_residual-in_err-root_of-2.result _ (missing (value_at 8 roots) (at c.new-2.result 8 roots None c.new-2.ensures c.in_err-root_of-2.ensures) asked.quotas)
 
-pub returns-in_err-root_of-3-clause-none : goal.returns-in_err-root_of-3-clause-none
-returns-in_err-root_of-3-clause-none c =
-    let roots = c.args.roots.now in
-    let asked = are_roots_asked roots (sym c.are_roots.ensures ∙ c.if-not-are_roots.false) in
-    none_of c.from_residual-in_err-root_of-3.result _ (missing (value_at 5 roots) (at c.new-3.result 5 roots None c.new-3.ensures c.in_err-root_of-3.ensures) asked.files)
-
 pub returns-clause-some : goal.returns-clause-some
 returns-clause-some c =
     let roots = c.args.roots.now in
-    let are : are_roots roots ≡ true = sym c.are_roots.ensures ∙ c.if-not-are_roots.false in
-    let files = c.in_ok-root_of-3.field-0 in
     record {
-      are = are;
+      are = sym c.are_roots.ensures ∙ c.if-not-are_roots.false;
       extent_tree = at c.new.result 2 roots (Some c.in_ok-root_of.field-0) c.new.ensures c.in_ok-root_of.ensures;
       quota_tree = at c.new-2.result 8 roots (Some c.in_ok-root_of-2.field-0) c.new-2.ensures c.in_ok-root_of-2.ensures;
-      only = only_top_level roots files c.requires.ascending (are_roots_asked roots are).alone (at c.new-3.result 5 roots (Some files) c.new-3.ensures c.in_ok-root_of-3.ensures);
     }

@@ -1,4 +1,4 @@
-use Rattle.std.proofs.Common.{◌≡◌, ℕ, List, [], ◌∷◌, None, Some, refl, sym, ap, ◌∙◌, subst}
+use Rattle.std.proofs.Common.{◌≡◌, List, Some, refl, sym, ap, ◌∙◌, subst}
 use Rattle.qg_device.specs.History.{content}
 use Rattle.qg_image.specs.declared.part.QuotaPart.{QuotaPart}
 use Rattle.qg_image.specs.ItemMeaning.{quota_part}
@@ -12,9 +12,9 @@ use Rattle.qg_parts.proofs.Keys.{quotas_ascending}
 use Rattle.qg_rules.specs.declared.quota.QuotaFault.{QuotaFault}
 use Rattle.qg_rules.specs.Quota.{quota_rule, IfRule}
 use Rattle.qg_check.proofs.Said.{tree_read, quota_parts_of}
-use Rattle.qg_check.specs.Trees.{HasOneGroup}
-use Rattle.qg_check.proofs.Groups.{KeepsRules, quota_rule_kept, quota_rule_told}
-use Rattle.qg_check.proofs.OneGroup.{quota_one}
+use Rattle.qg_image.specs.Table.{keys_of}
+use Rattle.qg_check.specs.Editable.{AreGroups}
+use Rattle.qg_check.proofs.Groups.{KeepsRules, groups_fit, quota_rule_kept, quota_rule_told}
 use Rattle.qg_check.proofs.Passing.{quotas_by}
 use Rattle.qg_check.proofs.trees.read_quotas.Given.{Over}
 use Rattle.qg_walk.specs.Fault.{TellsFailure}
@@ -24,9 +24,9 @@ use Rattle.qg_super.specs.SuperText.{sizes_of}
 use Rattle.qg_check.proofs.SlotsOf.{slots_of_addresses}
 use Rattle.qg_check.proofs.trees.read_quotas.Goals as goal
 
--- the rules are kept by what was read, beside the only subvolume
-kept : (g : Over) (c : goal.After-drop-walked g) → KeepsRules (5 ∷ []) c.as_slice.result.now
-kept g c = quota_rule_kept (5 ∷ []) c.as_slice.result.now (subst (λ (n : ℕ). quota_rule (n ∷ []) c.as_slice.result.now ≡ None) c.new-2.ensures c.in-Ok.ensures.sound)
+-- the rules are kept by what was read, beside these subvolumes
+kept : (g : Over) (c : goal.After-drop-walked g) → KeepsRules (keys_of c.args.subvolumes.now) c.as_slice.result.now
+kept g c = quota_rule_kept (keys_of c.args.subvolumes.now) c.as_slice.result.now c.in-Ok.ensures.sound
 
 pub returns-in-Ok-clause-failure : goal.returns-in-Ok-clause-failure
 returns-in-Ok-clause-failure g c = λ events extents told named.
@@ -36,7 +36,7 @@ returns-in-Ok-clause-failure g c = λ events extents told named.
     let parts : quota_parts super (content events) ≡ c.as_slice.result.now =
     quota_parts_of super (content events) root named.quota_tree ∙ tree_read Quotas quota_part super (content events) root _ _ walk ∙ sym c.as_slice.ensures in
     let rules = kept g c in
-    rw (walk.sound, named.only, parts, rules.quota, rules.few) refl
+    rw (walk.sound, named.all, parts, rules.quota, rules.few) refl
 
 pub returns-in-Ok-clause-tree : goal.returns-in-Ok-clause-tree
 returns-in-Ok-clause-tree g c = λ events told.
@@ -48,26 +48,26 @@ returns-in-Ok-clause-tree g c = λ events told.
       placed = walk.kept;
     }
 
-pub returns-in-Ok-clause-group : goal.returns-in-Ok-clause-group
-returns-in-Ok-clause-group g c =
+pub returns-in-Ok-clause-groups : goal.returns-in-Ok-clause-groups
+returns-in-Ok-clause-groups g c =
     let generation = c.args.superblock.now.generation in
     let parts = c.as_slice.result.now in
     let held = subst (λ (parts : List QuotaPart). AreHeld Quotas quota_part c.args.superblock.now.generation parts) (sym c.as_slice.ensures) c.in_ok-walked.ensures.held in
     let ascending = quotas_ascending parts (subst (λ (parts : List QuotaPart). AreSaid quota_part parts) (sym c.as_slice.ensures) c.in_ok-walked.ensures.ascending) in
-    subst (HasOneGroup generation) (sym c.in-Ok.ensures.told) (quota_one generation c.args.files.now parts ascending (kept g c).quota (quotas_by generation parts held))
+    let numbers = keys_of c.args.subvolumes.now in
+    subst (AreGroups generation numbers) (sym c.in-Ok.ensures.told) (groups_fit generation numbers parts ascending (kept g c) (quotas_by generation parts held))
 
 pub returns-in-Err-Rule-clause-failure : goal.returns-in-Err-Rule-clause-failure
 returns-in-Err-Rule-clause-failure g c = λ events extents told named.
     let super = c.args.superblock.now in
     let root = c.args.root.now in
+    let numbers = keys_of c.args.subvolumes.now in
     let walk = subst (λ (expected : Expected). IsWalk Quotas quota_part AreAddressesOf c.args.superblock.now (content events) expected c.args.root.now.bytenr c.in_ok-walked.walked.parts c.in_ok-walked.walked.nodes) c.root_told.ensures (c.in_ok-walked.ensures.found events told) in
     let parts : quota_parts super (content events) ≡ c.as_slice.result.now =
     quota_parts_of super (content events) root named.quota_tree ∙ tree_read Quotas quota_part super (content events) root _ _ walk ∙ sym c.as_slice.ensures in
-    let refused : quota_rule (c.new-2.result ∷ []) c.as_slice.result.now ≡ Some c.in-Err-Rule.rule =
-    subst (λ (fault : QuotaFault). IfRule fault (λ rule. quota_rule (c.new-2.result ∷ []) c.as_slice.result.now ≡ Some rule)) c.in-Err-Rule.field-0-is c.in-Err-Rule.ensures.refused in
-    let broken_rule : quota_rule (5 ∷ []) c.as_slice.result.now ≡ Some c.in-Err-Rule.rule =
-    subst (λ (n : ℕ). quota_rule (n ∷ []) c.as_slice.result.now ≡ Some c.in-Err-Rule.rule) c.new-2.ensures refused in
-    rw (walk.sound, named.only, parts) (quota_rule_told (5 ∷ []) c.as_slice.result.now c.in-Err-Rule.rule root.bytenr broken_rule)
+    let refused : quota_rule (keys_of c.args.subvolumes.now) c.as_slice.result.now ≡ Some c.in-Err-Rule.rule =
+    subst (λ (fault : QuotaFault). IfRule fault (λ rule. quota_rule (keys_of c.args.subvolumes.now) c.as_slice.result.now ≡ Some rule)) c.in-Err-Rule.field-0-is c.in-Err-Rule.ensures.refused in
+    rw (walk.sound, named.all, parts) (quota_rule_told numbers c.as_slice.result.now c.in-Err-Rule.rule root.bytenr refused)
 
 pub returns-in_err-walked-clause-failure : goal.returns-in_err-walked-clause-failure
 returns-in_err-walked-clause-failure g c = λ events extents told named.

@@ -1,4 +1,4 @@
-use Rattle.std.proofs.Common.{ℕ, ◌≤◌, arith, refl, lit<}
+use Rattle.std.proofs.Common.{ℕ, ◌≤◌, arith, lit<}
 use Rattle.std.specs.List.{All}
 use Rattle.std.proofs.lemmas.List.Elements.{All-from_recursion}
 use Rattle.qg_super.specs.Places.{slot_at}

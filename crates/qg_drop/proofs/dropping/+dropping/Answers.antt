@@ -14,12 +14,13 @@ use Rattle.qg_extents.specs.Table.{book_of}
 use Rattle.qg_heavier.specs.Heavier.{BookGetsHeavier}
 use Rattle.qg_drop.proofs.Resting.{unbroken-handed}
 use Rattle.qg_drop.specs.declared.child.Child.{Child}
-use Rattle.qg_drop.specs.Dropping.{AreParts, children_told, parts_reached}
+use Rattle.qg_drop.specs.Dropping.{AreParts, KnowsNoMore, children_told, parts_reached}
 use Rattle.qg_drop.proofs.Children.{children-levelled}
+use Rattle.qg_drop.proofs.Knowing.{knows-on, knows-same}
 use Rattle.qg_drop.proofs.Opened.{open-part}
 use Rattle.qg_drop.proofs.Under.{children-are, top-formed, top-open}
 use Rattle.qg_drop.proofs.Leaving.{holds-read, inner-counts, inner-leaves, leaf-leaves, part-some, peeked}
-use Rattle.qg_drop.proofs.Stepping.{Went, edit-still, few-all, few-part, never-err, times_on, rests-on, rests-read, rests-still, times-some, cause-handed, weighs-all, weighs-most, weighs-on, went-all, went-none, went-on}
+use Rattle.qg_drop.proofs.Stepping.{Went, edit-still, few-all, few-part, never-err, never-ok, times_on, rests-on, rests-read, rests-still, times-some, cause-handed, weighs-all, weighs-most, weighs-on, went-all, went-none, went-on}
 use Rattle.qg_drop.proofs.dropping.+dropping.Goals as goal
 
 pub drop_each-parts-init : goal.drop_each-parts-init
@@ -31,6 +32,7 @@ drop_each-parts-init g t c = record {
       c.args.parts.now c.args.land.now (g.D.Disk.history c.args.disk.now) (g.D.Disk.history c.args.disk.now)
       c.args.book.now c.args.reads.now holds are;
   book = (refl, refl, refl);
+  known = knows-same c.args.book.now;
   rests = rests-still c.args.land.now (g.D.Disk.history c.args.disk.now) (g.D.Disk.size c.args.disk.now)
       c.args.tree.now.next c.requires.editable;
   history = refl;
@@ -65,7 +67,8 @@ drop_each-parts-preserved g t c =
           (subst (λ (n : ℕ). BookGetsHeavier c.parts.book c.drop_under.new.book
           (parts_reached state c.args.level (part ∷ []) * n)) size
           (made.heavier state went.left went.holds went.are.0));
-      book = (made.book.0 ∙ met.book.0, made.book.1 ∙ met.book.1, made.book.2 ∙ met.book.2);
+      book = (made.book.tree ∙ met.book.0, made.book.nodesize ∙ met.book.1, made.book.next ∙ met.book.2);
+      known = knows-on c.args.book.now c.parts.book c.drop_under.new.book met.known made.book.known;
       rests = rests;
       history = made.disk.0 ∙ met.history;
       size = made.disk.1 ∙ met.size;
@@ -103,7 +106,13 @@ pub drop_each-returns-in_err-drop_under-clause-book :
 drop_each-returns-in_err-drop_under-clause-book g t c =
     let now = c.in_err-drop_under.ensures.book in
     let before = c.parts.invariant.book in
-    (now.0 ∙ before.0, now.1 ∙ before.1, now.2 ∙ before.2)
+    record {
+      tree = now.tree ∙ before.0;
+      nodesize = now.nodesize ∙ before.1;
+      next = now.next ∙ before.2;
+      known = never-ok c.from_residual.result _ c.from_residual.ensures.1
+          (KnowsNoMore c.args.book.now c.drop_under.new.book);
+    }
 
 pub drop_each-returns-in_err-drop_under-clause-rests :
     goal.drop_each-returns-in_err-drop_under-clause-rests
@@ -159,7 +168,9 @@ drop_each-returns-clause-heavier g t c state waiting holds are =
     c.parts.book c.args.reads.now c.parts.reads went
 
 pub drop_each-returns-clause-book : goal.drop_each-returns-clause-book
-drop_each-returns-clause-book g t c = c.parts.invariant.book
+drop_each-returns-clause-book g t c =
+    let book = c.parts.invariant.book in
+    record { tree = book.0; nodesize = book.1; next = book.2; known = c.parts.invariant.known }
 
 pub drop_each-returns-clause-rests : goal.drop_each-returns-clause-rests
 drop_each-returns-clause-rests g t c = c.parts.invariant.rests
@@ -470,6 +481,24 @@ drop_under-returns-clause-heavier g t c state waiting holds are =
     (weighs-on c.args.book.now c.part_with.new.book c.drop_each.new.book most (many * most) own
     (subst (λ (n : ℕ). BookGetsHeavier c.part_with.new.book c.drop_each.new.book (many * n)) size below)))
     (c.drop_each.ensures.heavier state less parted parts)
+
+pub drop_under-returns-then-level-eq0-clause-book :
+    goal.drop_under-returns-then-level-eq0-clause-book
+drop_under-returns-then-level-eq0-clause-book g t c = c.in_ok-part_with.ensures.book
+
+pub drop_under-returns-clause-book : goal.drop_under-returns-clause-book
+drop_under-returns-clause-book g t c =
+    let parted = c.in_ok-part_with.ensures.book in
+    let left = c.drop_each.ensures.book in
+    record {
+      tree = left.tree ∙ parted.tree;
+      nodesize = left.nodesize ∙ parted.nodesize;
+      next = left.next ∙ parted.next;
+      known = on_ok_weaker c.drop_each.result
+          (λ (last : KnowsNoMore c.part_with.new.book c.drop_each.new.book).
+          knows-on c.args.book.now c.part_with.new.book c.drop_each.new.book parted.known last)
+          left.known;
+    }
 
 pub drop_under-returns-clause-rests : goal.drop_under-returns-clause-rests
 drop_under-returns-clause-rests g t c =

@@ -2,7 +2,7 @@ use Rattle.std.proofs.Common.{◌≡◌, ℕ, ◌+◌, ◌*◌, ◌≤◌, Bool,
 use Rattle.qg_super.specs.Places.{capacity}
 use Rattle.qg_state.specs.State.{State}
 use Rattle.qg_tree_edits.specs.Editing.{IsEditable}
-use Rattle.qg_drop.specs.Dropping.{AreParts, HoldsPartly, RestsButRuns}
+use Rattle.qg_drop.specs.Dropping.{AreParts, HoldsPartly, KnowsNoMore, RestsButRuns}
 use Rattle.qg_drop.proofs.Stepping.{Went}
 use Rattle.qg_drop.proofs.dropping.+dropping.Given as goal
 
@@ -26,6 +26,7 @@ invariant-drop_each-parts g l = record {
       (g.D.Disk.history l.disk) (g.D.Disk.history l.initial.disk) l.initial.book l.book l.initial.reads l.reads;
   book : (l.book.tree ≡ l.initial.book.tree) × (l.book.nodesize ≡ l.initial.book.nodesize)
       × (l.book.next ≡ l.initial.book.next);
+  known : KnowsNoMore l.initial.book l.book;
   rests : RestsButRuns l.initial.land l.land (g.D.Disk.history l.disk) l.tree.next;
   history : g.D.Disk.history l.disk ≡ g.D.Disk.history l.initial.disk;
   size : g.D.Disk.size l.disk ≡ g.D.Disk.size l.initial.disk;

@@ -6,10 +6,14 @@ use Rattle.qg_machine.specs.Refusals.{nodes_reached}
 use Rattle.qg_refs.specs.declared.kept.Kept.{Kept}
 use Rattle.qg_refs.specs.Book.{count_at, full_in}
 use Rattle.qg_extents.specs.Table.{IsTable, book_of}
+use Rattle.qg_tree_refs.specs.declared.tree_refs.TreeRefs.{TreeRefs}
 use Rattle.qg_heavier.specs.Heavier.{BookGetsHeavier}
+use Rattle.qg_drop.specs.Dropping.{KnowsNoMore}
+use Rattle.qg_drop.proofs.Knowing.{knows-dropped, knows-on}
 use Rattle.qg_drop.proofs.Resting.{unbroken-handed}
 use Rattle.qg_drop.specs.declared.child.Child.{Child}
 use Rattle.qg_drop.proofs.Called.{finished, first-open, reference-there, root-count, root-part, same-next, started, weighs}
+use Rattle.qg_drop.proofs.Stepping.{never-ok}
 use Rattle.qg_drop.proofs.dropping.drop_all.Goals as goal
 
 pub returns-then-not-unname-clause-sound : goal.returns-then-not-unname-clause-sound
@@ -117,6 +121,33 @@ returns-clause-reads g c state events told holds has same =
     let few = c.in_ok-drop_under.ensures.reads state
     (first-open land history book state holds root has same drafted first.book) events told begins there in
     omega (arith, few, count)
+
+pub returns-in_err-drop_under-clause-book : goal.returns-in_err-drop_under-clause-book
+returns-in_err-drop_under-clause-book g c =
+    let left = c.in_err-drop_under.ensures.book in
+    let taken = c.unname.ensures.others in
+    record {
+      tree = left.tree ∙ ap (λ (b : TreeRefs). b.tree) taken;
+      nodesize = left.nodesize ∙ ap (λ (b : TreeRefs). b.nodesize) taken;
+      next = left.next ∙ ap (λ (b : TreeRefs). b.next) taken;
+      known = never-ok c.from_residual.result _ c.from_residual.ensures.1
+          (KnowsNoMore c.args.book.now c.drop_under.new.book);
+    }
+
+pub returns-clause-book : goal.returns-clause-book
+returns-clause-book g c =
+    let book = c.args.book.now in
+    let after = c.unname.new.self in
+    let left = c.in_ok-drop_under.ensures.book in
+    let taken = c.unname.ensures.others in
+    record {
+      tree = left.tree ∙ ap (λ (b : TreeRefs). b.tree) taken;
+      nodesize = left.nodesize ∙ ap (λ (b : TreeRefs). b.nodesize) taken;
+      next = left.next ∙ ap (λ (b : TreeRefs). b.next) taken;
+      known = knows-on book after c.drop_under.new.book
+          (knows-dropped book after c.root-2.result (KeyedBlock c.owner.result)
+          (c.unname.ensures.taken c.if-not-unname.false)) left.known;
+    }
 
 pub returns-clause-heavier : goal.returns-clause-heavier
 returns-clause-heavier g c state holds has same =

@@ -13,9 +13,10 @@ use Rattle.qg_refs.specs.declared.kept.Kept.{Kept}
 use Rattle.qg_refs.specs.Book.{references_at}
 use Rattle.qg_extents.specs.Table.{IsTable, book_of}
 use Rattle.qg_tree_edits.proofs.Rejoined.{unbroken-other}
-use Rattle.qg_tree_refs.specs.Following.{references_to}
+use Rattle.qg_tree_refs.specs.Following.{exchange_by_parting, references_to}
 use Rattle.qg_drop.specs.Dropping.{HoldsPartly, RestsButRuns, extents_known, without_references}
 use Rattle.qg_drop.proofs.Concluded.{parted-goes, parted-stays}
+use Rattle.qg_drop.proofs.Knowing.{knows-exchanged}
 use Rattle.qg_drop.proofs.Parted.{but}
 use Rattle.qg_drop.proofs.Reading.{node-is, none-met}
 use Rattle.qg_drop.proofs.Resting.{RestsButRuns-given, RestsButRuns-same, free-left, unbroken-handed}
@@ -73,6 +74,19 @@ returns-clause-heavier c history generation backed drafted =
     parted-heavier before after (record { node = c.peek-2.result.now; full = c.args.full })
     c.args.land.now.space.sizes.nodesize c.args.at first last c.in_ok-case.ensures.done fits
     (held-node c.args.land.now history generation c.args.at c.peek-2.result.now backed drafted c.peek-2.ensures)
+
+pub returns-clause-book : goal.returns-clause-book
+returns-clause-book c =
+    let kept = c.part_with.ensures.kept in
+    record {
+      tree = kept.0;
+      nodesize = kept.1;
+      next = kept.2;
+      known = knows-exchanged c.args.book.now c.part_with.new.self
+          (exchange_by_parting (book_of c.args.book.now.refs) c.args.book.now.tree
+          (record { node = c.peek-2.result.now; full = c.args.full }))
+          c.in_ok-case.ensures.done (sym c.misfit.ensures ∙ c.in_default.is);
+    }
 
 pub returns-in-Some-clause-sound : goal.returns-in-Some-clause-sound
 returns-in-Some-clause-sound c state sub waiting history placed generation backed drafted holds there mark waits under =

@@ -23,11 +23,11 @@ make_exchange-requires-clause-ready g c =
 -- ---- want of memory
 
 pub returns-in_err-change-clause-sound : goal.returns-in_err-change-clause-sound
-returns-in_err-change-clause-sound g c events known files other holds read finds room =
+returns-in_err-change-clause-sound g c events known files source_files tree other holds among has read finds room =
     memory-sound c.from_residual.result (handed c.from_residual.result NoMemory c.from_residual.ensures.1)
 
 pub returns-in_err-change-clause-reads : goal.returns-in_err-change-clause-reads
-returns-in_err-change-clause-reads g c files other holds read finds = omega arith
+returns-in_err-change-clause-reads g c files source_files tree other holds among has read finds = omega arith
 
 pub returns-in_err-change-clause-leaves : goal.returns-in_err-change-clause-leaves
 returns-in_err-change-clause-leaves g c =
@@ -36,7 +36,7 @@ returns-in_err-change-clause-leaves g c =
 -- ---- all is done
 
 pub returns-clause-cloned : goal.returns-clause-cloned
-returns-clause-cloned g c files other holds read finds =
+returns-clause-cloned g c files source_files tree other holds among has read finds =
     let fits = subst (λ (n : ℕ). n < 2 ^ 64) (c.value.ensures ∙ c.next-generation.ensures) c.fits.ensures in
     let off = c.args.off in
     let end = c.args.off + c.args.len in
@@ -45,9 +45,8 @@ returns-clause-cloned g c files other holds read finds =
     c.args.found
     c.in_ok-change.change) c.next-generation.ensures c.in_ok-change.ensures in
     let told = told-clone c.args.fs.now (g.D.Disk.history c.args.disk.now) other c.args.from c.args.len c.args.ino off
-    c.args.source.now c.args.found c.in_ok-change.change files fits c.requires.source_aligned c.requires.range holds
-    read
-    finds is in
+    c.args.source.now c.args.found c.in_ok-change.change files source_files tree fits c.requires.source_aligned
+    c.requires.range holds among has read finds is in
     done-files _ c.args.fs.now c.make_exchange.new.fs c.args.ino c.in_ok-change.change
     (g.D.Disk.history c.args.disk.now) files _ c.args.reads.now c.make_exchange.new.reads c.make_exchange.result holds
     told
@@ -56,7 +55,7 @@ returns-clause-cloned g c files other holds read finds =
     c.make_exchange.ensures.still
 
 pub returns-clause-sound : goal.returns-clause-sound
-returns-clause-sound g c events known files other holds read finds room =
+returns-clause-sound g c events known files source_files tree other holds among has read finds room =
     let fits = subst (λ (n : ℕ). n < 2 ^ 64) (c.value.ensures ∙ c.next-generation.ensures) c.fits.ensures in
     let off = c.args.off in
     let end = c.args.off + c.args.len in
@@ -65,16 +64,15 @@ returns-clause-sound g c events known files other holds read finds room =
     c.args.found
     c.in_ok-change.change) c.next-generation.ensures c.in_ok-change.ensures in
     let told = told-clone c.args.fs.now (g.D.Disk.history c.args.disk.now) other c.args.from c.args.len c.args.ino off
-    c.args.source.now c.args.found c.in_ok-change.change files fits c.requires.source_aligned c.requires.range holds
-    read
-    finds is in
+    c.args.source.now c.args.found c.in_ok-change.change files source_files tree fits c.requires.source_aligned
+    c.requires.range holds among has read finds is in
     done-sound _ c.args.fs.now c.make_exchange.new.fs c.args.ino c.in_ok-change.change
     (g.D.Disk.history c.args.disk.now) files _ c.args.reads.now c.make_exchange.new.reads c.make_exchange.result holds
     told
     c.make_exchange.ensures.told events known room
 
 pub returns-clause-reads : goal.returns-clause-reads
-returns-clause-reads g c files other holds read finds =
+returns-clause-reads g c files source_files tree other holds among has read finds =
     let fits = subst (λ (n : ℕ). n < 2 ^ 64) (c.value.ensures ∙ c.next-generation.ensures) c.fits.ensures in
     let off = c.args.off in
     let end = c.args.off + c.args.len in
@@ -83,9 +81,8 @@ returns-clause-reads g c files other holds read finds =
     c.args.found
     c.in_ok-change.change) c.next-generation.ensures c.in_ok-change.ensures in
     let told = told-clone c.args.fs.now (g.D.Disk.history c.args.disk.now) other c.args.from c.args.len c.args.ino off
-    c.args.source.now c.args.found c.in_ok-change.change files fits c.requires.source_aligned c.requires.range holds
-    read
-    finds is in
+    c.args.source.now c.args.found c.in_ok-change.change files source_files tree fits c.requires.source_aligned
+    c.requires.range holds among has read finds is in
     done-reads _ c.args.fs.now c.make_exchange.new.fs c.args.ino c.in_ok-change.change
     (g.D.Disk.history c.args.disk.now) files _ c.args.reads.now c.make_exchange.new.reads c.make_exchange.result holds
     told

@@ -20,6 +20,14 @@ pub returns-in_ok-write_reply-in-Some-clause-so_far : goal.returns-in_ok-write_r
 returns-in_ok-write_reply-in-Some-clause-so_far g c = λ state events stands known.
     so_far-command state events c.args.line.now _ c.in-Some.command (rw c.in-Some.is at c.in_ok-command.ensures.found) (c.in_ok-answer-in-Some.ensures.so_far state events stands known)
 
+pub returns-in_err-write_reply-in-Some-clause-so_far : goal.returns-in_err-write_reply-in-Some-clause-so_far
+returns-in_err-write_reply-in-Some-clause-so_far g c = λ state events stands known.
+    so_far-command state events c.args.line.now _ c.in-Some.command (rw c.in-Some.is at c.in_ok-command.ensures.found) (c.in_ok-answer-in-Some.ensures.so_far state events stands known)
+
+pub returns-in_err-answer-in-Some-clause-so_far : goal.returns-in_err-answer-in-Some-clause-so_far
+returns-in_err-answer-in-Some-clause-so_far g c = λ state events stands known.
+    so_far-command state events c.args.line.now _ c.in-Some.command (rw c.in-Some.is at c.in_ok-command.ensures.found) (c.in_err-answer-in-Some.ensures.so_far state events stands known)
+
 pub returns-in_err-answer-in-Some-clause-sound : goal.returns-in_err-answer-in-Some-clause-sound
 returns-in_err-answer-in-Some-clause-sound g c = λ state events stands known.
     let found = err_from_is_err_and c.from_residual-in_err-answer-in-Some.result c.from_residual-in_err-answer-in-Some.ensures.1 in

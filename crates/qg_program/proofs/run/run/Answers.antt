@@ -1,4 +1,4 @@
-use Rattle.std.proofs.Common.{inl, inr, refl, sym, subst, ◌∙◌}
+use Rattle.std.proofs.Common.{inl, inr, refl, sym, subst, ◌∙◌, arith}
 use Rattle.std.proofs.lemmas.Option.{none-some}
 use Rattle.qg_device.specs.History.{content}
 use Rattle.qg_walk.specs.Fault.{TellsFailure}
@@ -44,3 +44,12 @@ returns-in-Ok-clause-unsound g c = λ events told image sound.
     let found = state-sound (content events) sound in
     let opens = c.in-Ok.ensures.repaired events told in
     c.answer_lines.ensures.sound (record { state = found.0; events = _; told = opens.repaired; stands = c.in-Ok.ensures.opened events found.0 told found.1 }) image
+
+pub returns-in-Ok-clause-causes : goal.returns-in-Ok-clause-causes
+returns-in-Ok-clause-causes g c =
+    let causes = c.answer_lines.ensures.causes in
+    record {
+      source = causes.source;
+      sink = causes.sink;
+      disk = λ is. let rose = causes.disk is in omega (arith, rose, c.open.ensures.cause.later);
+    }

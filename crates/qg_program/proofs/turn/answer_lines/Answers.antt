@@ -43,6 +43,13 @@ returns-in-Ok-false-clause-takes g c =
     let counted = counted-on _ _ _ _ _ c.loop-text.invariant.counted c.turn.ensures.takes.counted in
     taken-whole c.turn.new.feed _ _ counted c.turn.ensures.takes.within over.0 over.1
 
+pub returns-in-Ok-false-clause-causes : goal.returns-in-Ok-false-clause-causes
+returns-in-Ok-false-clause-causes g c = record {
+  source = λ is. absurd cc;
+  sink = λ is. absurd cc;
+  disk = λ is. absurd cc;
+}
+
 pub returns-in-Err-clause-follows : goal.returns-in-Err-clause-follows
 returns-in-Err-clause-follows g c = λ state events opened input stands opens known told.
     let so_far = c.loop-text.invariant.answered state opened input stands known told in
@@ -61,3 +68,13 @@ returns-in-Err-clause-sound g c = λ stands is. c.turn.ensures.sound (c.loop-tex
 
 pub returns-in-Err-clause-told : goal.returns-in-Err-clause-told
 returns-in-Err-clause-told g c = λ is. failure-behind _ _ _ c.loop-text.invariant.replied (c.turn.ensures.puts.told (c.in-Err.is ∙ ap Err is))
+
+pub returns-in-Err-clause-causes : goal.returns-in-Err-clause-causes
+returns-in-Err-clause-causes g c =
+    let later = c.loop-text.invariant in
+    let causes = c.turn.ensures.causes in
+    record {
+      source = λ is. let rose = causes.source.rose (c.in-Err.is ∙ ap Err is) in omega (arith, rose, later.source_later);
+      sink = λ is. let rose = causes.sink.rose (c.in-Err.is ∙ ap Err is) in omega (arith, rose, later.sink_later);
+      disk = λ is. let rose = causes.disk.rose (c.in-Err.is ∙ ap Err is) in omega (arith, rose, later.disk_later);
+    }

@@ -1,13 +1,17 @@
-use Rattle.std.proofs.Common.{◌≡◌, rules, sym, ◌∙◌}
-use Rattle.qg_rules.proofs.Quotas.{is_judged, quota_judged}
+use Rattle.std.proofs.Common.{List, ℕ, sym, subst, ◌∙◌}
+use Rattle.qg_rules.specs.Quota.{counted_in, limited_in, ArePut}
+use Rattle.qg_rules.proofs.Quotas.{quota_judged}
 use Rattle.qg_rules.proofs.quota.is_quota.Goals as goal
 
-pub returns-then-are_served : goal.returns-then-are_served
-returns-then-are_served c =
-    let judged : c.are_counted.result ≡ is_judged c.args.subvolumes.now c.args.parts.now = search rules in
-    judged ∙ sym (quota_judged c.args.subvolumes.now c.args.parts.now)
+pub are_judged-judged-requires-clause-counted : goal.are_judged-judged-requires-clause-counted
+are_judged-judged-requires-clause-counted c = rw c.as_slice-counted.ensures.value c.in_ok-numbers.ensures.counted.ascending
 
-pub returns-else-are_served : goal.returns-else-are_served
-returns-else-are_served c =
-    let judged : c.if-has_status.value ≡ is_judged c.args.subvolumes.now c.args.parts.now = search rules in
-    judged ∙ sym (quota_judged c.args.subvolumes.now c.args.parts.now)
+pub are_judged-judged-requires-clause-limited : goal.are_judged-judged-requires-clause-limited
+are_judged-judged-requires-clause-limited c = rw c.as_slice-limited.ensures.value c.in_ok-numbers.ensures.limited.ascending
+
+pub returns : goal.returns
+returns c =
+    let parts = c.args.parts.now in
+    let counted = subst (λ (numbers : List ℕ). ArePut (counted_in parts) numbers) (sym c.as_slice-counted.ensures.value) c.in_ok-numbers.ensures.counted in
+    let limited = subst (λ (numbers : List ℕ). ArePut (limited_in parts) numbers) (sym c.as_slice-limited.ensures.value) c.in_ok-numbers.ensures.limited in
+    c.are_judged-judged.ensures ∙ sym (quota_judged c.args.subvolumes.now parts c.as_slice-counted.result.now c.as_slice-limited.result.now counted limited)

@@ -16,15 +16,17 @@ use Rattle.qg_ground.proofs.Settling.{KeepsLevels-draft}
 use Rattle.qg_extents.specs.Table.{IsTable, book_of}
 use Rattle.qg_owed.specs.Told.{owings_told}
 use Rattle.qg_descent.specs.Tree.{Root, super_of}
+use Rattle.qg_heavier.proofs.Told.{fits-step}
 use Rattle.qg_tree_edits.proofs.Rejoined.{unbroken-other}
-use Rattle.qg_tree_refs.specs.declared.tree_refs.TreeRefs.{TreeRefs}
 use Rattle.qg_tree_refs.specs.Exchange.{CanGive, Gives}
 use Rattle.qg_tree_refs.specs.Lasting.{settled_still}
 use Rattle.qg_tree_refs.specs.Settled.{IsSettled}
 use Rattle.qg_tree_refs.proofs.Stepping.{Follows-none}
-use Rattle.qg_snap.proofs.Done.{Calls, can-give-children, copied-then, fits-made, generation-low, peeked-alone}
+use Rattle.qg_snap.proofs.Done.{Calls, can-give-children, copied-then, generation-low, peeked-alone}
 use Rattle.qg_snap.proofs.Given.{step-one, unbroken-handed}
 use Rattle.qg_snap.proofs.Heavier.{heavier-then}
+use Rattle.qg_snap.proofs.Knowing.{goes-given}
+use Rattle.qg_snap.proofs.Putting.{fits-made}
 use Rattle.qg_snap.proofs.Source.{has-root, root-formed, root-told}
 use Rattle.qg_snap.proofs.snapshots.snapshot.Goals as goal
 
@@ -102,8 +104,7 @@ returns-in-Some-clause-sound g c state events told_is holds has is unused =
     let now = c.in_ok-now.now in
     let first : IsTable book.refs = subst IsTable c.refs.ensures c.len-ascending.ensures.table in
     let step = step-one book made (Made now) (c.in_ok-now.ensures.told book [] (Follows-none book)) in
-    let fits = fits-made state c.args.source.now.owner c.args.copy now c.args.land.now
-    (g.D.Disk.history c.args.disk.now) book holds has unused c.requires.editable.drafted.sizes
+    let fits = fits-made state now c.args.land.now (g.D.Disk.history c.args.disk.now) book holds
     c.in_ok-now.ensures.made.puts.free made first step in
     let wrong : ◌≡◌ {A = Option ℕ} None (Some c.in-Some.address) = sym fits ∙ sym c.misfit.ensures ∙ c.in-Some.is in
     absurd cc
@@ -208,12 +209,13 @@ returns-clause-copied g c state parents holds has is unused =
 pub returns-clause-book : goal.returns-clause-book
 returns-clause-book g c =
     let book = c.args.book.now in
-    let step = step-one book c.make_node.new.book (Made c.in_ok-now.now)
-    (c.in_ok-now.ensures.told book [] (Follows-none book)) in (
-      ap (λ (b : TreeRefs). b.tree) c.give_all.ensures.others ∙ ap (λ (b : TreeRefs). b.tree) step.noted,
-      ap (λ (b : TreeRefs). b.nodesize) c.give_all.ensures.others ∙ ap (λ (b : TreeRefs). b.nodesize) step.noted,
-      ap (λ (b : TreeRefs). b.next) c.give_all.ensures.others ∙ ap (λ (b : TreeRefs). b.next) step.noted,
-    )
+    let made = c.make_node.new.book in
+    let given = c.give_all.new.book in
+    let now = c.in_ok-now.now in
+    let step = step-one book made (Made now) (c.in_ok-now.ensures.told book [] (Follows-none book)) in
+    let fits : made.misfit ≡ None = sym c.misfit.ensures ∙ c.in_default.is in
+    goes-given book made now step (fits-step book made (Made now) step fits).1 given
+    (owings_told c.as_slice.result.now) c.in_ok-give_all.ensures.given c.give_all.ensures.others
 
 pub returns-clause-heavier : goal.returns-clause-heavier
 returns-clause-heavier g c =

@@ -1,129 +1,248 @@
-use Rattle.std.proofs.Common.{◌≡◌, ◌+◌, ◌∙◌, ℕ, List, [], None, Option, Some, ap, subst, sym}
-use Rattle.std.specs.Prelude.{IfOk}
-use Rattle.std.specs.Option.{option_map}
-use Rattle.qg_num.specs.declared.command.Command.TheVariants.{Clone}
+use Rattle.std.proofs.Common.{◌+◌, ◌<◌, ◌∙◌, ℕ, List, Option, ap, subst, sym}
+use Rattle.std.specs.Prelude.{◌==◌, ◌&&◌}
+use Rattle.qg_num.specs.declared.piece.Piece.{Piece}
 use Rattle.qg_items.specs.declared.file.InodeItem.{InodeItem}
-use Rattle.qg_items.specs.declared.tree.TheConstants.{TOP_LEVEL}
 use Rattle.qg_image.specs.declared.file.File.{File}
 use Rattle.qg_image.specs.Table.{value_at}
-use Rattle.qg_contents.specs.Written.{inode_of}
+use Rattle.qg_machine.specs.Refusals.{share_a_byte}
 use Rattle.qg_inodes.proofs.PiecesRead.{handed}
 use Rattle.qg_inodes.proofs.Whole.{handed-sound}
-use Rattle.qg_file_edits.specs.Files.{HoldsFiles}
-use Rattle.qg_store.specs.Answering.{Answered}
+use Rattle.qg_file_edits.specs.Files.{pieces_of}
+use Rattle.qg_file_items.specs.Pieces.{pieces_met}
+use Rattle.qg_fs_laws.specs.Keeping.{other_names}
+use Rattle.qg_store.specs.declared.kept.Kept.{Kept}
 use Rattle.qg_store.specs.Editing.{clone_refusal}
-use Rattle.qg_store.proofs.Cloned.{refuses-clone}
-use Rattle.qg_store.proofs.Looked.{holds-looked, keeps-looked, looked-back}
+use Rattle.qg_store.proofs.Cloned.{refuses-clone, source-there, target-listed}
+use Rattle.qg_store.proofs.Looked.{holds-looked, keeps-looked, looked-again, owner-read}
 use Rattle.qg_store.proofs.Reasons.{missing-clone, none-there, other-clone, other-target, overlap-clone, some-there}
+use Rattle.qg_store.proofs.Turned.{same-read, same-then, unchanged-then}
 use Rattle.qg_store.proofs.cloning.clone.Goals as goal
-use Rattle.qg_store.proofs.cloning.clone.Goals.{then-value-ne-TOP_LEVEL-via-then-value-ne-TOP_LEVEL}
-use Rattle.qg_store.proofs.cloning.clone.Goals.{then-value-ne-TOP_LEVEL-via-else-value-ne-TOP_LEVEL+then-value-ne-TOP_LEVEL-2}
+
+pub turn_to-requires : goal.turn_to-requires
+turn_to-requires g c = record { fitted = c.requires.kept.fitted }
+
+pub turn_to-requires-2 : goal.turn_to-requires-2
+turn_to-requires-2 g c = record {
+  fitted =
+      (c.turn_to.ensures.kept (g.D.Disk.history c.args.disk.now) (g.D.Disk.size c.args.disk.now) c.requires.kept).fitted;
+}
+
+pub inode_in-requires : goal.inode_in-requires
+inode_in-requires g c =
+    let history = g.D.Disk.history c.args.disk.now in
+    let bytes = g.D.Disk.size c.args.disk.now in
+    record { kept = c.turn_to-2.ensures.kept history bytes (c.turn_to.ensures.kept history bytes c.requires.kept) }
+
+-- ---- a subvolume isn't there
+
+pub returns-then-not-turn_to-clause-kept : goal.returns-then-not-turn_to-clause-kept
+returns-then-not-turn_to-clause-kept g c =
+    c.turn_to.ensures.kept (g.D.Disk.history c.args.disk.now) (g.D.Disk.size c.args.disk.now) c.requires.kept
+
+pub returns-then-not-turn_to-clause-step : goal.returns-then-not-turn_to-clause-step
+returns-then-not-turn_to-clause-step g c = λ state keeps.
+    let history = g.D.Disk.history c.args.disk.now in
+    refuses-clone c.turn_to.new.kept state history c.args.sub c.args.ino c.args.off c.args.len c.args.to_sub
+    c.args.to_ino c.args.to_off _
+    (c.turn_to.ensures.keeps state history (g.D.Disk.size c.args.disk.now) (other_names state) c.requires.kept keeps)
+    (other-target c.args.kept.now state history keeps c.args.ino c.args.off c.args.len c.args.to_sub c.args.to_ino
+    c.args.to_off c.args.sub (sym c.turn_to.ensures.there ∙ c.if-not-turn_to.true))
+
+pub returns-then-not-turn_to-clause-unchanged : goal.returns-then-not-turn_to-clause-unchanged
+returns-then-not-turn_to-clause-unchanged g c = λ is. c.turn_to.ensures.same
+
+pub returns-then-not-turn_to-2-clause-kept : goal.returns-then-not-turn_to-2-clause-kept
+returns-then-not-turn_to-2-clause-kept g c =
+    let history = g.D.Disk.history c.args.disk.now in
+    let bytes = g.D.Disk.size c.args.disk.now in
+    c.turn_to-2.ensures.kept history bytes (c.turn_to.ensures.kept history bytes c.requires.kept)
+
+pub returns-then-not-turn_to-2-clause-step : goal.returns-then-not-turn_to-2-clause-step
+returns-then-not-turn_to-2-clause-step g c = λ state given.
+    let history = g.D.Disk.history c.args.disk.now in
+    let bytes = g.D.Disk.size c.args.disk.now in
+    let fits = c.turn_to.ensures.kept history bytes c.requires.kept in
+    let first = c.turn_to.ensures.keeps state history bytes (other_names state) c.requires.kept given in
+    refuses-clone c.turn_to-2.new.kept state history c.args.sub c.args.ino c.args.off c.args.len c.args.to_sub
+    c.args.to_ino c.args.to_off _ (c.turn_to-2.ensures.keeps state history bytes (other_names state) fits first)
+    (other-clone c.turn_to.new.kept state history first c.args.ino c.args.off c.args.len c.args.to_sub c.args.to_ino
+    c.args.to_off c.args.sub (sym c.turn_to-2.ensures.there ∙ c.if-not-turn_to-2.true))
+
+pub returns-then-not-turn_to-2-clause-unchanged : goal.returns-then-not-turn_to-2-clause-unchanged
+returns-then-not-turn_to-2-clause-unchanged g c = λ is.
+    same-then c.args.kept.now c.turn_to.new.kept c.turn_to-2.new.kept c.turn_to.ensures.same c.turn_to-2.ensures.same
+
+-- ---- the source
 
 pub returns-in_err-inode-clause-sound : goal.returns-in_err-inode-clause-sound
-returns-in_err-inode-clause-sound g c = λ state events told keeps.
+returns-in_err-inode-clause-sound g c = λ state events told given.
+    let history = g.D.Disk.history c.args.disk.now in
+    let bytes = g.D.Disk.size c.args.disk.now in
+    let fits = c.turn_to.ensures.kept history bytes c.requires.kept in
+    let first = c.turn_to.ensures.keeps state history bytes (other_names state) c.requires.kept given in
+    let keeps = c.turn_to-2.ensures.keeps state history bytes (other_names state) fits first in
     handed-sound (Option InodeItem) c.from_residual.result _
     (handed c.from_residual.result _ c.from_residual.ensures.1)
     (c.in_err-inode.ensures.sound keeps.files keeps.keeps.holds)
 
-pub returns-then-value-ne-TOP_LEVEL-clause-step : goal.returns-then-value-ne-TOP_LEVEL-clause-step
-returns-then-value-ne-TOP_LEVEL-clause-step g c = λ state keeps.
-    let history = g.D.Disk.history c.args.disk.now in
-    let kept = c.args.kept.now in
-    refuses-clone kept state history c.args.sub c.args.ino c.args.off c.args.len c.args.to_sub c.args.to_ino
-    c.args.to_off _ keeps
-    (elim c.then-value-ne-TOP_LEVEL.branch [
-      | then-value-ne-TOP_LEVEL-via-then-value-ne-TOP_LEVEL w ↦
-          other-clone kept state history keeps c.args.ino c.args.off c.args.len c.args.to_sub c.args.to_ino
-          c.args.to_off c.args.sub (λ is. w.if-value-ne-TOP_LEVEL.true (c.value.ensures ∙ is))
-      | then-value-ne-TOP_LEVEL-via-else-value-ne-TOP_LEVEL+then-value-ne-TOP_LEVEL-2 w ↦
-          other-target kept state history keeps c.args.ino c.args.off c.args.len c.args.to_sub c.args.to_ino
-          c.args.to_off c.args.sub (sym c.value.ensures ∙ w.if-value-ne-TOP_LEVEL.false)
-          (λ is. w.if-value-ne-TOP_LEVEL-2.true (w.value-else-value-ne-TOP_LEVEL.ensures ∙ is))
-    ])
-
 pub returns-in_default-clause-step : goal.returns-in_default-clause-step
-returns-in_default-clause-step g c = λ state keeps.
-    let kept = c.args.kept.now in
+returns-in_default-clause-step g c = λ state given.
+    let kept = c.turn_to-2.new.kept in
     let read = c.inode_in.new.kept in
     let before = g.D.Disk.history c.args.disk.now in
     let bytes = g.D.Disk.size c.args.disk.now in
     let then = g.D.Disk.history c.inode_in.new.disk in
     let left = g.D.Disk.size c.inode_in.new.disk in
-    let first = c.in_ok-inode.ensures.looked in
-    let still = keeps-looked kept read before then bytes left state first keeps in
+    let fits = c.turn_to.ensures.kept before bytes c.requires.kept in
+    let first = c.turn_to.ensures.keeps state before bytes (other_names state) c.requires.kept given in
+    let keeps = c.turn_to-2.ensures.keeps state before bytes (other_names state) fits first in
+    let looked = c.in_ok-inode.ensures.looked in
+    let still = keeps-looked kept read before then bytes left state (other_names state) looked keeps in
     let told = sym c.in_default.is ∙ c.in_ok-inode.ensures.found keeps.files keeps.keeps.holds in
+    let hand = sym (c.turn_to-2.ensures.hand c.if-not-turn_to-2.false) ∙ owner-read kept read before then bytes left looked
+    in
     refuses-clone read state then c.args.sub c.args.ino c.args.off c.args.len c.args.to_sub c.args.to_ino c.args.to_off _
     still
     (ap (λ (sub : ℕ). clone_refusal state sub c.args.ino c.args.off c.args.len c.args.to_sub c.args.to_ino c.args.to_off)
-    (sym c.value.ensures ∙ c.if-value-ne-TOP_LEVEL.false)
-    ∙ ap (λ (sub : ℕ). clone_refusal state TOP_LEVEL c.args.ino c.args.off c.args.len sub c.args.to_ino c.args.to_off)
-    (sym c.value-else-value-ne-TOP_LEVEL.ensures ∙ c.if-value-ne-TOP_LEVEL-2.false)
-    ∙ missing-clone read state then still c.args.ino c.args.off c.args.len c.args.to_ino c.args.to_off
+    hand
+    ∙ missing-clone read state then still c.args.ino c.args.off c.args.len c.args.to_sub c.args.to_ino c.args.to_off
+    (target-listed c.args.kept.now read state before then given still c.args.to_sub
+    (sym c.turn_to.ensures.there ∙ c.if-not-turn_to.false))
     (none-there (value_at c.args.ino keeps.files) told))
 
+pub returns-in_default-clause-unchanged : goal.returns-in_default-clause-unchanged
+returns-in_default-clause-unchanged g c = λ is.
+    same-read c.args.kept.now c.turn_to-2.new.kept c.inode_in.new.kept _ _ _ _
+    (same-then c.args.kept.now c.turn_to.new.kept c.turn_to-2.new.kept c.turn_to.ensures.same c.turn_to-2.ensures.same)
+    c.in_ok-inode.ensures.looked
+
 pub returns-in-Some-refusal_of_clone-clause-step : goal.returns-in-Some-refusal_of_clone-clause-step
-returns-in-Some-refusal_of_clone-clause-step g c = λ state keeps.
-    let kept = c.args.kept.now in
+returns-in-Some-refusal_of_clone-clause-step g c = λ state given.
+    let kept = c.turn_to-2.new.kept in
     let read = c.inode_in.new.kept in
     let before = g.D.Disk.history c.args.disk.now in
     let bytes = g.D.Disk.size c.args.disk.now in
     let then = g.D.Disk.history c.inode_in.new.disk in
     let left = g.D.Disk.size c.inode_in.new.disk in
-    let first = c.in_ok-inode.ensures.looked in
-    let still = keeps-looked kept read before then bytes left state first keeps in
+    let fits = c.turn_to.ensures.kept before bytes c.requires.kept in
+    let first = c.turn_to.ensures.keeps state before bytes (other_names state) c.requires.kept given in
+    let keeps = c.turn_to-2.ensures.keeps state before bytes (other_names state) fits first in
+    let looked = c.in_ok-inode.ensures.looked in
+    let still = keeps-looked kept read before then bytes left state (other_names state) looked keeps in
     let told = sym c.in-Some.is ∙ c.in_ok-inode.ensures.found keeps.files keeps.keeps.holds in
     let there = some-there (value_at c.args.ino keeps.files) c.in-Some.inode told in
+    let hand = sym (c.turn_to-2.ensures.hand c.if-not-turn_to-2.false) ∙ owner-read kept read before then bytes left looked
+    in
     refuses-clone read state then c.args.sub c.args.ino c.args.off c.args.len c.args.to_sub c.args.to_ino c.args.to_off
     c.in-Some-refusal_of_clone.why still
     (ap (λ (sub : ℕ). clone_refusal state sub c.args.ino c.args.off c.args.len c.args.to_sub c.args.to_ino c.args.to_off)
-    (sym c.value.ensures ∙ c.if-value-ne-TOP_LEVEL.false)
-    ∙ ap (λ (sub : ℕ). clone_refusal state TOP_LEVEL c.args.ino c.args.off c.args.len sub c.args.to_ino c.args.to_off)
-    (sym c.value-else-value-ne-TOP_LEVEL.ensures ∙ c.if-value-ne-TOP_LEVEL-2.false)
-    ∙ overlap-clone read state then still c.args.ino c.args.off c.args.len c.args.to_ino c.args.to_off c.in-Some.inode.size
-    there.file there.is there.size c.do_overlap-overlap.result c.do_overlap-overlap.ensures
+    hand
+    ∙ overlap-clone read state then still c.args.ino c.args.off c.args.len c.args.to_sub c.args.to_ino c.args.to_off
+    (target-listed c.args.kept.now read state before then given still c.args.to_sub
+    (sym c.turn_to.ensures.there ∙ c.if-not-turn_to.false))
+    c.in-Some.inode.size there.file there.is there.size c.do_overlap-overlap.result
+    (c.do_overlap-overlap.ensures
+    ∙ ap (λ (sub : ℕ). (sub == c.args.to_sub) && (c.args.ino == c.args.to_ino)
+    && share_a_byte c.args.off c.args.to_off c.args.len) hand)
     ∙ sym c.in-Some-refusal_of_clone.ensures.value)
 
-pub clone_range-requires-clause-range : goal.clone_range-requires-clause-range
-clone_range-requires-clause-range g c = c.in_default-refusal_of_clone.ensures.clonable
+pub returns-in-Some-refusal_of_clone-clause-unchanged : goal.returns-in-Some-refusal_of_clone-clause-unchanged
+returns-in-Some-refusal_of_clone-clause-unchanged g c = λ is.
+    same-read c.args.kept.now c.turn_to-2.new.kept c.inode_in.new.kept _ _ _ _
+    (same-then c.args.kept.now c.turn_to.new.kept c.turn_to-2.new.kept c.turn_to.ensures.same c.turn_to-2.ensures.same)
+    c.in_ok-inode.ensures.looked
+
+-- ---- the source's pieces
+
+pub returns-in_err-source-clause-sound : goal.returns-in_err-source-clause-sound
+returns-in_err-source-clause-sound g c = λ state events told given.
+    let history = g.D.Disk.history c.args.disk.now in
+    let bytes = g.D.Disk.size c.args.disk.now in
+    let fits = c.turn_to.ensures.kept history bytes c.requires.kept in
+    let first = c.turn_to.ensures.keeps state history bytes (other_names state) c.requires.kept given in
+    let keeps = c.turn_to-2.ensures.keeps state history bytes (other_names state) fits first in
+    handed-sound (List Piece) c.from_residual-in_err-source.result _
+    (handed c.from_residual-in_err-source.result _ c.from_residual-in_err-source.ensures.1)
+    (c.in_err-source.ensures.sound keeps.files
+    (holds-looked c.turn_to-2.new.kept c.inode_in.new.kept _ _ _ _ keeps.files c.in_ok-inode.ensures.looked
+    keeps.keeps.holds))
+
+pub clone_pieces-requires-clause-range : goal.clone_pieces-requires-clause-range
+clone_pieces-requires-clause-range g c = c.in_default-refusal_of_clone.ensures.clonable
+
+pub clone_pieces-requires-clause-number : goal.clone_pieces-requires-clause-number
+clone_pieces-requires-clause-number g c = (c.requires.least, c.requires.below)
+
+pub clone_pieces-requires-clause-few : goal.clone_pieces-requires-clause-few
+clone_pieces-requires-clause-few g c =
+    subst (λ (kept : Kept). kept.pending < 65536) (sym c.in_ok-source.ensures.looked.same)
+    c.in_default-refusal_of_clone.ensures.few
 
 pub returns-clause-sound : goal.returns-clause-sound
-returns-clause-sound g c = λ state events told keeps.
-    let kept = c.args.kept.now in
+returns-clause-sound g c = λ state events told given.
+    let kept = c.turn_to-2.new.kept in
     let read = c.inode_in.new.kept in
+    let mid = c.pieces_in.new.kept in
     let before = g.D.Disk.history c.args.disk.now in
     let bytes = g.D.Disk.size c.args.disk.now in
     let then = g.D.Disk.history c.inode_in.new.disk in
-    let left = g.D.Disk.size c.inode_in.new.disk in
-    let first = c.in_ok-inode.ensures.looked in
-    c.clone_range.ensures.sound state events (first.history ∙ told)
-    (keeps-looked kept read before then bytes left state first keeps)
-    (λ files holds. sym c.in-Some.is ∙ c.in_ok-inode.ensures.found files
-    (holds-looked read kept then before left bytes files (looked-back kept read before then bytes left first) holds))
+    let between = g.D.Disk.history c.pieces_in.new.disk in
+    let left = g.D.Disk.size c.pieces_in.new.disk in
+    let fits = c.turn_to.ensures.kept before bytes c.requires.kept in
+    let first = c.turn_to.ensures.keeps state before bytes (other_names state) c.requires.kept given in
+    let keeps = c.turn_to-2.ensures.keeps state before bytes (other_names state) fits first in
+    let one = c.in_ok-inode.ensures.looked in
+    let looked = looked-again kept read mid before then between bytes _ left one c.in_ok-source.ensures.looked in
+    let still = keeps-looked kept mid before between bytes left state (other_names state) looked keeps in
+    let source = c.in_ok-source.ensures.found keeps.files
+    (holds-looked kept read before then bytes _ keeps.files one keeps.keeps.holds) in
+    c.clone_pieces.ensures.sound state events c.args.sub c.args.ino keeps.mine (looked.history ∙ told) still
+    (source-there kept state before keeps c.args.sub (c.turn_to-2.ensures.hand c.if-not-turn_to-2.false))
+    (source ∙ ap (λ (files : List (ℕ × File)). pieces_met c.args.off (c.args.off + c.args.len)
+    (pieces_of c.args.ino files)) (sym keeps.keeps.are))
 
 pub returns-clause-step : goal.returns-clause-step
-returns-clause-step g c = λ state keeps.
-    let kept = c.args.kept.now in
+returns-clause-step g c = λ state given.
+    let kept = c.turn_to-2.new.kept in
     let read = c.inode_in.new.kept in
+    let mid = c.pieces_in.new.kept in
     let before = g.D.Disk.history c.args.disk.now in
     let bytes = g.D.Disk.size c.args.disk.now in
     let then = g.D.Disk.history c.inode_in.new.disk in
-    let left = g.D.Disk.size c.inode_in.new.disk in
-    let first = c.in_ok-inode.ensures.looked in
-    let still = keeps-looked kept read before then bytes left state first keeps in
+    let between = g.D.Disk.history c.pieces_in.new.disk in
+    let left = g.D.Disk.size c.pieces_in.new.disk in
+    let fits = c.turn_to.ensures.kept before bytes c.requires.kept in
+    let first = c.turn_to.ensures.keeps state before bytes (other_names state) c.requires.kept given in
+    let keeps = c.turn_to-2.ensures.keeps state before bytes (other_names state) fits first in
+    let one = c.in_ok-inode.ensures.looked in
+    let looked = looked-again kept read mid before then between bytes _ left one c.in_ok-source.ensures.looked in
+    let still = keeps-looked kept mid before between bytes left state (other_names state) looked keeps in
+    let at_read = keeps-looked kept read before then bytes _ state (other_names state) one keeps in
     let told = sym c.in-Some.is ∙ c.in_ok-inode.ensures.found keeps.files keeps.keeps.holds in
     let there = some-there (value_at c.args.ino keeps.files) c.in-Some.inode told in
-    let passes = overlap-clone read state then still c.args.ino c.args.off c.args.len c.args.to_ino c.args.to_off
-    c.in-Some.inode.size there.file there.is there.size c.do_overlap-overlap.result c.do_overlap-overlap.ensures
-    ∙ sym c.in_default-refusal_of_clone.ensures.value in
-    let step = c.clone_range.ensures.step state still
-    (λ files holds. sym c.in-Some.is ∙ c.in_ok-inode.ensures.found files
-    (holds-looked read kept then before left bytes files (looked-back kept read before then bytes left first) holds))
-    passes in
-    subst (λ (sub : ℕ). IfOk c.clone_range.result (λ answer. Answered state
-    (Clone sub c.args.ino c.args.off c.args.len c.args.to_sub c.args.to_ino c.args.to_off) answer []
-    c.clone_range.new.kept (g.D.Disk.history c.clone_range.new.disk)))
-    (sym (sym c.value.ensures ∙ c.if-value-ne-TOP_LEVEL.false))
-    (subst (λ (sub : ℕ). IfOk c.clone_range.result (λ answer. Answered state
-    (Clone TOP_LEVEL c.args.ino c.args.off c.args.len sub c.args.to_ino c.args.to_off) answer []
-    c.clone_range.new.kept (g.D.Disk.history c.clone_range.new.disk)))
-    (sym (sym c.value-else-value-ne-TOP_LEVEL.ensures ∙ c.if-value-ne-TOP_LEVEL-2.false)) step)
+    let source = c.in_ok-source.ensures.found keeps.files
+    (holds-looked kept read before then bytes _ keeps.files one keeps.keeps.holds) in
+    let hand = sym (c.turn_to-2.ensures.hand c.if-not-turn_to-2.false) ∙ owner-read kept read before then bytes _ one in
+    c.clone_pieces.ensures.step state c.args.sub c.args.ino keeps.mine still
+    (source-there kept state before keeps c.args.sub (c.turn_to-2.ensures.hand c.if-not-turn_to-2.false))
+    (source ∙ ap (λ (files : List (ℕ × File)). pieces_met c.args.off (c.args.off + c.args.len)
+    (pieces_of c.args.ino files)) (sym keeps.keeps.are))
+    (ap (λ (sub : ℕ). clone_refusal state sub c.args.ino c.args.off c.args.len c.args.to_sub c.args.to_ino c.args.to_off)
+    hand
+    ∙ overlap-clone read state then at_read c.args.ino c.args.off c.args.len c.args.to_sub c.args.to_ino c.args.to_off
+    (target-listed c.args.kept.now read state before then given at_read c.args.to_sub
+    (sym c.turn_to.ensures.there ∙ c.if-not-turn_to.false))
+    c.in-Some.inode.size there.file there.is there.size c.do_overlap-overlap.result
+    (c.do_overlap-overlap.ensures
+    ∙ ap (λ (sub : ℕ). (sub == c.args.to_sub) && (c.args.ino == c.args.to_ino)
+    && share_a_byte c.args.off c.args.to_off c.args.len) hand)
+    ∙ sym c.in_default-refusal_of_clone.ensures.value)
+
+pub returns-clause-unchanged : goal.returns-clause-unchanged
+returns-clause-unchanged g c =
+    unchanged-then c.clone_pieces.result c.args.kept.now c.pieces_in.new.kept c.clone_pieces.new.kept
+    (same-read c.args.kept.now c.turn_to-2.new.kept c.pieces_in.new.kept _ _ _ _
+    (same-then c.args.kept.now c.turn_to.new.kept c.turn_to-2.new.kept c.turn_to.ensures.same c.turn_to-2.ensures.same)
+    (looked-again c.turn_to-2.new.kept c.inode_in.new.kept c.pieces_in.new.kept _ _ _ _ _ _
+    c.in_ok-inode.ensures.looked c.in_ok-source.ensures.looked))
+    c.clone_pieces.ensures.unchanged

@@ -1,4 +1,3 @@
-use Rattle.std.specs.Prelude.{Option}
 use Rattle.std.proofs.Common.{List}
 use Rattle.qg_num.specs.declared.piece.Piece.{Piece}
 use Rattle.qg_inodes.proofs.PiecesRead.{handed}

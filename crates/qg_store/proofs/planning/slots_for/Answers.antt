@@ -20,3 +20,6 @@ returns-clause-enough c = omega (arith, c.len.ensures, c.in_ok-need.ensures, c.i
 pub returns-then-len-need-clause-sound : goal.returns-then-len-need-clause-sound
 returns-then-len-need-clause-sound c = λ enough.
     absurd (omega (arith, c.in_ok-slots.ensures.count, c.len.ensures, c.in_ok-need.ensures, c.if-len-need.true, enough))
+
+pub returns-clause-most : goal.returns-clause-most
+returns-clause-most c = omega (arith, c.in_ok-slots.ensures.count, c.in_ok-need.ensures)

@@ -1,10 +1,15 @@
-use Rattle.std.proofs.Common.{◌≡◌, ◌∙◌, true, ap, inl, subst, sym}
+use Rattle.std.proofs.Common.{◌≡◌, ◌∙◌, ℕ, true, List, [], ap, inl, refl, subst, sym}
+use Rattle.std.specs.Prelude.{IfOk}
 use Rattle.qg_num.specs.declared.command.Command.{Command}
-use Rattle.qg_num.specs.declared.command.Command.TheVariants.{Clone, Ls, Show, Truncate, Unlink, Write}
+use Rattle.qg_num.specs.declared.command.Command.TheVariants.{Clone, Delete, Ls, Owners, Show, Snap, SubCreate}
+use Rattle.qg_num.specs.declared.command.Command.TheVariants.{Truncate, Unlink, Write}
 use Rattle.qg_grammar.specs.ScriptText.{is_in_grammar}
-use Rattle.qg_store.specs.Answering.{AnswersOn}
-use Rattle.qg_store.proofs.OnDisk.{each-given, on-disk, unchanged-looked}
-use Rattle.qg_store.proofs.Served.{inode_told, target_told}
+use Rattle.qg_grammar.specs.Served.{is_served_command}
+use Rattle.qg_store.specs.declared.kept.Kept.{Kept}
+use Rattle.qg_store.specs.Answering.{Answered, AnswersOn, IsDoneSoFar}
+use Rattle.qg_store.proofs.OnDisk.{each-given, last-always, last-given, last-same, on-disk, so-far-commit}
+use Rattle.qg_store.proofs.OnDisk.{still-commit, still-structural, unchanged-looked}
+use Rattle.qg_store.proofs.Served.{inode_told, serves-create, serves-delete, serves-snap, snap-alone, target_told}
 use Rattle.qg_store.proofs.Shown.{does_show}
 use Rattle.qg_store.proofs.store.answer.Goals as goal
 
@@ -116,3 +121,177 @@ returns-in-Ls-clause-step g c = λ state events keeps told.
 
 pub returns-in-Ls-clause-so_far : goal.returns-in-Ls-clause-so_far
 returns-in-Ls-clause-so_far g c = λ state events keeps told. inl (c.list.ensures.looked.history ∙ told)
+
+pub returns-in-Ls-clause-still : goal.returns-in-Ls-clause-still
+returns-in-Ls-clause-still g c = λ none. (c.list.ensures.looked.history, c.list.ensures.looked.size)
+
+pub returns-in-Ls-clause-err : goal.returns-in-Ls-clause-err
+returns-in-Ls-clause-err g c =
+    last-always c.args.command.now c.args.kept.now c.list.new.kept (g.D.Disk.history c.args.disk.now)
+    (g.D.Disk.history c.list.new.disk) c.list.result
+    (ap (λ (kept : Kept). kept.superblock) c.list.ensures.looked.same.rest)
+
+-- ---- owners
+
+pub returns-in-Owners-clause-step : goal.returns-in-Owners-clause-step
+returns-in-Owners-clause-step g c = λ state events keeps told.
+    each-given state c.args.command.now (Owners c.in-Owners.address) c.owners.result c.owners.new.kept events
+    (g.D.Disk.history c.owners.new.disk) c.in-Owners.is (c.owners.ensures.looked.history ∙ told)
+    (subst (λ (at : ℕ). IfOk c.owners.result (λ answer. Answered state (Owners at) answer [] c.owners.new.kept
+    (g.D.Disk.history c.owners.new.disk))) c.new.ensures (c.owners.ensures.step state keeps))
+
+pub returns-in-Owners-clause-so_far : goal.returns-in-Owners-clause-so_far
+returns-in-Owners-clause-so_far g c = λ state events keeps told. inl (c.owners.ensures.looked.history ∙ told)
+
+pub returns-in-Owners-clause-still : goal.returns-in-Owners-clause-still
+returns-in-Owners-clause-still g c = λ none. (c.owners.ensures.looked.history, c.owners.ensures.looked.size)
+
+pub returns-in-Owners-clause-err : goal.returns-in-Owners-clause-err
+returns-in-Owners-clause-err g c =
+    last-always c.args.command.now c.args.kept.now c.owners.new.kept (g.D.Disk.history c.args.disk.now)
+    (g.D.Disk.history c.owners.new.disk) c.owners.result
+    (ap (λ (kept : Kept). kept.superblock) c.owners.ensures.looked.same.rest)
+
+-- ---- a commit
+
+pub returns-in-Commit-clause-so_far : goal.returns-in-Commit-clause-so_far
+returns-in-Commit-clause-so_far g c = λ state events keeps told.
+    so-far-commit state c.args.command.now events (g.D.Disk.history c.commit.new.disk) c.in-Commit.is
+    (c.commit.ensures.so_far state events keeps told)
+
+pub returns-in-Commit-clause-still : goal.returns-in-Commit-clause-still
+returns-in-Commit-clause-still g c =
+    still-commit c.args.kept.now c.commit.new.kept _ _ _ _ c.args.command.now c.in-Commit.is c.commit.ensures.idle
+
+pub returns-in-Commit-clause-err : goal.returns-in-Commit-clause-err
+returns-in-Commit-clause-err g c =
+    last-same c.args.command.now c.args.kept.now c.commit.new.kept (g.D.Disk.history c.args.disk.now)
+    (g.D.Disk.history c.commit.new.disk) c.commit.result c.commit.ensures.err
+
+-- ---- structural commands
+
+pub create-requires-clause-serves : goal.create-requires-clause-serves
+create-requires-clause-serves g c =
+    serves-create (subst (λ (command : Command). is_served_command command ≡ true) c.in-SubCreate.is c.requires.served)
+
+pub returns-in-SubCreate-clause-step : goal.returns-in-SubCreate-clause-step
+returns-in-SubCreate-clause-step g c = λ state events keeps told.
+    subst (λ (command : Command). IfOk c.create.result (λ answer. AnswersOn state command answer c.create.new.kept events
+    (g.D.Disk.history c.create.new.disk))) (sym c.in-SubCreate.is) (c.create.ensures.step state events keeps told)
+
+pub returns-in-SubCreate-clause-so_far : goal.returns-in-SubCreate-clause-so_far
+returns-in-SubCreate-clause-so_far g c = λ state events keeps told.
+    subst (λ (command : Command). IsDoneSoFar state command events (g.D.Disk.history c.create.new.disk))
+    (sym c.in-SubCreate.is) (c.create.ensures.so_far state events keeps told)
+
+pub returns-in-SubCreate-clause-unchanged : goal.returns-in-SubCreate-clause-unchanged
+returns-in-SubCreate-clause-unchanged g c = c.create.ensures.refused
+
+pub returns-in-SubCreate-clause-still : goal.returns-in-SubCreate-clause-still
+returns-in-SubCreate-clause-still g c =
+    still-structural c.args.command.now SubCreate c.args.kept.now.pending _ c.in-SubCreate.is refl (λ same. cc)
+
+pub returns-in-SubCreate-clause-err : goal.returns-in-SubCreate-clause-err
+returns-in-SubCreate-clause-err g c =
+    last-given c.args.command.now SubCreate c.args.kept.now c.create.new.kept _ _ c.create.result c.in-SubCreate.is
+    c.create.ensures.err
+
+pub snap-requires-clause-serves : goal.snap-requires-clause-serves
+snap-requires-clause-serves g c =
+    serves-snap c.in-Snap.sub c.in-Snap.groups
+    (subst (λ (command : Command). is_served_command command ≡ true) c.in-Snap.is c.requires.served)
+
+pub returns-in-Snap-clause-step : goal.returns-in-Snap-clause-step
+returns-in-Snap-clause-step g c = λ state events keeps told.
+    let at = c.in-Snap in
+    let none = snap-alone at.sub at.groups
+    (subst (λ (command : Command). is_served_command command ≡ true) at.is c.requires.served) in
+    let is : c.args.command.now ≡ Snap at.sub [] = at.is ∙ ap (λ (groups : List ℕ). Snap at.sub groups) none in
+    subst (λ (command : Command). IfOk c.snap.result (λ answer. AnswersOn state command answer c.snap.new.kept events
+    (g.D.Disk.history c.snap.new.disk))) (sym is) (c.snap.ensures.step state events keeps told)
+
+pub returns-in-Snap-clause-so_far : goal.returns-in-Snap-clause-so_far
+returns-in-Snap-clause-so_far g c = λ state events keeps told.
+    let at = c.in-Snap in
+    let none = snap-alone at.sub at.groups
+    (subst (λ (command : Command). is_served_command command ≡ true) at.is c.requires.served) in
+    let is : c.args.command.now ≡ Snap at.sub [] = at.is ∙ ap (λ (groups : List ℕ). Snap at.sub groups) none in
+    subst (λ (command : Command). IsDoneSoFar state command events (g.D.Disk.history c.snap.new.disk)) (sym is)
+    (c.snap.ensures.so_far state events keeps told)
+
+pub returns-in-Snap-clause-unchanged : goal.returns-in-Snap-clause-unchanged
+returns-in-Snap-clause-unchanged g c = c.snap.ensures.refused
+
+pub returns-in-Snap-clause-still : goal.returns-in-Snap-clause-still
+returns-in-Snap-clause-still g c =
+    still-structural c.args.command.now (Snap c.in-Snap.sub c.in-Snap.groups) c.args.kept.now.pending _ c.in-Snap.is refl
+    (λ same. cc)
+
+pub returns-in-Snap-clause-err : goal.returns-in-Snap-clause-err
+returns-in-Snap-clause-err g c =
+    let at = c.in-Snap in
+    let none = snap-alone at.sub at.groups
+    (subst (λ (command : Command). is_served_command command ≡ true) at.is c.requires.served) in
+    let is : c.args.command.now ≡ Snap at.sub [] = at.is ∙ ap (λ (groups : List ℕ). Snap at.sub groups) none in
+    last-given c.args.command.now (Snap at.sub []) c.args.kept.now c.snap.new.kept _ _ c.snap.result is
+    c.snap.ensures.err
+
+pub delete-requires-clause-serves : goal.delete-requires-clause-serves
+delete-requires-clause-serves g c =
+    serves-delete c.in-Delete.sub
+    (subst (λ (command : Command). is_served_command command ≡ true) c.in-Delete.is c.requires.served)
+
+pub returns-in-Delete-clause-step : goal.returns-in-Delete-clause-step
+returns-in-Delete-clause-step g c = λ state events keeps told.
+    subst (λ (command : Command). IfOk c.delete.result (λ answer. AnswersOn state command answer c.delete.new.kept events
+    (g.D.Disk.history c.delete.new.disk))) (sym c.in-Delete.is) (c.delete.ensures.step state events keeps told)
+
+pub returns-in-Delete-clause-so_far : goal.returns-in-Delete-clause-so_far
+returns-in-Delete-clause-so_far g c = λ state events keeps told.
+    subst (λ (command : Command). IsDoneSoFar state command events (g.D.Disk.history c.delete.new.disk))
+    (sym c.in-Delete.is) (c.delete.ensures.so_far state events keeps told)
+
+pub returns-in-Delete-clause-unchanged : goal.returns-in-Delete-clause-unchanged
+returns-in-Delete-clause-unchanged g c = c.delete.ensures.refused
+
+pub returns-in-Delete-clause-still : goal.returns-in-Delete-clause-still
+returns-in-Delete-clause-still g c =
+    still-structural c.args.command.now (Delete c.in-Delete.sub) c.args.kept.now.pending _ c.in-Delete.is refl
+    (λ same. cc)
+
+pub returns-in-Delete-clause-err : goal.returns-in-Delete-clause-err
+returns-in-Delete-clause-err g c =
+    last-given c.args.command.now (Delete c.in-Delete.sub) c.args.kept.now c.delete.new.kept _ _ c.delete.result
+    c.in-Delete.is c.delete.ensures.err
+
+pub returns-in-Write-clause-still : goal.returns-in-Write-clause-still
+returns-in-Write-clause-still g c = λ none. c.write.ensures.apart
+
+pub returns-in-Write-clause-err : goal.returns-in-Write-clause-err
+returns-in-Write-clause-err g c =
+    last-always c.args.command.now c.args.kept.now c.write.new.kept (g.D.Disk.history c.args.disk.now)
+    (g.D.Disk.history c.write.new.disk) c.write.result c.write.ensures.superblock
+
+pub returns-in-Clone-clause-still : goal.returns-in-Clone-clause-still
+returns-in-Clone-clause-still g c = λ none. c.clone.ensures.apart
+
+pub returns-in-Clone-clause-err : goal.returns-in-Clone-clause-err
+returns-in-Clone-clause-err g c =
+    last-always c.args.command.now c.args.kept.now c.clone.new.kept (g.D.Disk.history c.args.disk.now)
+    (g.D.Disk.history c.clone.new.disk) c.clone.result c.clone.ensures.superblock
+
+pub returns-in-Truncate-clause-still : goal.returns-in-Truncate-clause-still
+returns-in-Truncate-clause-still g c = λ none. c.truncate.ensures.apart
+
+pub returns-in-Truncate-clause-err : goal.returns-in-Truncate-clause-err
+returns-in-Truncate-clause-err g c =
+    last-always c.args.command.now c.args.kept.now c.truncate.new.kept (g.D.Disk.history c.args.disk.now)
+    (g.D.Disk.history c.truncate.new.disk) c.truncate.result c.truncate.ensures.superblock
+
+pub returns-in-Unlink-clause-still : goal.returns-in-Unlink-clause-still
+returns-in-Unlink-clause-still g c = λ none. c.unlink.ensures.apart
+
+pub returns-in-Unlink-clause-err : goal.returns-in-Unlink-clause-err
+returns-in-Unlink-clause-err g c =
+    last-always c.args.command.now c.args.kept.now c.unlink.new.kept (g.D.Disk.history c.args.disk.now)
+    (g.D.Disk.history c.unlink.new.disk) c.unlink.result c.unlink.ensures.superblock

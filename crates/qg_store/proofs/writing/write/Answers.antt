@@ -1,6 +1,5 @@
-use Rattle.std.proofs.Common.{◌≡◌, ◌+◌, ◌*◌, ◌∙◌, ◌≤◌, ℕ, List, None, Option, ap, length, subst, sym, true}
+use Rattle.std.proofs.Common.{◌≡◌, ◌+◌, ◌*◌, ◌∙◌, ◌≤◌, ℕ, List, ap, length, subst, sym, true}
 use Rattle.qg_num.specs.declared.piece.Piece.{Piece}
-use Rattle.qg_num.specs.declared.refusal.Refusal.{Refusal}
 use Rattle.qg_state.specs.Need.{file_copies}
 use Rattle.qg_machine.specs.FileChange.{pieces_meeting}
 use Rattle.qg_space.specs.Holding.{free_slots, is_free_run}
@@ -8,31 +7,90 @@ use Rattle.qg_inodes.proofs.PiecesRead.{handed}
 use Rattle.qg_inodes.proofs.Whole.{handed-sound}
 use Rattle.qg_file_edits.specs.declared.found.Found.{Found}
 use Rattle.qg_file_edits.specs.Files.{pieces_of}
+use Rattle.qg_fs_laws.specs.Keeping.{other_names}
 use Rattle.qg_store.specs.declared.kept.Kept.{Kept}
-use Rattle.qg_store.specs.Editing.{slots_refusal}
 use Rattle.qg_store.specs.Keeping.{need_of}
 use Rattle.qg_store.proofs.Edited.{if-none, kept-edited}
 use Rattle.qg_store.proofs.Leaves.{copies-free}
-use Rattle.qg_store.proofs.Looked.{holds-looked, is-subvolume, keeps-looked, node-size}
+use Rattle.qg_store.proofs.Looked.{holds-looked, is-subvolume, keeps-looked, node-size, owner-read}
+use Rattle.qg_store.proofs.Reasons.{other-range, range-told}
 use Rattle.qg_store.proofs.Touched.{met-many}
+use Rattle.qg_store.proofs.Turned.{same-read}
 use Rattle.qg_store.proofs.Written.{lacks-run, lacks-slots, refuses-range, written}
 use Rattle.qg_store.proofs.writing.write.Goals as goal
 
-pub returns-in-Some-clause-step : goal.returns-in-Some-clause-step
-returns-in-Some-clause-step g c = λ state keeps.
+pub turn_to-requires : goal.turn_to-requires
+turn_to-requires g c = record { fitted = c.requires.kept.fitted }
+
+pub found_in-requires : goal.found_in-requires
+found_in-requires g c = record {
+  kept = c.turn_to.ensures.kept (g.D.Disk.history c.args.disk.now) (g.D.Disk.size c.args.disk.now) c.requires.kept;
+}
+
+-- ---- it is refused
+
+pub returns-then-not-turn_to-clause-kept : goal.returns-then-not-turn_to-clause-kept
+returns-then-not-turn_to-clause-kept g c =
+    c.turn_to.ensures.kept (g.D.Disk.history c.args.disk.now) (g.D.Disk.size c.args.disk.now) c.requires.kept
+
+pub returns-then-not-turn_to-clause-step : goal.returns-then-not-turn_to-clause-step
+returns-then-not-turn_to-clause-step g c = λ state keeps.
     let history = g.D.Disk.history c.args.disk.now in
-    refuses-range c.args.kept.now state history c.args.sub c.args.ino c.args.off c.args.len c.in-Some.why keeps
-    (c.in-Some.ensures.value state history keeps)
+    refuses-range c.turn_to.new.kept state history c.args.sub c.args.ino c.args.off c.args.len _
+    (c.turn_to.ensures.keeps state history (g.D.Disk.size c.args.disk.now) (other_names state) c.requires.kept keeps)
+    (sym (other-range c.args.kept.now state history keeps c.args.sub c.args.off c.args.len
+    (sym c.turn_to.ensures.there ∙ c.if-not-turn_to.true)))
+
+pub returns-then-not-turn_to-clause-unchanged : goal.returns-then-not-turn_to-clause-unchanged
+returns-then-not-turn_to-clause-unchanged g c = λ is. c.turn_to.ensures.same
+
+pub returns-in-Some-clause-kept : goal.returns-in-Some-clause-kept
+returns-in-Some-clause-kept g c =
+    c.turn_to.ensures.kept (g.D.Disk.history c.args.disk.now) (g.D.Disk.size c.args.disk.now) c.requires.kept
+
+pub returns-in-Some-clause-step : goal.returns-in-Some-clause-step
+returns-in-Some-clause-step g c = λ state given.
+    let history = g.D.Disk.history c.args.disk.now in
+    let keeps = c.turn_to.ensures.keeps state history (g.D.Disk.size c.args.disk.now) (other_names state)
+    c.requires.kept given in
+    refuses-range c.turn_to.new.kept state history c.args.sub c.args.ino c.args.off c.args.len c.in-Some.why keeps
+    (c.in-Some.ensures.value
+    ∙ sym (range-told c.turn_to.new.kept state history keeps c.args.sub c.args.off c.args.len
+    (c.turn_to.ensures.hand c.if-not-turn_to.false)))
+
+pub returns-in-Some-clause-unchanged : goal.returns-in-Some-clause-unchanged
+returns-in-Some-clause-unchanged g c = λ is. c.turn_to.ensures.same
+
+-- ---- no run is free
+
+pub run_for-requires : goal.run_for-requires
+run_for-requires g c = record { aligned = c.in_default.ensures.writable.range.len_aligned }
+
+pub returns-in_default-run_for-clause-kept : goal.returns-in_default-run_for-clause-kept
+returns-in_default-run_for-clause-kept g c =
+    c.turn_to.ensures.kept (g.D.Disk.history c.args.disk.now) (g.D.Disk.size c.args.disk.now) c.requires.kept
 
 pub returns-in_default-run_for-clause-step : goal.returns-in_default-run_for-clause-step
-returns-in_default-run_for-clause-step g c = λ state keeps.
+returns-in_default-run_for-clause-step g c = λ state given.
     let history = g.D.Disk.history c.args.disk.now in
-    lacks-run c.args.kept.now state history c.args.sub c.args.ino c.args.off c.args.len keeps
-    (c.in_default.ensures.value state history keeps)
-    (c.in_default-run_for.ensures.run state history (g.D.Disk.size c.args.disk.now) c.requires.kept keeps)
+    let bytes = g.D.Disk.size c.args.disk.now in
+    let fits = c.turn_to.ensures.kept history bytes c.requires.kept in
+    let keeps = c.turn_to.ensures.keeps state history bytes (other_names state) c.requires.kept given in
+    lacks-run c.turn_to.new.kept state history c.args.sub c.args.ino c.args.off c.args.len fits.fitted keeps
+    (c.in_default.ensures.value
+    ∙ sym (range-told c.turn_to.new.kept state history keeps c.args.sub c.args.off c.args.len
+    (c.turn_to.ensures.hand c.if-not-turn_to.false)))
+    (c.in_default-run_for.ensures.run state history bytes fits keeps)
+
+pub returns-in_default-run_for-clause-unchanged : goal.returns-in_default-run_for-clause-unchanged
+returns-in_default-run_for-clause-unchanged g c = λ is. c.turn_to.ensures.same
+
+-- ---- the file is read
 
 pub returns-in_err-found-clause-sound : goal.returns-in_err-found-clause-sound
-returns-in_err-found-clause-sound g c = λ state events told keeps.
+returns-in_err-found-clause-sound g c = λ state events told given.
+    let keeps = c.turn_to.ensures.keeps state (g.D.Disk.history c.args.disk.now) (g.D.Disk.size c.args.disk.now)
+    (other_names state) c.requires.kept given in
     handed-sound Found c.from_residual.result _ (handed c.from_residual.result _ c.from_residual.ensures.1)
     (c.in_err-found.ensures.sound keeps.files keeps.keeps.holds)
 
@@ -40,8 +98,10 @@ pub no_nodes-requires : goal.no_nodes-requires
 no_nodes-requires g c = record { size = node-size c.found_in.new.kept c.in_ok-found.ensures.kept.fitted }
 
 pub returns-in-Some-2-clause-step : goal.returns-in-Some-2-clause-step
-returns-in-Some-2-clause-step g c = λ state keeps.
-    let kept = c.args.kept.now in
+returns-in-Some-2-clause-step g c = λ state given.
+    let keeps = c.turn_to.ensures.keeps state (g.D.Disk.history c.args.disk.now) (g.D.Disk.size c.args.disk.now)
+    (other_names state) c.requires.kept given in
+    let kept = c.turn_to.new.kept in
     let mid = c.found_in.new.kept in
     let before = g.D.Disk.history c.args.disk.now in
     let between = g.D.Disk.history c.found_in.new.disk in
@@ -49,9 +109,15 @@ returns-in-Some-2-clause-step g c = λ state keeps.
     let finds = c.in_ok-found.ensures.found keeps.files keeps.keeps.holds in
     lacks-slots mid state between bytes c.args.sub c.args.ino c.args.off c.args.len c.in-Some-run_for.run' c.len.result
     c.in_ok-found.ensures.kept
-    (keeps-looked kept mid before between (g.D.Disk.size c.args.disk.now) bytes state c.in_ok-found.ensures.looked keeps)
-    c.in_ok-why.ensures.table c.in_default.ensures.top (c.in_default.ensures.value state before keeps)
-    (c.in-Some-run_for.ensures.run state before (g.D.Disk.size c.args.disk.now) c.requires.kept keeps)
+    (keeps-looked kept mid before between (g.D.Disk.size c.args.disk.now) bytes state (other_names state) c.in_ok-found.ensures.looked keeps)
+    c.in_ok-why.ensures.table (sym (c.turn_to.ensures.hand c.if-not-turn_to.false)
+    ∙ owner-read c.turn_to.new.kept mid before between (g.D.Disk.size c.args.disk.now) bytes
+    c.in_ok-found.ensures.looked)
+    (c.in_default.ensures.value
+    ∙ sym (range-told c.turn_to.new.kept state before keeps c.args.sub c.args.off c.args.len
+    (c.turn_to.ensures.hand c.if-not-turn_to.false)))
+    (c.in-Some-run_for.ensures.run state before (g.D.Disk.size c.args.disk.now)
+    (c.turn_to.ensures.kept before (g.D.Disk.size c.args.disk.now) c.requires.kept) keeps)
     (c.len.ensures ∙ ap (λ (pieces : List Piece). length pieces) finds.met
     ∙ met-many c.args.off (c.args.off + c.args.len) (pieces_of c.args.ino keeps.files))
     c.in-Some-2.why (sym c.in-Some-2.is ∙ c.in_ok-why.ensures.value)
@@ -67,8 +133,10 @@ write-requires-clause-free g c =
     (sym c.in_ok-found.ensures.looked.same) c.in-Some-run_for.ensures.free
 
 pub returns-in_err-write-clause-sound : goal.returns-in_err-write-clause-sound
-returns-in_err-write-clause-sound g c = λ state events told keeps.
-    let kept = c.args.kept.now in
+returns-in_err-write-clause-sound g c = λ state events told given.
+    let keeps = c.turn_to.ensures.keeps state (g.D.Disk.history c.args.disk.now) (g.D.Disk.size c.args.disk.now)
+    (other_names state) c.requires.kept given in
+    let kept = c.turn_to.new.kept in
     let mid = c.found_in.new.kept in
     let looked = c.in_ok-found.ensures.looked in
     let finds = c.in_ok-found.ensures.found keeps.files keeps.keeps.holds in
@@ -92,19 +160,26 @@ returns-clause-kept g c =
     c.in_ok-found.ensures.kept c.in_ok-write.ensures.leaves c.in_ok-write.ensures.own c.count_pending.ensures.rest
 
 pub returns-clause-step : goal.returns-clause-step
-returns-clause-step g c = λ state keeps.
-    let kept = c.args.kept.now in
+returns-clause-step g c = λ state given.
+    let keeps = c.turn_to.ensures.keeps state (g.D.Disk.history c.args.disk.now) (g.D.Disk.size c.args.disk.now)
+    (other_names state) c.requires.kept given in
+    let kept = c.turn_to.new.kept in
     let mid = c.found_in.new.kept in
     let before = g.D.Disk.history c.args.disk.now in
     let between = g.D.Disk.history c.found_in.new.disk in
     let bytes = g.D.Disk.size c.found_in.new.disk in
     let looked = c.in_ok-found.ensures.looked in
     let finds = c.in_ok-found.ensures.found keeps.files keeps.keeps.holds in
-    let still = keeps-looked kept mid before between (g.D.Disk.size c.args.disk.now) bytes state looked keeps in
+    let still = keeps-looked kept mid before between (g.D.Disk.size c.args.disk.now) bytes state (other_names state) looked keeps in
     written mid state between bytes c.args.sub c.args.ino c.args.off c.args.len c.in-Some-run_for.run' c.len.result
-    c.in_ok-found.ensures.kept still c.in_ok-why.ensures.table c.in_default.ensures.top
-    (c.in_default.ensures.value state before keeps)
-    (c.in-Some-run_for.ensures.run state before (g.D.Disk.size c.args.disk.now) c.requires.kept keeps)
+    c.in_ok-found.ensures.kept still c.in_ok-why.ensures.table (sym (c.turn_to.ensures.hand c.if-not-turn_to.false)
+    ∙ owner-read c.turn_to.new.kept mid before between (g.D.Disk.size c.args.disk.now) bytes
+    c.in_ok-found.ensures.looked)
+    (c.in_default.ensures.value
+    ∙ sym (range-told c.turn_to.new.kept state before keeps c.args.sub c.args.off c.args.len
+    (c.turn_to.ensures.hand c.if-not-turn_to.false)))
+    (c.in-Some-run_for.ensures.run state before (g.D.Disk.size c.args.disk.now)
+    (c.turn_to.ensures.kept before (g.D.Disk.size c.args.disk.now) c.requires.kept) keeps)
     (c.len.ensures ∙ ap (λ (pieces : List Piece). length pieces) finds.met
     ∙ met-many c.args.off (c.args.off + c.args.len) (pieces_of c.args.ino keeps.files))
     c.write.new.fs c.count_pending.new.kept (g.D.Disk.history c.write.new.disk) (g.D.Disk.size c.write.new.disk)
@@ -113,3 +188,8 @@ returns-clause-step g c = λ state keeps.
     c.in_ok-why.ensures.enough)
     c.in_ok-write.ensures.leaves (c.in_ok-write.ensures.written keeps.files still.keeps.holds finds)
     c.in_default.ensures.writable.short
+
+pub returns-in-Some-2-clause-unchanged : goal.returns-in-Some-2-clause-unchanged
+returns-in-Some-2-clause-unchanged g c = λ is.
+    same-read c.args.kept.now c.turn_to.new.kept c.found_in.new.kept _ _ _ _ c.turn_to.ensures.same
+    c.in_ok-found.ensures.looked

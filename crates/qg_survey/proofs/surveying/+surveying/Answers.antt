@@ -1,21 +1,20 @@
-use Rattle.std.proofs.Common.{◌≡◌, ℕ, suc, ◌+◌, ◌*◌, ◌-◌, ◌<◌, ◌≤◌, Bool, List, Some, None, length, arith, refl, sym, ap, subst, ◌∙◌}
+use Rattle.std.proofs.Common.{◌≡◌, ℕ, suc, ◌+◌, ◌*◌, ◌-◌, ◌<◌, ◌≤◌, Bool, List, Some, None, arith, sym, ap, subst, ◌∙◌}
 use Rattle.std.specs.Prelude.{is_some}
 use Rattle.std.specs.List.{All}
 use Rattle.std.proofs.lemmas.List.Elements.{All-tail}
 use Rattle.qg_node.specs.Nodes.{header_of, own_pointers}
 use Rattle.qg_refs.specs.Book.{full_in}
 use Rattle.qg_extents.specs.Table.{book_of}
-use Rattle.qg_home.specs.Linked.{linked_of}
-use Rattle.qg_descent.specs.Way.{IsReadable}
+use Rattle.qg_direct.specs.Surveyed.{surveyed_of}
 use Rattle.qg_descent.specs.declared.way.Way.{Way}
-use Rattle.qg_home.specs.declared.linked.Linked.{Linked}
+use Rattle.qg_direct.specs.declared.surveyed.Surveyed.{Surveyed}
 use Rattle.qg_drop.specs.Counting.{LeadsToBranch, ways_told}
 use Rattle.qg_drop.proofs.Counted.{children-lead, read-on, tells-read, top-told}
 use Rattle.qg_drop.proofs.Resting.{unbroken-handed}
 use Rattle.qg_drop.proofs.Ways.{ways-levelled}
 use Rattle.qg_survey.specs.Surveying.{AreRead, EndBelow, GoesOn, link_at}
 use Rattle.qg_survey.proofs.Reading.{none-there, on-err}
-use Rattle.qg_survey.proofs.Rounds.{surveyed-all, surveyed-none, surveyed-on, surveyed-stops}
+use Rattle.qg_survey.proofs.Rounds.{surveyed-on, surveyed-stops}
 use Rattle.qg_survey.proofs.Stepped.{ends-there, goes-higher, goes-none, inner-goes, leaf-goes}
 use Rattle.qg_survey.proofs.surveying.+surveying.Goals.{survey_under-then-level-gt0+in_ok-survey_each, survey_under-else-level-gt0}
 use Rattle.qg_survey.proofs.surveying.+surveying.Goals as goal
@@ -165,7 +164,7 @@ survey_under-returns-in_err-put_link-clause-surveyed g t c state tells marks lea
           subst (λ l. GoesOn state c.args.level old l.entries c.args.reads.now c.if-level-gt0.reads) (sym w.links-is)
           (goes-none state c.args.level old c.args.reads.now c.if-level-gt0.reads read reads)
     ] in (
-      subst (λ (l : List (ℕ × Linked)). GoesOn state c.args.level old l c.args.reads.now c.if-level-gt0.reads) (sym same) goes,
+      subst (λ (l : List (ℕ × Surveyed)). GoesOn state c.args.level old l c.args.reads.now c.if-level-gt0.reads) (sym same) goes,
       on-err c.from_residual-in_err-put_link.result _ c.from_residual-in_err-put_link.ensures.0,
     )
 
@@ -193,8 +192,8 @@ survey_under-returns-clause-surveyed g t c state tells marks leads read =
     ∙ sym c.contains_key.ensures ∙ c.if-contains_key.false) in
     let still = tells-read draft c.visit.new.blocks.draft history (g.D.Disk.history c.visit.new.disk) state
     c.visit.ensures.read.draft c.visit.ensures.read.history tells in
-    let is : c.in_ok-link.link ≡ linked_of (header_of seen).address (record { node = seen; full = full_in (book_of c.args.book.now way.address) })
-    = c.in_ok-link.ensures ∙ ap (λ (b : Bool). linked_of (header_of seen).address (record { node = seen; full = b }))
+    let is : c.in_ok-link.link ≡ surveyed_of (header_of seen).address (record { node = seen; full = full_in (book_of c.args.book.now way.address) })
+    = c.in_ok-link.ensures ∙ ap (λ (b : Bool). surveyed_of (header_of seen).address (record { node = seen; full = b }))
     c.is_marked.ensures in
     elim c.if-level-gt0.branch [
       | survey_under-then-level-gt0+in_ok-survey_each w ↦
@@ -210,10 +209,10 @@ survey_under-returns-clause-surveyed g t c state tells marks leads read =
           let mid_is : mid ≡ w.survey_each.new.links.entries = ap (λ l. l.entries) w.links-is in
           let goes : GoesOn state lower old mid then c.if-level-gt0.reads
           = subst (λ (n : ℕ). GoesOn state lower old mid then n) (sym w.reads-is)
-          (subst (λ (l : List (ℕ × Linked)). GoesOn state lower old l then w.survey_each.new.reads) (sym mid_is) own.0) in
+          (subst (λ (l : List (ℕ × Surveyed)). GoesOn state lower old l then w.survey_each.new.reads) (sym mid_is) own.0) in
           let ends : EndBelow state lower w.as_slice.result.now old mid then c.if-level-gt0.reads
           = subst (λ (n : ℕ). EndBelow state lower w.as_slice.result.now old mid then n) (sym w.reads-is)
-          (subst (λ (l : List (ℕ × Linked)). EndBelow state lower w.as_slice.result.now old l then w.survey_each.new.reads)
+          (subst (λ (l : List (ℕ × Surveyed)). EndBelow state lower w.as_slice.result.now old l then w.survey_each.new.reads)
           (sym mid_is) own.1) in
           inner-goes draft history (book_of c.args.book.now) state tells marks c.args.level way c.requires.levelled leads _
           c.visit.new.blocks c.in_ok-visit.ensures.visited seen c.peek-node.ensures c.in_ok-link.link is old mid new before
@@ -225,7 +224,7 @@ survey_under-returns-clause-surveyed g t c state tells marks leads read =
           leaf-goes draft history (book_of c.args.book.now) state tells marks c.args.level way c.requires.levelled leads _
           c.visit.new.blocks c.in_ok-visit.ensures.visited seen c.peek-node.ensures c.in_ok-link.link is old mid new before
           then c.if-level-gt0.reads c.visit.ensures.reads absent
-          (subst (λ (l : List (ℕ × Linked)). AreRead state l) (sym mid_is) read) c.in_ok-put_link.ensures.put.0
+          (subst (λ (l : List (ℕ × Surveyed)). AreRead state l) (sym mid_is) read) c.in_ok-put_link.ensures.put.0
           c.in_ok-put_link.ensures.grown low mid_is w.reads-is
     ]
 

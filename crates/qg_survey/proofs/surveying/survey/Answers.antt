@@ -1,11 +1,10 @@
-use Rattle.std.proofs.Common.{◌≡◌, ℕ, ◌+◌, ◌≤◌, List, map, length, arith, refl, sym, ap, subst, ◌∙◌}
+use Rattle.std.proofs.Common.{ℕ, List, sym, subst, ◌∙◌}
 use Rattle.qg_ground.proofs.Editing.{ArePlaced-drafted}
-use Rattle.qg_home.specs.declared.linked.Linked.{Linked}
-use Rattle.qg_extents.specs.Table.{book_of}
+use Rattle.qg_direct.specs.declared.surveyed.Surveyed.{Surveyed}
 use Rattle.qg_drop.proofs.Resting.{unbroken-handed}
 use Rattle.qg_drop.proofs.Stepping.{edit-still, rests-read}
 use Rattle.qg_drop.proofs.Whole.{tells-held}
-use Rattle.qg_survey.specs.Surveying.{AreRead, GoesOn, MarksNodes}
+use Rattle.qg_survey.specs.Surveying.{AreRead}
 use Rattle.qg_survey.proofs.Held.{all-read, marks-told, once-read, read-none, trees-lead, trees-next}
 use Rattle.qg_survey.proofs.Ordered.{links-are}
 use Rattle.qg_survey.proofs.surveying.survey.Goals as goal
@@ -35,7 +34,7 @@ returns-in_err-surveyed-clause-reads g c state holds same =
     let ground = c.requires.editable.drafted.sizes in
     let tells = tells-held c.args.land.now history c.args.book.now state holds ground in
     let none : AreRead state c.new-links.result.entries
-    = subst (λ (l : List (ℕ × Linked)). AreRead state l) (sym c.new-links.ensures.empty) (read-none state) in
+    = subst (λ (l : List (ℕ × Surveyed)). AreRead state l) (sym c.new-links.ensures.empty) (read-none state) in
     let own = c.survey_trees-surveyed.ensures.surveyed state tells
     (marks-told c.args.land.now history c.args.book.now state holds ground c.refs.result.now c.refs.ensures)
     (trees-lead c.args.land.now history c.args.book.now state holds ground c.args.trees.now same) none in
@@ -59,7 +58,7 @@ returns-in_err-list_of-clause-reads g c state holds same =
     let ground = c.requires.editable.drafted.sizes in
     let tells = tells-held c.args.land.now history c.args.book.now state holds ground in
     let none : AreRead state c.new-links.result.entries
-    = subst (λ (l : List (ℕ × Linked)). AreRead state l) (sym c.new-links.ensures.empty) (read-none state) in
+    = subst (λ (l : List (ℕ × Surveyed)). AreRead state l) (sym c.new-links.ensures.empty) (read-none state) in
     let own = c.survey_trees-surveyed.ensures.surveyed state tells
     (marks-told c.args.land.now history c.args.book.now state holds ground c.refs.result.now c.refs.ensures)
     (trees-lead c.args.land.now history c.args.book.now state holds ground c.args.trees.now same) none in
@@ -83,7 +82,7 @@ returns-clause-surveyed g c state holds same =
     let ground = c.requires.editable.drafted.sizes in
     let tells = tells-held c.args.land.now history c.args.book.now state holds ground in
     let none : AreRead state c.new-links.result.entries
-    = subst (λ (l : List (ℕ × Linked)). AreRead state l) (sym c.new-links.ensures.empty) (read-none state) in
+    = subst (λ (l : List (ℕ × Surveyed)). AreRead state l) (sym c.new-links.ensures.empty) (read-none state) in
     let own = c.in_ok-surveyed.ensures.surveyed state tells
     (marks-told c.args.land.now history c.args.book.now state holds ground c.refs.result.now c.refs.ensures)
     (trees-lead c.args.land.now history c.args.book.now state holds ground c.args.trees.now same) none in
@@ -99,7 +98,7 @@ returns-clause-reads g c state holds same =
     let ground = c.requires.editable.drafted.sizes in
     let tells = tells-held c.args.land.now history c.args.book.now state holds ground in
     let none : AreRead state c.new-links.result.entries
-    = subst (λ (l : List (ℕ × Linked)). AreRead state l) (sym c.new-links.ensures.empty) (read-none state) in
+    = subst (λ (l : List (ℕ × Surveyed)). AreRead state l) (sym c.new-links.ensures.empty) (read-none state) in
     let own = c.survey_trees-surveyed.ensures.surveyed state tells
     (marks-told c.args.land.now history c.args.book.now state holds ground c.refs.result.now c.refs.ensures)
     (trees-lead c.args.land.now history c.args.book.now state holds ground c.args.trees.now same) none in

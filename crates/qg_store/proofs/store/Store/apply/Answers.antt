@@ -1,14 +1,17 @@
-use Rattle.std.proofs.Common.{◌≡◌, ◌∙◌, List, Option, false, ap, refl, subst, sym}
+use Rattle.std.proofs.Common.{◌≡◌, ◌∙◌, ◌<◌, List, None, Option, false, true, ap, refl, subst, sym}
 use Rattle.std.specs.Prelude.{Err}
 use Rattle.qg_device.specs.History.{Event}
 use Rattle.qg_num.specs.Fault.{stop_of}
 use Rattle.qg_num.specs.declared.answer.Answer.{Answer}
+use Rattle.qg_num.specs.declared.command.Command.{Command}
+use Rattle.qg_num.specs.declared.command.Command.TheVariants.{Commit}
 use Rattle.qg_num.specs.declared.fault.BlockFault.{BlockFault}
 use Rattle.qg_num.specs.declared.fault.BlockFault.TheVariants.{Disk, Image, NoMemory}
 use Rattle.qg_state.specs.State.{State}
 use Rattle.qg_blocks.specs.Told.{BreaksNone}
+use Rattle.qg_store.specs.Answering.{comes_to_disk}
 use Rattle.qg_store.specs.Keeping.{IsKeptOf}
-use Rattle.qg_store.specs.Stored.{IsStoreOf, Stored, is_of_image}
+use Rattle.qg_store.specs.Stored.{ComesToDisk, IsStoreOf, Stored, is_of_image}
 use Rattle.qg_store.proofs.store.Store.apply.Goals as goal
 
 -- a fault that names no rule stops a store for no rule
@@ -29,3 +32,33 @@ returns-in-Err-clause-sound g c = λ state events store told.
     let keeps = kept-in _ c.args.self.now state history c.self.view_is store in
     ap is_of_image c.stop_of-stop.ensures
     ∙ of-no-rule c.in-Err.fault (c.in-Err.ensures.sound state events told keeps)
+
+-- where a command doesn't come to the disk of a store
+comes-none : (inside store : Stored) (command : Command) → inside ≡ store → store.stopped ≡ None
+    → (ComesToDisk store command → ⊥) → comes_to_disk command ≡ true → (command ≡ Commit → 0 < inside.kept.pending) → ⊥
+comes-none inside store command is running none comes some =
+    none (record {
+      running = running;
+      commits = comes;
+      some = λ same. subst (λ (s : Stored). 0 < s.kept.pending) is (some same);
+    })
+
+pub returns-in-Ok-clause-still : goal.returns-in-Ok-clause-still
+returns-in-Ok-clause-still g c = λ none. c.in-Ok.ensures.still
+    (comes-none _ c.args.self.now c.args.command.now c.self.view_is
+    (ap (λ (s : Stored). s.stopped) (sym c.self.view_is) ∙ c.in_default.is) none)
+
+pub returns-in-Err-clause-still : goal.returns-in-Err-clause-still
+returns-in-Err-clause-still g c = λ none. c.in-Err.ensures.still
+    (comes-none _ c.args.self.now c.args.command.now c.self.view_is
+    (ap (λ (s : Stored). s.stopped) (sym c.self.view_is) ∙ c.in_default.is) none)
+
+pub returns-in-Ok-clause-so_far : goal.returns-in-Ok-clause-so_far
+returns-in-Ok-clause-so_far g c = λ state events store told.
+    let keeps = kept-in _ c.args.self.now state (g.D.Disk.history c.args.disk.now) c.self.view_is store in
+    c.in-Ok.ensures.so_far state events keeps told
+
+pub returns-in-Err-clause-so_far : goal.returns-in-Err-clause-so_far
+returns-in-Err-clause-so_far g c = λ state events store told.
+    let keeps = kept-in _ c.args.self.now state (g.D.Disk.history c.args.disk.now) c.self.view_is store in
+    c.in-Err.ensures.so_far state events keeps told

@@ -1,0 +1,4 @@
+pub mod Surveyed
+pub mod Direct
+pub mod Namers
+pub mod Portions

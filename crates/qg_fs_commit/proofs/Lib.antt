@@ -1,9 +1,0 @@
-pub mod InOrder
-pub mod Said
-pub mod OtherNames
-pub mod Roots
-pub mod Counts
-pub mod SoundCommit
-pub mod CommitKept
-pub mod Short
-pub mod KeptStill

@@ -1,0 +1,138 @@
+-- A commit whose other trees tell the state that it leaves is one of the machine.
+use Rattle.std.proofs.Common.{◌≡◌, ℕ, Bool, true, false, List, [], ◌∷◌, map, Option, Some, refl, sym, ap, ◌∙◌, inl, inr}
+use Rattle.std.specs.Prelude.{◌⊎◌, ◌==◌, ◌&&◌, not, if◌then◌else◌, All}
+use Rattle.std.specs.List.{Contains, list_all, list_any}
+use Rattle.std.specs.Option.{option_map}
+use Rattle.std.proofs.lemmas.Bool.{and_from, and_parts, cases_Bool, cond-false, cond-true, eqb-true, or_left}
+use Rattle.std.proofs.lemmas.List.Elements.{All-contains}
+use Rattle.qg_num.specs.declared.counters.Counters.{Counters}
+use Rattle.qg_node.specs.declared.node.Node.{Node}
+use Rattle.qg_super.specs.Places.{is_slot}
+use Rattle.qg_image.specs.Table.{has_key}
+use Rattle.qg_state.specs.declared.quota.Group.{Group}
+use Rattle.qg_state.specs.declared.quota.Quota.{Quota}
+use Rattle.qg_state.specs.Counts.{direct_count}
+use Rattle.qg_state.specs.Members.{Hierarchy, hierarchy_of}
+use Rattle.qg_state.specs.Space.{is_free_slot, present_extents}
+use Rattle.qg_state.specs.State.{Layout, State, layout_of, next_generation}
+use Rattle.qg_state.proofs.Contained.{contains_here, contains_later}
+use Rattle.qg_verdict.specs.ImageState.{addresses_of, as_committed}
+use Rattle.qg_machine.specs.GroupChange.{recounted, recounted_group, same_counters}
+use Rattle.qg_machine.specs.Layout.{is_other_slot}
+use Rattle.qg_machine.specs.Step.{Commits, settled}
+use Rattle.qg_other_trees.specs.declared.laying.OtherTrees.{OtherTrees}
+use Rattle.qg_other_trees.specs.Sound.{committed}
+use Rattle.qg_other_trees.specs.Telling.{AreToldBy}
+use Rattle.qg_other_trees.specs.Trees.{stamp_after}
+use Rattle.qg_fs_laws.specs.Keeping.{AreDirectCounts, group_after, quota_after}
+
+-- ---- the group
+
+-- a group is counted as the machine counts it
+group_is : (layout : Layout) (hierarchy : Hierarchy) (generation : ℕ) (counters : ℕ → Counters) (entry : ℕ × Group)
+    → counters entry.0 ≡ direct_count layout hierarchy entry.0
+    → recounted_group layout hierarchy generation entry ≡ group_after generation counters entry
+group_is layout hierarchy generation counters entry count =
+    ap (λ (c : Counters). if same_counters entry.1.counters c then entry
+    else (entry.0, record entry.1 { counters = c; stamp = generation })) (sym count)
+    ∙ entry_is (counters entry.0) (cases_Bool (same_counters entry.1.counters (counters entry.0))) where
+      entry_is : (new : Counters)
+          → (same_counters entry.1.counters new ≡ true) ⊎ (same_counters entry.1.counters new ≡ false)
+          → (if same_counters entry.1.counters new then entry
+          else (entry.0, record entry.1 { counters = new; stamp = generation }))
+          ≡ (
+            entry.0,
+            record entry.1 {
+              counters = new;
+              stamp = stamp_after entry.1.counters new entry.1.stamp generation;
+            },
+          )
+      entry_is new (inl same) =
+          let parts = and_parts (entry.1.counters.rfer == new.rfer) (entry.1.counters.excl == new.excl) same in
+          let rfer = eqb-true entry.1.counters.rfer new.rfer parts.0 in
+          let excl = eqb-true entry.1.counters.excl new.excl parts.1 in
+          let alike : entry.1.counters ≡ new = λ i. record { rfer = rfer i; excl = excl i } in
+          let stays : stamp_after entry.1.counters new entry.1.stamp generation ≡ entry.1.stamp =
+          cond-true _ _ _ same in
+          cond-true _ _ _ same
+          ∙ (λ i. (entry.0, record entry.1 { counters = alike i; stamp = sym stays i }))
+      entry_is new (inr differ) =
+          let goes : stamp_after entry.1.counters new entry.1.stamp generation ≡ generation =
+          cond-false _ _ _ differ in
+          cond-false _ _ _ differ
+          ∙ (λ i. (entry.0, record entry.1 { counters = new; stamp = sym goes i }))
+
+map_each : {A B : Type 0} (f g : A → B) (xs : List A) → ((x : A) → Contains xs x → f x ≡ g x) → map f xs ≡ map g xs
+map_each f g [] same = refl
+map_each {A} {B} f g (x ∷ xs) same =
+    ap (λ (y : B). y ∷ map f xs) (same x (contains_here x xs))
+    ∙ ap (λ (ys : List B). g x ∷ ys) (map_each f g xs (λ y has. same y (contains_later x xs y has)))
+
+module _ (old : State) (quota : Quota) (counters : ℕ → Counters) (is : old.quota ≡ Some quota)
+    (counts : AreDirectCounts old quota counters) where
+  recounted_is : recounted (layout_of old) (next_generation old) quota
+      ≡ quota_after (next_generation old) counters quota
+  unfolding recounted
+  recounted_is =
+      ap (λ (groups : List (ℕ × Group)). record quota { groups = groups })
+      (map_each (recounted_group (layout_of old) (hierarchy_of quota) (next_generation old))
+      (group_after (next_generation old) counters) quota.groups
+      (λ entry has. group_is (layout_of old) (hierarchy_of quota) (next_generation old) counters entry
+      (counts entry has)))
+
+  quota_is : option_map (recounted (layout_of old) (next_generation old)) old.quota
+      ≡ Some (quota_after (next_generation old) counters quota)
+  quota_is =
+      ap (option_map (recounted (layout_of old) (next_generation old))) is
+      ∙ ap (λ (q : Quota). Some q) recounted_is
+
+  abbrev with_quota : List Node → Option Quota → State
+  with_quota others quota = as_committed others (record {
+    sizes = old.sizes;
+    generation = next_generation old;
+    subvolumes = old.subvolumes;
+    layout = old.layout;
+    quota = quota;
+    pending = [];
+    held = record { nodes = []; others = []; extents = [] };
+  })
+
+  settled_is : (others : List Node)
+      → with_quota others (option_map (recounted (layout_of old) (next_generation old)) old.quota)
+      ≡ as_committed others (settled old)
+  unfolding present_extents
+  settled_is others = refl
+
+  pub committed-is : (others : List Node)
+      → committed others old (quota_after (next_generation old) counters quota) ≡ as_committed others (settled old)
+  committed-is others = ap (with_quota others) (sym quota_is) ∙ settled_is others
+
+-- ---- slots
+
+slot_other : (old : State) (at : ℕ) → is_free_slot old at ≡ true → is_other_slot old old at ≡ true
+unfolding is_free_slot
+slot_other old at free =
+    let taken = list_any (λ node. node == at) old.held.nodes in
+    let parts = and_parts (is_slot old.sizes at && not (has_key at old.layout)) (not taken) free in
+    and_from (is_slot old.sizes at && not (has_key at old.layout)) _ parts.0 (or_left _ _ free)
+
+each_true : (test : ℕ → Bool) (xs : List ℕ) → ((x : ℕ) → Contains xs x → test x ≡ true) → list_all test xs ≡ true
+each_true test [] each = refl
+each_true test (x ∷ xs) each =
+    and_from (test x) (list_all test xs) (each x (contains_here x xs))
+    (each_true test xs (λ y has. each y (contains_later x xs y has)))
+
+pub commit-of-machine : (old : State) (quota : Quota) (counters : ℕ → Counters) (slots : List ℕ) (trees : OtherTrees)
+    (others : List Node) → old.quota ≡ Some quota → AreDirectCounts old quota counters
+    → All (λ slot. is_free_slot old slot ≡ true) slots
+    → AreToldBy (committed others old (quota_after (next_generation old) counters quota)) slots trees others
+    → Commits old (committed others old (quota_after (next_generation old) counters quota))
+commit-of-machine old quota counters slots trees others is counts free told = record {
+  others = others;
+  slots = each_true (is_other_slot old old) (addresses_of others)
+      (λ at has. slot_other old at
+      (All-contains (λ slot. is_free_slot old slot ≡ true) slots at free (told.within at has)));
+  apart = told.apart;
+  trees = told.tell;
+  committed = committed-is old quota counters is counts others;
+}

@@ -1,0 +1,95 @@
+-- The groups of a committed state: each stores its direct count.
+use Rattle.std.proofs.Common.{◌≡◌, ℕ, List, [], ◌∷◌, map, get_or, Option, Some, None, refl, sym, ap, subst, ◌∙◌}
+use Rattle.std.specs.Prelude.{◌==◌, All}
+use Rattle.std.specs.List.{Contains}
+use Rattle.std.proofs.lemmas.Bool.{cond-true, eq-eqb}
+use Rattle.std.proofs.lemmas.List.Elements.{Contains-get_or}
+use Rattle.std.proofs.lemmas.Option.{same_Some}
+use Rattle.qg_num.specs.declared.counters.Counters.{Counters}
+use Rattle.qg_num.specs.declared.counters.Which.{Which}
+use Rattle.qg_num.specs.declared.counters.Which.TheVariants.{Rfer, Excl}
+use Rattle.qg_image.specs.Table.{keys_of}
+use Rattle.qg_state.specs.declared.quota.Group.{Group}
+use Rattle.qg_state.specs.declared.quota.Quota.{Quota}
+use Rattle.qg_state.specs.Counts.{direct_count, exclusive, referenced}
+use Rattle.qg_state.specs.Members.{Hierarchy, hierarchy_of}
+use Rattle.qg_state.specs.State.{Layout, State, layout_of}
+use Rattle.qg_state.proofs.Contained.{contains_here, contains_later}
+use Rattle.qg_verdict.specs.declared.failure.Failure.{Failure}
+use Rattle.qg_verdict.specs.declared.failure.Failure.TheVariants.{Differs}
+use Rattle.qg_verdict.specs.Failure.{first_failure}
+use Rattle.qg_verdict.specs.Verdict.{counted, counts_failure, group_failure}
+use Rattle.qg_fs_tree.proofs.Lists.{from-mapped}
+use Rattle.qg_fs_laws.specs.Keeping.{AreDirectCounts, group_after, quota_after}
+
+-- ---- of any groups
+
+none_first : (a : Option Failure) (rest : List (Option Failure)) → a ≡ None → first_failure rest ≡ None
+    → first_failure (a ∷ rest) ≡ None
+none_first a rest none later = ap (λ (o : Option Failure). first_failure (o ∷ rest)) none ∙ later
+
+same_counted : (group : ℕ) (which : Which) (stored direct : ℕ) → stored ≡ direct
+    → counted group which stored direct ≡ None
+same_counted group which stored direct is =
+    cond-true (stored == direct) None (Some (Differs group which stored direct)) (eq-eqb stored direct is)
+
+group_keeps : (layout : Layout) (hierarchy : Hierarchy) (entry : ℕ × Group)
+    → entry.1.counters ≡ direct_count layout hierarchy entry.0 → group_failure layout hierarchy entry ≡ None
+group_keeps layout hierarchy entry is =
+    let rfer = ap (λ (c : Counters). c.rfer) is in
+    let excl = ap (λ (c : Counters). c.excl) is in
+    let direct_rfer = referenced layout hierarchy entry.0 in
+    let direct_excl = exclusive layout hierarchy entry.0 in
+    let first = counted entry.0 Rfer entry.1.counters.rfer direct_rfer in
+    let second = counted entry.0 Excl entry.1.counters.excl direct_excl in
+    none_first first (second ∷ []) (same_counted entry.0 Rfer entry.1.counters.rfer direct_rfer rfer)
+    (none_first second [] (same_counted entry.0 Excl entry.1.counters.excl direct_excl excl) refl)
+
+groups_keep : (layout : Layout) (hierarchy : Hierarchy) (groups : List (ℕ × Group))
+    → ((entry : ℕ × Group) → Contains groups entry → entry.1.counters ≡ direct_count layout hierarchy entry.0)
+    → first_failure (map (group_failure layout hierarchy) groups) ≡ None
+groups_keep layout hierarchy [] each = refl
+groups_keep layout hierarchy (entry ∷ groups) each =
+    none_first (group_failure layout hierarchy entry) (map (group_failure layout hierarchy) groups)
+    (group_keeps layout hierarchy entry (each entry (contains_here entry groups)))
+    (groups_keep layout hierarchy groups (λ other has. each other (contains_later entry groups other has)))
+
+-- ---- of those of a commit
+
+keys_after : (generation : ℕ) (counters : ℕ → Counters) (groups : List (ℕ × Group))
+    → keys_of (map (group_after generation counters) groups) ≡ keys_of groups
+keys_after generation counters [] = refl
+keys_after generation counters (entry ∷ groups) =
+    ap (λ (keys : List ℕ). entry.0 ∷ keys) (keys_after generation counters groups)
+
+module _ (state : State) (generation : ℕ) (counters : ℕ → Counters) (quota : Quota)
+    (direct : AreDirectCounts state quota counters) where
+  abbrev after : Quota
+  after = quota_after generation counters quota
+
+  -- members are as they were
+  hierarchy_after : hierarchy_of after ≡ hierarchy_of quota
+  hierarchy_after =
+      λ i. record { groups = keys_after generation counters quota.groups i; pairs = quota.pairs }
+
+  each_direct : (entry : ℕ × Group) → Contains after.groups entry
+      → entry.1.counters ≡ direct_count (layout_of state) (hierarchy_of after) entry.0
+  each_direct entry has =
+      let was = from-mapped (group_after generation counters) quota.groups entry has in
+      let count : (group_after generation counters was.0).1.counters
+      ≡ direct_count (layout_of state) (hierarchy_of quota) (group_after generation counters was.0).0 =
+      direct was.0 was.1 in
+      subst (λ (e : ℕ × Group). e.1.counters ≡ direct_count (layout_of state) (hierarchy_of after) e.0) was.2
+      (count ∙ ap (λ (h : Hierarchy). direct_count (layout_of state) h was.0.0) (sym hierarchy_after))
+
+  pub counts-kept : counts_failure (layout_of state) (Some after) ≡ None
+  unfolding counts_failure
+  counts-kept = groups_keep (layout_of state) (hierarchy_of after) after.groups each_direct
+
+  pub stores : (stored : Quota) → Some after ≡ Some stored
+      → All (λ entry. entry.1.counters ≡ direct_count (layout_of state) (hierarchy_of stored) entry.0) stored.groups
+  stores stored there =
+      subst (λ (q : Quota).
+      All (λ (entry : ℕ × Group). entry.1.counters ≡ direct_count (layout_of state) (hierarchy_of q) entry.0) q.groups)
+      (same_Some after stored there)
+      (λ k d below. each_direct (get_or after.groups k d) (Contains-get_or after.groups k d below))

@@ -1,0 +1,494 @@
+-- What the items of a commit's root, extent and quota trees name: those of the extent tree the book's records, the
+-- others what its subvolumes and groups have.
+use Rattle.std.proofs.Common.{◌≡◌, ℕ, Bool, true, false, List, [], ◌∷◌, ◌++◌, map, length, Option, Some, None, refl}
+use Rattle.std.proofs.Common.{sym, ap, subst, ◌∙◌, inl, inr, arith}
+use Rattle.std.specs.Prelude.{◌&&◌, ◌||◌, ◌==◌, is_some}
+use Rattle.std.specs.List.{Contains, filter_map, flat_map, list_all, list_any}
+use Rattle.std.specs.List.Sorted.{IsPermutation}
+use Rattle.std.specs.Option.{option_map}
+use Rattle.std.proofs.lemmas.Bool.{and_parts, cases_Bool, eqb-true, true≢false}
+use Rattle.std.proofs.lemmas.List.{append-nil, length-append, length-map, map-append}
+use Rattle.std.proofs.lemmas.List.Elements.{Contains-append_cases, filter_map-append}
+use Rattle.std.proofs.lemmas.List.Folds.{list_any-append}
+use Rattle.std.proofs.lemmas.List.Sorted.{Contains-permutation, IsPermutation-append, IsPermutation-sym}
+use Rattle.std.proofs.lemmas.List.Sorted.{IsPermutation-trans}
+use Rattle.std.proofs.lemmas.Grind.{flat_map-append}
+use Rattle.qg_node.specs.declared.item.Item.{Item}
+use Rattle.qg_node.specs.declared.node.Node.{Node}
+use Rattle.qg_node.specs.Nodes.{own_items}
+use Rattle.qg_items.specs.declared.kind.TheConstants.{ROOT_ITEM}
+use Rattle.qg_items.specs.declared.quota.QgroupStatus.{QgroupStatus}
+use Rattle.qg_items.specs.declared.root.RootItem.{RootItem}
+use Rattle.qg_items.specs.declared.tree.TheConstants.{EXTENT_TREE, QUOTA_TREE}
+use Rattle.qg_super.specs.declared.sizes.Sizes.{Sizes}
+use Rattle.qg_image.specs.declared.part.ExtentPart.{ExtentPart}
+use Rattle.qg_image.specs.declared.part.ExtentPart.TheVariants.{DataRecord, NodeRecord, Referenced}
+use Rattle.qg_image.specs.declared.part.QuotaPart.{QuotaPart}
+use Rattle.qg_image.specs.ItemMeaning.{extent_part, first_some, is_keyed, quota_part, root_part, some_passes, when}
+use Rattle.qg_image.specs.Table.{keys_of}
+use Rattle.qg_state.specs.declared.quota.Group.{Group}
+use Rattle.qg_state.specs.declared.quota.Quota.{Quota}
+use Rattle.qg_state.specs.Need.{held_records, quota_records}
+use Rattle.qg_state.specs.Record.{Record, InfoOf, LimitOf, RootOf, Status, RelationOf, extent_record, quota_record}
+use Rattle.qg_state.specs.Record.{record_named, same_record}
+use Rattle.qg_state.specs.State.{Committed, State}
+use Rattle.qg_state.proofs.Contained.{contains_cases, none_contained}
+use Rattle.qg_verdict.specs.Among.{node_among}
+use Rattle.qg_verdict.specs.declared.tree.Tree.TheVariants.{Extents}
+use Rattle.qg_verdict.specs.Walk.{is_item_of}
+use Rattle.qg_contents.specs.Written.{info_part, item_of_info, item_of_limit, item_of_named, item_of_status}
+use Rattle.qg_contents.specs.Written.{items_of_quota, items_of_roots, limit_part, parts_of_quota, roots_named}
+use Rattle.qg_contents.specs.Written.{status_at}
+use Rattle.qg_check.proofs.Found.{items_below-nodes}
+use Rattle.qg_owed.proofs.Passing.{all_at}
+use Rattle.qg_space.proofs.Members.{any_same, one_passes}
+use Rattle.qg_refs.specs.declared.kept.Kept.{Kept}
+use Rattle.qg_extents.specs.Table.{IsTable}
+use Rattle.qg_extents.specs.Written.{parts_of_book}
+use Rattle.qg_weighed.specs.Laws.{IsRecorded, is_among, is_of_extents}
+use Rattle.qg_weighed.specs.Weight.{records_in}
+use Rattle.qg_weighed.proofs.Distinct.{same_record_is}
+use Rattle.qg_weighed.proofs.Named.{said-recorded}
+use Rattle.qg_tree.specs.Build.{IsBuilt}
+use Rattle.qg_fs_tree.proofs.Lists.{from-flat, from-mapped, from-some, has-flat, made-some}
+use Rattle.qg_other_trees.specs.declared.laying.OtherTrees.{OtherTrees}
+use Rattle.qg_other_trees.specs.Trees.{AreTrees, nodes_laid, root_item_laid}
+use Rattle.qg_fs_laws.specs.Keeping.{NamesOthers}
+use Rattle.qg_fs_laws.proofs.Said.{IsOfQuota, all-said, any-both, any-mapped, any-with, both_of, infos-named}
+use Rattle.qg_fs_laws.proofs.Said.{limits-named, none-said, quotas-named, roots-named}
+
+-- ---- items of the root and the quota tree
+
+root_none : (entry : ℕ × RootItem) → extent_part (item_of_named entry) ≡ None
+unfolding extent_part
+root_none entry = refl
+
+roots_say_none : (extents : RootItem) (roots : List (ℕ × RootItem)) (quotas : RootItem)
+    → filter_map extent_part (items_of_roots extents roots quotas) ≡ []
+roots_say_none extents roots quotas = none-said extent_part (items_of_roots extents roots quotas) (λ item has.
+    let entry = from-mapped item_of_named (roots_named extents roots quotas) item has in
+    ap extent_part (sym entry.2) ∙ root_none entry.0)
+
+status_of_quota : (status : QgroupStatus) → IsOfQuota (item_of_status status)
+unfolding root_part extent_part
+status_of_quota status = record { root = refl; extent = refl }
+
+info_of_quota : (entry : ℕ × Group) → IsOfQuota (item_of_info entry)
+unfolding root_part extent_part
+info_of_quota entry = record { root = refl; extent = refl }
+
+limit_of_quota : (entry : ℕ × Group) → IsOfQuota (item_of_limit entry)
+unfolding root_part extent_part
+limit_of_quota entry = record { root = refl; extent = refl }
+
+of_quota : (status : QgroupStatus) (groups : List (ℕ × Group)) (item : Item)
+    → Contains (items_of_quota status groups) item → IsOfQuota item
+of_quota status groups item has =
+    elim (contains_cases (item_of_status status) (map item_of_info groups ++ map item_of_limit groups) item has) [
+      | inl first ↦ subst (λ (i : Item). IsOfQuota i) first (status_of_quota status)
+      | inr later ↦ elim (Contains-append_cases (map item_of_info groups) (map item_of_limit groups) item later) [
+        | inl info ↦
+            let entry = from-mapped item_of_info groups item info in
+            subst (λ (i : Item). IsOfQuota i) entry.2 (info_of_quota entry.0)
+        | inr limit ↦
+            let entry = from-mapped item_of_limit groups item limit in
+            subst (λ (i : Item). IsOfQuota i) entry.2 (limit_of_quota entry.0)
+      ]
+    ]
+
+quotas_say_none : (status : QgroupStatus) (groups : List (ℕ × Group))
+    → filter_map extent_part (items_of_quota status groups) ≡ []
+quotas_say_none status groups = none-said extent_part (items_of_quota status groups)
+    (λ item has. (of_quota status groups item has).extent)
+
+-- what the root tree's items name, where each of them is read
+roots_name : (extents : RootItem) (roots : List (ℕ × RootItem)) (quotas : RootItem)
+    → filter_map root_part (items_of_roots extents roots quotas) ≡ roots_named extents roots quotas
+    → filter_map record_named (items_of_roots extents roots quotas)
+    ≡ map RootOf (keys_of (roots_named extents roots quotas))
+roots_name extents roots quotas said =
+    roots-named (items_of_roots extents roots quotas) (roots_named extents roots quotas)
+    (all-said root_part (items_of_roots extents roots quotas) (roots_named extents roots quotas)
+    (length-map (roots_named extents roots quotas) item_of_named) said)
+
+as_many : (groups : List (ℕ × Group)) → length (map item_of_info groups ++ map item_of_limit groups)
+    ≡ length (map info_part groups ++ map limit_part groups)
+as_many groups =
+    let items = length-append (map item_of_info groups) (map item_of_limit groups) in
+    let parts = length-append (map info_part groups) (map limit_part groups) in
+    let infos = length-map groups item_of_info in
+    let limits = length-map groups item_of_limit in
+    let info_parts = length-map groups info_part in
+    let limit_parts = length-map groups limit_part in
+    omega (arith, items, parts, infos, limits, info_parts, limit_parts)
+
+-- and the quota tree's
+quotas_name : (generation : ℕ) (groups : List (ℕ × Group))
+    → filter_map quota_part (items_of_quota (status_at generation) groups) ≡ parts_of_quota generation groups
+    → filter_map record_named (items_of_quota (status_at generation) groups)
+    ≡ Status ∷ (map InfoOf (keys_of groups) ++ map LimitOf (keys_of groups))
+quotas_name generation groups said =
+    let items = items_of_quota (status_at generation) groups in
+    let long : length items ≡ length (parts_of_quota generation groups) =
+    let behind = as_many groups in omega (arith, behind) in
+    quotas-named items (parts_of_quota generation groups) (of_quota (status_at generation) groups)
+    (all-said quota_part items (parts_of_quota generation groups) long said)
+    ∙ ap (λ (records : List Record). Status ∷ records)
+    (map-append quota_record (map info_part groups) (map limit_part groups)
+    ∙ (λ i. infos-named groups i ++ limits-named groups i))
+
+-- ---- what subvolumes and groups have
+
+-- what the root and the quota tree would name where these subvolumes and this quota are there
+abbrev pub names_of : List ℕ → Quota → List Record
+names_of subvolumes quota =
+    (RootOf EXTENT_TREE ∷ (map RootOf subvolumes ++ (RootOf QUOTA_TREE ∷ []))) ++ quota_records (Some quota)
+
+or_last : (a b c : Bool) → (a || (b || c)) ≡ (a || (c || (b || false)))
+or_last true b c = refl
+or_last false true true = refl
+or_last false true false = refl
+or_last false false true = refl
+or_last false false false = refl
+
+roots_alike : (extents quotas : RootItem) (roots : List (ℕ × RootItem)) (one : Record)
+    → is_among (map RootOf (keys_of (roots_named extents roots quotas))) one
+    ≡ is_among (RootOf EXTENT_TREE ∷ (map RootOf (keys_of roots) ++ (RootOf QUOTA_TREE ∷ []))) one
+roots_alike extents quotas roots one =
+    let test : ℕ → Bool = λ tree. same_record one (RootOf tree) in
+    any-mapped (same_record one) RootOf (keys_of (roots_named extents roots quotas))
+    ∙ ap (λ (b : Bool). test EXTENT_TREE || b) (any-with test QUOTA_TREE quotas roots)
+    ∙ or_last (test EXTENT_TREE) (test QUOTA_TREE) (list_any test (keys_of roots))
+    ∙ ap (λ (b : Bool). test EXTENT_TREE || (b || (test QUOTA_TREE || false)))
+    (sym (any-mapped (same_record one) RootOf (keys_of roots)))
+    ∙ ap (λ (b : Bool). test EXTENT_TREE || b)
+    (sym (list_any-append (same_record one) (map RootOf (keys_of roots)) (RootOf QUOTA_TREE ∷ [])))
+
+quotas_alike : (quota : Quota) (one : Record) → quota.pairs ≡ []
+    → is_among (Status ∷ (map InfoOf (keys_of quota.groups) ++ map LimitOf (keys_of quota.groups))) one
+    ≡ is_among (quota_records (Some quota)) one
+quotas_alike quota one alone =
+    let groups = keys_of quota.groups in
+    let related : ℕ × ℕ → List Record = λ pair. RelationOf pair.0 pair.1 ∷ RelationOf pair.1 pair.0 ∷ [] in
+    let test = same_record one in
+    ap (λ (b : Bool). test Status || b)
+    (list_any-append test (map InfoOf groups) (map LimitOf groups)
+    ∙ sym (any-both test groups)
+    ∙ ap (λ (records : List Record). list_any test records) (sym (append-nil (flat_map both_of groups)))
+    ∙ ap (λ (pairs : List (ℕ × ℕ)). list_any test (flat_map both_of groups ++ flat_map related pairs)) (sym alone))
+
+-- none of them is of the extent tree
+is_other : (records : List Record) → ((one : Record) → Contains records one → is_of_extents one ≡ false)
+    → (one : Record) → is_among records one ≡ true → is_of_extents one ≡ false
+is_other records each one among =
+    let found = one_passes (same_record one) records among in
+    ap is_of_extents (same_record_is one found.0 found.2) ∙ each found.0 found.1
+
+roots_other : (subvolumes : List ℕ) (one : Record)
+    → Contains (RootOf EXTENT_TREE ∷ (map RootOf subvolumes ++ (RootOf QUOTA_TREE ∷ []))) one
+    → is_of_extents one ≡ false
+roots_other subvolumes one has =
+    elim (contains_cases (RootOf EXTENT_TREE) (map RootOf subvolumes ++ (RootOf QUOTA_TREE ∷ [])) one has) [
+      | inl first ↦ ap is_of_extents (sym first)
+      | inr later ↦ elim (Contains-append_cases (map RootOf subvolumes) (RootOf QUOTA_TREE ∷ []) one later) [
+        | inl own ↦
+            let tree = from-mapped RootOf subvolumes one own in
+            ap is_of_extents (sym tree.2)
+        | inr last ↦ elim (contains_cases (RootOf QUOTA_TREE) [] one last) [
+          | inl same ↦ ap is_of_extents (sym same)
+          | inr none ↦ absurd (none_contained one none)
+        ]
+      ]
+    ]
+
+groups_other : (groups : List ℕ) (one : Record) → Contains (flat_map both_of groups) one → is_of_extents one ≡ false
+groups_other groups one has =
+    let group = from-flat both_of groups one has in
+    elim (contains_cases (InfoOf group.0) (LimitOf group.0 ∷ []) one group.2) [
+      | inl info ↦ ap is_of_extents (sym info)
+      | inr later ↦ elim (contains_cases (LimitOf group.0) [] one later) [
+        | inl limit ↦ ap is_of_extents (sym limit)
+        | inr none ↦ absurd (none_contained one none)
+      ]
+    ]
+
+pairs_other : (pairs : List (ℕ × ℕ)) (one : Record)
+    → Contains (flat_map (λ (pair : ℕ × ℕ). RelationOf pair.0 pair.1 ∷ RelationOf pair.1 pair.0 ∷ []) pairs) one
+    → is_of_extents one ≡ false
+pairs_other pairs one has =
+    let pair = from-flat (λ (pair : ℕ × ℕ). RelationOf pair.0 pair.1 ∷ RelationOf pair.1 pair.0 ∷ []) pairs one has in
+    elim (contains_cases (RelationOf pair.0.0 pair.0.1) (RelationOf pair.0.1 pair.0.0 ∷ []) one pair.2) [
+      | inl info ↦ ap is_of_extents (sym info)
+      | inr later ↦ elim (contains_cases (RelationOf pair.0.1 pair.0.0) [] one later) [
+        | inl limit ↦ ap is_of_extents (sym limit)
+        | inr none ↦ absurd (none_contained one none)
+      ]
+    ]
+
+quotas_other : (quota : Quota) (one : Record) → Contains (quota_records (Some quota)) one → is_of_extents one ≡ false
+quotas_other quota one has =
+    let related : List Record =
+    flat_map (λ (pair : ℕ × ℕ). RelationOf pair.0 pair.1 ∷ RelationOf pair.1 pair.0 ∷ []) quota.pairs in
+    elim (contains_cases Status (flat_map both_of (keys_of quota.groups) ++ related) one has) [
+      | inl first ↦ ap is_of_extents (sym first)
+      | inr later ↦ elim (Contains-append_cases (flat_map both_of (keys_of quota.groups)) related one later) [
+        | inl own ↦ groups_other (keys_of quota.groups) one own
+        | inr pair ↦ pairs_other quota.pairs one pair
+      ]
+    ]
+
+names_other : (subvolumes : List ℕ) (quota : Quota) (one : Record) → Contains (names_of subvolumes quota) one
+    → is_of_extents one ≡ false
+names_other subvolumes quota one has =
+    elim (Contains-append_cases (RootOf EXTENT_TREE ∷ (map RootOf subvolumes ++ (RootOf QUOTA_TREE ∷ [])))
+    (quota_records (Some quota)) one has) [
+      | inl root ↦ roots_other subvolumes one root
+      | inr group ↦ quotas_other quota one group
+    ]
+
+-- ---- items of the extent tree
+
+when_some : {A : Type 0} (test : Bool) (given : Option A) → is_some (when test given) ≡ true → test ≡ true
+when_some true given some = refl
+when_some false given some = some
+
+-- an item of the root tree is none of the extent tree
+none_of_extents : (item : Item) → is_some (root_part item) ≡ true → extent_part item ≡ None
+unfolding root_part extent_part
+none_of_extents item some =
+    let test = and_parts (is_keyed item.key.objectid ROOT_ITEM 0 item) _ (when_some _ _ some) in
+    let keyed = and_parts ((item.key.objectid == item.key.objectid) && (item.key.kind == ROOT_ITEM))
+    (item.key.offset == 0) test.0 in
+    let kind = and_parts (item.key.objectid == item.key.objectid) (item.key.kind == ROOT_ITEM) keyed.0 in
+    let is : item.key.kind ≡ ROOT_ITEM = eqb-true item.key.kind ROOT_ITEM kind.1 in
+    rw is refl
+
+part_of_extents : (said : ExtentPart) → is_of_extents (extent_record said) ≡ true
+part_of_extents (DataRecord address bytes extent) = refl
+part_of_extents (NodeRecord address level extent) = refl
+part_of_extents (Referenced address reference count) = refl
+
+some_is : (a b : Record) → Some a ≡ Some b → b ≡ a
+some_is a b is = cc
+
+named_by : (root : Option (ℕ × RootItem)) (extent : Option ExtentPart) (quota : Option QuotaPart) (one : Record)
+    → (is_some root ≡ true → extent ≡ None) → is_some extent ≡ true
+    → first_some (option_map (λ (entry : ℕ × RootItem). RootOf entry.0) root ∷ option_map extent_record extent
+    ∷ option_map quota_record quota ∷ []) ≡ Some one → is_of_extents one ≡ true
+named_by (Some entry) None quota one apart some is = absurd (true≢false (sym some))
+named_by (Some entry) (Some said) quota one apart some is = let wrong : Some said ≡ None = apart refl in absurd cc
+named_by None None quota one apart some is = absurd (true≢false (sym some))
+named_by None (Some said) quota one apart some is =
+    ap is_of_extents (some_is (extent_record said) one is) ∙ part_of_extents said
+
+said_some : (test : ExtentPart → Bool) (o : Option ExtentPart) → some_passes test o ≡ true → is_some o ≡ true
+said_some test None passes = passes
+said_some test (Some said) passes = refl
+
+-- each item that the extent tree may hold says something
+may_say : (generation : ℕ) (item : Item) → is_item_of Extents generation item ≡ true
+    → is_some (extent_part item) ≡ true
+unfolding is_item_of
+may_say generation item may = said_some _ (extent_part item) may
+
+extents_name : (generation : ℕ) (items : List Item) (item : Item) (one : Record)
+    → list_all (is_item_of Extents generation) items ≡ true → Contains items item → record_named item ≡ Some one
+    → is_of_extents one ≡ true
+unfolding record_named
+extents_name generation items item one allowed has is =
+    named_by (root_part item) (extent_part item) (quota_part item) one (none_of_extents item)
+    (may_say generation item (all_at (is_item_of Extents generation) items item allowed has)) is
+
+-- ---- nodes in another order
+
+abbrev records_of : List Node → List Record
+records_of nodes = filter_map record_named (flat_map own_items nodes)
+
+records_into : (nodes others : List Node) → ((node : Node) → Contains nodes node → Contains others node)
+    → (one : Record) → Contains (records_of nodes) one → Contains (records_of others) one
+records_into nodes others among one has =
+    let item = from-some record_named (flat_map own_items nodes) one has in
+    let node = from-flat own_items nodes item.0 item.1 in
+    made-some record_named (flat_map own_items others) item.0 one
+    (has-flat own_items others node.0 item.0 (among node.0 node.1) node.2) item.2
+
+records_alike : (nodes others : List Node) → IsPermutation nodes others → (one : Record)
+    → is_among (records_of nodes) one ≡ is_among (records_of others) one
+records_alike nodes others moved one =
+    any_same (same_record one) (records_of nodes) (records_of others)
+    (λ other. (
+      records_into nodes others (λ node has. Contains-permutation nodes others node moved has) other,
+      records_into others nodes
+          (λ node has. Contains-permutation others nodes node (IsPermutation-sym nodes others moved) has) other,
+    ))
+
+-- ---- the three trees
+
+-- the nodes of a tree, in the order of its walk, have its items
+in_order : (nodesize owner generation : ℕ) (items : List Item) (slots : List ℕ) (nodes : List Node) (root level : ℕ)
+    → (built : IsBuilt nodesize owner generation items slots nodes root level)
+    → flat_map own_items built.reached.those ≡ items
+in_order nodesize owner generation items slots nodes root level built =
+    sym (items_below-nodes (node_among nodes) level root items built.reached.those built.held built.reached.under)
+
+or_without : (a b c : Bool) → b ≡ false → ((a || b) || c) ≡ (a || c)
+or_without true b c none = refl
+or_without false true c none = absurd (true≢false none)
+or_without false false c none = refl
+
+module _ (sizes : Sizes) (generation : ℕ) (roots : List (ℕ × RootItem)) (book : List (ℕ × Kept)) (quota : Quota)
+    (slots : List ℕ) (trees : OtherTrees) (are : AreTrees sizes generation roots book quota slots trees)
+    (others : List Node) (moved : IsPermutation others (nodes_laid trees)) where
+  abbrev roots_walked : List Node
+  roots_walked = are.root_tree.stands.reached.those
+
+  abbrev extents_walked : List Node
+  extents_walked = are.extent_tree.stands.reached.those
+
+  abbrev quotas_walked : List Node
+  quotas_walked = are.quota_tree.stands.reached.those
+
+  abbrev walked : List Node
+  walked = roots_walked ++ extents_walked ++ quotas_walked
+
+  walked_laid : IsPermutation walked (nodes_laid trees)
+  walked_laid =
+      IsPermutation-append (roots_walked ++ extents_walked) (trees.roots.nodes ++ trees.extents.nodes) quotas_walked
+      trees.quotas.nodes
+      (IsPermutation-append roots_walked trees.roots.nodes extents_walked trees.extents.nodes
+      are.root_tree.stands.reached.same are.extent_tree.stands.reached.same)
+      are.quota_tree.stands.reached.same
+
+  others_walked : IsPermutation others walked
+  others_walked = IsPermutation-trans others (nodes_laid trees) walked moved
+      (IsPermutation-sym walked (nodes_laid trees) walked_laid)
+
+  abbrev all_items : List Item
+  all_items = are.root_tree.items ++ are.extent_tree.items ++ are.quota_tree.items
+
+  items_walked : flat_map own_items walked ≡ all_items
+  items_walked =
+      let of_roots = in_order _ _ _ are.root_tree.items _ trees.roots.nodes trees.roots.root trees.roots.level
+      are.root_tree.stands in
+      let of_extents = in_order _ _ _ are.extent_tree.items _ trees.extents.nodes trees.extents.root trees.extents.level
+      are.extent_tree.stands in
+      let of_quotas = in_order _ _ _ are.quota_tree.items _ trees.quotas.nodes trees.quotas.root trees.quotas.level
+      are.quota_tree.stands in
+      flat_map-append own_items (roots_walked ++ extents_walked) quotas_walked
+      ∙ ap (λ (items : List Item). items ++ flat_map own_items quotas_walked)
+      (flat_map-append own_items roots_walked extents_walked)
+      ∙ (λ i. of_roots i ++ of_extents i ++ of_quotas i)
+
+  roots_say : filter_map extent_part are.root_tree.items ≡ []
+  roots_say = ap (filter_map extent_part) are.root_tree.told.written ∙ roots_say_none _ roots _
+
+  quotas_say : filter_map extent_part are.quota_tree.items ≡ []
+  quotas_say =
+      ap (filter_map extent_part) are.quota_tree.told.written ∙ quotas_say_none (status_at generation) quota.groups
+
+  all_say : filter_map extent_part (flat_map own_items walked) ≡ parts_of_book book
+  all_say =
+      ap (filter_map extent_part) items_walked
+      ∙ filter_map-append extent_part (are.root_tree.items ++ are.extent_tree.items) are.quota_tree.items
+      ∙ ap (λ (parts : List ExtentPart). parts ++ filter_map extent_part are.quota_tree.items)
+      (filter_map-append extent_part are.root_tree.items are.extent_tree.items)
+      ∙ (λ i. roots_say i ++ are.extent_tree.told.told i ++ quotas_say i)
+      ∙ append-nil (parts_of_book book)
+
+  -- ---- what the last commit records
+
+  records_same : (one : Record) → is_among (records_of others) one ≡ is_among (records_of walked) one
+  records_same = records_alike others walked others_walked
+
+  module _ (state : State) (table : IsTable book) where
+    abbrev in_walk : State
+    in_walk = record state { held = record { nodes = []; others = walked; extents = [] } }
+
+    walk_recorded : IsRecorded in_walk book
+    walk_recorded = said-recorded in_walk book table all_say
+
+    walk_held : (one : Record) → is_of_extents one ≡ true
+        → is_among (records_of walked) one ≡ is_among (records_in book) one
+    unfolding held_records
+    walk_held one extents = walk_recorded.same one extents
+
+  pub same-recorded : (state : State) → IsTable book → state.held.others ≡ others → IsRecorded state book
+  unfolding held_records
+  same-recorded state table is = record {
+    kept = table;
+    same = λ one extents.
+        ap (λ (nodes : List Node). is_among (records_of nodes) one) is ∙ records_same one
+        ∙ walk_held state table one extents;
+  }
+
+  -- ---- and what its other items name
+
+  abbrev extents_root : RootItem
+  extents_root = root_item_laid trees.extents generation
+
+  abbrev quotas_root : RootItem
+  quotas_root = root_item_laid trees.quotas generation
+
+  root_records_are : filter_map record_named are.root_tree.items
+      ≡ map RootOf (keys_of (roots_named extents_root roots quotas_root))
+  root_records_are =
+      ap (filter_map record_named) are.root_tree.told.written
+      ∙ roots_name extents_root roots quotas_root
+      (ap (filter_map root_part) (sym are.root_tree.told.written) ∙ are.root_tree.told.told)
+
+  quota_records_are : filter_map record_named are.quota_tree.items
+      ≡ Status ∷ (map InfoOf (keys_of quota.groups) ++ map LimitOf (keys_of quota.groups))
+  quota_records_are =
+      ap (filter_map record_named) are.quota_tree.told.written
+      ∙ quotas_name generation quota.groups
+      (ap (filter_map quota_part) (sym are.quota_tree.told.written) ∙ are.quota_tree.told.told)
+
+  extents_apart : (one : Record) → is_of_extents one ≡ false
+      → is_among (filter_map record_named are.extent_tree.items) one ≡ false
+  extents_apart one other = elim (cases_Bool (is_among (filter_map record_named are.extent_tree.items) one)) [
+    | inl among ↦
+        let found = one_passes (same_record one) (filter_map record_named are.extent_tree.items) among in
+        let item = from-some record_named are.extent_tree.items found.0 found.1 in
+        let extents = extents_name generation are.extent_tree.items item.0 found.0 are.extent_tree.allowed item.1
+        item.2 in
+        absurd (true≢false (sym extents ∙ ap is_of_extents (sym (same_record_is one found.0 found.2)) ∙ other))
+    | inr none ↦ none
+  ]
+
+  walk_parts : records_of walked
+      ≡ (filter_map record_named are.root_tree.items ++ filter_map record_named are.extent_tree.items)
+      ++ filter_map record_named are.quota_tree.items
+  walk_parts =
+      ap (filter_map record_named) items_walked
+      ∙ filter_map-append record_named (are.root_tree.items ++ are.extent_tree.items) are.quota_tree.items
+      ∙ ap (λ (records : List Record). records ++ filter_map record_named are.quota_tree.items)
+      (filter_map-append record_named are.root_tree.items are.extent_tree.items)
+
+  -- what is none of the extent tree's is among what subvolumes and groups have
+  walk_names : (one : Record) → is_of_extents one ≡ false → quota.pairs ≡ []
+      → is_among (records_of walked) one ≡ is_among (names_of (keys_of roots) quota) one
+  walk_names one other alone =
+      let test = same_record one in
+      let of_roots = filter_map record_named are.root_tree.items in
+      let of_extents = filter_map record_named are.extent_tree.items in
+      let of_quotas = filter_map record_named are.quota_tree.items in
+      let own = RootOf EXTENT_TREE ∷ (map RootOf (keys_of roots) ++ (RootOf QUOTA_TREE ∷ [])) in
+      ap (λ (records : List Record). list_any test records) walk_parts
+      ∙ list_any-append test (of_roots ++ of_extents) of_quotas
+      ∙ ap (λ (b : Bool). b || list_any test of_quotas) (list_any-append test of_roots of_extents)
+      ∙ or_without (list_any test of_roots) (list_any test of_extents) (list_any test of_quotas)
+      (extents_apart one other)
+      ∙ (λ i. list_any test (root_records_are i) || list_any test (quota_records_are i))
+      ∙ (λ i. roots_alike extents_root quotas_root roots one i || quotas_alike quota one alone i)
+      ∙ sym (list_any-append test own (quota_records (Some quota)))
+
+  pub names-others : (held : Committed) (subvolumes : List ℕ) → held.others ≡ others → keys_of roots ≡ subvolumes
+      → NamesOthers held (names_of subvolumes quota)
+  unfolding held_records
+  names-others held subvolumes is numbers = record {
+    others = is_other (names_of subvolumes quota) (names_other subvolumes quota);
+    same = λ one other.
+        ap (λ (nodes : List Node). is_among (records_of nodes) one) is ∙ records_same one
+        ∙ walk_names one other are.groups.alone
+        ∙ ap (λ (ns : List ℕ). is_among (names_of ns quota) one) numbers;
+  }

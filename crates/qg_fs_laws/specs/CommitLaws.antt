@@ -1,0 +1,67 @@
+-- Laws on a commit of subvolumes' trees that are kept of a state (this project's own). Addresses and lengths are in
+-- bytes.
+use Rattle.std.specs.Prelude.{◌≡◌, ℕ, List, map, Option, Some, None}
+use Rattle.std.specs.List.{flat_map}
+use Rattle.qg_device.specs.History.{Event}
+use Rattle.qg_num.specs.declared.counters.Counters.{Counters}
+use Rattle.qg_node.specs.declared.node.Node.{Node}
+use Rattle.qg_node.specs.Nodes.{header_of}
+use Rattle.qg_items.specs.declared.root.RootItem.{RootItem}
+use Rattle.qg_super.specs.declared.sizes.Sizes.{Sizes}
+use Rattle.qg_image.specs.declared.file.File.{File}
+use Rattle.qg_state.specs.declared.quota.Quota.{Quota}
+use Rattle.qg_state.specs.Space.{present_extents}
+use Rattle.qg_state.specs.State.{State, Subvolume}
+use Rattle.qg_verdict.specs.Verdict.{extent_set, space_failure}
+use Rattle.qg_contents.specs.Written.{items_of_file}
+use Rattle.qg_space.specs.Holding.{Holding}
+use Rattle.qg_exchange.specs.Named.{named}
+use Rattle.qg_fs_tree.specs.declared.fs_tree.FsTree.{FsTree}
+use Rattle.qg_standing.specs.Committing.{IsCommitted, StandsStill}
+use Rattle.qg_other_trees.specs.declared.laying.OtherTrees.{OtherTrees}
+use Rattle.qg_other_trees.specs.Sound.{committed}
+use Rattle.qg_other_trees.specs.Telling.{AreToldBy}
+use Rattle.qg_other_trees.specs.Trees.{nodes_laid}
+use Rattle.qg_fs_laws.specs.Keeping.{KeepsState, LieApart, quota_after}
+use Rattle.qg_fs_laws.specs.Committing.{AreShort, IsInOrder, IsShort, IsSoundCommit, KeepsCommit, LaysTree}
+use Rattle.qg_fs_laws.specs.Committing.{LeavesShort}
+
+-- once the calls of such a commit were made, the image is sound, and stands for the state that the commit leaves
+abbrev pub TreeCommitIsSound : Type 0
+TreeCommitIsSound = (fs : FsTree) (events : List Event) (bytes : ℕ) (state : State) (mine : Subvolume)
+    (files : List (ℕ × File)) (roots : List (ℕ × RootItem)) (quota : Quota) (counters : ℕ → Counters)
+    (slots : List ℕ) (trees : OtherTrees)
+    → LaysTree fs events bytes state mine files roots quota counters slots trees
+    → IsSoundCommit fs events state (quota_after fs.tree.next counters quota) slots trees
+
+-- and where the trees were made those of the next generation, and stand still, they are kept of that state
+abbrev pub TreeCommitIsKept : Type 0
+TreeCommitIsKept = (old new : FsTree) (events later : List Event) (bytes : ℕ) (state : State) (mine : Subvolume)
+    (files : List (ℕ × File)) (roots : List (ℕ × RootItem)) (quota : Quota) (counters : ℕ → Counters)
+    (slots : List ℕ) (trees : OtherTrees) (others : List Node)
+    → LaysTree old events bytes state mine files roots quota counters slots trees
+    → AreToldBy (committed others state (quota_after old.tree.next counters quota)) slots trees others
+    → IsCommitted old new (map (λ node. (header_of node).address) (nodes_laid trees))
+    → StandsStill old new (Some events) (Some later) (flat_map items_of_file files) (named files)
+    → KeepsCommit new (Some later) (committed others state (quota_after old.tree.next counters quota)) mine files
+
+-- where nothing was done but that nodes were read, or a disk was written elsewhere, trees that stand still are kept of
+-- the same state
+abbrev pub TreeIsKeptStill : Type 0
+TreeIsKeptStill = (old new : FsTree) (before after : Option (List Event)) (state : State) (mine : Subvolume)
+    (files : List (ℕ × File)) → new.tree ≡ old.tree → new.others ≡ old.others → new.land.space ≡ old.land.space
+    → StandsStill old new before after (flat_map items_of_file files) (named files)
+    → KeepsState old before state mine files → KeepsState new after state mine files
+
+-- no two runs of a space in order begin at one address
+abbrev pub RunsLieApart : Type 0
+RunsLieApart = (space : Holding) → IsInOrder space → LieApart space.runs
+
+-- extents that files name are no longer than the longest where those of a state keep the rule `space`
+abbrev pub SpacedAreShort : Type 0
+SpacedAreShort = (sizes : Sizes) (state : State)
+    → space_failure sizes (extent_set (present_extents state)) ≡ None → IsShort state
+
+-- and file commands leave them so
+abbrev pub ShortAreLeft : Type 0
+ShortAreLeft = (generation : ℕ) (files : List (ℕ × File)) → AreShort files → LeavesShort generation files

@@ -1,5 +1,0 @@
-use Rattle.qg_fs_step.proofs.Commit.{commit-of-machine}
-use Rattle.qg_fs_step.proofs.laws.commit_is_one_of_the_machine.Goals as goal
-
-pub returns : goal.returns
-returns c = record { commits = commit-of-machine }

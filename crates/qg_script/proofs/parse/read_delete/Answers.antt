@@ -1,0 +1,15 @@
+use Rattle.qg_script.proofs.Rows.{reads_none, sub_at, only_delete, delete_read}
+use Rattle.qg_script.proofs.parse.read_delete.Goals as goal
+
+pub returns-in_err-sub : goal.returns-in_err-sub
+returns-in_err-sub c =
+    reads_none c.from_residual.result c.from_residual.ensures
+    (only_delete (λ command. ⊥) c.args.rest.now (λ sub is are. c.in_err-sub.ensures.none _ are))
+
+pub returns-in_err-sub-2 : goal.returns-in_err-sub-2
+returns-in_err-sub-2 c =
+    reads_none c.from_residual-in_err-sub-2.result c.from_residual-in_err-sub-2.ensures
+    (only_delete (λ command. ⊥) c.args.rest.now (λ sub is are. c.in_err-sub-2.ensures (sub_at c.in_ok-sub.ensures.found are is)))
+
+pub returns : goal.returns
+returns c = record { command = delete_read c.in_ok-sub.ensures.found c.in_ok-sub-2.ensures; none = tt }

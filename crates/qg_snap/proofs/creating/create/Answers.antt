@@ -1,0 +1,129 @@
+use Rattle.std.proofs.Common.{◌≡◌, ℕ, List, [], Option, Some, None, arith, sym, subst, ◌∙◌}
+use Rattle.qg_device.specs.History.{Event}
+use Rattle.qg_ground.specs.Land.{IsDrafted, Rests}
+use Rattle.qg_ground.specs.Tellings.Telling.{Made}
+use Rattle.qg_extents.specs.Table.{IsTable}
+use Rattle.qg_heavier.proofs.Told.{BookGetsHeavier-step, fits-step}
+use Rattle.qg_tree_refs.specs.Settled.{IsSettled}
+use Rattle.qg_tree_refs.proofs.Stepping.{Follows-none}
+use Rattle.qg_snap.proofs.Begun.{Calls, created-then, leaf-dated, leaf-low, leaf-made}
+use Rattle.qg_snap.proofs.Given.{step-one}
+use Rattle.qg_snap.proofs.Knowing.{goes-made}
+use Rattle.qg_snap.proofs.Putting.{fits-made}
+use Rattle.qg_snap.proofs.creating.create.Goals as goal
+
+pub make_node-requires-clause-drafted : goal.make_node-requires-clause-drafted
+make_node-requires-clause-drafted g c =
+    subst (λ (generation : ℕ). IsDrafted c.args.land.now generation)
+    (sym (leaf-dated c.empty_leaf-node.result c.args.next c.args.sub 0 c.empty_leaf-node.ensures.leaf))
+    c.requires.editable.drafted
+
+pub make_node-requires-clause-sound : goal.make_node-requires-clause-sound
+make_node-requires-clause-sound g c =
+    leaf-made c.args.land.now c.empty_leaf-node.result c.args.next c.args.sub 0 c.requires.editable.drafted.sizes
+    c.empty_leaf-node.ensures.leaf
+
+pub returns-in_err-now-clause-rests : goal.returns-in_err-now-clause-rests
+returns-in_err-now-clause-rests g c = record {
+  rests = subst
+      (λ (generation : ℕ). Rests c.args.land.now c.make_node.new.land (g.D.Disk.history c.make_node.new.disk) generation)
+      (leaf-dated c.empty_leaf-node.result c.args.next c.args.sub 0 c.empty_leaf-node.ensures.leaf)
+      c.make_node.ensures.rests;
+  history = c.make_node.ensures.disk.0;
+  size = c.make_node.ensures.disk.1;
+}
+
+pub returns-in_err-now-clause-reads : goal.returns-in_err-now-clause-reads
+returns-in_err-now-clause-reads g c = c.make_node.ensures.reads 1 (λ q. omega arith)
+
+pub returns-in-Some-clause-sound : goal.returns-in-Some-clause-sound
+returns-in-Some-clause-sound g c state events told_is holds unused =
+    let book = c.args.book.now in
+    let made = c.make_node.new.book in
+    let now = c.in_ok-now.now in
+    let first : IsTable book.refs = subst IsTable c.refs.ensures c.len-ascending.ensures.table in
+    let step = step-one book made (Made now) (c.in_ok-now.ensures.told book [] (Follows-none book)) in
+    let fits = fits-made state now c.args.land.now (g.D.Disk.history c.args.disk.now) book holds
+    c.in_ok-now.ensures.made.puts.free made first step in
+    let wrong : ◌≡◌ {A = Option ℕ} None (Some c.in-Some.address) = sym fits ∙ sym c.misfit.ensures ∙ c.in-Some.is in
+    absurd cc
+
+pub returns-in-Some-clause-rests : goal.returns-in-Some-clause-rests
+returns-in-Some-clause-rests g c = record {
+  rests = subst
+      (λ (generation : ℕ). Rests c.args.land.now c.make_node.new.land (g.D.Disk.history c.make_node.new.disk) generation)
+      (leaf-dated c.empty_leaf-node.result c.args.next c.args.sub 0 c.empty_leaf-node.ensures.leaf)
+      c.make_node.ensures.rests;
+  history = c.make_node.ensures.disk.0;
+  size = c.make_node.ensures.disk.1;
+}
+
+pub returns-in-Some-clause-reads : goal.returns-in-Some-clause-reads
+returns-in-Some-clause-reads g c = c.make_node.ensures.reads 1 (λ q. omega arith)
+
+pub returns-clause-created : goal.returns-clause-created
+returns-clause-created g c state holds unused =
+    let land = c.args.land.now in
+    let new = c.make_node.new.land in
+    let history = g.D.Disk.history c.args.disk.now in
+    let book = c.args.book.now in
+    let made = c.make_node.new.book in
+    let now = c.in_ok-now.now in
+    let leaf = c.empty_leaf-node.result in
+    let empty = c.empty_leaf-node.ensures.leaf in
+    let rests = c.make_node.ensures.rests in
+    let later : g.D.Disk.history c.make_node.new.disk ≡ history = c.make_node.ensures.disk.0 in
+    let fits : made.misfit ≡ None = sym c.misfit.ensures ∙ c.in_default.is in
+    let calls : Calls land new history book made c.args.sub c.args.next now = record {
+      tree = c.requires.book;
+      to_come = sym c.requires.next;
+      first = subst IsTable c.refs.ensures c.len-ascending.ensures.table;
+      leaf = leaf;
+      empty = empty;
+      makes = c.in_ok-now.ensures.made;
+      step = step-one book made (Made now) (c.in_ok-now.ensures.told book [] (Follows-none book));
+      fits = fits;
+      settled = λ none settled. subst (λ (h : Option (List Event)). IsSettled made new h) later
+          (c.in_ok-now.ensures.settled (λ before. settled) fits);
+      sizes = rests.sizes;
+      runs = rests.runs;
+      held_slots = rests.held_slots;
+      held_runs = rests.held_runs;
+      dated = leaf-low leaf c.args.next c.args.sub 0 empty c.empty_leaf-node.ensures.fits;
+    } in
+    created-then state c.args.sub c.args.next now land history book holds unused c.requires.editable.drafted.sizes
+    c.in_ok-now.ensures.made.puts.free new made c.requires.number calls (g.D.Disk.history c.make_node.new.disk) later
+    c.at.result c.at.ensures
+
+pub returns-clause-book : goal.returns-clause-book
+returns-clause-book g c =
+    let book = c.args.book.now in
+    let made = c.make_node.new.book in
+    let now = c.in_ok-now.now in
+    let step = step-one book made (Made now) (c.in_ok-now.ensures.told book [] (Follows-none book)) in
+    let fits : made.misfit ≡ None = sym c.misfit.ensures ∙ c.in_default.is in
+    goes-made book made now step (fits-step book made (Made now) step fits).1
+
+pub returns-clause-heavier : goal.returns-clause-heavier
+returns-clause-heavier g c =
+    let book = c.args.book.now in
+    let made = c.make_node.new.book in
+    let now = c.in_ok-now.now in
+    let step = step-one book made (Made now) (c.in_ok-now.ensures.told book [] (Follows-none book)) in
+    let fits : made.misfit ≡ None = sym c.misfit.ensures ∙ c.in_default.is in
+    BookGetsHeavier-step book made (Made now) step (subst IsTable c.refs.ensures c.len-ascending.ensures.table)
+    (subst IsTable c.refs-2.ensures c.len-ascending_still.ensures.table)
+    (fits-step book made (Made now) step fits).1
+
+pub returns-clause-rests : goal.returns-clause-rests
+returns-clause-rests g c = record {
+  rests = subst
+      (λ (generation : ℕ). Rests c.args.land.now c.make_node.new.land (g.D.Disk.history c.make_node.new.disk) generation)
+      (leaf-dated c.empty_leaf-node.result c.args.next c.args.sub 0 c.empty_leaf-node.ensures.leaf)
+      c.make_node.ensures.rests;
+  history = c.make_node.ensures.disk.0;
+  size = c.make_node.ensures.disk.1;
+}
+
+pub returns-clause-reads : goal.returns-clause-reads
+returns-clause-reads g c = c.make_node.ensures.reads 1 (λ q. omega arith)

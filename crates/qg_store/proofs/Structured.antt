@@ -1,0 +1,209 @@
+-- What a structural command does: what was pending is committed, then its change, and that is committed.
+use Rattle.std.proofs.Common.{◌≡◌, ℕ, ◌+◌, ◌^◌, ◌<◌, ◌≤◌, Bool, true, false, List, [], ◌∷◌, ◌++◌, Option, Some, None, arith, refl, sym, ap, subst, ◌∙◌, inl, inr}
+use Rattle.std.specs.Prelude.{◌⊎◌, MatchBool, MatchOption}
+use Rattle.qg_device.specs.History.{Event}
+use Rattle.qg_num.specs.declared.answer.Answer.{Answer}
+use Rattle.qg_num.specs.declared.answer.Answer.TheVariants.{Refused}
+use Rattle.qg_num.specs.declared.command.Command.{Command}
+use Rattle.qg_num.specs.declared.command.Command.TheVariants.{Delete, Snap, SubCreate}
+use Rattle.qg_num.specs.declared.refusal.Refusal.{Refusal}
+use Rattle.qg_super.specs.declared.superblock.Super.{Super}
+use Rattle.qg_state.specs.State.{Committed, State}
+use Rattle.qg_machine.specs.Refusals.{is_pending, nodes_reached, refusal}
+use Rattle.qg_machine.specs.Step.{Changes, Commits, CommitsPending, DoesStructural}
+use Rattle.qg_machine.specs.Step as machine
+use Rattle.qg_commit.specs.Calls.{with_commit}
+use Rattle.qg_store.specs.declared.kept.Kept.{Kept}
+use Rattle.qg_store.specs.Answering.{AnswersOn, IsDoneSoFar, comes_to_disk, is_structural}
+use Rattle.qg_store.specs.Keeping.{IsKeptOf}
+use Rattle.qg_store.specs.Making.{MadeFirst, Makes, StartsCommit, StartsSecond}
+use Rattle.qg_store.specs.Planning.{CommitsOn, StartsCommitOf}
+use Rattle.qg_store.specs.Stored.{KnowsLast}
+use Rattle.qg_store.specs.Structural.{HasCommitted, IsChanged, IsDoneFirst, IsSettledFrom}
+use Rattle.qg_store.proofs.Synced.{Makes-append, held_after}
+
+-- ---- what is held meanwhile
+
+-- what the first commit, if there was one, left is held
+held_by : (old : State) (earlier : List State) (before : State) (b : Bool)
+    → MatchBool b (Commits old before × (earlier ≡ before ∷ [])) ((before ≡ old) × (earlier ≡ []))
+    → held_after old.held earlier ≡ before.held
+held_by old earlier before true done = ap (held_after old.held) done.1
+held_by old earlier before false done =
+    ap (held_after old.held) done.1 ∙ sym (ap (λ (s : State). s.held) done.0)
+
+pub held-first : (old : State) (earlier : List State) (before : State) → CommitsPending old earlier before
+    → held_after old.held earlier ≡ before.held
+held-first old earlier before done = held_by old earlier before (is_pending old) done
+
+-- a change leaves it
+pub held-created : (before changed : State) (reply : Answer) → Changes before SubCreate reply changed
+    → changed.held ≡ before.held
+held-created before changed reply changes = ap (λ (s : State). s.held) changes.1.created
+
+pub held-snapped : (before changed : State) (sub : ℕ) (reply : Answer) → Changes before (Snap sub []) reply changed
+    → changed.held ≡ before.held
+held-snapped before changed sub reply changes = ap (λ (s : State). s.held) changes.1.copied
+
+pub held-deleted : (before changed : State) (sub : ℕ) (reply : Answer) → Changes before (Delete sub) reply changed
+    → changed.held ≡ before.held
+held-deleted before changed sub reply changes = ap (λ (s : State). s.held) changes.1
+
+-- ---- the first commit
+
+-- it was made, and no more was done
+pub made-first : (state : State) (mid : Kept) (events : List Event) (between history : Option (List Event))
+    → HasCommitted state mid events between → history ≡ between → MadeFirst state events history
+made-first state mid events between history first same = record {
+  before = first.before;
+  earlier = first.earlier;
+  first = first.first;
+  between = first.between;
+  told = same ∙ first.told;
+  made = first.made;
+}
+
+-- its calls came so far, and no more was done
+pub so-far-first : (state : State) (given : Command) (events : List Event) (between history : Option (List Event))
+    → comes_to_disk given ≡ true → refusal state given ≡ None → history ≡ between → IsDoneFirst state events between
+    → IsDoneSoFar state given events history
+so-far-first state given events between history comes unrefused same done = elim done [
+  | inl nothing ↦ inl (same ∙ nothing)
+  | inr began ↦ inr (record {
+    comes = comes;
+    unrefused = unrefused;
+    calls = inl (subst (λ (h : Option (List Event)). StartsCommit state events h) (sym same) began);
+  })
+]
+
+-- ---- all of it
+
+module _ (state : State) (given : Command) (reply : Answer) (mid new last : Kept) (events : List Event)
+    (between after : Option (List Event)) (first : HasCommitted state mid events between)
+    (change : IsChanged first.before given reply new after) (same : after ≡ between)
+    (held : change.changed.held ≡ first.before.held) where
+  told : after ≡ Some first.between
+  told = same ∙ first.told
+
+  held-now : held_after state.held first.earlier ≡ change.changed.held
+  held-now = held-first state first.earlier first.before first.first ∙ sym held
+
+  module _ (history : Option (List Event)) (second : CommitsOn change.changed last first.between history) where
+    abbrev commits : List State
+    commits = first.earlier ++ second.new ∷ []
+
+    made : Makes state.held commits events (with_commit second.super second.nodes first.between)
+    made = Makes-append state.held first.earlier (second.new ∷ []) events first.between
+        (with_commit second.super second.nodes first.between) first.made
+        (subst (λ (h : Committed). Makes h (second.new ∷ []) first.between
+        (with_commit second.super second.nodes first.between)) (sym held-now)
+        (second.super, second.nodes, second.brings, refl))
+
+    does : DoesStructural state given reply commits second.new
+    does = record {
+      before = first.before;
+      earlier = first.earlier;
+      first = first.first;
+      changed = change.changed;
+      changes = change.changes;
+      second = second.commits;
+      told = refl;
+    }
+
+    pub does-structural : refusal state given ≡ None
+        → (DoesStructural state given reply commits second.new
+        → machine.Does state given reply commits second.new)
+        → AnswersOn state given reply last events history
+    does-structural unrefused is = (
+      commits,
+      record {
+        new = second.new;
+        step = subst (λ (o : Option Refusal). MatchOption o (machine.Does state given reply commits second.new)
+            (λ reason. (reply ≡ Refused reason) × machine.Stays state commits second.new)) (sym unrefused) (is does);
+        keeps = second.keeps;
+      },
+      record {
+        after = with_commit second.super second.nodes first.between;
+        told = second.told;
+        made = made;
+      },
+    )
+
+  -- the calls of the second commit came so far
+  begun : (history : Option (List Event)) → StartsCommitOf change.changed first.between history
+      → StartsSecond state given events history
+  begun history second = record {
+    before = first.before;
+    earlier = first.earlier;
+    first = first.first;
+    between = first.between;
+    made_first = first.made;
+    reply = reply;
+    changed = change.changed;
+    changes = change.changes;
+    new = second.new;
+    second = second.commits;
+    super = second.super;
+    nodes = second.nodes;
+    brings = second.brings;
+    made = second.made;
+  }
+
+  -- the first commit was made, and of the second so many calls
+  pub made-second : (history : Option (List Event))
+      → (history ≡ Some first.between) ⊎ StartsCommitOf change.changed first.between history
+      → MadeFirst state events history ⊎ StartsSecond state given events history
+  made-second history starts = elim starts [
+    | inl none ↦ inl (made-first state mid events between history first (none ∙ sym first.told))
+    | inr second ↦ inr (begun history second)
+  ]
+
+  pub so-far-second : (history : Option (List Event)) → comes_to_disk given ≡ true → refusal state given ≡ None
+      → IsDoneFirst state events between
+      → (history ≡ Some first.between) ⊎ StartsCommitOf change.changed first.between history
+      → IsDoneSoFar state given events history
+  so-far-second history comes unrefused done starts = elim starts [
+    | inl none ↦ so-far-first state given events between history comes unrefused (none ∙ sym first.told) done
+    | inr second ↦ inr (record { comes = comes; unrefused = unrefused; calls = inr (begun history second) })
+  ]
+
+-- ---- over any disk
+
+-- the generation that the second commit meets
+pub early-second : (old mid new : Kept) → IsSettledFrom old mid → new.superblock ≡ mid.superblock
+    → old.superblock.generation ≤ 2 ^ 63 → new.superblock.generation ≤ 2 ^ 63 + 1
+early-second old mid new settled same early =
+    let now = ap (λ (s : Super). s.generation) same in
+    elim settled.last [
+      | inl kept ↦ let is = ap (λ (s : Super). s.generation) kept in omega (arith, early, now, is)
+      | inr next ↦ let is = next.1 in omega (arith, early, now, is)
+    ]
+
+-- The last commit is known, where what was pending is committed, and the superblock was not changed before and behind
+pub last-settled : (given : Command) (old turned mid new : Kept) (before after : Option (List Event))
+    → is_structural given ≡ true → turned.superblock ≡ old.superblock → turned.pending ≡ old.pending
+    → IsSettledFrom turned mid → new.superblock ≡ mid.superblock
+    → ((state : State) (events : List Event) → IsKeptOf old state before → before ≡ Some events
+    → MadeFirst state events after ⊎ StartsSecond state given events after) → KnowsLast given old new before after
+last-settled given old turned mid new before after is same kept settled now made = elim settled.last [
+  | inl stays ↦ inl (now ∙ stays ∙ same)
+  | inr next ↦ inr (record {
+    structural = is;
+    some = subst (λ (n : ℕ). 0 < n) kept next.0;
+    next = ap (λ (s : Super). s.generation) now ∙ next.1 ∙ ap (λ (s : Super). s.generation + 1) same;
+    given = made;
+  })
+]
+
+-- ---- what a commit leaves of the layout
+
+-- a commit changes neither subvolumes nor layout
+reached_by : (old : State) (earlier : List State) (before : State) (sub : ℕ) (b : Bool)
+    → MatchBool b (Commits old before × (earlier ≡ before ∷ [])) ((before ≡ old) × (earlier ≡ []))
+    → nodes_reached before sub ≡ nodes_reached old sub
+reached_by old earlier before sub true done = ap (λ (s : State). nodes_reached s sub) done.0.committed
+reached_by old earlier before sub false done = ap (λ (s : State). nodes_reached s sub) done.0
+
+pub reached-settled : (old : State) (earlier : List State) (before : State) → CommitsPending old earlier before
+    → (sub : ℕ) → nodes_reached before sub ≡ nodes_reached old sub
+reached-settled old earlier before done sub = reached_by old earlier before sub (is_pending old) done

@@ -1,0 +1,404 @@
+use Rattle.std.proofs.Common.{◌+◌, ◌∙◌, ◌≤◌, ℕ, List, ap, inl, refl, sym, true, false}
+use Rattle.qg_num.specs.declared.answer.Answer.TheVariants.{Done, Refused}
+use Rattle.qg_num.specs.declared.command.Command.TheVariants.{Delete}
+use Rattle.qg_num.specs.declared.refusal.Refusal.TheVariants as why
+use Rattle.qg_image.specs.Table.{has_key}
+use Rattle.qg_machine.specs.Refusals.{nodes_reached}
+use Rattle.qg_space.specs.Holding.{free_slots}
+use Rattle.qg_inodes.proofs.PiecesRead.{handed}
+use Rattle.qg_inodes.proofs.Whole.{handed-sound}
+use Rattle.qg_fs_laws.specs.Keeping.{other_names}
+use Rattle.qg_store.specs.declared.kept.Kept.{Kept}
+use Rattle.qg_store.specs.Keeping.{structural_need_of}
+use Rattle.qg_store.proofs.Cloned.{target-listed}
+use Rattle.qg_store.proofs.Edited.{if-none}
+use Rattle.qg_store.proofs.Looked.{keeps-looked, node-size, superblock-read}
+use Rattle.qg_store.proofs.OnDisk.{last-any, on-disk}
+use Rattle.qg_store.proofs.Reasoned.{delete-late, delete-no-sub, delete-top}
+use Rattle.qg_store.proofs.Stepped.{does_nothing}
+use Rattle.qg_store.proofs.Structured.{does-structural, early-second, held-deleted, last-settled, made-first}
+use Rattle.qg_store.proofs.Structured.{made-second, reached-settled, so-far-first, so-far-second}
+use Rattle.qg_store.proofs.Turned.{looked-refl, looked-turned}
+use Rattle.qg_store.proofs.structural.delete.Goals as goal
+
+pub turn_to-requires : goal.turn_to-requires
+turn_to-requires g c = record { fitted = c.requires.kept.fitted }
+
+pub copies_of_tree-requires : goal.copies_of_tree-requires
+copies_of_tree-requires g c = record {
+  kept = c.turn_to.ensures.kept (g.D.Disk.history c.args.disk.now) (g.D.Disk.size c.args.disk.now) c.requires.kept;
+}
+
+-- ---- the top-level one stays, and so does one that isn't there
+
+pub returns-then-value-eq-TOP_LEVEL-clause-step : goal.returns-then-value-eq-TOP_LEVEL-clause-step
+returns-then-value-eq-TOP_LEVEL-clause-step g c = λ state events keeps told.
+    let kept = c.args.kept.now in
+    let history = g.D.Disk.history c.args.disk.now in
+    on-disk state (Delete c.args.sub) (Refused why.TopLevel) kept events history told
+    (does_nothing kept state history (Delete c.args.sub) why.TopLevel keeps
+    (delete-top kept state history c.requires.kept.fitted keeps c.args.sub
+    (sym c.value.ensures ∙ c.if-value-eq-TOP_LEVEL.true)))
+
+pub returns-then-value-eq-TOP_LEVEL-clause-so_far : goal.returns-then-value-eq-TOP_LEVEL-clause-so_far
+returns-then-value-eq-TOP_LEVEL-clause-so_far g c = λ state events keeps told. inl told
+
+pub returns-then-value-eq-TOP_LEVEL-clause-refused : goal.returns-then-value-eq-TOP_LEVEL-clause-refused
+returns-then-value-eq-TOP_LEVEL-clause-refused g c = λ is.
+    looked-refl c.args.kept.now (g.D.Disk.history c.args.disk.now) (g.D.Disk.size c.args.disk.now)
+
+pub returns-then-not-turn_to-clause-kept : goal.returns-then-not-turn_to-clause-kept
+returns-then-not-turn_to-clause-kept g c =
+    c.turn_to.ensures.kept (g.D.Disk.history c.args.disk.now) (g.D.Disk.size c.args.disk.now) c.requires.kept
+
+pub returns-then-not-turn_to-clause-step : goal.returns-then-not-turn_to-clause-step
+returns-then-not-turn_to-clause-step g c = λ state events given told.
+    let history = g.D.Disk.history c.args.disk.now in
+    let keeps = c.turn_to.ensures.keeps state history (g.D.Disk.size c.args.disk.now) (other_names state)
+    c.requires.kept given in
+    on-disk state (Delete c.args.sub) (Refused why.NoSub) c.turn_to.new.kept events history told
+    (does_nothing c.turn_to.new.kept state history (Delete c.args.sub) why.NoSub keeps
+    (delete-no-sub c.args.kept.now state history c.requires.kept.fitted given c.args.sub
+    (λ is. c.if-value-eq-TOP_LEVEL.false (c.value.ensures ∙ is)) (sym c.turn_to.ensures.there ∙ c.if-not-turn_to.true)))
+
+pub returns-then-not-turn_to-clause-so_far : goal.returns-then-not-turn_to-clause-so_far
+returns-then-not-turn_to-clause-so_far g c = λ state events given told. inl told
+
+pub returns-then-not-turn_to-clause-refused : goal.returns-then-not-turn_to-clause-refused
+returns-then-not-turn_to-clause-refused g c = λ is.
+    record { same = c.turn_to.ensures.same; history = refl; size = refl }
+
+-- ---- its nodes are counted
+
+pub returns-in_err-copies-clause-so_far : goal.returns-in_err-copies-clause-so_far
+returns-in_err-copies-clause-so_far g c = λ state events given told. inl (c.in_err-copies.ensures.looked.history ∙ told)
+
+pub returns-in_err-copies-clause-sound : goal.returns-in_err-copies-clause-sound
+returns-in_err-copies-clause-sound g c = λ state events told given.
+    let turned = c.turn_to.ensures.keeps state (g.D.Disk.history c.args.disk.now) (g.D.Disk.size c.args.disk.now)
+    (other_names state) c.requires.kept given in
+    handed-sound ℕ c.from_residual.result _ (handed c.from_residual.result _ c.from_residual.ensures.1)
+    (c.in_err-copies.ensures.sound state events told turned)
+
+pub returns-in_err-copies-clause-err : goal.returns-in_err-copies-clause-err
+returns-in_err-copies-clause-err g c =
+    last-any (Delete c.args.sub) c.args.kept.now c.copies_of_tree.new.kept (g.D.Disk.history c.args.disk.now)
+    (g.D.Disk.history c.copies_of_tree.new.disk) c.from_residual.result
+    (inl (superblock-read c.turn_to.new.kept c.copies_of_tree.new.kept _ _ _ _ c.in_err-copies.ensures.looked
+    ∙ c.turn_to.ensures.superblock))
+
+pub no_commit-requires : goal.no_commit-requires
+no_commit-requires g c = record { size = node-size c.copies_of_tree.new.kept c.in_ok-copies.ensures.kept.fitted }
+
+-- ---- it is refused
+
+pub returns-in-Some-clause-step : goal.returns-in-Some-clause-step
+returns-in-Some-clause-step g c = λ state events given told.
+    let turned = c.turn_to.ensures.keeps state (g.D.Disk.history c.args.disk.now) (g.D.Disk.size c.args.disk.now)
+    (other_names state) c.requires.kept given in
+    let looked = c.in_ok-copies.ensures.looked in
+    let keeps = keeps-looked c.turn_to.new.kept c.copies_of_tree.new.kept _ _ _ _ state (other_names state) looked
+    turned in
+    let kept = c.copies_of_tree.new.kept in
+    let history = g.D.Disk.history c.copies_of_tree.new.disk in
+    on-disk state (Delete c.args.sub) (Refused c.in-Some.why) kept events history (looked.history ∙ told)
+    (does_nothing kept state history (Delete c.args.sub) c.in-Some.why keeps
+    (delete-late kept state history (g.D.Disk.size c.copies_of_tree.new.disk) c.in_ok-copies.ensures.kept keeps
+    c.in_ok-why.ensures.table c.args.sub c.in_ok-copies.copies (λ is. c.if-value-eq-TOP_LEVEL.false (c.value.ensures
+    ∙ is))
+    (target-listed c.args.kept.now kept state (g.D.Disk.history c.args.disk.now)
+    (g.D.Disk.history c.copies_of_tree.new.disk) given keeps c.args.sub
+    (sym c.turn_to.ensures.there ∙ c.if-not-turn_to.false)) (sym (c.in_ok-copies.ensures.counted state turned
+    ∙ ap (λ (n : ℕ). 18 + nodes_reached state n) (c.turn_to.ensures.hand c.if-not-turn_to.false)))
+    ∙ sym c.in_ok-why.ensures.value ∙ c.in-Some.is))
+
+pub returns-in-Some-clause-so_far : goal.returns-in-Some-clause-so_far
+returns-in-Some-clause-so_far g c = λ state events given told. inl (c.in_ok-copies.ensures.looked.history ∙ told)
+
+pub returns-in-Some-clause-refused : goal.returns-in-Some-clause-refused
+returns-in-Some-clause-refused g c = λ is.
+    looked-turned c.args.kept.now c.turn_to.new.kept c.copies_of_tree.new.kept _ _ _ _ c.turn_to.ensures.same
+    c.in_ok-copies.ensures.looked
+
+pub returns-in_err-why-clause-so_far : goal.returns-in_err-why-clause-so_far
+returns-in_err-why-clause-so_far g c = λ state events given told. inl (c.in_ok-copies.ensures.looked.history ∙ told)
+
+-- ---- what is pending is committed
+
+pub commit_pending-requires : goal.commit_pending-requires
+commit_pending-requires g c = record {
+  kept = c.in_ok-copies.ensures.kept;
+  early = if-none c.in_ok-why.field-0 _ c.in_default.is c.in_ok-why.ensures.early;
+}
+
+pub returns-in-Some-clause-kept : goal.returns-in-Some-clause-kept
+returns-in-Some-clause-kept g c = c.in_ok-copies.ensures.kept
+
+pub returns-in_err-commit_pending-clause-so_far : goal.returns-in_err-commit_pending-clause-so_far
+returns-in_err-commit_pending-clause-so_far g c = λ state events given told.
+    let turned = c.turn_to.ensures.keeps state (g.D.Disk.history c.args.disk.now) (g.D.Disk.size c.args.disk.now)
+    (other_names state) c.requires.kept given in
+    let looked = c.in_ok-copies.ensures.looked in
+    let keeps = keeps-looked c.turn_to.new.kept c.copies_of_tree.new.kept _ _ _ _ state (other_names state) looked
+    turned in
+    so-far-first state (Delete c.args.sub) events (g.D.Disk.history c.commit_pending.new.disk)
+    (g.D.Disk.history c.commit_pending.new.disk) refl
+    (delete-late c.copies_of_tree.new.kept state (g.D.Disk.history c.copies_of_tree.new.disk)
+    (g.D.Disk.size c.copies_of_tree.new.disk) c.in_ok-copies.ensures.kept keeps
+    c.in_ok-why.ensures.table c.args.sub c.in_ok-copies.copies (λ is. c.if-value-eq-TOP_LEVEL.false (c.value.ensures
+    ∙ is))
+    (target-listed c.args.kept.now c.copies_of_tree.new.kept state (g.D.Disk.history c.args.disk.now)
+    (g.D.Disk.history c.copies_of_tree.new.disk) given keeps c.args.sub
+    (sym c.turn_to.ensures.there ∙ c.if-not-turn_to.false)) (sym (c.in_ok-copies.ensures.counted state turned
+    ∙ ap (λ (n : ℕ). 18 + nodes_reached state n) (c.turn_to.ensures.hand c.if-not-turn_to.false)))
+    ∙ sym c.in_ok-why.ensures.value ∙ c.in_default.is) refl
+    (c.in_err-commit_pending.ensures.so_far state events keeps (looked.history ∙ told))
+
+pub returns-in_err-commit_pending-clause-sound : goal.returns-in_err-commit_pending-clause-sound
+returns-in_err-commit_pending-clause-sound g c = λ state events told given.
+    let turned = c.turn_to.ensures.keeps state (g.D.Disk.history c.args.disk.now) (g.D.Disk.size c.args.disk.now)
+    (other_names state) c.requires.kept given in
+    let looked = c.in_ok-copies.ensures.looked in
+    let keeps = keeps-looked c.turn_to.new.kept c.copies_of_tree.new.kept _ _ _ _ state (other_names state) looked
+    turned in
+    handed-sound (Unit {0}) c.from_residual-in_err-commit_pending.result _
+    (handed c.from_residual-in_err-commit_pending.result _ c.from_residual-in_err-commit_pending.ensures.1)
+    (c.in_err-commit_pending.ensures.sound state events (looked.history ∙ told) keeps)
+
+pub returns-in_err-commit_pending-clause-err : goal.returns-in_err-commit_pending-clause-err
+returns-in_err-commit_pending-clause-err g c =
+    last-any (Delete c.args.sub) c.args.kept.now c.commit_pending.new.kept (g.D.Disk.history c.args.disk.now)
+    (g.D.Disk.history c.commit_pending.new.disk) c.from_residual-in_err-commit_pending.result
+    (inl (c.in_err-commit_pending.ensures.err ∙ (superblock-read c.turn_to.new.kept c.copies_of_tree.new.kept _ _ _ _
+    c.in_ok-copies.ensures.looked
+    ∙ c.turn_to.ensures.superblock)))
+
+-- ---- the change
+
+pub delete_change-requires : goal.delete_change-requires
+delete_change-requires g c =
+    let kept = c.copies_of_tree.new.kept in
+    let settled = c.in_ok-commit_pending.ensures.settled in
+    record {
+      kept = c.in_ok-commit_pending.ensures.kept;
+      serves = c.requires.serves;
+      there = ap (λ (table : List (ℕ × ℕ)). has_key c.args.sub table)
+          (settled.snapshots ∙ ap (λ (k : Kept). k.snapshots) c.in_ok-copies.ensures.looked.same
+          ∙ ap (λ (k : Kept). k.snapshots) c.turn_to.ensures.same.rest)
+          ∙ sym c.turn_to.ensures.there ∙ c.if-not-turn_to.false;
+      other = λ is. c.if-value-eq-TOP_LEVEL.false (c.value.ensures ∙ is);
+      room = c.in_ok-commit_pending.ensures.room c.in_ok-copies.copies
+          (if-none c.in_ok-why.field-0 (structural_need_of kept c.in_ok-copies.copies ≤ free_slots kept.fs.land.space)
+          c.in_default.is c.in_ok-why.ensures.enough);
+    }
+
+pub returns-in_err-delete_change-clause-so_far : goal.returns-in_err-delete_change-clause-so_far
+returns-in_err-delete_change-clause-so_far g c = λ state events given told.
+    let turned = c.turn_to.ensures.keeps state (g.D.Disk.history c.args.disk.now) (g.D.Disk.size c.args.disk.now)
+    (other_names state) c.requires.kept given in
+    let looked = c.in_ok-copies.ensures.looked in
+    let keeps = keeps-looked c.turn_to.new.kept c.copies_of_tree.new.kept _ _ _ _ state (other_names state) looked
+    turned in
+    so-far-first state (Delete c.args.sub) events (g.D.Disk.history c.commit_pending.new.disk)
+    (g.D.Disk.history c.delete_change.new.disk) refl
+    (delete-late c.copies_of_tree.new.kept state (g.D.Disk.history c.copies_of_tree.new.disk)
+    (g.D.Disk.size c.copies_of_tree.new.disk) c.in_ok-copies.ensures.kept keeps
+    c.in_ok-why.ensures.table c.args.sub c.in_ok-copies.copies (λ is. c.if-value-eq-TOP_LEVEL.false (c.value.ensures
+    ∙ is))
+    (target-listed c.args.kept.now c.copies_of_tree.new.kept state (g.D.Disk.history c.args.disk.now)
+    (g.D.Disk.history c.copies_of_tree.new.disk) given keeps c.args.sub
+    (sym c.turn_to.ensures.there ∙ c.if-not-turn_to.false)) (sym (c.in_ok-copies.ensures.counted state turned
+    ∙ ap (λ (n : ℕ). 18 + nodes_reached state n) (c.turn_to.ensures.hand c.if-not-turn_to.false)))
+    ∙ sym c.in_ok-why.ensures.value ∙ c.in_default.is)
+    c.in_err-delete_change.ensures.apart.0
+    (c.in_ok-commit_pending.ensures.so_far state events keeps (looked.history ∙ told))
+
+pub returns-in_err-delete_change-clause-sound : goal.returns-in_err-delete_change-clause-sound
+returns-in_err-delete_change-clause-sound g c = λ state events told given.
+    let turned = c.turn_to.ensures.keeps state (g.D.Disk.history c.args.disk.now) (g.D.Disk.size c.args.disk.now)
+    (other_names state) c.requires.kept given in
+    let looked = c.in_ok-copies.ensures.looked in
+    let keeps = keeps-looked c.turn_to.new.kept c.copies_of_tree.new.kept _ _ _ _ state (other_names state) looked
+    turned in
+    let first = c.in_ok-commit_pending.ensures.committed state events keeps (looked.history ∙ told) in
+    handed-sound (Unit {0}) c.from_residual-in_err-delete_change.result _
+    (handed c.from_residual-in_err-delete_change.result _ c.from_residual-in_err-delete_change.ensures.1)
+    (c.in_err-delete_change.ensures.sound first.before first.between first.keeps first.told)
+
+pub returns-in_err-delete_change-clause-err : goal.returns-in_err-delete_change-clause-err
+returns-in_err-delete_change-clause-err g c =
+    let kept = c.args.kept.now in
+    let before = g.D.Disk.history c.args.disk.now in
+    let after = g.D.Disk.history c.delete_change.new.disk in
+    last-any (Delete c.args.sub) kept c.delete_change.new.kept before after c.from_residual-in_err-delete_change.result
+    (last-settled (Delete c.args.sub) kept c.copies_of_tree.new.kept c.commit_pending.new.kept
+    c.delete_change.new.kept before after refl (superblock-read
+    c.turn_to.new.kept c.copies_of_tree.new.kept _ _ _ _ c.in_ok-copies.ensures.looked ∙ c.turn_to.ensures.superblock)
+    (ap (λ (k : Kept). k.pending) c.in_ok-copies.ensures.looked.same
+    ∙ ap (λ (k : Kept). k.pending) c.turn_to.ensures.same.rest)
+    c.in_ok-commit_pending.ensures.settled c.in_err-delete_change.ensures.superblock (λ state events given told.
+    let turned = c.turn_to.ensures.keeps state before (g.D.Disk.size c.args.disk.now)
+    (other_names state) c.requires.kept given in
+    let looked = c.in_ok-copies.ensures.looked in
+    let keeps = keeps-looked c.turn_to.new.kept c.copies_of_tree.new.kept _ _ _ _ state (other_names state) looked
+    turned in
+    inl (made-first state c.commit_pending.new.kept events (g.D.Disk.history c.commit_pending.new.disk) after
+    (c.in_ok-commit_pending.ensures.committed state events keeps (looked.history ∙ told))
+    c.in_err-delete_change.ensures.apart.0)))
+
+-- ---- it is committed
+
+pub commit_now-requires : goal.commit_now-requires
+commit_now-requires g c = record {
+  kept = c.in_ok-delete_change.ensures.kept;
+  early = early-second c.copies_of_tree.new.kept c.commit_pending.new.kept c.delete_change.new.kept
+      c.in_ok-commit_pending.ensures.settled c.in_ok-delete_change.ensures.superblock
+      (if-none c.in_ok-why.field-0 _ c.in_default.is c.in_ok-why.ensures.early);
+}
+
+pub returns-in_err-commit_now-clause-so_far : goal.returns-in_err-commit_now-clause-so_far
+returns-in_err-commit_now-clause-so_far g c = λ state events given told.
+    let turned = c.turn_to.ensures.keeps state (g.D.Disk.history c.args.disk.now) (g.D.Disk.size c.args.disk.now)
+    (other_names state) c.requires.kept given in
+    let looked = c.in_ok-copies.ensures.looked in
+    let keeps = keeps-looked c.turn_to.new.kept c.copies_of_tree.new.kept _ _ _ _ state (other_names state) looked
+    turned in
+    let between = g.D.Disk.history c.commit_pending.new.disk in
+    let after = g.D.Disk.history c.delete_change.new.disk in
+    let first = c.in_ok-commit_pending.ensures.committed state events keeps (looked.history ∙ told) in
+    let change = c.in_ok-delete_change.ensures.changed first.before first.keeps
+    c.in_ok-commit_pending.ensures.settled.pending
+    (c.in_ok-copies.ensures.counted state turned
+    ∙ ap (λ (n : ℕ). 18 + nodes_reached state n) (c.turn_to.ensures.hand c.if-not-turn_to.false)
+    ∙ ap (λ (n : ℕ). 18 + n) (sym (reached-settled state first.earlier first.before first.first c.args.sub))) in
+    so-far-second state (Delete c.args.sub) Done c.commit_pending.new.kept c.delete_change.new.kept
+    c.commit_now.new.kept events between after first change c.in_ok-delete_change.ensures.apart.0
+    (held-deleted first.before change.changed c.args.sub Done change.changes)
+    (g.D.Disk.history c.commit_now.new.disk) refl
+    (delete-late c.copies_of_tree.new.kept state (g.D.Disk.history c.copies_of_tree.new.disk)
+    (g.D.Disk.size c.copies_of_tree.new.disk) c.in_ok-copies.ensures.kept keeps
+    c.in_ok-why.ensures.table c.args.sub c.in_ok-copies.copies (λ is. c.if-value-eq-TOP_LEVEL.false (c.value.ensures
+    ∙ is))
+    (target-listed c.args.kept.now c.copies_of_tree.new.kept state (g.D.Disk.history c.args.disk.now)
+    (g.D.Disk.history c.copies_of_tree.new.disk) given keeps c.args.sub
+    (sym c.turn_to.ensures.there ∙ c.if-not-turn_to.false)) (sym (c.in_ok-copies.ensures.counted state turned
+    ∙ ap (λ (n : ℕ). 18 + nodes_reached state n) (c.turn_to.ensures.hand c.if-not-turn_to.false)))
+    ∙ sym c.in_ok-why.ensures.value ∙ c.in_default.is)
+    (c.in_ok-commit_pending.ensures.so_far state events keeps (looked.history ∙ told))
+    (c.in_err-commit_now.ensures.so_far change.changed first.between (other_names first.before) change.keeps change.room
+    (c.in_ok-delete_change.ensures.apart.0 ∙ first.told))
+
+pub returns-in_err-commit_now-clause-sound : goal.returns-in_err-commit_now-clause-sound
+returns-in_err-commit_now-clause-sound g c = λ state events told given.
+    let turned = c.turn_to.ensures.keeps state (g.D.Disk.history c.args.disk.now) (g.D.Disk.size c.args.disk.now)
+    (other_names state) c.requires.kept given in
+    let looked = c.in_ok-copies.ensures.looked in
+    let keeps = keeps-looked c.turn_to.new.kept c.copies_of_tree.new.kept _ _ _ _ state (other_names state) looked
+    turned in
+    let first = c.in_ok-commit_pending.ensures.committed state events keeps (looked.history ∙ told) in
+    let change = c.in_ok-delete_change.ensures.changed first.before first.keeps
+    c.in_ok-commit_pending.ensures.settled.pending
+    (c.in_ok-copies.ensures.counted state turned
+    ∙ ap (λ (n : ℕ). 18 + nodes_reached state n) (c.turn_to.ensures.hand c.if-not-turn_to.false)
+    ∙ ap (λ (n : ℕ). 18 + n) (sym (reached-settled state first.earlier first.before first.first c.args.sub))) in
+    handed-sound (Unit {0}) c.from_residual-in_err-commit_now.result _
+    (handed c.from_residual-in_err-commit_now.result _ c.from_residual-in_err-commit_now.ensures.1)
+    (c.in_err-commit_now.ensures.sound change.changed first.between (other_names first.before) change.keeps change.room
+    (c.in_ok-delete_change.ensures.apart.0 ∙ first.told))
+
+pub returns-in_err-commit_now-clause-err : goal.returns-in_err-commit_now-clause-err
+returns-in_err-commit_now-clause-err g c =
+    let kept = c.args.kept.now in
+    let before = g.D.Disk.history c.args.disk.now in
+    let between = g.D.Disk.history c.commit_pending.new.disk in
+    let after = g.D.Disk.history c.delete_change.new.disk in
+    let last = g.D.Disk.history c.commit_now.new.disk in
+    last-any (Delete c.args.sub) kept c.commit_now.new.kept before last c.from_residual-in_err-commit_now.result
+    (last-settled (Delete c.args.sub) kept c.copies_of_tree.new.kept c.commit_pending.new.kept
+    c.commit_now.new.kept before last refl (superblock-read
+    c.turn_to.new.kept c.copies_of_tree.new.kept _ _ _ _ c.in_ok-copies.ensures.looked ∙ c.turn_to.ensures.superblock)
+    (ap (λ (k : Kept). k.pending) c.in_ok-copies.ensures.looked.same
+    ∙ ap (λ (k : Kept). k.pending) c.turn_to.ensures.same.rest)
+    c.in_ok-commit_pending.ensures.settled
+    (c.in_err-commit_now.ensures.err ∙ c.in_ok-delete_change.ensures.superblock) (λ state events given told.
+    let turned = c.turn_to.ensures.keeps state before (g.D.Disk.size c.args.disk.now)
+    (other_names state) c.requires.kept given in
+    let looked = c.in_ok-copies.ensures.looked in
+    let keeps = keeps-looked c.turn_to.new.kept c.copies_of_tree.new.kept _ _ _ _ state (other_names state) looked
+    turned in
+    let first = c.in_ok-commit_pending.ensures.committed state events keeps (looked.history ∙ told) in
+    let change = c.in_ok-delete_change.ensures.changed first.before first.keeps
+    c.in_ok-commit_pending.ensures.settled.pending
+    (c.in_ok-copies.ensures.counted state turned
+    ∙ ap (λ (n : ℕ). 18 + nodes_reached state n) (c.turn_to.ensures.hand c.if-not-turn_to.false)
+    ∙ ap (λ (n : ℕ). 18 + n) (sym (reached-settled state first.earlier first.before first.first c.args.sub))) in
+    made-second state (Delete c.args.sub) Done c.commit_pending.new.kept c.delete_change.new.kept
+    c.commit_now.new.kept events between after first change c.in_ok-delete_change.ensures.apart.0
+    (held-deleted first.before change.changed c.args.sub Done change.changes) last
+    (c.in_err-commit_now.ensures.so_far change.changed first.between (other_names first.before) change.keeps change.room
+    (c.in_ok-delete_change.ensures.apart.0 ∙ first.told))))
+
+pub returns-clause-step : goal.returns-clause-step
+returns-clause-step g c = λ state events given told.
+    let turned = c.turn_to.ensures.keeps state (g.D.Disk.history c.args.disk.now) (g.D.Disk.size c.args.disk.now)
+    (other_names state) c.requires.kept given in
+    let looked = c.in_ok-copies.ensures.looked in
+    let keeps = keeps-looked c.turn_to.new.kept c.copies_of_tree.new.kept _ _ _ _ state (other_names state) looked
+    turned in
+    let kept = c.copies_of_tree.new.kept in
+    let before = g.D.Disk.history c.copies_of_tree.new.disk in
+    let between = g.D.Disk.history c.commit_pending.new.disk in
+    let after = g.D.Disk.history c.delete_change.new.disk in
+    let first = c.in_ok-commit_pending.ensures.committed state events keeps (looked.history ∙ told) in
+    let change = c.in_ok-delete_change.ensures.changed first.before first.keeps
+    c.in_ok-commit_pending.ensures.settled.pending
+    (c.in_ok-copies.ensures.counted state turned
+    ∙ ap (λ (n : ℕ). 18 + nodes_reached state n) (c.turn_to.ensures.hand c.if-not-turn_to.false)
+    ∙ ap (λ (n : ℕ). 18 + n) (sym (reached-settled state first.earlier first.before first.first c.args.sub))) in
+    let second = c.in_ok-commit_now.ensures.commits change.changed first.between (other_names first.before) change.keeps
+    change.room (c.in_ok-delete_change.ensures.apart.0 ∙ first.told) in
+    does-structural state (Delete c.args.sub) Done c.commit_pending.new.kept c.delete_change.new.kept
+    c.commit_now.new.kept events between after first change c.in_ok-delete_change.ensures.apart.0
+    (held-deleted first.before change.changed c.args.sub Done change.changes)
+    (g.D.Disk.history c.commit_now.new.disk) second
+    (delete-late kept state before (g.D.Disk.size c.copies_of_tree.new.disk) c.in_ok-copies.ensures.kept keeps
+    c.in_ok-why.ensures.table c.args.sub c.in_ok-copies.copies (λ is. c.if-value-eq-TOP_LEVEL.false (c.value.ensures
+    ∙ is))
+    (target-listed c.args.kept.now kept state (g.D.Disk.history c.args.disk.now)
+    (g.D.Disk.history c.copies_of_tree.new.disk) given keeps c.args.sub
+    (sym c.turn_to.ensures.there ∙ c.if-not-turn_to.false)) (sym (c.in_ok-copies.ensures.counted state turned
+    ∙ ap (λ (n : ℕ). 18 + nodes_reached state n) (c.turn_to.ensures.hand c.if-not-turn_to.false)))
+    ∙ sym c.in_ok-why.ensures.value ∙ c.in_default.is)
+    (λ does. does)
+
+pub returns-clause-so_far : goal.returns-clause-so_far
+returns-clause-so_far g c = λ state events given told.
+    let turned = c.turn_to.ensures.keeps state (g.D.Disk.history c.args.disk.now) (g.D.Disk.size c.args.disk.now)
+    (other_names state) c.requires.kept given in
+    let looked = c.in_ok-copies.ensures.looked in
+    let keeps = keeps-looked c.turn_to.new.kept c.copies_of_tree.new.kept _ _ _ _ state (other_names state) looked
+    turned in
+    let between = g.D.Disk.history c.commit_pending.new.disk in
+    let after = g.D.Disk.history c.delete_change.new.disk in
+    let first = c.in_ok-commit_pending.ensures.committed state events keeps (looked.history ∙ told) in
+    let change = c.in_ok-delete_change.ensures.changed first.before first.keeps
+    c.in_ok-commit_pending.ensures.settled.pending
+    (c.in_ok-copies.ensures.counted state turned
+    ∙ ap (λ (n : ℕ). 18 + nodes_reached state n) (c.turn_to.ensures.hand c.if-not-turn_to.false)
+    ∙ ap (λ (n : ℕ). 18 + n) (sym (reached-settled state first.earlier first.before first.first c.args.sub))) in
+    so-far-second state (Delete c.args.sub) Done c.commit_pending.new.kept c.delete_change.new.kept
+    c.commit_now.new.kept events between after first change c.in_ok-delete_change.ensures.apart.0
+    (held-deleted first.before change.changed c.args.sub Done change.changes)
+    (g.D.Disk.history c.commit_now.new.disk) refl
+    (delete-late c.copies_of_tree.new.kept state (g.D.Disk.history c.copies_of_tree.new.disk)
+    (g.D.Disk.size c.copies_of_tree.new.disk) c.in_ok-copies.ensures.kept keeps
+    c.in_ok-why.ensures.table c.args.sub c.in_ok-copies.copies (λ is. c.if-value-eq-TOP_LEVEL.false (c.value.ensures
+    ∙ is))
+    (target-listed c.args.kept.now c.copies_of_tree.new.kept state (g.D.Disk.history c.args.disk.now)
+    (g.D.Disk.history c.copies_of_tree.new.disk) given keeps c.args.sub
+    (sym c.turn_to.ensures.there ∙ c.if-not-turn_to.false)) (sym (c.in_ok-copies.ensures.counted state turned
+    ∙ ap (λ (n : ℕ). 18 + nodes_reached state n) (c.turn_to.ensures.hand c.if-not-turn_to.false)))
+    ∙ sym c.in_ok-why.ensures.value ∙ c.in_default.is)
+    (c.in_ok-commit_pending.ensures.so_far state events keeps (looked.history ∙ told))
+    (c.in_ok-commit_now.ensures.so_far change.changed first.between (other_names first.before) change.keeps change.room
+    (c.in_ok-delete_change.ensures.apart.0 ∙ first.told))

@@ -1,0 +1,339 @@
+use Rattle.std.proofs.Common.{◌∙◌, ◌≤◌, [], ap, inl, refl, sym, true, false}
+use Rattle.qg_num.specs.declared.answer.Answer.TheVariants.{Refused, Sub}
+use Rattle.qg_num.specs.declared.command.Command.TheVariants.{Snap}
+use Rattle.qg_num.specs.declared.refusal.Refusal.TheVariants as why
+use Rattle.qg_space.specs.Holding.{free_slots}
+use Rattle.qg_inodes.proofs.PiecesRead.{handed}
+use Rattle.qg_inodes.proofs.Whole.{handed-sound}
+use Rattle.qg_fs_laws.specs.Keeping.{other_names}
+use Rattle.qg_store.specs.declared.kept.Kept.{Kept}
+use Rattle.qg_store.specs.Keeping.{structural_need_of}
+use Rattle.qg_store.proofs.Cloned.{target-listed}
+use Rattle.qg_store.proofs.Edited.{if-none}
+use Rattle.qg_store.proofs.Looked.{node-size}
+use Rattle.qg_store.proofs.OnDisk.{last-any, on-disk}
+use Rattle.qg_store.proofs.Reasoned.{number-same, snap-early, snap-late, snap-no-sub, too-many-by, too-many-same}
+use Rattle.qg_store.proofs.Stepped.{does_nothing}
+use Rattle.qg_store.proofs.Structured.{does-structural, early-second, held-snapped, last-settled, made-first}
+use Rattle.qg_store.proofs.Structured.{made-second, so-far-first, so-far-second}
+use Rattle.qg_store.proofs.structural.snap.Goals as goal
+
+pub turn_to-requires : goal.turn_to-requires
+turn_to-requires g c = record { fitted = c.requires.kept.fitted }
+
+-- ---- there is no such subvolume
+
+pub returns-then-not-turn_to-clause-kept : goal.returns-then-not-turn_to-clause-kept
+returns-then-not-turn_to-clause-kept g c =
+    c.turn_to.ensures.kept (g.D.Disk.history c.args.disk.now) (g.D.Disk.size c.args.disk.now) c.requires.kept
+
+pub returns-then-not-turn_to-clause-step : goal.returns-then-not-turn_to-clause-step
+returns-then-not-turn_to-clause-step g c = λ state events given told.
+    let history = g.D.Disk.history c.args.disk.now in
+    let keeps = c.turn_to.ensures.keeps state history (g.D.Disk.size c.args.disk.now) (other_names state)
+    c.requires.kept given in
+    on-disk state (Snap c.args.sub []) (Refused why.NoSub) c.turn_to.new.kept events history told
+    (does_nothing c.turn_to.new.kept state history (Snap c.args.sub []) why.NoSub keeps
+    (snap-no-sub c.args.kept.now state history c.requires.kept.fitted given c.args.sub
+    (sym c.turn_to.ensures.there ∙ c.if-not-turn_to.true)))
+
+pub returns-then-not-turn_to-clause-so_far : goal.returns-then-not-turn_to-clause-so_far
+returns-then-not-turn_to-clause-so_far g c = λ state events given told. inl told
+
+pub returns-then-not-turn_to-clause-refused : goal.returns-then-not-turn_to-clause-refused
+returns-then-not-turn_to-clause-refused g c = λ is.
+    record { same = c.turn_to.ensures.same; history = refl; size = refl }
+
+pub number_next-number-requires : goal.number_next-number-requires
+number_next-number-requires g c = record {
+  fitted = (c.turn_to.ensures.kept (g.D.Disk.history c.args.disk.now)
+      (g.D.Disk.size c.args.disk.now) c.requires.kept).fitted;
+}
+
+pub no_commit-requires : goal.no_commit-requires
+no_commit-requires g c = record {
+  size = node-size c.turn_to.new.kept (c.turn_to.ensures.kept (g.D.Disk.history
+      c.args.disk.now) (g.D.Disk.size c.args.disk.now) c.requires.kept).fitted;
+}
+
+-- ---- it is refused
+
+pub returns-then-are_too_many-clause-step : goal.returns-then-are_too_many-clause-step
+returns-then-are_too_many-clause-step g c = λ state events given told.
+    let keeps = c.turn_to.ensures.keeps state (g.D.Disk.history c.args.disk.now) (g.D.Disk.size c.args.disk.now)
+    (other_names state) c.requires.kept given in
+    let kept = c.turn_to.new.kept in
+    let history = g.D.Disk.history c.args.disk.now in
+    on-disk state (Snap c.args.sub []) (Refused why.TooMany) kept events history told
+    (does_nothing kept state history (Snap c.args.sub []) why.TooMany keeps
+    (snap-early kept state history (c.turn_to.ensures.kept (g.D.Disk.history c.args.disk.now) (g.D.Disk.size
+    c.args.disk.now) c.requires.kept).fitted keeps c.args.sub
+    (target-listed c.args.kept.now kept state (g.D.Disk.history c.args.disk.now) (g.D.Disk.history c.args.disk.now)
+    given
+    keeps c.args.sub (sym c.turn_to.ensures.there ∙ c.if-not-turn_to.false))
+    (too-many-by kept c.number_next-number.result c.are_too_many.result true c.number_next-number.ensures.value
+    c.are_too_many.ensures c.if-are_too_many.true)))
+
+pub returns-then-are_too_many-clause-so_far : goal.returns-then-are_too_many-clause-so_far
+returns-then-are_too_many-clause-so_far g c = λ state events given told. inl told
+
+pub returns-then-are_too_many-clause-refused : goal.returns-then-are_too_many-clause-refused
+returns-then-are_too_many-clause-refused g c = λ is.
+    record { same = c.turn_to.ensures.same; history = refl; size = refl }
+
+pub returns-in-Some-clause-step : goal.returns-in-Some-clause-step
+returns-in-Some-clause-step g c = λ state events given told.
+    let keeps = c.turn_to.ensures.keeps state (g.D.Disk.history c.args.disk.now) (g.D.Disk.size c.args.disk.now)
+    (other_names state) c.requires.kept given in
+    let kept = c.turn_to.new.kept in
+    let history = g.D.Disk.history c.args.disk.now in
+    let few = too-many-by kept c.number_next-number.result c.are_too_many.result false
+    c.number_next-number.ensures.value c.are_too_many.ensures c.if-are_too_many.false in
+    on-disk state (Snap c.args.sub []) (Refused c.in-Some.why) kept events history told
+    (does_nothing kept state history (Snap c.args.sub []) c.in-Some.why keeps
+    (snap-late kept state history (g.D.Disk.size c.args.disk.now)
+    (c.turn_to.ensures.kept (g.D.Disk.history c.args.disk.now) (g.D.Disk.size c.args.disk.now) c.requires.kept) keeps
+    c.in_ok-why.ensures.table c.args.sub
+    (target-listed c.args.kept.now kept state (g.D.Disk.history c.args.disk.now) (g.D.Disk.history c.args.disk.now)
+    given
+    keeps c.args.sub (sym c.turn_to.ensures.there ∙ c.if-not-turn_to.false)) few
+    ∙ sym c.in_ok-why.ensures.value ∙ c.in-Some.is))
+
+pub returns-in-Some-clause-so_far : goal.returns-in-Some-clause-so_far
+returns-in-Some-clause-so_far g c = λ state events given told. inl told
+
+pub returns-in-Some-clause-refused : goal.returns-in-Some-clause-refused
+returns-in-Some-clause-refused g c = λ is.
+    record { same = c.turn_to.ensures.same; history = refl; size = refl }
+
+pub returns-in_err-why-clause-so_far : goal.returns-in_err-why-clause-so_far
+returns-in_err-why-clause-so_far g c = λ state events given told. inl told
+
+-- ---- what is pending is committed
+
+pub commit_pending-requires : goal.commit_pending-requires
+commit_pending-requires g c = record {
+  kept = c.turn_to.ensures.kept (g.D.Disk.history c.args.disk.now) (g.D.Disk.size c.args.disk.now) c.requires.kept;
+  early = if-none c.in_ok-why.field-0 _ c.in_default.is c.in_ok-why.ensures.early;
+}
+
+pub returns-then-are_too_many-clause-kept : goal.returns-then-are_too_many-clause-kept
+returns-then-are_too_many-clause-kept g c =
+    c.turn_to.ensures.kept (g.D.Disk.history c.args.disk.now) (g.D.Disk.size c.args.disk.now) c.requires.kept
+
+pub returns-in-Some-clause-kept : goal.returns-in-Some-clause-kept
+returns-in-Some-clause-kept g c =
+    c.turn_to.ensures.kept (g.D.Disk.history c.args.disk.now) (g.D.Disk.size c.args.disk.now) c.requires.kept
+
+pub returns-in_err-commit_pending-clause-so_far : goal.returns-in_err-commit_pending-clause-so_far
+returns-in_err-commit_pending-clause-so_far g c = λ state events given told.
+    let keeps = c.turn_to.ensures.keeps state (g.D.Disk.history c.args.disk.now) (g.D.Disk.size c.args.disk.now)
+    (other_names state) c.requires.kept given in
+    so-far-first state (Snap c.args.sub []) events (g.D.Disk.history c.commit_pending.new.disk)
+    (g.D.Disk.history c.commit_pending.new.disk) refl
+    (snap-late c.turn_to.new.kept state (g.D.Disk.history c.args.disk.now) (g.D.Disk.size c.args.disk.now)
+    (c.turn_to.ensures.kept (g.D.Disk.history c.args.disk.now) (g.D.Disk.size c.args.disk.now) c.requires.kept) keeps
+    c.in_ok-why.ensures.table c.args.sub
+    (target-listed c.args.kept.now c.turn_to.new.kept state (g.D.Disk.history c.args.disk.now)
+    (g.D.Disk.history c.args.disk.now) given keeps c.args.sub
+    (sym c.turn_to.ensures.there ∙ c.if-not-turn_to.false)) (too-many-by c.turn_to.new.kept c.number_next-number.result
+    c.are_too_many.result false c.number_next-number.ensures.value c.are_too_many.ensures c.if-are_too_many.false)
+    ∙ sym c.in_ok-why.ensures.value ∙ c.in_default.is) refl
+    (c.in_err-commit_pending.ensures.so_far state events keeps told)
+
+pub returns-in_err-commit_pending-clause-sound : goal.returns-in_err-commit_pending-clause-sound
+returns-in_err-commit_pending-clause-sound g c = λ state events told given.
+    let keeps = c.turn_to.ensures.keeps state (g.D.Disk.history c.args.disk.now) (g.D.Disk.size c.args.disk.now)
+    (other_names state) c.requires.kept given in
+    handed-sound (Unit {0}) c.from_residual-in_err-commit_pending.result _
+    (handed c.from_residual-in_err-commit_pending.result _ c.from_residual-in_err-commit_pending.ensures.1)
+    (c.in_err-commit_pending.ensures.sound state events told keeps)
+
+pub returns-in_err-commit_pending-clause-err : goal.returns-in_err-commit_pending-clause-err
+returns-in_err-commit_pending-clause-err g c =
+    last-any (Snap c.args.sub []) c.args.kept.now c.commit_pending.new.kept (g.D.Disk.history c.args.disk.now)
+    (g.D.Disk.history c.commit_pending.new.disk) c.from_residual-in_err-commit_pending.result
+    (inl (c.in_err-commit_pending.ensures.err ∙ c.turn_to.ensures.superblock))
+
+-- ---- the change
+
+pub snap_change-requires : goal.snap_change-requires
+snap_change-requires g c =
+    let kept = c.turn_to.new.kept in
+    let mid = c.commit_pending.new.kept in
+    let settled = c.in_ok-commit_pending.ensures.settled in
+    record {
+      kept = c.in_ok-commit_pending.ensures.kept;
+      serves = c.requires.serves;
+      hand = settled.owner ∙ c.turn_to.ensures.hand c.if-not-turn_to.false;
+      number = c.new-copy.ensures ∙ c.number_next-number.ensures.value ∙ sym (number-same kept mid settled);
+      few = too-many-same kept mid settled
+          ∙ too-many-by kept c.number_next-number.result c.are_too_many.result false
+          c.number_next-number.ensures.value c.are_too_many.ensures c.if-are_too_many.false;
+      room = c.in_ok-commit_pending.ensures.room 18
+          (if-none c.in_ok-why.field-0 (structural_need_of kept 18 ≤ free_slots kept.fs.land.space) c.in_default.is
+          c.in_ok-why.ensures.enough);
+    }
+
+pub returns-in_err-snap_change-clause-so_far : goal.returns-in_err-snap_change-clause-so_far
+returns-in_err-snap_change-clause-so_far g c = λ state events given told.
+    let keeps = c.turn_to.ensures.keeps state (g.D.Disk.history c.args.disk.now) (g.D.Disk.size c.args.disk.now)
+    (other_names state) c.requires.kept given in
+    so-far-first state (Snap c.args.sub []) events (g.D.Disk.history c.commit_pending.new.disk)
+    (g.D.Disk.history c.snap_change.new.disk) refl
+    (snap-late c.turn_to.new.kept state (g.D.Disk.history c.args.disk.now) (g.D.Disk.size c.args.disk.now)
+    (c.turn_to.ensures.kept (g.D.Disk.history c.args.disk.now) (g.D.Disk.size c.args.disk.now) c.requires.kept) keeps
+    c.in_ok-why.ensures.table c.args.sub
+    (target-listed c.args.kept.now c.turn_to.new.kept state (g.D.Disk.history c.args.disk.now)
+    (g.D.Disk.history c.args.disk.now) given keeps c.args.sub
+    (sym c.turn_to.ensures.there ∙ c.if-not-turn_to.false)) (too-many-by c.turn_to.new.kept c.number_next-number.result
+    c.are_too_many.result false c.number_next-number.ensures.value c.are_too_many.ensures c.if-are_too_many.false)
+    ∙ sym c.in_ok-why.ensures.value ∙ c.in_default.is)
+    c.in_err-snap_change.ensures.apart.0
+    (c.in_ok-commit_pending.ensures.so_far state events keeps told)
+
+pub returns-in_err-snap_change-clause-sound : goal.returns-in_err-snap_change-clause-sound
+returns-in_err-snap_change-clause-sound g c = λ state events told given.
+    let keeps = c.turn_to.ensures.keeps state (g.D.Disk.history c.args.disk.now) (g.D.Disk.size c.args.disk.now)
+    (other_names state) c.requires.kept given in
+    let first = c.in_ok-commit_pending.ensures.committed state events keeps told in
+    handed-sound (Unit {0}) c.from_residual-in_err-snap_change.result _
+    (handed c.from_residual-in_err-snap_change.result _ c.from_residual-in_err-snap_change.ensures.1)
+    (c.in_err-snap_change.ensures.sound first.before first.between first.keeps first.told)
+
+pub returns-in_err-snap_change-clause-err : goal.returns-in_err-snap_change-clause-err
+returns-in_err-snap_change-clause-err g c =
+    let kept = c.args.kept.now in
+    let before = g.D.Disk.history c.args.disk.now in
+    let after = g.D.Disk.history c.snap_change.new.disk in
+    last-any (Snap c.args.sub []) kept c.snap_change.new.kept before after c.from_residual-in_err-snap_change.result
+    (last-settled (Snap c.args.sub []) kept c.turn_to.new.kept c.commit_pending.new.kept c.snap_change.new.kept before
+    after refl c.turn_to.ensures.superblock (ap (λ (k : Kept). k.pending) c.turn_to.ensures.same.rest)
+    c.in_ok-commit_pending.ensures.settled c.in_err-snap_change.ensures.superblock (λ state events given told.
+    let keeps = c.turn_to.ensures.keeps state before (g.D.Disk.size c.args.disk.now) (other_names state)
+    c.requires.kept given in
+    inl (made-first state c.commit_pending.new.kept events (g.D.Disk.history c.commit_pending.new.disk) after
+    (c.in_ok-commit_pending.ensures.committed state events keeps told) c.in_err-snap_change.ensures.apart.0)))
+
+-- ---- it is committed
+
+pub commit_now-requires : goal.commit_now-requires
+commit_now-requires g c = record {
+  kept = c.in_ok-snap_change.ensures.kept;
+  early = early-second c.turn_to.new.kept c.commit_pending.new.kept c.snap_change.new.kept
+      c.in_ok-commit_pending.ensures.settled c.in_ok-snap_change.ensures.superblock
+      (if-none c.in_ok-why.field-0 _ c.in_default.is c.in_ok-why.ensures.early);
+}
+
+pub returns-in_err-commit_now-clause-so_far : goal.returns-in_err-commit_now-clause-so_far
+returns-in_err-commit_now-clause-so_far g c = λ state events given told.
+    let keeps = c.turn_to.ensures.keeps state (g.D.Disk.history c.args.disk.now) (g.D.Disk.size c.args.disk.now)
+    (other_names state) c.requires.kept given in
+    let between = g.D.Disk.history c.commit_pending.new.disk in
+    let after = g.D.Disk.history c.snap_change.new.disk in
+    let first = c.in_ok-commit_pending.ensures.committed state events keeps told in
+    let change = c.in_ok-snap_change.ensures.changed first.before first.keeps
+    c.in_ok-commit_pending.ensures.settled.pending in
+    so-far-second state (Snap c.args.sub []) (Sub c.new-copy.result) c.commit_pending.new.kept c.snap_change.new.kept
+    c.commit_now.new.kept events between after first change c.in_ok-snap_change.ensures.apart.0
+    (held-snapped first.before change.changed c.args.sub (Sub c.new-copy.result) change.changes)
+    (g.D.Disk.history c.commit_now.new.disk) refl
+    (snap-late c.turn_to.new.kept state (g.D.Disk.history c.args.disk.now) (g.D.Disk.size c.args.disk.now)
+    (c.turn_to.ensures.kept (g.D.Disk.history c.args.disk.now) (g.D.Disk.size c.args.disk.now) c.requires.kept) keeps
+    c.in_ok-why.ensures.table c.args.sub
+    (target-listed c.args.kept.now c.turn_to.new.kept state (g.D.Disk.history c.args.disk.now)
+    (g.D.Disk.history c.args.disk.now) given keeps c.args.sub
+    (sym c.turn_to.ensures.there ∙ c.if-not-turn_to.false)) (too-many-by c.turn_to.new.kept c.number_next-number.result
+    c.are_too_many.result false c.number_next-number.ensures.value c.are_too_many.ensures c.if-are_too_many.false)
+    ∙ sym c.in_ok-why.ensures.value ∙ c.in_default.is)
+    (c.in_ok-commit_pending.ensures.so_far state events keeps told)
+    (c.in_err-commit_now.ensures.so_far change.changed first.between (other_names first.before) change.keeps change.room
+    (c.in_ok-snap_change.ensures.apart.0 ∙ first.told))
+
+pub returns-in_err-commit_now-clause-sound : goal.returns-in_err-commit_now-clause-sound
+returns-in_err-commit_now-clause-sound g c = λ state events told given.
+    let keeps = c.turn_to.ensures.keeps state (g.D.Disk.history c.args.disk.now) (g.D.Disk.size c.args.disk.now)
+    (other_names state) c.requires.kept given in
+    let first = c.in_ok-commit_pending.ensures.committed state events keeps told in
+    let change = c.in_ok-snap_change.ensures.changed first.before first.keeps
+    c.in_ok-commit_pending.ensures.settled.pending in
+    handed-sound (Unit {0}) c.from_residual-in_err-commit_now.result _
+    (handed c.from_residual-in_err-commit_now.result _ c.from_residual-in_err-commit_now.ensures.1)
+    (c.in_err-commit_now.ensures.sound change.changed first.between (other_names first.before) change.keeps change.room
+    (c.in_ok-snap_change.ensures.apart.0 ∙ first.told))
+
+pub returns-in_err-commit_now-clause-err : goal.returns-in_err-commit_now-clause-err
+returns-in_err-commit_now-clause-err g c =
+    let kept = c.args.kept.now in
+    let before = g.D.Disk.history c.args.disk.now in
+    let between = g.D.Disk.history c.commit_pending.new.disk in
+    let after = g.D.Disk.history c.snap_change.new.disk in
+    let last = g.D.Disk.history c.commit_now.new.disk in
+    last-any (Snap c.args.sub []) kept c.commit_now.new.kept before last c.from_residual-in_err-commit_now.result
+    (last-settled (Snap c.args.sub []) kept c.turn_to.new.kept c.commit_pending.new.kept c.commit_now.new.kept before
+    last refl c.turn_to.ensures.superblock (ap (λ (k : Kept). k.pending) c.turn_to.ensures.same.rest)
+    c.in_ok-commit_pending.ensures.settled
+    (c.in_err-commit_now.ensures.err ∙ c.in_ok-snap_change.ensures.superblock) (λ state events given told.
+    let keeps = c.turn_to.ensures.keeps state before (g.D.Disk.size c.args.disk.now) (other_names state)
+    c.requires.kept given in
+    let first = c.in_ok-commit_pending.ensures.committed state events keeps told in
+    let change = c.in_ok-snap_change.ensures.changed first.before first.keeps
+    c.in_ok-commit_pending.ensures.settled.pending in
+    made-second state (Snap c.args.sub []) (Sub c.new-copy.result) c.commit_pending.new.kept c.snap_change.new.kept
+    c.commit_now.new.kept events between after first change c.in_ok-snap_change.ensures.apart.0
+    (held-snapped first.before change.changed c.args.sub (Sub c.new-copy.result) change.changes) last
+    (c.in_err-commit_now.ensures.so_far change.changed first.between (other_names first.before) change.keeps change.room
+    (c.in_ok-snap_change.ensures.apart.0 ∙ first.told))))
+
+pub returns-clause-step : goal.returns-clause-step
+returns-clause-step g c = λ state events given told.
+    let keeps = c.turn_to.ensures.keeps state (g.D.Disk.history c.args.disk.now) (g.D.Disk.size c.args.disk.now)
+    (other_names state) c.requires.kept given in
+    let kept = c.turn_to.new.kept in
+    let before = g.D.Disk.history c.args.disk.now in
+    let between = g.D.Disk.history c.commit_pending.new.disk in
+    let after = g.D.Disk.history c.snap_change.new.disk in
+    let first = c.in_ok-commit_pending.ensures.committed state events keeps told in
+    let change = c.in_ok-snap_change.ensures.changed first.before first.keeps
+    c.in_ok-commit_pending.ensures.settled.pending in
+    let second = c.in_ok-commit_now.ensures.commits change.changed first.between (other_names first.before) change.keeps
+    change.room (c.in_ok-snap_change.ensures.apart.0 ∙ first.told) in
+    let few = too-many-by kept c.number_next-number.result c.are_too_many.result false
+    c.number_next-number.ensures.value c.are_too_many.ensures c.if-are_too_many.false in
+    does-structural state (Snap c.args.sub []) (Sub c.new-copy.result) c.commit_pending.new.kept c.snap_change.new.kept
+    c.commit_now.new.kept events between after first change c.in_ok-snap_change.ensures.apart.0
+    (held-snapped first.before change.changed c.args.sub (Sub c.new-copy.result) change.changes)
+    (g.D.Disk.history c.commit_now.new.disk) second
+    (snap-late kept state before (g.D.Disk.size c.args.disk.now)
+    (c.turn_to.ensures.kept (g.D.Disk.history c.args.disk.now) (g.D.Disk.size c.args.disk.now) c.requires.kept) keeps
+    c.in_ok-why.ensures.table c.args.sub
+    (target-listed c.args.kept.now kept state (g.D.Disk.history c.args.disk.now) (g.D.Disk.history c.args.disk.now)
+    given
+    keeps c.args.sub (sym c.turn_to.ensures.there ∙ c.if-not-turn_to.false)) few
+    ∙ sym c.in_ok-why.ensures.value ∙ c.in_default.is)
+    (λ does. does)
+
+pub returns-clause-so_far : goal.returns-clause-so_far
+returns-clause-so_far g c = λ state events given told.
+    let keeps = c.turn_to.ensures.keeps state (g.D.Disk.history c.args.disk.now) (g.D.Disk.size c.args.disk.now)
+    (other_names state) c.requires.kept given in
+    let between = g.D.Disk.history c.commit_pending.new.disk in
+    let after = g.D.Disk.history c.snap_change.new.disk in
+    let first = c.in_ok-commit_pending.ensures.committed state events keeps told in
+    let change = c.in_ok-snap_change.ensures.changed first.before first.keeps
+    c.in_ok-commit_pending.ensures.settled.pending in
+    so-far-second state (Snap c.args.sub []) (Sub c.new-copy.result) c.commit_pending.new.kept c.snap_change.new.kept
+    c.commit_now.new.kept events between after first change c.in_ok-snap_change.ensures.apart.0
+    (held-snapped first.before change.changed c.args.sub (Sub c.new-copy.result) change.changes)
+    (g.D.Disk.history c.commit_now.new.disk) refl
+    (snap-late c.turn_to.new.kept state (g.D.Disk.history c.args.disk.now) (g.D.Disk.size c.args.disk.now)
+    (c.turn_to.ensures.kept (g.D.Disk.history c.args.disk.now) (g.D.Disk.size c.args.disk.now) c.requires.kept) keeps
+    c.in_ok-why.ensures.table c.args.sub
+    (target-listed c.args.kept.now c.turn_to.new.kept state (g.D.Disk.history c.args.disk.now)
+    (g.D.Disk.history c.args.disk.now) given keeps c.args.sub
+    (sym c.turn_to.ensures.there ∙ c.if-not-turn_to.false)) (too-many-by c.turn_to.new.kept c.number_next-number.result
+    c.are_too_many.result false c.number_next-number.ensures.value c.are_too_many.ensures c.if-are_too_many.false)
+    ∙ sym c.in_ok-why.ensures.value ∙ c.in_default.is)
+    (c.in_ok-commit_pending.ensures.so_far state events keeps told)
+    (c.in_ok-commit_now.ensures.so_far change.changed first.between (other_names first.before) change.keeps change.room
+    (c.in_ok-snap_change.ensures.apart.0 ∙ first.told))

@@ -1,0 +1,96 @@
+-- What a structural command changes of what is kept, and why it is refused (this project's own).
+use Rattle.std.specs.Prelude.{◌⊎◌, ◌+◌, ◌*◌, Some, ◌≡◌, ◌||◌, ℕ, ◌^◌, ◌<◌, ◌≤◌, ◌==◌, not, List, [], ◌∷◌, length, Option, nat_le, nat_lt}
+use Rattle.std.specs.List.{filter}
+use Rattle.qg_device.specs.History.{Event}
+use Rattle.qg_num.specs.declared.answer.Answer.{Answer}
+use Rattle.qg_num.specs.declared.command.Command.{Command}
+use Rattle.qg_num.specs.declared.refusal.Refusal.{Refusal}
+use Rattle.qg_num.specs.declared.refusal.Refusal.TheVariants as why
+use Rattle.qg_image.specs.ItemMeaning.{first_some}
+use Rattle.qg_image.specs.Table.{has_key, keys_of}
+use Rattle.qg_state.specs.Members.{next_subvolume}
+use Rattle.qg_state.specs.State.{State}
+use Rattle.qg_verdict.specs.Verdict.{most_groups, most_subvolumes}
+use Rattle.qg_machine.specs.Refusals.{last_generation, refuse}
+use Rattle.qg_machine.specs.Step.{Changes, CommitsPending}
+use Rattle.qg_space.specs.Holding.{free_slots}
+use Rattle.qg_descent.specs.Tree.{Root}
+use Rattle.qg_fs_laws.specs.Keeping.{other_names}
+use Rattle.qg_store.specs.declared.kept.Kept.{Kept}
+use Rattle.qg_store.specs.Keeping.{IsKeptOf, IsKeptWith, commit_need, filled_by, structural_need_of}
+use Rattle.qg_store.specs.Making.{Makes, StartsCommit}
+
+-- ---- why a command is refused: the first that holds
+
+-- the number that the next subvolume gets
+abbrev pub number_next : Kept → ℕ
+number_next kept = next_subvolume (keys_of kept.snapshots) (keys_of kept.quota.groups)
+
+-- one subvolume more, with its group, would pass a limit
+abbrev pub too_many_refusal : Kept → Option Refusal
+too_many_refusal kept = refuse
+    (nat_le most_subvolumes (length kept.snapshots) || nat_le most_groups (length kept.quota.groups)
+    || nat_le (2 ^ 48) (number_next kept))
+    why.TooMany
+
+-- there is no such subvolume
+abbrev pub sub_refusal : Kept → ℕ → Option Refusal
+sub_refusal kept sub = refuse (not (has_key sub kept.snapshots)) why.NoSub
+
+-- the last two, where the change may copy so many nodes
+abbrev pub commit_refusal : Kept → ℕ → Option Refusal
+commit_refusal kept copies = first_some
+    (refuse (nat_lt last_generation kept.superblock.generation) why.NoGeneration
+    ∷ refuse (nat_lt (free_slots kept.fs.land.space) (structural_need_of kept copies))
+    (why.NoNodes (free_slots kept.fs.land.space) (structural_need_of kept copies))
+    ∷ [])
+
+-- ---- what is done first
+
+-- nothing was done, or the calls of a commit of what was pending came so far
+abbrev pub IsDoneFirst : State → List Event → Option (List Event) → Type 0
+IsDoneFirst old events history = (history ≡ Some events) ⊎ StartsCommit old events history
+
+-- ---- room
+
+-- So many slots are free that, once a change copied so many nodes, a commit finds its own
+pub record HasRoom (kept : Kept) (copies : ℕ) : Type 0 where
+  pub free : 10 * copies + 11 * filled_by kept + 67 ≤ free_slots kept.fs.land.space
+
+-- ---- what was pending
+
+-- Nothing is pending any more, subvolumes and groups are the same, the same one's tree is at hand, and the last commit is
+-- the one before or, where something was pending, the next
+pub record IsSettledFrom (old new : Kept) : Type 0 where
+  pub pending : new.pending ≡ 0
+  pub snapshots : new.snapshots ≡ old.snapshots
+  pub groups : keys_of new.quota.groups ≡ keys_of old.quota.groups
+  pub owner : new.fs.tree.owner ≡ old.fs.tree.owner
+  pub last : (new.superblock ≡ old.superblock)
+      ⊎ (0 < old.pending) × (new.superblock.generation ≡ old.superblock.generation + 1)
+
+-- What was pending of a state is committed, by calls that the disk was given, and what is kept is that of the state
+-- afterwards
+pub record HasCommitted (old : State) (kept : Kept) (events : List Event) (history : Option (List Event)) : Type 0 where
+  pub before : State
+  pub earlier : List State
+  pub first : CommitsPending old earlier before
+  pub keeps : IsKeptOf kept before history
+  pub between : List Event
+  pub told : history ≡ Some between
+  pub made : Makes old.held earlier events between
+
+-- ---- the change
+
+-- the trees but the one of a number
+abbrev pub without_tree : ℕ → List Root → List Root
+without_tree number trees = filter (λ tree. not (tree.owner == number)) trees
+
+-- A structural command changed what is kept of a state in which nothing is pending. What is kept then is that of a state
+-- that the machine's change may leave, the last commit names what it named before, and a commit finds its slots
+pub record IsChanged (before : State) (given : Command) (reply : Answer) (new : Kept) (history : Option (List Event))
+    : Type 0 where
+  pub changed : State
+  pub changes : Changes before given reply changed
+  pub keeps : IsKeptWith new changed history (other_names before)
+  pub room : commit_need new ≤ free_slots new.fs.land.space

@@ -1,0 +1,241 @@
+// What structural commands change of what is kept, between their commits.
+ghost use Rattle.std.specs.Prelude.{◌≡◌, ◌≢◌, ◌+◌, ◌++◌, ◌∷◌, [], All, IfNone, IfOk, IfSome, IsTrue, List, None, Some, OnOk, map};
+ghost use Rattle.std.specs.List.{Contains};
+ghost use Rattle.std.specs.List.Sorted.{IsStrictlyIncreasing};
+ghost use Rattle.qg_device.specs.Cause.{HasCause};
+ghost use Rattle.qg_device.specs.History.{Event};
+ghost use Rattle.qg_num.specs.declared.answer.Answer.TheVariants.{Done, Sub};
+ghost use Rattle.qg_num.specs.declared.command.Command.TheVariants.{Delete, Snap, SubCreate};
+ghost use Rattle.qg_items.specs.declared.tree.TheConstants.{TOP_LEVEL as top_level};
+ghost use Rattle.qg_image.specs.Table.{has_key, keys_of, value_at, with_value, without_key};
+ghost use Rattle.qg_state.specs.Stage.{serves_subvolumes};
+ghost use Rattle.qg_state.specs.State.{State};
+ghost use Rattle.qg_machine.specs.GroupChange.{new_group, with_group};
+ghost use Rattle.qg_machine.specs.Refusals.{nodes_reached};
+ghost use Rattle.qg_blocks.specs.Told.{BreaksNone};
+ghost use Rattle.qg_store.specs.Keeping.{IsKept, IsKeptOf};
+ghost use Rattle.qg_store.specs.Structural.{HasRoom, IsChanged, number_next, too_many_refusal, without_tree};
+
+use crate::kept::Kept;
+use crate::numbering::{place_of_group, place_of_snapshot};
+use crate::turning::turn_to;
+use qg_descent::Tree;
+use qg_disk::Disk;
+use qg_items::tree::TOP_LEVEL;
+use qg_num::{BlockFault, Counters, Generation, GroupId, NoMemory, RootId, Rule, Steps};
+use qg_state::Group;
+use std::sync::ledger::Ledger;
+
+/// A subvolume without files is made. Nothing is written to the disk.
+///
+/// `Image` comes only where nothing is kept of a state: with the rule `Refs` where references are not what they should
+/// be.
+pub(crate) fn create_change<D: Disk, L: Ledger>(
+    kept: &mut Kept,
+    disk: &mut D,
+    sub: RootId,
+    reads: &mut Steps<L>,
+) -> Result<(), BlockFault>
+    requires kept { IsKept kept.old (D.history disk.old) (D.size disk.old) }
+    requires serves { IsTrue serves_subvolumes }
+    requires number { sub ≡ number_next kept.old }
+    requires few { too_many_refusal kept.old ≡ None }
+    requires room { HasRoom kept.old 18 }
+    ensures kept { IfOk result (λ done. IsKept kept.new (D.history disk.new) (D.size disk.new)) }
+    ensures changed { (state : State) → IsKeptOf kept.old state (D.history disk.old) → kept.old.pending ≡ 0
+        → IfOk result (λ done. IsChanged state SubCreate (Sub sub) kept.new (D.history disk.new)) }
+    ensures sound { (state : State) (events : List Event) → IsKeptOf kept.old state (D.history disk.old)
+        → D.history disk.old ≡ Some events → BreaksNone result }
+    ensures superblock { kept.new.superblock ≡ kept.old.superblock }
+    ensures apart { (D.history disk.new ≡ D.history disk.old) × (D.size disk.new ≡ D.size disk.old) }
+    ensures cause { HasCause BlockFault.Disk (D.faults disk.old) (D.faults disk.new) result }
+{
+    let _ascending = kept.fs.refs.refs().len();
+    let next = kept.fs.tree.next();
+    let hand = kept.fs.tree.owner();
+    if kept.fs.refs.next() != next {
+        return Err(BlockFault::Image {
+            rule: Rule::Refs,
+            address: kept.fs.tree.root(),
+        });
+    }
+    kept.fs.refs.stand_for(sub);
+    let tree = qg_snap::create(
+        kept.alloc,
+        &mut kept.fs.land,
+        disk,
+        sub,
+        next,
+        &mut kept.fs.refs,
+        reads,
+    )?;
+    kept.fs.refs.stand_for(hand);
+    let _ascending_still = kept.fs.refs.refs().len();
+    add_subvolume(kept, tree, Generation::new(0), new_group(next))?;
+    Ok(())
+}
+
+/// A subvolume begins as the one at hand is, whose last snapshot this is. No group has a limit so far, so its own has
+/// none. Else as [`create_change`].
+pub(crate) fn snap_change<D: Disk, L: Ledger>(
+    kept: &mut Kept,
+    disk: &mut D,
+    sub: RootId,
+    copy: RootId,
+    reads: &mut Steps<L>,
+) -> Result<(), BlockFault>
+    requires kept { IsKept kept.old (D.history disk.old) (D.size disk.old) }
+    requires serves { IsTrue serves_subvolumes }
+    requires hand { kept.old.fs.tree.owner ≡ sub }
+    requires number { copy ≡ number_next kept.old }
+    requires few { too_many_refusal kept.old ≡ None }
+    requires room { HasRoom kept.old 18 }
+    ensures kept { IfOk result (λ done. IsKept kept.new (D.history disk.new) (D.size disk.new)) }
+    ensures changed { (state : State) → IsKeptOf kept.old state (D.history disk.old) → kept.old.pending ≡ 0
+        → IfOk result (λ done. IsChanged state (Snap sub []) (Sub copy) kept.new (D.history disk.new)) }
+    ensures sound { (state : State) (events : List Event) → IsKeptOf kept.old state (D.history disk.old)
+        → D.history disk.old ≡ Some events → BreaksNone result }
+    ensures superblock { kept.new.superblock ≡ kept.old.superblock }
+    ensures apart { (D.history disk.new ≡ D.history disk.old) × (D.size disk.new ≡ D.size disk.old) }
+    ensures cause { HasCause BlockFault.Disk (D.faults disk.old) (D.faults disk.new) result }
+{
+    let _ascending = kept.fs.refs.refs().len();
+    let next = kept.fs.tree.next();
+    kept.fs.refs.stand_for(copy);
+    let tree = qg_snap::snapshot(
+        kept.alloc,
+        &mut kept.fs.land,
+        disk,
+        &kept.fs.tree,
+        copy,
+        &mut kept.fs.refs,
+        reads,
+    )?;
+    kept.fs.refs.stand_for(sub);
+    let _ascending_still = kept.fs.refs.refs().len();
+    mark_snapshot(kept, sub, next);
+    add_subvolume(kept, tree, next, new_group(next))?;
+    Ok(())
+}
+
+/// A subvolume other than the top-level one goes, with all that nobody else reaches. Else as [`create_change`].
+pub(crate) fn delete_change<D: Disk, L: Ledger>(
+    kept: &mut Kept,
+    disk: &mut D,
+    sub: RootId,
+    copies: u64,
+    reads: &mut Steps<L>,
+) -> Result<(), BlockFault>
+    requires kept { IsKept kept.old (D.history disk.old) (D.size disk.old) }
+    requires serves { IsTrue serves_subvolumes }
+    requires there { IsTrue (has_key sub kept.old.snapshots) }
+    requires other { sub ≡ top_level → ⊥ }
+    requires room { HasRoom kept.old copies }
+    ensures kept { IfOk result (λ done. IsKept kept.new (D.history disk.new) (D.size disk.new)) }
+    ensures changed { (state : State) → IsKeptOf kept.old state (D.history disk.old) → kept.old.pending ≡ 0
+        → copies ≡ 18 + nodes_reached state sub
+        → IfOk result (λ done. IsChanged state (Delete sub) Done kept.new (D.history disk.new)) }
+    ensures sound { (state : State) (events : List Event) → IsKeptOf kept.old state (D.history disk.old)
+        → D.history disk.old ≡ Some events → BreaksNone result }
+    ensures superblock { kept.new.superblock ≡ kept.old.superblock }
+    ensures apart { (D.history disk.new ≡ D.history disk.old) × (D.size disk.new ≡ D.size disk.old) }
+    ensures cause { HasCause BlockFault.Disk (D.faults disk.old) (D.faults disk.new) result }
+{
+    turn_to(kept, RootId::new(TOP_LEVEL));
+    let _ascending = kept.fs.refs.refs().len();
+    let Some(tree) = take_tree(kept, sub) else {
+        return Err(BlockFault::Image {
+            rule: Rule::Refs,
+            address: kept.fs.tree.root(),
+        });
+    };
+    let hand = kept.fs.tree.owner();
+    kept.fs.refs.stand_for(sub);
+    qg_drop::drop_all(
+        kept.alloc,
+        &mut kept.fs.land,
+        disk,
+        &tree,
+        &mut kept.fs.refs,
+        reads,
+    )?;
+    kept.fs.refs.stand_for(hand);
+    let _ascending_still = kept.fs.refs.refs().len();
+    forget_snapshot(kept, sub);
+    Ok(())
+}
+
+// The generation of a subvolume's last snapshot is this one.
+fn mark_snapshot(kept: &mut Kept, sub: RootId, generation: Generation)
+    requires there { IsTrue (has_key sub kept.old.snapshots) }
+    requires ascending { IsStrictlyIncreasing (keys_of kept.old.snapshots) }
+    ensures { kept.new ≡ record kept.old { snapshots = with_value sub generation kept.old.snapshots } }
+{
+    if let Some(place) = place_of_snapshot(kept.snapshots.as_slice(), sub) {
+        kept.snapshots.set(place, (sub, generation));
+    }
+}
+
+// Of a subvolume that went no snapshot is known.
+fn forget_snapshot(kept: &mut Kept, sub: RootId)
+    requires ascending { IsStrictlyIncreasing (keys_of kept.old.snapshots) }
+    ensures { kept.new ≡ record kept.old { snapshots = without_key sub kept.old.snapshots } }
+{
+    if let Some(place) = place_of_snapshot(kept.snapshots.as_slice(), sub) {
+        kept.snapshots.remove(place);
+    }
+}
+
+// A group that is made in this generation: nothing is counted, no limit is set.
+fn new_group(stamp: Generation) -> Group
+    ensures { result ≡ new_group stamp }
+{
+    Group {
+        counters: Counters { rfer: 0, excl: 0 },
+        max_rfer: None,
+        max_excl: None,
+        stamp,
+    }
+}
+
+// A tree that was made goes behind the others, its number being the greatest; with it come its snapshot and its group.
+fn add_subvolume(
+    kept: &mut Kept,
+    tree: Tree,
+    snapshot: Generation,
+    group: Group,
+) -> Result<(), NoMemory>
+    requires group { value_at tree.owner kept.old.quota.groups ≡ None }
+    ensures trees { OnOk result (kept.new.fs.others.items ≡ kept.old.fs.others.items ++ tree ∷ []) }
+    ensures snapshots { OnOk result (kept.new.snapshots ≡ kept.old.snapshots ++ (tree.owner, snapshot) ∷ []) }
+    ensures quota { OnOk result (kept.new.quota ≡ with_group tree.owner group kept.old.quota) }
+    ensures rest { kept.new ≡ record kept.old {
+      fs = record kept.old.fs { others = kept.new.fs.others };
+      snapshots = kept.new.snapshots;
+      quota = kept.new.quota;
+    } }
+{
+    let sub = tree.owner();
+    let number = GroupId::from_number(sub.value());
+    kept.fs.others.push(tree)?;
+    kept.snapshots.push((sub, snapshot))?;
+    let place = place_of_group(kept.quota.groups.as_slice(), number);
+    kept.quota.groups.insert(place, (number, group))?;
+    Ok(())
+}
+
+// The tree of a number is taken from among the others.
+fn take_tree(kept: &mut Kept, sub: RootId) -> Option<Tree>
+    requires ascending { IsStrictlyIncreasing (map (λ tree. tree.owner) kept.old.fs.others.items) }
+    ensures taken { IfSome result (λ tree. (tree.owner ≡ sub) × Contains kept.old.fs.others.items tree) }
+    ensures left { IfSome result (λ tree. kept.new.fs.others.items ≡ without_tree sub kept.old.fs.others.items) }
+    ensures none { IfNone result (All (λ tree. tree.owner ≢ sub) kept.old.fs.others.items) }
+    ensures rest { kept.new ≡ record kept.old { fs = record kept.old.fs { others = kept.new.fs.others } } }
+{
+    for i in 0..kept.fs.others.len() {
+        if kept.fs.others[i].owner() == sub {
+            return Some(kept.fs.others.remove(i));
+        }
+    }
+    None
+}

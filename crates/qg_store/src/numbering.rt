@@ -1,0 +1,99 @@
+// Numbers of subvolumes and groups, and their places in lists.
+ghost use Rattle.std.specs.Prelude.{◌≡◌, ◌≢◌, ◌^◌, ◌<◌, ◌≤◌, ◌==◌, ◌||◌, max, All, IfNone, IfSome, IsTrue, length, nat_le, slice_get, take};
+ghost use Rattle.std.specs.List.{HoldsAt, filter, fold};
+ghost use Rattle.qg_image.specs.ItemMeaning.{is_subvolume_number};
+ghost use Rattle.qg_image.specs.Table.{keys_of};
+ghost use Rattle.qg_state.specs.Members.{level_of_group};
+ghost use Rattle.qg_verdict.specs.Verdict.{most_groups, most_subvolumes};
+ghost use Rattle.qg_store.specs.Keeping.{IsFitted};
+ghost use Rattle.qg_store.specs.Structural.{number_next};
+
+use crate::kept::Kept;
+use qg_num::{Generation, GroupId, RootId};
+use qg_state::Group;
+
+/// The most subvolumes, and the most groups, that an image can have.
+const MOST_SUBVOLUMES: usize = 4096;
+
+const MOST_GROUPS: usize = 4096;
+
+/// The number that the next subvolume gets: one more than the greatest of 255, the subvolumes' and those of groups of
+/// level 0.
+pub(crate) fn number_next(kept: &Kept) -> u64
+    requires fitted { IsFitted kept.now }
+    ensures value { result ≡ number_next kept.now }
+    ensures some { 255 < result }
+    ensures bound { result ≤ 2 ^ 48 }
+{
+    let last = last_subvolume(kept.snapshots.as_slice());
+    last_group(kept.quota.groups.as_slice(), last) + 1
+}
+
+// The greatest of 255 and the numbers of subvolumes.
+fn last_subvolume(snapshots: &[(RootId, Generation)]) -> u64
+    requires numbers { All (λ entry. IsTrue (is_subvolume_number entry.0)) snapshots.now }
+    ensures value { result ≡ fold max 255 (keys_of snapshots.now) }
+    ensures least { 255 ≤ result }
+    ensures bound { result < 2 ^ 48 }
+{
+    let mut last: u64 = 255;
+    for (sub, _) in snapshots {
+        last = last.max(sub.value());
+    }
+    last
+}
+
+// The greatest of a number and those of groups of level 0.
+fn last_group(groups: &[(GroupId, Group)], from: u64) -> u64
+    requires bound { from < 2 ^ 48 }
+    ensures value { result ≡ fold max from (filter (λ group. level_of_group group == 0) (keys_of groups.now)) }
+    ensures least { from ≤ result }
+    ensures bound { result < 2 ^ 48 }
+{
+    let mut last = from;
+    for (group, _) in groups {
+        if group.level() == 0 {
+            last = last.max(group.number());
+        }
+    }
+    last
+}
+
+/// Whether one subvolume more, of this number and with its group, would pass a limit.
+pub(crate) fn are_too_many(kept: &Kept, number: u64) -> bool
+    ensures { result
+        ≡ (nat_le most_subvolumes (length kept.now.snapshots) || nat_le most_groups (length kept.now.quota.groups)
+        || nat_le (2 ^ 48) number) }
+{
+    kept.snapshots.len() >= MOST_SUBVOLUMES
+        || kept.quota.groups.len() >= MOST_GROUPS
+        || number >= 1 << 48
+}
+
+/// The place of a subvolume; none exactly where there is none.
+pub(crate) fn place_of_snapshot(snapshots: &[(RootId, Generation)], sub: RootId) -> Option<usize>
+    ensures inside { IfSome result (λ place. place < length snapshots.now) }
+    ensures at { IfSome result (λ place. HoldsAt (λ entry. entry.0 ≡ sub) snapshots.now place) }
+    ensures none { IfNone result (All (λ entry. entry.0 ≢ sub) snapshots.now) }
+{
+    for i in 0..snapshots.len() {
+        if snapshots[i].0 == sub {
+            return Some(i);
+        }
+    }
+    None
+}
+
+/// How many groups stand before one of a number: the first ones, whose numbers are no greater.
+pub(crate) fn place_of_group(groups: &[(GroupId, Group)], number: GroupId) -> usize
+    ensures inside { result ≤ length groups.now }
+    ensures before { All (λ entry. entry.0 ≤ number) (take result groups.now) }
+    ensures behind { IfSome (slice_get groups.now result) (λ entry. number < entry.0) }
+{
+    for i in 0..groups.len() {
+        if groups[i].0 > number {
+            return i;
+        }
+    }
+    groups.len()
+}
