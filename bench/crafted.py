@@ -33,7 +33,11 @@ class Crafted:
         self.nodes = {}  # address: [owner, generation, level, items or pointers]
         self.full = set()
         self.roots = {}  # subvolume: the root node's address
-        self.groups = set()  # groups of subvolumes that are gone
+        self.groups = set()  # groups that are no live subvolume's
+        self.pairs = set()  # relations, each (member, parent)
+        self.limits = {}  # of a group (referenced, exclusive), each a number or None
+        self.on = True  # whether quota is on
+        self.quota_extra = {}  # items of the quota tree put in place of those that stand for the groups
         self.next = 0
         self.extra = {}  # items of the extent tree put in place of those owed
         self.stored = {}  # counters put in place of those counted
@@ -89,9 +93,41 @@ class Crafted:
             reach[sub] = by_root[root]
             for it in by_root[root]:
                 shared[it] = shared.get(it, 0) + 1
-        return {
-            sub: (sum(it[1] for it in mine), sum(it[1] for it in mine if shared[it] == 1)) for sub, mine in reach.items()
-        }
+        counted = {}
+        for group in {*self.groups, *self.roots}:
+            members = [sub for sub in self.roots if group in self.above(sub)]
+            times = {}
+            for sub in members:
+                for it in reach[sub]:
+                    times[it] = times.get(it, 0) + 1
+            counted[group] = (sum(it[1] for it in times), sum(it[1] for it in times if times[it] == shared[it]))
+        return counted
+
+    def above(self, group):
+        """The group and all that it leads to."""
+        found = {group}
+        for level in range(1, 65536):
+            more = {parent for member, parent in self.pairs if member in found} - found
+            if not more:
+                return found
+            found |= more
+
+    def quota_items(self):
+        counters = {**self.counters(), **self.stored}
+        items = {(0, 240, 0): struct.pack("<4Q", 1, self.generation, 1, 0)}
+        for group, (rfer, excl) in counters.items():
+            most = self.limits.get(group, (None, None))
+            flags = sum(1 << i for i in range(2) if most[i] is not None)
+            items[0, 242, group] = struct.pack("<5Q", self.generation, rfer, rfer, excl, excl)
+            items[0, 244, group] = struct.pack("<5Q", flags, most[0] or 0, most[1] or 0, 0, 0)
+        for member, parent in self.pairs:
+            items[member, 246, parent] = items[parent, 246, member] = b""
+        for key, body in self.quota_extra.items():
+            if body is None:
+                items.pop(key, None)
+            else:
+                items[key] = body
+        return sorted(items.items())
 
     def extent_items(self):
         live, owed, lengths = {}, {}, {}
@@ -194,14 +230,9 @@ class Crafted:
             if level:
                 below = [(self.first_key(child), child, self.nodes[child][1]) for child in below]
             texts[address] = self.node_text(address, owner, generation, level, below)
-        counters = {group: (0, 0) for group in self.groups}
-        counters.update(self.counters())
-        counters.update(self.stored)
-        quota = [((0, 240, 0), struct.pack("<4Q", 1, self.generation, 1, 0))]
-        for group, (rfer, excl) in sorted(counters.items()):
-            quota.append(((0, 242, group), struct.pack("<5Q", self.generation, rfer, rfer, excl, excl)))
-        quota += [((0, 244, group), bytes(40)) for group in sorted(counters)]
-        roots = [((QUOTA, 132, 0), root_item(self.generation, *self.tree(QUOTA, quota, texts)))]
+        roots = []
+        if self.on:
+            roots.append(((QUOTA, 132, 0), root_item(self.generation, *self.tree(QUOTA, self.quota_items(), texts))))
         roots.append(((EXTENTS, 132, 0), root_item(self.generation, *self.tree(EXTENTS, self.extent_items(), texts))))
         for sub, root in self.roots.items():
             roots.append(((sub, 132, 0), root_item(self.nodes[root][1], root, self.nodes[root][2])))

@@ -112,13 +112,14 @@ class Image:
         self.keyed = {ROOT: list(roots.items())}  # of the root, extent and quota trees the items
         self.roots = {key[0]: (number(body, 176), body[238], number(body, 160)) for key, body in roots.items()}
         self.last_snapshots = {key[0]: number(body, 200) for key, body in roots.items()}
-        if EXTENTS not in self.roots or TOP not in self.roots or QUOTA not in self.roots:
+        if EXTENTS not in self.roots or TOP not in self.roots:
             raise Broken("root", self.root)
         self.live = sorted(tree for tree in self.roots if is_subvolume(tree))
         if len(self.live) > 4096:
             raise Broken("limits", self.root)
         self.records = self.walk(EXTENTS, *self.roots[EXTENTS])
-        quotas = self.walk(QUOTA, *self.roots[QUOTA])
+        self.on = QUOTA in self.roots
+        quotas = self.walk(QUOTA, *self.roots[QUOTA]) if self.on else []
         self.keyed[EXTENTS], self.keyed[QUOTA] = self.records, quotas
         self.judge_quota(quotas)
         self.judge_subvolumes()
@@ -247,18 +248,30 @@ class Image:
     def judge_quota(self, items):
         infos = {key[2]: body for key, body in items if key[1] == INFO}
         limits = {key[2]: body for key, body in items if key[1] == LIMIT}
+        related = {(key[0], key[2]) for key, _ in items if key[1] == RELATION}
         self.groups = {group: (number(body, 8), number(body, 24)) for group, body in infos.items()}
         self.counted = {group: number(body, 0) for group, body in infos.items()}
+        self.limits = {}
+        self.pairs = sorted(pair for pair in related if pair[0] >> 48 < pair[1] >> 48)  # each (member, parent)
+        self.members_of, self.below = {}, {}
+        for member, parent in self.pairs:
+            self.members_of.setdefault(parent, []).append(member)
+        if not self.on:
+            return
         status = any(key[1] == STATUS for key, _ in items)
         bad = not status or infos.keys() != limits.keys() or any(tree not in infos for tree in self.live)
         for group, body in infos.items():
             bad = bad or (group >> 48 == 0 and not is_subvolume(group))
             bad = bad or number(body, 8) != number(body, 16) or number(body, 24) != number(body, 32)
-        # (until groups are served: no relation, no group above level 0, no limit)
-        bad = bad or any(key[1] == RELATION or key[2] >> 48 for key, _ in items) or any(any(body) for body in limits.values())
+        for group, body in limits.items():
+            flags, most = number(body, 0), (number(body, 8), number(body, 16))
+            bad = bad or any(most[i] and not flags >> i & 1 for i in range(2))
+            self.limits[group] = tuple(most[i] if flags >> i & 1 else None for i in range(2))
+        for one, other in related:
+            bad = bad or (other, one) not in related or one not in infos or other not in infos or one >> 48 == other >> 48
         if bad:
             raise Broken("quota", self.roots[QUOTA][0])
-        if len(infos) > 4096:
+        if len(infos) > 4096 or len(self.pairs) > 16384:
             raise Broken("limits", self.roots[QUOTA][0])
 
     def judge_subvolumes(self):
@@ -358,11 +371,23 @@ class Image:
             raise Broken("refs", min(failed))
 
     def count(self, group):
-        """What a group of level 0 counts: each node and extent that its subvolume reaches, and those of it alone."""
+        """What a group counts: each node and extent that some member reaches, and those that no other subvolume does."""
+        members = self.members(group)
         sizes = [(self.nodesize, subs) for subs in self.owned.values()]
         sizes += [(length, subs) for (_, length), subs in self.namers.items()]
-        rfer = sum(size for size, subs in sizes if group in subs)
-        return rfer, sum(size for size, subs in sizes if subs == {group})
+        rfer = sum(size for size, subs in sizes if subs & members)
+        return rfer, sum(size for size, subs in sizes if subs and subs <= members)
+
+    def members(self, group):
+        """The subvolumes that are the group's own or lead to it by a chain of relations."""
+        if group >> 48 == 0:
+            return {group} & set(self.live)
+        if group not in self.below:
+            # (each group by those below it, which are told first as levels rise)
+            self.below[group] = set()
+            for member in self.members_of.get(group, ()):
+                self.below[group] |= self.members(member)
+        return self.below[group]
 
     def owners(self, address):
         """The subvolumes that reach what begins at an address."""
@@ -373,7 +398,12 @@ class Image:
         return sorted(subs)
 
     def show(self):
-        return [f"{group >> 48}/{group & (1 << 48) - 1} {rfer} {excl} none none" for group, rfer, excl in self.rows]
+        """The reply of `show`."""
+        if not self.on:
+            return ["no off"]
+        most = lambda group: " ".join("none" if it is None else str(it) for it in self.limits[group])
+        rows = [f"{group >> 48}/{group & (1 << 48) - 1} {rfer} {excl} {most(group)}" for group, rfer, excl in self.rows]
+        return rows + ["ok"]
 
 
 if __name__ == "__main__":
@@ -382,4 +412,4 @@ if __name__ == "__main__":
         print(image.failure.removeprefix("broken counter "))
         sys.exit(3)
     print(f"sound {image.generation}")
-    print("\n".join(image.show()))
+    print("\n".join(image.show()[:-1]))

@@ -1,32 +1,24 @@
 -- The stored counters of groups, judged one after the other.
-use Rattle.std.proofs.Common.{◌≡◌, ℕ, ◌≤◌, ◌<◌, ◌+◌, zero, suc, true, List, [], ◌∷◌, map, drop, length, get_or, refl, sym, ap, subst, ◌∙◌, arith}
-use Rattle.std.specs.Prelude.{◌≢◌, not, All, Option, Some, None, ◌==◌, ◌&&◌, slice_get}
-use Rattle.std.specs.List.{Contains, filter, flat_map}
-use Rattle.std.proofs.lemmas.Bool.{and_parts, eqb-true, ne_eqb}
-use Rattle.std.proofs.lemmas.List.Elements.{All-contains}
-use Rattle.std.proofs.lemmas.Option.{slice_get_within}
+use Rattle.std.proofs.Common.{◌≡◌, ℕ, ◌≤◌, ◌<◌, ◌+◌, zero, suc, List, [], ◌∷◌, map, drop, length, get_or, refl, sym, ap, subst, ◌∙◌, arith}
+use Rattle.std.specs.Prelude.{Option, Some, None, slice_get}
+use Rattle.std.specs.Option.{option_map}
+use Rattle.std.proofs.lemmas.List.{length-map}
+use Rattle.std.proofs.lemmas.Option.{slice_get-get_or, slice_get-map}
 use Rattle.qg_num.specs.declared.counters.Counters.{Counters}
 use Rattle.qg_num.specs.declared.counters.Which.TheVariants.{Rfer, Excl}
-use Rattle.qg_image.specs.Table.{keys_of, value_at}
-use Rattle.qg_state.specs.declared.element.Element.{Element}
+use Rattle.qg_image.specs.Table.{keys_of}
 use Rattle.qg_state.specs.declared.quota.Group.{Group}
 use Rattle.qg_state.specs.declared.quota.Quota.{Quota}
 use Rattle.qg_state.specs.State.{Layout}
-use Rattle.qg_state.specs.Members.{Hierarchy, hierarchy_of, is_below, leads, level_of_group, members}
-use Rattle.qg_state.specs.Reach.{distinct, reach, reach_of}
-use Rattle.qg_state.specs.Counts.{bytes_of, direct_count, exclusive, is_reached_outside, reach_of_group, referenced}
-use Rattle.qg_state.proofs.Contained.{contains_here, contains_later}
+use Rattle.qg_state.specs.Members.{Hierarchy, hierarchy_of}
+use Rattle.qg_state.specs.Counts.{direct_count}
 use Rattle.qg_verdict.specs.declared.failure.Failure.{Failure}
 use Rattle.qg_verdict.specs.Failure.{first_failure}
 use Rattle.qg_verdict.specs.Verdict.{counted, counts_failure, group_failure}
-use Rattle.qg_reach.proofs.Members.{contains_map}
-use Rattle.qg_home.specs.Places.{AreOthers, StandsAt}
-use Rattle.qg_home.proofs.Listed.{at_one, contains_at}
-use Rattle.qg_direct.specs.Direct.{AreDirect}
-use Rattle.qg_direct.specs.declared.surveyed.Surveyed.{Surveyed}
-use Rattle.qg_direct.specs.Surveyed.{AreSurveyed}
-use Rattle.qg_owed.proofs.Filters.{kept_contains}
-use Rattle.qg_check.specs.Counted.{AreCounted, AreUnrelated}
+use Rattle.qg_home.proofs.Listed.{at_one, at_read}
+use Rattle.qg_direct.specs.Direct.{AreGroupCounts}
+use Rattle.qg_groups.specs.declared.state.QuotaState.{QuotaState}
+use Rattle.qg_groups.specs.Tracked.{IsTracked}
 
 -- ---- one after the other
 
@@ -37,6 +29,11 @@ pub record HaveJudged (judge : ℕ × Group → Option Failure) (count : ℕ) (g
 pub counts_judged : (layout : Layout) (quota : Quota) → counts_failure layout (Some quota) ≡ first_failure (map (group_failure layout (hierarchy_of quota)) quota.groups)
 unfolding counts_failure
 counts_judged layout quota = refl
+
+-- while quota is off nothing is
+pub counts_none : (layout : Layout) → counts_failure layout None ≡ None
+unfolding counts_failure
+counts_none layout = refl
 
 pub HaveJudged-none : (judge : ℕ × Group → Option Failure) (groups : List (ℕ × Group)) → HaveJudged judge 0 groups
 HaveJudged-none judge groups = record { left = refl }
@@ -78,90 +75,25 @@ pub judged_so : (layout : Layout) (hierarchy : Hierarchy) (entry : ℕ × Group)
 judged_so layout hierarchy entry direct told same is =
     ap (λ (c : Counters). first_failure (counted entry.0 Rfer entry.1.counters.rfer c.rfer ∷ counted entry.0 Excl entry.1.counters.excl c.excl ∷ [])) (sym same) ∙ sym is
 
--- ---- a group that is no subvolume's
+-- ---- by the counters at its index
 
-no_value : {A : Type 0} (n : ℕ) (entries : List (ℕ × A)) → All (λ entry. entry.0 ≢ n) entries → value_at n entries ≡ None
-no_value n [] others = refl
-no_value {A} n (entry ∷ entries) others =
-    let here = ne_eqb entry.0 n (All-contains (λ (e : ℕ × A). e.0 ≢ n) (entry ∷ entries) entry others (contains_here entry entries)) in
-    let later = no_value n entries (λ k d inside. others (suc k) d (omega (arith, inside))) in
-    rw (here, later) refl
+-- as many are counted as are judged
+pub as_many : (state : QuotaState) (counters : List Counters) → IsTracked state → length counters ≡ length state.hierarchy.groups → length counters ≡ length state.quota.groups
+as_many state counters tracked same =
+    same ∙ ap (λ (hierarchy : Hierarchy). length hierarchy.groups) tracked.same ∙ length-map state.quota.groups (λ (entry : ℕ × Group). entry.0)
 
-reaches_nothing : (layout : Layout) (sub : ℕ) → AreOthers (λ root. root.0) layout.roots sub → reach layout sub ≡ []
-unfolding reach
-reaches_nothing layout sub others = ap (reach_of layout) (no_value sub layout.roots others)
+-- the number of the group at an index
+number_at : (groups : List (ℕ × Group)) (index : ℕ) (entry : ℕ × Group) → index < length groups → entry ≡ get_or groups index entry → slice_get (keys_of groups) index ≡ Some entry.0
+number_at groups index entry short here =
+    slice_get-map (λ (entry : ℕ × Group). entry.0) groups index
+    ∙ ap (λ (found : Option (ℕ × Group)). option_map (λ (entry : ℕ × Group). entry.0) found) (at_read groups index entry short here)
 
-below_itself : (sub group : ℕ) → is_below [] sub group ≡ true → sub ≡ group
-unfolding is_below leads
-below_itself sub group below = eqb-true sub group below
-
--- without relations a member is the group itself
-member_is : (hierarchy : Hierarchy) (group sub : ℕ) → hierarchy.pairs ≡ [] → Contains (members hierarchy group) sub → sub ≡ group
-unfolding members
-member_is hierarchy group sub alone has =
-    let test = λ (sub : ℕ). (level_of_group sub == 0) && is_below hierarchy.pairs sub group in
-    let passes = (kept_contains test hierarchy.groups sub has).1 in
-    let below = (and_parts (level_of_group sub == 0) (is_below hierarchy.pairs sub group) passes).1 in
-    below_itself sub group (subst (λ (pairs : List (ℕ × ℕ)). is_below pairs sub group ≡ true) alone below)
-
-all_nothing : (f : ℕ → List Element) (subs : List ℕ) → ((sub : ℕ) → Contains subs sub → f sub ≡ []) → flat_map f subs ≡ []
-all_nothing f [] each = refl
-all_nothing f (sub ∷ subs) each = rw (each sub (contains_here sub subs), all_nothing f subs (λ s has. each s (contains_later sub subs s has))) refl
-
-group_nothing : (layout : Layout) (hierarchy : Hierarchy) (group : ℕ) → hierarchy.pairs ≡ [] → AreOthers (λ root. root.0) layout.roots group
-    → reach_of_group layout hierarchy group ≡ []
-unfolding reach_of_group
-group_nothing layout hierarchy group alone others =
-    ap distinct (all_nothing (reach layout) (members hierarchy group)
-    (λ sub has. ap (reach layout) (member_is hierarchy group sub alone has) ∙ reaches_nothing layout group others))
-
-referenced_none : (layout : Layout) (hierarchy : Hierarchy) (group : ℕ) → reach_of_group layout hierarchy group ≡ [] → referenced layout hierarchy group ≡ 0
-unfolding referenced
-referenced_none layout hierarchy group none = ap bytes_of none
-
-exclusive_none : (layout : Layout) (hierarchy : Hierarchy) (group : ℕ) → reach_of_group layout hierarchy group ≡ [] → exclusive layout hierarchy group ≡ 0
-unfolding exclusive
-exclusive_none layout hierarchy group none =
-    ap (λ (elements : List Element). bytes_of (filter (λ element. not (is_reached_outside layout hierarchy group element.address)) elements)) none
-
--- counts nothing
-counts_nothing : (layout : Layout) (hierarchy : Hierarchy) (group : ℕ) → hierarchy.pairs ≡ [] → AreOthers (λ root. root.0) layout.roots group
-    → direct_count layout hierarchy group ≡ record { rfer = 0; excl = 0 }
-counts_nothing layout hierarchy group alone others =
-    let none = group_nothing layout hierarchy group alone others in
-    let r = referenced_none layout hierarchy group none in
-    let e = exclusive_none layout hierarchy group none in
-    λ k. record { rfer = r k; excl = e k }
-
--- ---- looked up
-
--- the counters at the index of a subvolume's root
-pub counted_there : (layout : Layout) (hierarchy : Hierarchy) (roots : List (ℕ × ℕ)) (counters : List Counters) (group place : ℕ) (found : Counters)
-    → AreCounted layout hierarchy roots counters → StandsAt (λ root. root.0) roots group place → slice_get counters place ≡ Some found
-    → found ≡ direct_count layout hierarchy group
-counted_there layout hierarchy roots counters group place found are stands is =
-    at_one counters place found (direct_count layout hierarchy stands.0.0) is (are.there place stands.0 stands.1)
-    ∙ ap (direct_count layout hierarchy) stands.2
-
-pub place_within : (roots : List (ℕ × ℕ)) (counters : List Counters) (group place : ℕ) → StandsAt (λ root. root.0) roots group place
-    → length counters ≡ length roots → place < length counters
-place_within roots counters group place stands same = omega (arith, same, slice_get_within roots place stands.0 stands.1)
-
--- ---- the direct counts of subvolumes are those of their groups
-
-pub counted_of : (layout : Layout) (roots : List (ℕ × ℕ)) (nodes : List Surveyed) (nodesize : ℕ) (extents : List Element) (quota : Quota)
-    (counters : List Counters) → AreUnrelated (keys_of roots) (hierarchy_of quota) → AreSurveyed layout roots nodes nodesize extents
-    → AreDirect layout counters → AreCounted layout (hierarchy_of quota) roots counters
-counted_of layout roots nodes nodesize extents quota counters groups are direct = record {
-  there = λ index root is.
-      let has = contains_map (λ (r : ℕ × ℕ). r.0) roots root (contains_at roots index root is) in
-      direct (hierarchy_of quota) index root (subst (λ (list : List (ℕ × ℕ)). slice_get list index ≡ Some root) are.links.roots is) (record {
-        alone = groups.alone;
-        ascending = groups.ascending;
-        kept = All-contains (λ (sub : ℕ). Contains (keys_of quota.groups) sub) (keys_of roots) root.0 groups.own has;
-        lowest = All-contains (λ (sub : ℕ). level_of_group sub ≡ 0) (keys_of roots) root.0 groups.lowest has;
-      });
-  absent = λ group others.
-      counts_nothing layout (hierarchy_of quota) group groups.alone
-      (subst (λ (list : List (ℕ × ℕ)). AreOthers (λ (r : ℕ × ℕ). r.0) list group) are.links.roots others);
-}
+-- the counters there are its direct count
+pub counted_at : (layout : Layout) (hierarchy : Hierarchy) (groups : List (ℕ × Group)) (counters : List Counters) (index : ℕ) (entry : ℕ × Group) (other : Counters)
+    → hierarchy.groups ≡ keys_of groups → AreGroupCounts layout hierarchy counters → length counters ≡ length groups → index < length groups → entry ≡ get_or groups index entry
+    → get_or counters index other ≡ direct_count layout hierarchy entry.0
+counted_at layout hierarchy groups counters index entry other numbers are same short here =
+    let number = subst (λ (list : List ℕ). slice_get list index ≡ Some entry.0) (sym numbers) (number_at groups index entry short here) in
+    let inside : index < length counters = omega (arith, same, short) in
+    at_one counters index (get_or counters index other) (direct_count layout hierarchy entry.0)
+    (slice_get-get_or counters index other inside) (are index entry.0 number)

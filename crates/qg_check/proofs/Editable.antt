@@ -1,19 +1,23 @@
 -- An image of the trees that were read may be edited, whatever the disk tells.
-use Rattle.std.proofs.Common.{◌≡◌, ℕ, Bool, true, List, ◌++◌, refl, sym, subst}
-use Rattle.std.specs.Prelude.{Err, IfOk, Ok, Option, Result}
+use Rattle.std.proofs.Common.{◌≡◌, ℕ, Bool, true, List, [], ◌++◌, refl, sym, subst}
+use Rattle.std.specs.Prelude.{Err, IfOk, IfSome, None, Ok, Option, Result, Some}
 use Rattle.std.specs.List.{list_all}
+use Rattle.std.specs.Option.{option_map}
 use Rattle.std.proofs.lemmas.List.Folds.{list_all-append}
 use Rattle.qg_super.specs.declared.superblock.Super.{Super}
 use Rattle.qg_super.specs.Places.{is_slot}
 use Rattle.qg_super.specs.SuperText.{is_super, sizes_of}
 use Rattle.qg_walk.specs.declared.fault.OpenFault.{OpenFault}
+use Rattle.qg_groups.specs.declared.state.QuotaState.{QuotaState}
+use Rattle.qg_groups.specs.Tracked.{quota_of, HoldsAll, IsTracked}
 use Rattle.qg_check.specs.declared.image.Image.{Image}
 use Rattle.qg_check.specs.declared.judge.Read.{Read}
+use Rattle.qg_check.specs.declared.trees.QuotaTree.{QuotaTree}
 use Rattle.qg_check.specs.IsImage.{IsEditable, Keeps}
 use Rattle.qg_items.specs.declared.root.RootItem.{RootItem}
 use Rattle.qg_image.specs.Table.{keys_of}
-use Rattle.qg_check.specs.Editable.{AreGroups, AreSubvolumes}
-use Rattle.qg_check.specs.Trees.{AreFitParts}
+use Rattle.qg_check.specs.Editable.{AreGroupsOf, AreSubvolumes}
+use Rattle.qg_check.specs.Trees.{quota_nodes_read, AreFitParts}
 use Rattle.qg_check.proofs.Recorded.{known_by}
 
 -- what was read is fit, tree by tree
@@ -23,11 +27,17 @@ pub record IsFit (super : Super) (read : Read) : Type 0 where
   pub roots : list_all (is_slot (sizes_of super)) read.trees.nodes ≡ true
   pub extents : list_all (is_slot (sizes_of super)) read.extents.nodes ≡ true
   pub parts : AreFitParts super.generation read.extents.parts
-  pub quotas : list_all (is_slot (sizes_of super)) read.quotas.nodes ≡ true
-  pub groups : AreGroups super.generation (keys_of read.trees.subvolumes) read.quotas.quota
+  pub quotas : list_all (is_slot (sizes_of super)) (quota_nodes_read read.quotas) ≡ true
+  pub groups : AreGroupsOf super.generation (keys_of read.trees.subvolumes) (quota_of (option_map (λ (tree : QuotaTree). tree.quota) read.quotas))
+  pub tracked : IfSome (option_map (λ (tree : QuotaTree). tree.quota) read.quotas) IsTracked
+  pub none : IfSome (option_map (λ (tree : QuotaTree). tree.quota) read.quotas) (λ state. HoldsAll state [])
 
 pass_three : (test : ℕ → Bool) (a b c : List ℕ) → list_all test a ≡ true → list_all test b ≡ true → list_all test c ≡ true → list_all test (a ++ b ++ c) ≡ true
 pass_three test a b c first second third = rw (list_all-append, list_all-append, first, second, third) refl
+
+tracked_none : (state : Option QuotaState) → IfSome state IsTracked → IfSome state (λ state. HoldsAll state []) → IfSome state (λ state. IsTracked state × HoldsAll state [])
+tracked_none None tracked none = tt
+tracked_none (Some state) tracked none = (tracked, none)
 
 -- of an image with that superblock
 kept_editable : (read : Read) (image : Image) → Keeps image.superblock read image → IsFit image.superblock read → IsEditable image
@@ -37,9 +47,14 @@ kept_editable read image keeps fit =
       superblock = fit.superblock;
       roots = subst (λ (roots : List (ℕ × RootItem)). AreSubvolumes super.generation roots) (sym keeps.roots) fit.subvolumes;
       space = keeps.space;
-      quota = rw (keeps.roots, keeps.quota) fit.groups;
+      quota = subst (λ (state : Option QuotaState). AreGroupsOf super.generation (keys_of image.roots) (quota_of state)) (sym keeps.quota)
+          (subst (λ (roots : List (ℕ × RootItem)). AreGroupsOf super.generation (keys_of roots) (quota_of (option_map (λ (tree : QuotaTree). tree.quota) read.quotas)))
+          (sym keeps.roots) fit.groups);
+      tracked = subst (λ (state : Option QuotaState). IfSome state (λ state. IsTracked state × HoldsAll state [])) (sym keeps.quota)
+          (tracked_none (option_map (λ (tree : QuotaTree). tree.quota) read.quotas) fit.tracked fit.none);
       nodes = keeps.nodes;
-      others = rw keeps.others (pass_three (is_slot (sizes_of super)) read.trees.nodes read.extents.nodes read.quotas.nodes fit.roots fit.extents fit.quotas);
+      others = rw keeps.others
+          (pass_three (is_slot (sizes_of super)) read.trees.nodes read.extents.nodes (quota_nodes_read read.quotas) fit.roots fit.extents fit.quotas);
       known = known_by super.generation super.nodesize read.extents.parts image.book fit.parts.by keeps.book keeps.table;
     }
 
@@ -60,6 +75,7 @@ stale_editable image stale is = record {
   roots = is.roots;
   space = is.space;
   quota = is.quota;
+  tracked = is.tracked;
   nodes = is.nodes;
   others = is.others;
   known = is.known;

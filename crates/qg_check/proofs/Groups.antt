@@ -1,15 +1,15 @@
 -- The groups of a quota tree whose rules are kept.
 use Rattle.std.proofs.Common.{◌≡◌, ℕ, ◌≤◌, ◌<◌, ◌/◌, Bool, true, false, cond, List, [], ◌∷◌, map, length, get_or, refl, sym, ap, subst, ◌∙◌, inl, inr, arith}
 use Rattle.std.specs.Prelude.{◌&&◌, ◌==◌, Option, Some, None, IsTrue, is_some, nat_le, nat_lt}
-use Rattle.std.specs.List.{AllByRecursion, Contains, count_by, filter_map, list_all, list_any}
-use Rattle.std.proofs.lemmas.Bool.{and_from, and_parts, eqb-true, leb-true, ltb-true, or_cases}
-use Rattle.std.proofs.lemmas.List.Elements.{All-from_recursion, All-map}
+use Rattle.std.specs.List.{AllByRecursion, count_by, filter_map, list_all, list_any}
+use Rattle.std.proofs.lemmas.Bool.{and_parts, eqb-true, leb-true, ltb-true, or_cases}
+use Rattle.std.proofs.lemmas.List.{length-map}
+use Rattle.std.proofs.lemmas.List.Elements.{All-from_recursion}
 use Rattle.std.proofs.lemmas.List.Sums.{AllPass-from_list_all}
-use Rattle.std.proofs.Math.Bool.{and-true}
 use Rattle.qg_num.specs.declared.rule.Rule.{Rule}
 use Rattle.qg_num.specs.declared.rule.Rule.TheVariants as rule
 use Rattle.qg_node.specs.Nodes.{is_ascending}
-use Rattle.qg_items.specs.declared.root.RootItem.{RootItem}
+use Rattle.qg_items.specs.declared.quota.QgroupInfo.{QgroupInfo}
 use Rattle.qg_image.specs.Table.{has_key, keys_of, value_at}
 use Rattle.qg_image.specs.declared.part.QuotaPart.{QuotaPart}
 use Rattle.qg_image.specs.declared.part.QuotaPart.TheVariants.{Status, Info, Limits, Relation}
@@ -17,18 +17,17 @@ use Rattle.qg_image.specs.ItemMeaning.{is_subvolume_number, quota_part_stamps}
 use Rattle.qg_state.specs.declared.quota.Group.{Group}
 use Rattle.qg_state.specs.declared.quota.Quota.{Quota}
 use Rattle.qg_state.specs.Members.{hierarchy_of, level_of_group}
-use Rattle.qg_state.proofs.Contained.{contains_here, contains_later}
-use Rattle.qg_verdict.specs.ImageState.{info_told, limit_told, quota_told}
-use Rattle.qg_verdict.specs.Verdict.{are_few, fits_quota, is_group_number, is_plain, is_quota, is_relation_part, is_served_group, is_served_number, is_status_part}
+use Rattle.qg_verdict.specs.ImageState.{group_told, info_told, limit_told, pair_told, quota_told}
+use Rattle.qg_verdict.specs.Verdict.{are_few, fits_quota, is_group_number, is_plain, is_quota, is_relation_part, is_status_part}
 use Rattle.qg_verdict.specs.Walk.{are_by, tells_generation}
 use Rattle.qg_verdict.specs.declared.failure.Failure.TheVariants.{Broken}
 use Rattle.qg_verdict.specs.Failure.{first_failure, unless}
 use Rattle.qg_parts.specs.Keys.{quota_key}
-use Rattle.qg_rules.specs.Quota.{group_in, quota_rule, unlimited_group}
-use Rattle.qg_rules.proofs.Quotas.{all_served, quota_is}
-use Rattle.qg_check.specs.Counted.{AreUnrelated}
-use Rattle.qg_check.specs.Editable.{AreGroups, AreSubvolumes, is_plain_group}
+use Rattle.qg_hier.specs.Groups.{IsSound}
+use Rattle.qg_quota.specs.Quota.{quota_rule}
+use Rattle.qg_check.specs.Editable.{AreGroups}
 use Rattle.qg_owed.proofs.NumberSets.{Ascends}
+use Rattle.qg_check.proofs.Relations.{pairs_few}
 use Rattle.qg_check.proofs.Rising.{groups_ascend, increases}
 
 -- ---- the rules
@@ -67,28 +66,27 @@ by_parts generation part parts by =
     let split = and_parts (are_by generation (quota_part_stamps part) && tells_generation generation part) (quotas_are_by generation parts) by in
     ((and_parts (are_by generation (quota_part_stamps part)) (tells_generation generation part) split.0).0, split.1)
 
-stamped : (generation : ℕ) (parts : List QuotaPart) → quotas_are_by generation parts ≡ true → AllByRecursion (λ entry. entry.1.stamp ≤ generation) (filter_map group_in parts)
-stamped generation [] by = tt
-stamped generation (Status status ∷ parts) by = stamped generation parts (by_parts generation (Status status) parts by).1
-stamped generation (Info group info ∷ parts) by =
+-- the group that counters tell, with the limits of its number
+abbrev group_by : List QuotaPart → ℕ × QgroupInfo → ℕ × Group
+group_by all entry = (entry.0, group_told entry.1 (value_at entry.0 (filter_map limit_told all)))
+
+told_is : (parts : List QuotaPart) → quota_told parts ≡ record { groups = map (group_by parts) (filter_map info_told parts); pairs = filter_map pair_told parts }
+unfolding quota_told
+told_is parts = refl
+
+stamped : (generation : ℕ) (all parts : List QuotaPart) → quotas_are_by generation parts ≡ true
+    → AllByRecursion (λ entry. entry.1.stamp ≤ generation) (map (group_by all) (filter_map info_told parts))
+stamped generation all [] by = tt
+stamped generation all (Status status ∷ parts) by = stamped generation all parts (by_parts generation (Status status) parts by).1
+stamped generation all (Info group info ∷ parts) by =
     let split = by_parts generation (Info group info) parts by in
-    (leb-true info.generation generation (and_parts (nat_le info.generation generation) true split.0).0, stamped generation parts split.1)
-stamped generation (Limits group limit ∷ parts) by = stamped generation parts (by_parts generation (Limits group limit) parts by).1
-stamped generation (Relation group other ∷ parts) by = stamped generation parts (by_parts generation (Relation group other) parts by).1
+    (leb-true info.generation generation (and_parts (nat_le info.generation generation) true split.0).0, stamped generation all parts split.1)
+stamped generation all (Limits group limit ∷ parts) by = stamped generation all parts (by_parts generation (Limits group limit) parts by).1
+stamped generation all (Relation group other ∷ parts) by = stamped generation all parts (by_parts generation (Relation group other) parts by).1
 
-same_keys : (parts : List QuotaPart) → keys_of (filter_map group_in parts) ≡ keys_of (filter_map info_told parts)
-same_keys [] = refl
-same_keys (Status status ∷ parts) = same_keys parts
-same_keys (Info group info ∷ parts) = ap (λ (keys : List ℕ). group ∷ keys) (same_keys parts)
-same_keys (Limits group limit ∷ parts) = same_keys parts
-same_keys (Relation group other ∷ parts) = same_keys parts
-
-as_many : (parts : List QuotaPart) → length (filter_map group_in parts) ≡ length (filter_map info_told parts)
-as_many [] = refl
-as_many (Status status ∷ parts) = as_many parts
-as_many (Info group info ∷ parts) = omega (arith, as_many parts)
-as_many (Limits group limit ∷ parts) = as_many parts
-as_many (Relation group other ∷ parts) = as_many parts
+same_keys : (all : List QuotaPart) (infos : List (ℕ × QgroupInfo)) → keys_of (map (group_by all) infos) ≡ keys_of infos
+same_keys all [] = refl
+same_keys all (entry ∷ infos) = ap (λ (keys : List ℕ). entry.0 ∷ keys) (same_keys all infos)
 
 -- whether there is a value is the same after both choices
 both_some : (same : Bool) {A B : Type 0} (x : A) (y : B) (xs : Option A) (ys : Option B) → is_some xs ≡ is_some ys
@@ -96,15 +94,14 @@ both_some : (same : Bool) {A B : Type 0} (x : A) (y : B) (xs : Option A) (ys : O
 both_some true x y xs ys h = refl
 both_some false x y xs ys h = h
 
-same_has : (n : ℕ) (parts : List QuotaPart) → has_key n (filter_map group_in parts) ≡ has_key n (filter_map info_told parts)
-same_has n [] = refl
-same_has n (Status status ∷ parts) = same_has n parts
-same_has n (Info group info ∷ parts) =
-    both_some (group == n) (unlimited_group info) info (value_at n (filter_map group_in parts)) (value_at n (filter_map info_told parts)) (same_has n parts)
-same_has n (Limits group limit ∷ parts) = same_has n parts
-same_has n (Relation group other ∷ parts) = same_has n parts
+same_has : (n : ℕ) (all : List QuotaPart) (infos : List (ℕ × QgroupInfo)) → has_key n (map (group_by all) infos) ≡ has_key n infos
+same_has n all [] = refl
+same_has n all (entry ∷ infos) =
+    both_some (entry.0 == n) (group_told entry.1 (value_at entry.0 (filter_map limit_told all))) entry.1
+    (value_at n (map (group_by all) infos)) (value_at n infos) (same_has n all infos)
 
-numbered : (all parts : List QuotaPart) → list_all (fits_quota all) parts ≡ true → AllByRecursion (λ entry. IsTrue (is_group_number entry.0)) (filter_map group_in parts)
+numbered : (all parts : List QuotaPart) → list_all (fits_quota all) parts ≡ true
+    → AllByRecursion (λ entry. IsTrue (is_group_number entry.0)) (map (group_by all) (filter_map info_told parts))
 numbered all [] fits = tt
 numbered all (Status status ∷ parts) fits = numbered all parts fits
 numbered all (Info group info ∷ parts) fits =
@@ -115,16 +112,6 @@ numbered all (Info group info ∷ parts) fits =
 numbered all (Limits group limit ∷ parts) fits = numbered all parts (and_parts (fits_quota all (Limits group limit)) (list_all (fits_quota all) parts) fits).1
 numbered all (Relation group other ∷ parts) fits = numbered all parts (and_parts (fits_quota all (Relation group other)) (list_all (fits_quota all) parts) fits).1
 
-plain : (parts : List QuotaPart) → list_all is_served_group parts ≡ true → list_all is_plain_group (filter_map group_in parts) ≡ true
-plain [] served = refl
-plain (Status status ∷ parts) served = plain parts served
-plain (Info group info ∷ parts) served =
-    let split = and_parts (is_served_number group) (list_all is_served_group parts) served in
-    let number = and-true (is_served_number group && true) ∙ and-true (is_served_number group) ∙ split.0 in
-    and_from (is_plain_group (group, unlimited_group info)) (list_all is_plain_group (filter_map group_in parts)) number (plain parts split.1)
-plain (Limits group limit ∷ parts) served = plain parts (and_parts (is_served_group (Limits group limit)) (list_all is_served_group parts) served).1
-plain (Relation group other ∷ parts) served = absurd cc
-
 -- what is asked of the items
 record AreAsked (subvolumes : List ℕ) (parts : List QuotaPart) : Type 0 where
   fit : list_all (fits_quota parts) parts ≡ true
@@ -134,8 +121,7 @@ asked : (subvolumes : List ℕ) (parts : List QuotaPart) → is_quota subvolumes
 unfolding is_quota
 asked subvolumes parts quota =
     let own = list_all (λ sub. has_key sub (filter_map info_told parts)) subvolumes in
-    let front = (and_parts (list_any is_status_part parts && list_all (fits_quota parts) parts && own) (list_all is_served_group parts) quota).0 in
-    let split = and_parts (list_any is_status_part parts && list_all (fits_quota parts) parts) own front in
+    let split = and_parts (list_any is_status_part parts && list_all (fits_quota parts) parts) own quota in
     record { fit = (and_parts (list_any is_status_part parts) (list_all (fits_quota parts) parts) split.0).1; own = split.1 }
 
 few_groups : (parts : List QuotaPart) → are_few parts ≡ true → length (filter_map info_told parts) ≤ 4096
@@ -145,30 +131,25 @@ few_groups parts few =
 
 -- the next commit can name the groups that a quota tree tells
 pub groups_fit : (generation : ℕ) (subvolumes : List ℕ) (parts : List QuotaPart) → is_ascending (map quota_key parts) ≡ true
-    → KeepsRules subvolumes parts → quotas_are_by generation parts ≡ true → AreGroups generation subvolumes (quota_told parts)
-groups_fit generation subvolumes parts ascending keeps by =
-    let groups = filter_map group_in parts in
+    → KeepsRules subvolumes parts → IsSound (hierarchy_of (quota_told parts)) → quotas_are_by generation parts ≡ true → AreGroups generation subvolumes (quota_told parts)
+groups_fit generation subvolumes parts ascending keeps sound by =
+    let infos = filter_map info_told parts in
+    let groups = map (group_by parts) infos in
     let those = asked subvolumes parts keeps.quota in
     let own = AllPass-from_list_all (λ sub. has_key sub (filter_map info_told parts)) subvolumes those.own in
-    subst (AreGroups generation subvolumes) (quota_is subvolumes parts groups [] keeps.quota refl refl) (record {
-      few = omega (arith, as_many parts, few_groups parts keeps.few);
-      ascending = increases (keys_of groups) (subst Ascends (sym (same_keys parts)) (groups_ascend parts ascending));
+    let told = subst (λ (quota : Quota). IsSound (hierarchy_of quota)) (told_is parts) sound in
+    let few : length (map (group_by parts) (filter_map info_told parts)) ≤ 4096 = omega (arith, length-map infos (group_by parts), few_groups parts keeps.few) in
+    subst (AreGroups generation subvolumes) (sym (told_is parts)) (record {
+      few = few;
+      ascending = increases (keys_of groups) (subst Ascends (sym (same_keys parts infos)) (groups_ascend parts ascending));
       numbers = All-from_recursion (λ (entry : ℕ × Group). IsTrue (is_group_number entry.0)) groups (numbered parts parts those.fit);
-      own = λ k d inside. same_has (get_or subvolumes k d) parts ∙ own k d inside;
-      stamped = All-from_recursion (λ (entry : ℕ × Group). entry.1.stamp ≤ generation) groups (stamped generation parts by);
-      alone = refl;
-      served = plain parts (all_served subvolumes parts keeps.quota);
+      own = λ k d inside. same_has (get_or subvolumes k d) parts infos ∙ own k d inside;
+      stamped = All-from_recursion (λ (entry : ℕ × Group). entry.1.stamp ≤ generation) groups (stamped generation parts parts by);
+      few_pairs = pairs_few parts told.pairs those.fit keeps.few;
+      sound = told;
     })
 
--- ---- how they are related
-
-key_contained : {A : Type 0} (n : ℕ) (entries : List (ℕ × A)) → has_key n entries ≡ true → Contains (keys_of entries) n
-key_contained n [] has = absurd cc
-key_contained n (entry ∷ entries) has = cases (entry.0 == n) refl (key_contained n entries) has where
-  cases : (same : Bool) → (entry.0 == n) ≡ same → (has_key n entries ≡ true → Contains (keys_of entries) n)
-      → is_some (cond same (Some entry.1) (value_at n entries)) ≡ true → Contains (entry.0 ∷ keys_of entries) n
-  cases true is behind found = subst (λ m. Contains (entry.0 ∷ keys_of entries) m) (eqb-true entry.0 n is) (contains_here entry.0 (keys_of entries))
-  cases false is behind found = contains_later entry.0 (keys_of entries) n (behind found)
+-- ---- the groups of subvolumes
 
 small_level : (n : ℕ) → n < 281474976710656 → n / 281474976710656 ≡ 0
 small_level n small = omega arith
@@ -180,14 +161,3 @@ lowest_number n number = elim (or_cases (n == 5) (nat_le 256 n && nat_lt n 28147
   | inl is ↦ subst (λ m. level_of_group m ≡ 0) (sym (eqb-true n 5 is)) refl
   | inr free ↦ small_level n (ltb-true n 281474976710656 (and_parts (nat_le 256 n) (nat_lt n 281474976710656) free).1)
 ]
-
--- none is related to another
-pub groups_unrelated : (generation : ℕ) (roots : List (ℕ × RootItem)) (quota : Quota) → AreSubvolumes generation roots
-    → AreGroups generation (keys_of roots) quota → AreUnrelated (keys_of roots) (hierarchy_of quota)
-groups_unrelated generation roots quota subvolumes groups = record {
-  alone = groups.alone;
-  ascending = groups.ascending;
-  own = λ k d inside. key_contained (get_or (keys_of roots) k d) quota.groups (groups.own k d inside);
-  lowest = All-map (λ (n : ℕ). level_of_group n ≡ 0) (λ (entry : ℕ × RootItem). entry.0) roots
-      (λ k d inside. lowest_number (get_or roots k d).0 (subvolumes.numbers k d inside));
-}

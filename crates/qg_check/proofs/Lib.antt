@@ -4,13 +4,14 @@ pub mod Ascending
 pub mod Rising
 pub mod Named
 pub mod Held
-pub mod Groups
 pub mod Passing
 pub mod Staging
 pub mod Verdicts
 pub mod Found
 pub mod Parents
 pub mod Pieces
+pub mod Relations
+pub mod Groups
 pub mod Subvolumes
 pub mod Counters
 pub mod StateRead

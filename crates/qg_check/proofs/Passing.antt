@@ -23,7 +23,7 @@ use Rattle.qg_image.specs.Table.{keys_of}
 use Rattle.qg_parts.specs.Keys.{root_key}
 use Rattle.qg_contents.specs.Writable.{IsRootBy}
 use Rattle.qg_check.specs.Editable.{AreSubvolumes}
-use Rattle.qg_check.proofs.Named.{are_roots_asked, top_there, tops_served}
+use Rattle.qg_check.proofs.Named.{are_roots_asked, top_there}
 use Rattle.qg_check.proofs.Rising.{increases, subvolumes_ascend}
 
 -- what is said passes a test, where all that the items may say does
@@ -110,5 +110,4 @@ subvolumes_fit generation roots held ascending are few =
       top_level = top_there roots asked.files;
       counted = All-filter test HasOne roots (All-from_recursion HasOne roots (roots_once held.items roots held.said));
       by = λ k d inside. by_stamps generation (get_or (subvolume_roots roots) k d).1 (all k d inside);
-      served = tops_served roots asked.alone;
     }

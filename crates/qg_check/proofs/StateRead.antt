@@ -1,7 +1,8 @@
 -- What is kept of an image whose trees were read.
-use Rattle.std.proofs.Common.{◌≡◌, ℕ, List, [], ◌∷◌, ◌++◌, map, None, Some, refl, sym, ap, ◌∙◌, subst}
+use Rattle.std.proofs.Common.{◌≡◌, ℕ, List, [], ◌∷◌, ◌++◌, map, Option, None, Some, refl, sym, ap, ◌∙◌, subst}
 use Rattle.std.specs.List.{AllByRecursion, Contains, flat_map}
 use Rattle.std.specs.List.Sorted.{IsStrictlyIncreasing}
+use Rattle.std.specs.Option.{option_map}
 use Rattle.qg_node.specs.declared.node.Node.{Node}
 use Rattle.qg_node.specs.Nodes.{header_of}
 use Rattle.qg_items.specs.declared.root.RootItem.{RootItem}
@@ -11,7 +12,7 @@ use Rattle.qg_state.specs.State.{layout_of}
 use Rattle.qg_state.specs.Owed.{Agrees, homeless}
 use Rattle.qg_state.specs.Space.{present_extents}
 use Rattle.qg_verdict.specs.declared.tree.Tree.TheVariants.{Extents, Quotas, Files}
-use Rattle.qg_verdict.specs.ImageState.{state_in, quota_in, quota_parts, other_nodes, extent_parts, nodes_of_root, root_nodes, addresses_of}
+use Rattle.qg_verdict.specs.ImageState.{state_in, quota_in, quota_parts, quota_root, other_nodes, extent_parts, nodes_of_root, of_tree, root_nodes, addresses_of}
 use Rattle.qg_verdict.specs.Verdict.{extent_set}
 use Rattle.qg_extents.specs.Table.{book_of}
 use Rattle.qg_extents.specs.Told.{IsTold}
@@ -21,26 +22,48 @@ use Rattle.qg_gathered.proofs.Verdicts.{nodes_of_all}
 use Rattle.qg_gathered.proofs.Sorted.{lie_as_told}
 use Rattle.qg_check.specs.declared.image.Image.{Image}
 use Rattle.qg_check.specs.IsImage.{IsBookOf, IsSubvolumeOf, StandsFor}
+use Rattle.qg_groups.specs.Tracked.{quota_of}
 use Rattle.qg_check.specs.declared.judge.Read.{Read}
-use Rattle.qg_check.specs.Trees.{AreRead}
+use Rattle.qg_check.specs.declared.trees.QuotaTree.{QuotaTree}
+use Rattle.qg_check.specs.Trees.{quota_nodes_read, AreRead, IsQuotaTreeOf}
 use Rattle.qg_check.proofs.Subvolumes.{are_subvolumes}
 
 pub quota_of_state : (super : Super) (image : List ℕ) → (state_in super image).quota ≡ quota_in super image
 unfolding state_in
 quota_of_state super image = refl
 
-pub quota_read : (super : Super) (image : List ℕ) (read : Read) → AreRead super image read → quota_in super image ≡ Some read.quotas.quota
+quota_so : (super : Super) (image : List ℕ) (root : Option RootItem) (tree : Option QuotaTree) → quota_root super image ≡ root → IsQuotaTreeOf super image root tree
+    → quota_in super image ≡ quota_of (option_map (λ (tree : QuotaTree). tree.quota) tree)
 unfolding quota_parts
-quota_read super image read are = rw are.trees.named.quota_tree (ap (λ (q : Quota). Some q) (sym are.quotas.said))
+quota_so super image None None named is = rw named refl
+quota_so super image None (Some tree) named is = absurd is
+quota_so super image (Some root) None named is = absurd is
+quota_so super image (Some root) (Some tree) named is = rw named (ap (λ (q : Quota). Some q) (sym is.said))
+
+pub quota_read : (super : Super) (image : List ℕ) (read : Read) → AreRead super image read → quota_in super image ≡ quota_of (option_map (λ (tree : QuotaTree). tree.quota) read.quotas)
+quota_read super image read are = quota_so super image read.trees.quotas read.quotas are.trees.named.quota_tree are.quotas
 
 -- ---- the nodes
 
-pub others_read : (super : Super) (image : List ℕ) (read : Read) → AreRead super image read → addresses_of (other_nodes super image) ≡ read.trees.nodes ++ read.extents.nodes ++ read.quotas.nodes
+-- those of the quota tree, where there is one
+quota_placed : (super : Super) (image : List ℕ) (root : Option RootItem) (tree : Option QuotaTree) → IsQuotaTreeOf super image root tree
+    → quota_nodes_read tree ≡ addresses_of (of_tree (nodes_of_root Quotas super image) root)
+quota_placed super image None None is = refl
+quota_placed super image None (Some tree) is = absurd is
+quota_placed super image (Some root) None is = absurd is
+quota_placed super image (Some root) (Some tree) is = is.placed
+
+three : {a a' b b' c c' : List ℕ} → a ≡ a' → b ≡ b' → c ≡ c' → a ++ b ++ c ≡ a' ++ b' ++ c'
+three first second third = λ k. first k ++ second k ++ third k
+
+pub others_read : (super : Super) (image : List ℕ) (read : Read) → AreRead super image read
+    → addresses_of (other_nodes super image) ≡ read.trees.nodes ++ read.extents.nodes ++ quota_nodes_read read.quotas
 others_read super image read are =
     let extents = nodes_of_root Extents super image read.trees.extents in
-    let quotas = nodes_of_root Quotas super image read.trees.quotas in
+    let quotas = of_tree (nodes_of_root Quotas super image) read.trees.quotas in
     let all : addresses_of (other_nodes super image) ≡ addresses_of (root_nodes super image ++ extents ++ quotas) = rw (are.trees.named.extent_tree, are.trees.named.quota_tree) refl in
-    all ∙ apart (root_nodes super image) extents quotas ∙ (rw (are.trees.placed, are.extents.placed, are.quotas.placed) refl) where
+    all ∙ apart (root_nodes super image) extents quotas
+    ∙ sym (three are.trees.placed are.extents.placed (quota_placed super image read.trees.quotas read.quotas are.quotas)) where
       append : (b c : List Node) → addresses_of (b ++ c) ≡ addresses_of b ++ addresses_of c
       append [] c = refl
       append (node ∷ b) c = ap (λ (rest : List ℕ). (header_of node).address ∷ rest) (append b c)
@@ -80,8 +103,8 @@ nodes_read super image read are addresses same =
 pub record IsKeptOf (super : Super) (image : List ℕ) (read : Read) (kept : Image) : Type 0 where
   pub same : kept.superblock ≡ super
   pub roots : kept.roots ≡ read.trees.subvolumes
-  pub quota : kept.quota ≡ read.quotas.quota
-  pub others : kept.others ≡ read.trees.nodes ++ read.extents.nodes ++ read.quotas.nodes
+  pub quota : kept.quota ≡ option_map (λ (tree : QuotaTree). tree.quota) read.quotas
+  pub others : kept.others ≡ read.trees.nodes ++ read.extents.nodes ++ quota_nodes_read read.quotas
   pub nodes : HaveSame kept.nodes (map (λ node. node.linked.address) read.nodes.nodes.items)
   pub ascending : IsStrictlyIncreasing kept.nodes
   pub extents : extent_set (present_extents (state_in super image)) ≡ kept.extents
@@ -94,7 +117,7 @@ pub kept_read : (super : Super) (image : List ℕ) (read : Read) (kept : Image) 
 kept_read super image read kept are is = record {
   same = is.same;
   roots = are.trees.named.all ∙ sym is.roots;
-  quota = quota_read super image read are ∙ ap (λ (q : Quota). Some q) (sym is.quota);
+  quota = quota_read super image read are ∙ sym (ap quota_of is.quota);
   each = subst (λ (roots : List (ℕ × RootItem)). AllByRecursion (λ entry. IsSubvolumeOf super image entry.1) roots) (sym is.roots)
       (are_subvolumes super image read.trees.subvolumes read.nodes are.subvolumes);
   others = is.others ∙ sym (others_read super image read are);

@@ -1,9 +1,11 @@
 -- The failures of what the trees of an image say together, where its extents keep their rule.
-use Rattle.std.proofs.Common.{◌≡◌, ℕ, ◌+◌, ◌*◌, ◌^◌, ◌<◌, true, List, [], ◌∷◌, map, length, None, Some, refl, sym, ap, ◌∙◌, subst, arith}
+use Rattle.std.proofs.Common.{◌≡◌, ℕ, ◌+◌, ◌*◌, ◌^◌, ◌<◌, true, List, [], ◌∷◌, map, length, get_or, Option, None, refl, sym, ap, ◌∙◌, subst, arith}
 use Rattle.std.specs.Prelude.{All, IsTrue}
 use Rattle.std.specs.List.Sorted.{IsStrictlyIncreasing}
+use Rattle.std.specs.Option.{option_map}
 use Rattle.std.proofs.Math.Nat.{mul-le-mul_right}
 use Rattle.std.proofs.lemmas.List.{length-map}
+use Rattle.std.proofs.lemmas.List.Elements.{All-map}
 use Rattle.qg_items.specs.declared.root.RootItem.{RootItem}
 use Rattle.qg_super.specs.declared.sizes.Sizes.{Sizes}
 use Rattle.qg_super.specs.declared.superblock.Super.{Super}
@@ -13,9 +15,8 @@ use Rattle.qg_super.proofs.Served.{SizesFit-is_served}
 use Rattle.qg_image.specs.Table.{keys_of}
 use Rattle.qg_image.specs.declared.part.ExtentPart.{ExtentPart}
 use Rattle.qg_state.specs.declared.element.Element.{Element}
-use Rattle.qg_state.specs.declared.quota.Quota.{Quota}
 use Rattle.qg_state.specs.State.{Layout, layout_of}
-use Rattle.qg_state.specs.Members.{hierarchy_of}
+use Rattle.qg_state.specs.Members.{level_of_group}
 use Rattle.qg_state.specs.Counts.{bytes_of}
 use Rattle.qg_state.specs.Space.{present_extents}
 use Rattle.qg_verdict.specs.ImageState.{state_in}
@@ -31,10 +32,12 @@ use Rattle.qg_direct.specs.Surveyed.{AreSurveyed}
 use Rattle.qg_gathered.specs.declared.nodes.NodesRead.{NodesRead}
 use Rattle.qg_gathered.specs.Gathered.{AreGathered, root_at}
 use Rattle.qg_gathered.specs.Told.{AreOfNodes}
+use Rattle.qg_groups.specs.declared.state.QuotaState.{QuotaState}
+use Rattle.qg_groups.specs.Tracked.{quota_of}
 use Rattle.qg_check.specs.declared.judge.Read.{Read}
-use Rattle.qg_check.specs.Counted.{AreUnrelated}
-use Rattle.qg_check.specs.Editable.{AreGroups, AreSubvolumes}
-use Rattle.qg_check.proofs.Groups.{groups_unrelated}
+use Rattle.qg_check.specs.declared.trees.QuotaTree.{QuotaTree}
+use Rattle.qg_check.specs.Editable.{AreSubvolumes}
+use Rattle.qg_check.proofs.Groups.{lowest_number}
 use Rattle.qg_check.specs.Trees.{AreRead}
 use Rattle.qg_check.proofs.Judging.{AreNamedBy, extents-read, gathered-read}
 use Rattle.qg_check.proofs.Staging.{tells_first, pass_first, tells_same}
@@ -51,11 +54,13 @@ pub numbers_up : (generation : ℕ) (subvolumes : List (ℕ × RootItem)) (roots
     → AreSubvolumes generation subvolumes → IsStrictlyIncreasing (keys_of roots)
 numbers_up generation subvolumes roots are fit = subst IsStrictlyIncreasing (sym (ap keys_of are ∙ same_numbers subvolumes)) fit.ascending
 
-pub roots_unrelated : (generation : ℕ) (subvolumes : List (ℕ × RootItem)) (roots : List (ℕ × ℕ)) (quota : Quota) → roots ≡ map root_at subvolumes
-    → AreSubvolumes generation subvolumes → AreGroups generation (keys_of subvolumes) quota → AreUnrelated (keys_of roots) (hierarchy_of quota)
-roots_unrelated generation subvolumes roots quota are fit groups =
-    subst (λ (numbers : List ℕ). AreUnrelated numbers (hierarchy_of quota)) (sym (ap keys_of are ∙ same_numbers subvolumes))
-    (groups_unrelated generation subvolumes quota fit groups)
+-- each is the number of a group of level 0
+pub roots_lowest : (generation : ℕ) (subvolumes : List (ℕ × RootItem)) (roots : List (ℕ × ℕ)) → roots ≡ map root_at subvolumes
+    → AreSubvolumes generation subvolumes → All (λ root. level_of_group root.0 ≡ 0) roots
+roots_lowest generation subvolumes roots are fit =
+    subst (λ (list : List (ℕ × ℕ)). All (λ root. level_of_group root.0 ≡ 0) list) (sym are)
+    (All-map (λ (root : ℕ × ℕ). level_of_group root.0 ≡ 0) root_at subvolumes
+    (λ k d inside. lowest_number (get_or subvolumes k d).0 (fit.numbers k d inside)))
 
 pub surveyed_moved : (layout : Layout) (roots roots' : List (ℕ × ℕ)) (those those' : List Surveyed) (nodesize : ℕ) (extents extents' : List Element)
     → roots' ≡ roots → those' ≡ those → extents' ≡ extents → AreSurveyed layout roots those nodesize extents → AreSurveyed layout roots' those' nodesize extents'
@@ -94,8 +99,10 @@ bytes_small sizes those extents is_in slots up space =
 
 -- the quota of the state is the one that was read
 quota_state : (super : Super) (bytes : List ℕ) (read : Read) → AreRead super bytes read
-    → counts_failure (layout_of (state_in super bytes)) (state_in super bytes).quota ≡ counts_failure (layout_of (state_in super bytes)) (Some read.quotas.quota)
-quota_state super bytes read are = ap (counts_failure (layout_of (state_in super bytes))) (quota_of_state super bytes ∙ quota_read super bytes read are)
+    → (state : Option QuotaState) → state ≡ option_map (λ (tree : QuotaTree). tree.quota) read.quotas
+    → counts_failure (layout_of (state_in super bytes)) (state_in super bytes).quota ≡ counts_failure (layout_of (state_in super bytes)) (quota_of state)
+quota_state super bytes read are state is =
+    ap (counts_failure (layout_of (state_in super bytes))) (quota_of_state super bytes ∙ quota_read super bytes read are ∙ sym (ap quota_of is))
 
 module _ (super : Super) (bytes : List ℕ) (read : Read) (are : AreRead super bytes read) (served : IsTrue (is_served (sizes_of super)))
     (extents : List Element) (named : AreNamedBy read.nodes extents) where
@@ -120,10 +127,11 @@ module _ (super : Super) (bytes : List ℕ) (read : Read) (are : AreRead super b
 
     -- where the rules on references are kept
     module _ (none : references_failure super bytes (layout_of (state_in super bytes)) ≡ None) where
-      pub counts_told : (fault : OpenFault) → TellsFailure fault (counts_failure (layout_of (state_in super bytes)) (Some read.quotas.quota))
-          → TellsFailure fault (together_failure super bytes)
-      counts_told fault tells =
-          tells_same fault (pass_first _ _ space_kept ∙ pass_first _ _ none) (tells_first fault _ _ (tells_same fault (quota_state super bytes read are) tells))
+      module _ (state : Option QuotaState) (is : state ≡ option_map (λ (tree : QuotaTree). tree.quota) read.quotas) where
+        pub counts_told : (fault : OpenFault) → TellsFailure fault (counts_failure (layout_of (state_in super bytes)) (quota_of state))
+            → TellsFailure fault (together_failure super bytes)
+        counts_told fault tells =
+            tells_same fault (pass_first _ _ space_kept ∙ pass_first _ _ none) (tells_first fault _ _ (tells_same fault (quota_state super bytes read are state is) tells))
 
-      pub together_kept : counts_failure (layout_of (state_in super bytes)) (Some read.quotas.quota) ≡ None → together_failure super bytes ≡ None
-      together_kept counts = pass_first _ _ space_kept ∙ pass_first _ _ none ∙ pass_first _ _ (quota_state super bytes read are ∙ counts)
+        pub together_kept : counts_failure (layout_of (state_in super bytes)) (quota_of state) ≡ None → together_failure super bytes ≡ None
+        together_kept counts = pass_first _ _ space_kept ∙ pass_first _ _ none ∙ pass_first _ _ (quota_state super bytes read are state is ∙ counts)

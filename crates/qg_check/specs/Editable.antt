@@ -1,20 +1,18 @@
 -- Subvolumes and groups that the next commit can name (this project's own).
-use Rattle.std.specs.Prelude.{◌≡◌, ℕ, ◌≤◌, Bool, List, [], length, not, is_some, ◌&&◌, ◌||◌, ◌==◌, All, IsTrue}
-use Rattle.std.specs.List.{list_all}
+use Rattle.std.specs.Prelude.{◌≡◌, ℕ, ◌≤◌, List, length, Option, None, Some, All, IsTrue}
 use Rattle.std.specs.List.Sorted.{IsStrictlyIncreasing}
 use Rattle.qg_items.specs.declared.root.RootItem.{RootItem}
 use Rattle.qg_items.specs.declared.tree.TheConstants.{TOP_LEVEL}
 use Rattle.qg_image.specs.ItemMeaning.{is_subvolume_number}
 use Rattle.qg_image.specs.Table.{has_key, keys_of}
-use Rattle.qg_state.specs.declared.quota.Group.{Group}
 use Rattle.qg_state.specs.declared.quota.Quota.{Quota}
-use Rattle.qg_state.specs.Stage.{serves_groups, serves_subvolumes}
-use Rattle.qg_verdict.specs.Verdict.{is_group_number, is_served_number, most_groups, most_subvolumes}
+use Rattle.qg_state.specs.Members.{hierarchy_of}
+use Rattle.qg_verdict.specs.Verdict.{is_group_number, most_groups, most_relations, most_subvolumes}
+use Rattle.qg_hier.specs.Groups.{IsSound}
 use Rattle.qg_contents.specs.Writable.{IsRootBy}
 
 -- Subvolumes that the root tree of this generation can name: no more than an image can have, ascending by number, the
--- top-level one among them; each tree has one reference, and its ROOT_ITEM tells no later generation. As long as other
--- subvolumes aren't served there is none
+-- top-level one among them; each tree has one reference, and its ROOT_ITEM tells no later generation
 pub record AreSubvolumes (generation : ℕ) (roots : List (ℕ × RootItem)) : Type 0 where
   pub few : length roots ≤ most_subvolumes
   pub ascending : IsStrictlyIncreasing (keys_of roots)
@@ -22,21 +20,21 @@ pub record AreSubvolumes (generation : ℕ) (roots : List (ℕ × RootItem)) : T
   pub top_level : IsTrue (has_key TOP_LEVEL roots)
   pub counted : All (λ entry. entry.1.refs ≡ 1) roots
   pub by : All (λ entry. IsRootBy generation entry.1) roots
-  pub served : IsTrue (serves_subvolumes || list_all (λ entry. entry.0 == TOP_LEVEL) roots)
-
--- a group that is served as long as not all are: its number is, and no limit is set
-abbrev pub is_plain_group : ℕ × Group → Bool
-is_plain_group entry = is_served_number entry.0 && not (is_some entry.1.max_rfer) && not (is_some entry.1.max_excl)
 
 -- Groups that the quota tree of this generation can tell beside these subvolumes: no more than an image can have,
 -- ascending by number; each one of level 0 is that of a number that a subvolume may have, each subvolume has its own, and
--- no later commit changed their counters. There are no relations so far. As long as not all groups are served there are
--- only the subvolumes' own that are, without limits
+-- no later commit changed their counters. Relations are no more than an image can have, each between groups that are
+-- there, and going up a level
 pub record AreGroups (generation : ℕ) (subvolumes : List ℕ) (quota : Quota) : Type 0 where
   pub few : length quota.groups ≤ most_groups
   pub ascending : IsStrictlyIncreasing (keys_of quota.groups)
   pub numbers : All (λ entry. IsTrue (is_group_number entry.0)) quota.groups
   pub own : All (λ sub. IsTrue (has_key sub quota.groups)) subvolumes
   pub stamped : All (λ entry. entry.1.stamp ≤ generation) quota.groups
-  pub alone : quota.pairs ≡ []
-  pub served : IsTrue (serves_groups || list_all is_plain_group quota.groups)
+  pub few_pairs : length quota.pairs ≤ most_relations
+  pub sound : IsSound (hierarchy_of quota)
+
+-- the same of quota that may be off
+abbrev pub AreGroupsOf : ℕ → List ℕ → Option Quota → Type 0
+AreGroupsOf generation subvolumes None = Unit {0}
+AreGroupsOf generation subvolumes (Some quota) = AreGroups generation subvolumes quota

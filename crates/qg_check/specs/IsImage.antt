@@ -1,6 +1,7 @@
 -- What is kept of an image that was read (this project's own).
-use Rattle.std.specs.Prelude.{◌≡◌, ◌≤◌, ◌<◌, ℕ, false, All, List, ◌++◌, None, Some, IsTrue}
+use Rattle.std.specs.Prelude.{◌≡◌, ◌≤◌, ◌<◌, ℕ, false, All, List, [], ◌++◌, None, Some, IfSome, IsTrue}
 use Rattle.std.specs.List.{AllByRecursion, Contains, flat_map, list_all}
+use Rattle.std.specs.Option.{option_map}
 use Rattle.std.specs.List.Sorted.{IsStrictlyIncreasing}
 use Rattle.qg_bytes.specs.Fields.{IsBytes}
 use Rattle.qg_node.specs.declared.node.Node.{Node}
@@ -25,8 +26,10 @@ use Rattle.qg_refs.specs.declared.kept.What.{What}
 use Rattle.qg_refs.specs.Book.{AgreesWithOwed, Book, full_in, what_in}
 use Rattle.qg_extents.specs.Table.{IsTable, book_of}
 use Rattle.qg_extents.specs.Told.{IsTold}
-use Rattle.qg_check.specs.Editable.{AreGroups, AreSubvolumes}
+use Rattle.qg_groups.specs.Tracked.{HoldsAll, IsTracked, quota_of}
+use Rattle.qg_check.specs.Editable.{AreGroupsOf, AreSubvolumes}
 use Rattle.qg_check.specs.Stale.{stale_place}
+use Rattle.qg_check.specs.Trees.{quota_nodes_read}
 use Rattle.qg_check.specs.declared.image.Image.{Image}
 use Rattle.qg_check.specs.declared.judge.Read.{Read}
 
@@ -59,7 +62,7 @@ pub record IsBookOf (layout : Layout) (book : Book) : Type 0 where
 pub record StandsFor (super : Super) (bytes : List ℕ) (image : Image) : Type 0 where
   pub same : image.superblock ≡ super
   pub roots : subvolume_roots (roots_in super bytes) ≡ image.roots
-  pub quota : quota_in super bytes ≡ Some image.quota
+  pub quota : quota_in super bytes ≡ quota_of image.quota
   pub each : AllByRecursion (λ entry. IsSubvolumeOf super bytes entry.1) image.roots
   pub others : image.others ≡ addresses_of (other_nodes super bytes)
   pub nodes : HaveSame image.nodes
@@ -83,8 +86,8 @@ pub record IsImage (bytes : List ℕ) (image : Image) : Type 0 where
 -- this is kept of the trees that were read: what they said, and where nodes and extents lie, which keep the rule `space`
 pub record Keeps (super : Super) (read : Read) (image : Image) : Type 0 where
   pub roots : image.roots ≡ read.trees.subvolumes
-  pub quota : image.quota ≡ read.quotas.quota
-  pub others : image.others ≡ read.trees.nodes ++ read.extents.nodes ++ read.quotas.nodes
+  pub quota : image.quota ≡ option_map (λ tree. tree.quota) read.quotas
+  pub others : image.others ≡ read.trees.nodes ++ read.extents.nodes ++ quota_nodes_read read.quotas
   pub nodes : IsTrue (list_all (is_slot (sizes_of super)) image.nodes)
   pub space : space_failure (sizes_of super) image.extents ≡ None
   pub book : IsTold super.nodesize read.extents.parts (book_of image.book)
@@ -96,7 +99,8 @@ pub record IsEditable (image : Image) : Type 0 where
   pub superblock : IsTrue (is_super image.superblock)
   pub roots : AreSubvolumes image.superblock.generation image.roots
   pub space : space_failure (sizes_of image.superblock) image.extents ≡ None
-  pub quota : AreGroups image.superblock.generation (keys_of image.roots) image.quota
+  pub quota : AreGroupsOf image.superblock.generation (keys_of image.roots) (quota_of image.quota)
+  pub tracked : IfSome image.quota (λ state. IsTracked state × HoldsAll state [])
   pub nodes : IsTrue (list_all (is_slot (sizes_of image.superblock)) image.nodes)
   pub others : IsTrue (list_all (is_slot (sizes_of image.superblock)) image.others)
   pub known : All (λ entry. entry.1.what.generation ≤ image.superblock.generation) image.book

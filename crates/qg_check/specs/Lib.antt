@@ -3,5 +3,4 @@ pub mod Stale
 pub mod Editable
 pub mod Trees
 pub mod IsImage
-pub mod Counted
 pub mod Counts

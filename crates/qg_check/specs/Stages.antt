@@ -1,5 +1,5 @@
 -- The rules behind those on the root tree, where the trees that it names were told (this project's own).
-use Rattle.std.specs.Prelude.{ℕ, List, [], ◌∷◌, map, Option, Some, IsTrue}
+use Rattle.std.specs.Prelude.{ℕ, List, [], ◌∷◌, map, Option, IsTrue}
 use Rattle.qg_items.specs.declared.root.RootItem.{RootItem}
 use Rattle.qg_super.specs.declared.superblock.Super.{Super}
 use Rattle.qg_super.specs.SuperText.{is_super}
@@ -19,7 +19,7 @@ extents_failure super image root = tree_failure Extents super image (root_told r
 abbrev pub trees_failure : Super → List ℕ → Trees → Option Failure
 trees_failure super image trees = first_failure
     (extents_failure super image trees.extents
-    ∷ quota_failure super image (roots_in super image) (Some trees.quotas)
+    ∷ quota_failure super image (roots_in super image) trees.quotas
     ∷ first_failure (map (λ entry. subvolume_failure super image entry.1) trees.subvolumes)
     ∷ together_failure super image
     ∷ [])

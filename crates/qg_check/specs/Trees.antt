@@ -1,5 +1,5 @@
 -- What is read of each tree of an image (this project's own).
-use Rattle.std.specs.Prelude.{◌≡◌, ◌≤◌, ℕ, true, List, length, map, None, Some}
+use Rattle.std.specs.Prelude.{◌≡◌, ◌≤◌, ℕ, true, List, [], length, map, Option, None, Some}
 use Rattle.std.specs.List.{filter_map, list_all}
 use Rattle.std.specs.List.Sorted.{IsNonDecreasingBy}
 use Rattle.qg_items.specs.declared.root.RootItem.{RootItem}
@@ -23,17 +23,18 @@ use Rattle.qg_check.specs.declared.trees.Trees.{Trees}
 use Rattle.qg_check.specs.declared.trees.ExtentTree.{ExtentTree}
 use Rattle.qg_check.specs.declared.trees.QuotaTree.{QuotaTree}
 
--- the roots that must be there are, and these are the extent tree's and the quota tree's
-pub record HasTrees (roots : List (ℕ × RootItem)) (extents quotas : RootItem) : Type 0 where
+-- the roots that must be there are, and these are the extent tree's and, while there is one, the quota tree's
+pub record HasTrees (roots : List (ℕ × RootItem)) (extents : RootItem) (quotas : Option RootItem) : Type 0 where
   pub are : are_roots roots ≡ true
   pub extent_tree : value_at EXTENT_TREE roots ≡ Some extents
-  pub quota_tree : value_at QUOTA_TREE roots ≡ Some quotas
+  pub quota_tree : value_at QUOTA_TREE roots ≡ quotas
 
 -- some roots are those of these trees and of these subvolumes, no more than are served
-pub record AreNamed (roots : List (ℕ × RootItem)) (extents quotas : RootItem) (subvolumes : List (ℕ × RootItem)) : Type 0 where
+pub record AreNamed (roots : List (ℕ × RootItem)) (extents : RootItem) (quotas : Option RootItem)
+    (subvolumes : List (ℕ × RootItem)) : Type 0 where
   pub are : are_roots roots ≡ true
   pub extent_tree : value_at EXTENT_TREE roots ≡ Some extents
-  pub quota_tree : value_at QUOTA_TREE roots ≡ Some quotas
+  pub quota_tree : value_at QUOTA_TREE roots ≡ quotas
   pub all : subvolume_roots roots ≡ subvolumes
   pub few : length subvolumes ≤ most_subvolumes
 
@@ -47,10 +48,21 @@ pub record IsExtentTree (super : Super) (image : List ℕ) (root : RootItem) (tr
   pub said : tree.parts ≡ filter_map extent_part (items_of_root Extents super image root)
   pub placed : tree.nodes ≡ addresses_of (nodes_of_root Extents super image root)
 
--- the quota tree says this
+-- the quota tree says this, and nothing is held for a reservation
 pub record IsQuotaTree (super : Super) (image : List ℕ) (root : RootItem) (tree : QuotaTree) : Type 0 where
-  pub said : tree.quota ≡ quota_told (filter_map quota_part (items_of_root Quotas super image root))
+  pub said : tree.quota.quota ≡ quota_told (filter_map quota_part (items_of_root Quotas super image root))
   pub placed : tree.nodes ≡ addresses_of (nodes_of_root Quotas super image root)
+
+-- so it does, where there is one; while quota is off there is none
+abbrev pub IsQuotaTreeOf : Super → List ℕ → Option RootItem → Option QuotaTree → Type 0
+IsQuotaTreeOf super image None None = Unit {0}
+IsQuotaTreeOf super image (Some root) (Some tree) = IsQuotaTree super image root tree
+IsQuotaTreeOf super image _ _ = ⊥
+
+-- the nodes of the quota tree, and none while quota is off
+abbrev pub quota_nodes_read : Option QuotaTree → List ℕ
+quota_nodes_read None = []
+quota_nodes_read (Some tree) = tree.nodes
 
 -- the trees of subvolumes with these ROOT_ITEMs keep all rules on subvolumes, and this was gathered of their nodes
 pub record AreFileTrees (super : Super) (image : List ℕ) (roots : List (ℕ × RootItem)) (nodes : NodesRead) : Type 0 where
@@ -61,7 +73,7 @@ pub record AreFileTrees (super : Super) (image : List ℕ) (roots : List (ℕ ×
 pub record AreRead (super : Super) (image : List ℕ) (read : Read) : Type 0 where
   pub trees : AreTrees super image read.trees
   pub extents : IsExtentTree super image read.trees.extents read.extents
-  pub quotas : IsQuotaTree super image read.trees.quotas read.quotas
+  pub quotas : IsQuotaTreeOf super image read.trees.quotas read.quotas
   pub subvolumes : AreFileTrees super image read.trees.subvolumes read.nodes
 
 -- ---- over any disk

@@ -1,7 +1,8 @@
 use qg_extents::Extents;
+use qg_groups::QuotaState;
 use qg_image::RootPart;
 use qg_num::{Address, Sequence};
-use qg_state::{Element, Quota};
+use qg_state::Element;
 use qg_super::Super;
 
 /// What a sound image stands for, but for how its nodes are cut (this project's own). Addresses are in bytes.
@@ -13,8 +14,8 @@ pub struct Image {
     pub stale: Option<u64>,
     /// The subvolumes, ascending by number, with their ROOT_ITEMs.
     pub roots: Sequence<RootPart>,
-    /// The quota groups.
-    pub quota: Quota,
+    /// The quota groups, while quota is on.
+    pub quota: Option<QuotaState>,
     /// Where the nodes of the root, extent and quota trees lie, in the order of the walk.
     pub others: Sequence<Address>,
     /// Where those that subvolumes reach lie, ascending.

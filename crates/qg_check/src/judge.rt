@@ -1,15 +1,16 @@
 // What the trees of an image say together.
-ghost use Rattle.std.specs.Prelude.{◌≡◌, ◌++◌, List, ℕ, map, IfOk, IsErrOf, IsTrue};
+ghost use Rattle.std.specs.Prelude.{◌≡◌, ◌++◌, List, ℕ, map, IfOk, IfSome, IsErrOf, IsTrue};
+ghost use Rattle.std.specs.Option.{option_map};
 ghost use Rattle.qg_super.specs.Places.{is_served};
 ghost use Rattle.qg_super.specs.SuperText.{sizes_of};
-ghost use Rattle.qg_image.specs.Table.{keys_of};
 ghost use Rattle.qg_walk.specs.Fault.{FailsAs};
 ghost use Rattle.qg_walk.specs.Held.{AreInSlots};
 ghost use Rattle.qg_verdict.specs.Verdict.{together_failure};
 ghost use Rattle.qg_gathered.specs.Gathered.{root_at};
 ghost use Rattle.qg_gathered.specs.Told.{AreOfNodes};
-ghost use Rattle.qg_check.specs.Editable.{AreGroups, AreSubvolumes};
-ghost use Rattle.qg_check.specs.Trees.{AreFitParts, AreRead};
+ghost use Rattle.qg_groups.specs.Tracked.{IsTracked};
+ghost use Rattle.qg_check.specs.Editable.{AreSubvolumes};
+ghost use Rattle.qg_check.specs.Trees.{quota_nodes_read, AreFitParts, AreRead};
 ghost use Rattle.qg_check.specs.IsImage.{StandsFor, Keeps};
 
 use crate::Image;
@@ -18,6 +19,7 @@ use crate::references::{judge_recorded, read_book};
 use crate::trees::{ExtentTree, QuotaTree, Trees};
 use qg_direct::Surveyed;
 use qg_gathered::NodesRead;
+use qg_groups::QuotaState;
 use qg_image::RootPart;
 use qg_num::{Address, NoMemory, RootId, Sequence};
 use qg_super::Super;
@@ -29,7 +31,8 @@ use std::alloc::{AllocError, Global};
 pub struct Read {
     pub trees: Trees,
     pub extents: ExtentTree,
-    pub quotas: QuotaTree,
+    /// None while quota is off.
+    pub quotas: Option<QuotaTree>,
     /// What was gathered of the nodes of all subvolumes.
     pub nodes: NodesRead,
 }
@@ -40,7 +43,7 @@ pub(crate) fn judge_trees(alloc: Global, superblock: Super, read: Read) -> Resul
     requires slots { AreInSlots (sizes_of superblock) AreOfNodes read.nodes }
     requires parts { AreFitParts superblock.generation read.extents.parts }
     requires subvolumes { AreSubvolumes superblock.generation read.trees.subvolumes }
-    requires groups { AreGroups superblock.generation (keys_of read.trees.subvolumes) read.quotas.quota }
+    requires tracked { IfSome (option_map (λ tree. tree.quota) read.quotas) IsTracked }
     ensures failure { (bytes : List ℕ) → AreRead superblock bytes read → FailsAs result (together_failure superblock bytes) }
     ensures image { (bytes : List ℕ) → AreRead superblock bytes read → IfOk result (λ image. StandsFor superblock bytes image) }
     ensures superblock { IfOk result (λ image. image.superblock ≡ superblock) }
@@ -62,10 +65,11 @@ pub(crate) fn judge_trees(alloc: Global, superblock: Super, read: Read) -> Resul
         parts,
         nodes: extent_nodes,
     } = recorded;
-    let QuotaTree {
+    let apart = parted(alloc, quotas);
+    let QuotaRead {
         quota,
         nodes: quota_nodes,
-    } = quotas;
+    } = apart;
     let others = joined(root_nodes, extent_nodes, quota_nodes)?;
     let sizes = superblock.sizes();
     let extents = reached.extents(alloc)?;
@@ -120,6 +124,33 @@ fn addresses_of(alloc: Global, nodes: &[Surveyed]) -> Result<Sequence<Address>, 
         addresses.push(node.linked.address)?;
     }
     Ok(addresses)
+}
+
+// Quota, and where the nodes of its tree lie.
+#[derive(Drop)]
+struct QuotaRead {
+    quota: Option<QuotaState>,
+    nodes: Sequence<Address>,
+}
+
+// What a quota tree says, and where its nodes lie. While quota is off there are none.
+fn parted(alloc: Global, quotas: Option<QuotaTree>) -> QuotaRead
+    ensures quota { result.quota ≡ option_map (λ tree. tree.quota) quotas }
+    ensures nodes { result.nodes ≡ quota_nodes_read quotas }
+{
+    match quotas {
+        Some(tree) => {
+            let QuotaTree { quota, nodes } = tree;
+            QuotaRead {
+                quota: Some(quota),
+                nodes,
+            }
+        }
+        None => QuotaRead {
+            quota: None,
+            nodes: Sequence::new(alloc),
+        },
+    }
 }
 
 // Three lists, one after the other.

@@ -1,6 +1,7 @@
 // The trees of an image, one by one.
-ghost use Rattle.std.specs.Prelude.{◌≡◌, ◌≤◌, List, None, Some, false, IfOk, IfSome, IfNone, IsTrue};
+ghost use Rattle.std.specs.Prelude.{◌≡◌, ◌≤◌, List, [], None, Some, false, IfOk, IfSome, IfNone, IsTrue};
 ghost use Rattle.std.specs.List.{list_all};
+ghost use Rattle.std.specs.Option.{option_map};
 ghost use Rattle.qg_device.specs.Cause.{HasCause};
 ghost use Rattle.qg_device.specs.History.{Event, content};
 ghost use Rattle.qg_super.specs.Places.{is_served, is_slot, total_bytes};
@@ -10,19 +11,22 @@ ghost use Rattle.qg_verdict.specs.Walk.{root_told};
 ghost use Rattle.qg_verdict.specs.ImageState.{roots_in, subvolume_roots};
 ghost use Rattle.qg_verdict.specs.Verdict.{are_roots, quota_failure, roots_failure};
 ghost use Rattle.qg_walk.specs.Fault.{FailsAs};
-ghost use Rattle.qg_check.specs.Editable.{AreGroups, AreSubvolumes};
+ghost use Rattle.qg_groups.specs.Tracked.{quota_of, HoldsAll, IsTracked};
+ghost use Rattle.qg_check.specs.Editable.{AreGroups, AreGroupsOf, AreSubvolumes};
 ghost use Rattle.qg_check.specs.Stages.{extents_failure};
-ghost use Rattle.qg_check.specs.Trees.{AreFitParts, AreNamed, AreTrees, HasTrees, IsExtentTree, IsQuotaTree};
+ghost use Rattle.qg_check.specs.Trees.{quota_nodes_read, AreFitParts, AreNamed, AreTrees, HasTrees};
+ghost use Rattle.qg_check.specs.Trees.{IsExtentTree, IsQuotaTree, IsQuotaTreeOf};
 
 use crate::references::look_at_counts;
 use qg_disk::Disk;
+use qg_groups::QuotaState;
 use qg_image::{ExtentPart, QuotaPart, RootPart};
 use qg_items::RootItem;
 use qg_items::tree::{EXTENT_TREE, QUOTA_TREE};
 use qg_num::{Address, RootId, Rule, Sequence};
 use qg_parts::is_subvolume_number;
-use qg_rules::{QuotaFault, are_roots, read_quota, root_of};
-use qg_state::Quota;
+use qg_quota::{QuotaFault, read_quota};
+use qg_rules::{are_roots, root_of};
 use qg_super::Super;
 use qg_verdict::Expected;
 use qg_walk::{OpenFault, walk_tree};
@@ -35,7 +39,8 @@ const MOST_SUBVOLUMES: usize = 4096;
 #[derive(Debug, Drop)]
 pub struct Trees {
     pub extents: RootItem,
-    pub quotas: RootItem,
+    /// None while quota is off.
+    pub quotas: Option<RootItem>,
     /// The subvolumes, ascending by number.
     pub subvolumes: Sequence<RootPart>,
     /// Where the root tree's own nodes lie, in bytes.
@@ -51,9 +56,10 @@ pub struct ExtentTree {
 }
 
 /// What the quota tree says.
-#[derive(Debug, Drop)]
+#[derive(Drop)]
 pub struct QuotaTree {
-    pub quota: Quota,
+    /// Nothing is held for a reservation.
+    pub quota: QuotaState,
     /// Where its nodes lie, in bytes.
     pub nodes: Sequence<Address>,
 }
@@ -123,15 +129,15 @@ pub(crate) fn read_roots<D: Disk>(
     })
 }
 
-// The ROOT_ITEMs of the extent tree and the quota tree.
+// The ROOT_ITEMs of the extent tree and, while there is one, the quota tree.
 #[derive(Clone, Copy)]
 struct Named {
     extents: RootItem,
-    quotas: RootItem,
+    quotas: Option<RootItem>,
 }
 
-// The trees besides subvolumes' that a root tree names; `None` exactly where one is missing, or a subvolume is one too
-// many or the top-level one is missing.
+// The trees besides subvolumes' that a root tree names; `None` exactly where the extent tree or the top-level subvolume is
+// missing.
 fn name_trees(roots: &[RootPart]) -> Option<Named>
     ensures some { IfSome result (λ named. HasTrees roots.now named.extents named.quotas) }
     ensures none { IfNone result (are_roots roots.now ≡ false) }
@@ -139,10 +145,9 @@ fn name_trees(roots: &[RootPart]) -> Option<Named>
     if !are_roots(roots) {
         return None;
     }
-    Some(Named {
-        extents: root_of(RootId::new(EXTENT_TREE), roots)?,
-        quotas: root_of(RootId::new(QUOTA_TREE), roots)?,
-    })
+    let extents = root_of(RootId::new(EXTENT_TREE), roots)?;
+    let quotas = root_of(RootId::new(QUOTA_TREE), roots);
+    Some(Named { extents, quotas })
 }
 
 // The ROOT_ITEMs of subvolumes, in the order in which they stand.
@@ -192,8 +197,41 @@ pub(crate) fn read_extents<D: Disk>(
     })
 }
 
-/// Reads the quota tree and judges what it says beside these subvolumes.
+/// Reads the quota tree, where there is one, and judges what it says beside these subvolumes.
 pub(crate) fn read_quotas<D: Disk>(
+    alloc: Global,
+    disk: &mut D,
+    superblock: &Super,
+    root: &Option<RootItem>,
+    subvolumes: &[RootPart],
+) -> Result<Option<QuotaTree>, OpenFault>
+    requires served { IsTrue (is_served (sizes_of superblock.now)) }
+    requires inside { total_bytes (sizes_of superblock.now) ≤ D.size disk.old }
+    ensures failure { (events : List Event) (extents : RootItem) → D.history disk.old ≡ Some events
+        → AreNamed (roots_in superblock.now (content events)) extents root.now subvolumes.now
+        → FailsAs result (quota_failure superblock.now (content events) (roots_in superblock.now (content events)) root.now) }
+    ensures tree { (events : List Event) → D.history disk.old ≡ Some events
+        → IfOk result (λ found. IsQuotaTreeOf superblock.now (content events) root.now found) }
+    ensures groups { IfOk result (λ found. AreGroupsOf superblock.now.generation (keys_of subvolumes.now)
+        (quota_of (option_map (λ tree. tree.quota) found))) }
+    ensures tracked { IfOk result (λ found. IfSome (option_map (λ tree. tree.quota) found) IsTracked) }
+    ensures none { IfOk result (λ found. IfSome (option_map (λ tree. tree.quota) found) (λ state. HoldsAll state [])) }
+    ensures slots { IfOk result (λ found. IsTrue (list_all (is_slot (sizes_of superblock.now)) (quota_nodes_read found))) }
+    ensures history { D.history disk.new ≡ D.history disk.old }
+    ensures size { D.size disk.new ≡ D.size disk.old }
+    ensures cause { HasCause OpenFault.Disk (D.faults disk.old) (D.faults disk.new) result }
+{
+    match root {
+        Some(root) => {
+            let tree = read_quota_tree(alloc, disk, superblock, root, subvolumes)?;
+            Ok(Some(tree))
+        }
+        None => Ok(None),
+    }
+}
+
+// Reads a quota tree by its ROOT_ITEM, and judges what it says beside these subvolumes.
+fn read_quota_tree<D: Disk>(
     alloc: Global,
     disk: &mut D,
     superblock: &Super,
@@ -203,12 +241,14 @@ pub(crate) fn read_quotas<D: Disk>(
     requires served { IsTrue (is_served (sizes_of superblock.now)) }
     requires inside { total_bytes (sizes_of superblock.now) ≤ D.size disk.old }
     ensures failure { (events : List Event) (extents : RootItem) → D.history disk.old ≡ Some events
-        → AreNamed (roots_in superblock.now (content events)) extents root.now subvolumes.now
+        → AreNamed (roots_in superblock.now (content events)) extents (Some root.now) subvolumes.now
         → FailsAs result (quota_failure superblock.now (content events) (roots_in superblock.now (content events)) (Some root.now)) }
     ensures tree { (events : List Event) → D.history disk.old ≡ Some events
         → IfOk result (λ tree. IsQuotaTree superblock.now (content events) root.now tree) }
     ensures groups { IfOk result (λ tree.
-        AreGroups superblock.now.generation (keys_of subvolumes.now) tree.quota) }
+        AreGroups superblock.now.generation (keys_of subvolumes.now) tree.quota.quota) }
+    ensures tracked { IfOk result (λ tree. IsTracked tree.quota) }
+    ensures none { IfOk result (λ tree. HoldsAll tree.quota []) }
     ensures slots { IfOk result (λ tree. IsTrue (list_all (is_slot (sizes_of superblock.now)) tree.nodes)) }
     ensures history { D.history disk.new ≡ D.history disk.old }
     ensures size { D.size disk.new ≡ D.size disk.old }
@@ -223,10 +263,13 @@ pub(crate) fn read_quotas<D: Disk>(
         Sequence::new(alloc),
     )?;
     match read_quota(alloc, subvolumes, walked.parts.as_slice()) {
-        Ok(quota) => Ok(QuotaTree {
-            quota,
-            nodes: walked.nodes,
-        }),
+        Ok(quota) => {
+            let state = QuotaState::new(alloc, quota)?;
+            Ok(QuotaTree {
+                quota: state,
+                nodes: walked.nodes,
+            })
+        }
         Err(QuotaFault::Rule(rule)) => Err(OpenFault::Broken {
             rule,
             address: root.bytenr,

@@ -1,5 +1,5 @@
 -- A disk to which the calls were made that write a fresh image holds it: it is sound, and its state is fresh.
-use Rattle.std.proofs.Common.{◌≡◌, ℕ, ◌-◌, ◌≤◌, ◌<◌, ◌^◌, inl, inr, true, List, [], ◌∷◌, ◌++◌, length, take, Some, Ok, refl, sym, ap, subst, ◌∙◌, arith, lit<}
+use Rattle.std.proofs.Common.{◌≡◌, ℕ, ◌-◌, ◌≤◌, ◌<◌, ◌^◌, inl, inr, true, List, [], ◌∷◌, ◌++◌, length, drop, take, Some, Ok, refl, sym, ap, subst, ◌∙◌, arith, lit<}
 use Rattle.std.specs.Prelude.{IsTrue, All}
 use Rattle.std.specs.List.{AllByRecursion}
 use Rattle.std.specs.List.Sorted.{IsPermutation}
@@ -29,13 +29,14 @@ use Rattle.qg_extents.specs.Table.{IsTable}
 use Rattle.qg_other_trees.specs.declared.laying.OtherTrees.{OtherTrees}
 use Rattle.qg_other_trees.specs.Holds.{HasCommit, HoldsLayout}
 use Rattle.qg_other_trees.specs.Sound.{IsCommitted}
-use Rattle.qg_other_trees.specs.Trees.{nodes_laid}
+use Rattle.qg_other_trees.specs.Trees.{nodes_laid, quota_nodes_laid}
+use Rattle.qg_other_trees.proofs.QuotaTree.{quota_made, quota_same, quota_walked}
 use Rattle.qg_other_trees.proofs.Sound.{committed_others, is_committed}
 use Rattle.qg_commit.specs.Calls.{IsReadBack, IsWritable, with_image}
 use Rattle.qg_commit.specs.Fresh.{AreFreshTrees, extent_items, fresh_nodes, fresh_quota, fresh_roots, fresh_slots, fresh_super, own_leaf, quota_items, root_items}
 use Rattle.qg_commit.specs.Mkfs.{HoldsFreshImage, IsFreshImage}
 use Rattle.qg_commit.proofs.FreshState.{before, counts, home, leaf_fits, leaf_format, runs, space, told, whole}
-use Rattle.qg_commit.proofs.FreshTrees.{extents_leaf, first_slots-IsDistinct, fresh_slots-IsDistinct, low_slot-is_slot, quotas_leaf, roots_leaf, superblock_is}
+use Rattle.qg_commit.proofs.FreshTrees.{extents_leaf, first_slots-IsDistinct, fresh_slots-IsDistinct, low_slot-is_slot, quotas_laid, roots_leaf, superblock_is}
 use Rattle.qg_commit.proofs.Placed.{placed-AreCommittable}
 use Rattle.qg_commit.proofs.Slots.{node_size_bounds}
 use Rattle.qg_commit.proofs.Written.{AreCommittable, with_commit-HasCommit}
@@ -114,8 +115,21 @@ module _ (sizes : Sizes) (trees : OtherTrees) (served : is_served sizes ≡ true
   pub extents_are : trees.extents.nodes ≡ extent_leaf ∷ []
   extents_are = (extents_leaf sizes trees served are).nodes_are
 
-  pub quotas_are : trees.quotas.nodes ≡ quota_leaf ∷ []
-  quotas_are = (quotas_leaf sizes trees served are).nodes_are
+  pub quotas_are : quota_nodes_laid trees.quotas ≡ quota_leaf ∷ []
+  quotas_are = quotas_laid sizes trees served are
+
+  -- the quota tree lies behind the extent tree
+  abbrev behind : List ℕ
+  behind = drop (length trees.extents.nodes) (fresh_slots sizes)
+
+  quotas_made : AllByRecursion (IsMadeFor sizes.nodesize 8 1) (quota_nodes_laid trees.quotas)
+  quotas_made = quota_made sizes.nodesize 1 (Some (fresh_quota sizes.nodesize)) behind trees.quotas are.quota_tree
+
+  abbrev quotas_walked : List Node
+  quotas_walked = quota_walked sizes.nodesize 1 (Some (fresh_quota sizes.nodesize)) behind trees.quotas are.quota_tree
+
+  quotas_same : IsPermutation quotas_walked (quota_nodes_laid trees.quotas)
+  quotas_same = quota_same sizes.nodesize 1 (Some (fresh_quota sizes.nodesize)) behind trees.quotas are.quota_tree
 
   abbrev Sayable : Node → Type 0
   Sayable = IsSayable sizes.nodesize
@@ -126,7 +140,7 @@ module _ (sizes : Sizes) (trees : OtherTrees) (served : is_served sizes ≡ true
       let extents = made_sayable sizes.nodesize 2 _ _ extents_are are.extent_tree.stands.made in
       let own : Sayable (own_leaf sizes) =
       record { format = leaf_format sizes served; fits = leaf_fits sizes served } in
-      let quotas = made_sayable sizes.nodesize 8 _ _ quotas_are are.quota_tree.stands.made in
+      let quotas = made_sayable sizes.nodesize 8 _ _ quotas_are quotas_made in
       (roots, (extents, (own, (quotas, tt))))
 
   formats : All (IsNode sizes.nodesize) nodes
@@ -201,10 +215,10 @@ module _ (sizes : Sizes) (trees : OtherTrees) (served : is_served sizes ≡ true
     has_own : HoldsLayout trees.superblock image (before sizes served).layout
     has_own = (subst (λ (s : Super). IsThere s (own_leaf sizes)) (sym super_is) there.1.1.0, tt)
 
-    commits : IsCommitted trees (before sizes served) (fresh_quota sizes.nodesize) (fresh_slots sizes) image
+    commits : IsCommitted trees (before sizes served) (Some (fresh_quota sizes.nodesize)) (fresh_slots sizes) image
     commits =
         is_committed sizes (fresh_roots (slot_at sizes 2)) (fresh_table sizes.nodesize (slot_at sizes 2))
-        (fresh_quota sizes.nodesize) (fresh_slots sizes) trees (before sizes served) image (whole sizes served)
+        (Some (fresh_quota sizes.nodesize)) (fresh_slots sizes) trees (before sizes served) image (whole sizes served)
         (fresh_slots-IsDistinct sizes served) are (told sizes served table) has_laid has_own (runs sizes served)
         (space sizes served) (counts sizes served) (home sizes served)
 
@@ -213,15 +227,14 @@ module _ (sizes : Sizes) (trees : OtherTrees) (served : is_served sizes ≡ true
     others_are =
         let roots = are.root_tree.stands.reached in
         let extents = are.extent_tree.stands.reached in
-        let quotas = are.quota_tree.stands.reached in
         committed_others sizes (fresh_roots (slot_at sizes 2)) (fresh_table sizes.nodesize (slot_at sizes 2))
-        (fresh_quota sizes.nodesize) (fresh_slots sizes) trees (before sizes served) image (whole sizes served)
+        (Some (fresh_quota sizes.nodesize)) (fresh_slots sizes) trees (before sizes served) image (whole sizes served)
         (fresh_slots-IsDistinct sizes served) are (told sizes served table) has_laid has_own (runs sizes served)
         (space sizes served) (counts sizes served) (home sizes served)
-        ∙ three_joined roots.those extents.those quotas.those root_leaf extent_leaf quota_leaf
+        ∙ three_joined roots.those extents.those quotas_walked root_leaf extent_leaf quota_leaf
         (alone_moved roots.those root_leaf (subst (IsPermutation roots.those) roots_are roots.same))
         (alone_moved extents.those extent_leaf (subst (IsPermutation extents.those) extents_are extents.same))
-        (alone_moved quotas.those quota_leaf (subst (IsPermutation quotas.those) quotas_are quotas.same))
+        (alone_moved quotas_walked quota_leaf (subst (IsPermutation quotas_walked) quotas_are quotas_same))
 
     abbrev state : State
     state = fresh_state sizes commits.others (slot_at sizes 2)

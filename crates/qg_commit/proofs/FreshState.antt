@@ -204,11 +204,11 @@ module _ (sizes : Sizes) (served : is_served sizes ≡ true) where
         → is_nothing (what_at (layout_of before) at) ≡ false
     begins = owes_begins before whole served runs (low_slot-is_slot sizes 2 served (lit< tt), tt)
 
-    own_root : subvolume_items (committed [] before quota) ≡ fresh_roots root
+    own_root : subvolume_items (committed [] before (Some quota)) ≡ fresh_roots root
     unfolding subvolume_items
     own_root = rw there refl
 
-    pub told : IsStateOf sizes 1 (fresh_roots root) table quota (committed [] before quota)
+    pub told : IsStateOf sizes 1 (fresh_roots root) table (Some quota) (committed [] before (Some quota))
     told = record {
       some = omega arith;
       same_sizes = refl;

@@ -1,6 +1,6 @@
 -- The other trees of a fresh image are three leaves, in the first, the second and the fourth slot.
 use Rattle.std.proofs.Common.{◌≡◌, ℕ, suc, ◌+◌, ◌*◌, ◌≤◌, ◌<◌, inl, inr, true, false, List, [], ◌∷◌, ◌++◌, map, length, take, drop, get_or, refl, ap, subst, ◌∙◌, arith}
-use Rattle.std.specs.Prelude.{◌==◌}
+use Rattle.std.specs.Prelude.{◌==◌, Option, Some}
 use Rattle.std.specs.List.{AllByRecursion, IsDistinct}
 use Rattle.std.proofs.Math.Nat.{mul-le-mul_left}
 use Rattle.std.proofs.lemmas.Bool.{cases_order, eqb-false, ne_eqb}
@@ -26,10 +26,11 @@ use Rattle.qg_tree.specs.declared.building.Built.{Built}
 use Rattle.qg_extents.specs.Fresh.{fresh_table}
 use Rattle.qg_extents.specs.Written.{items_of_book}
 use Rattle.qg_other_trees.specs.declared.laying.OtherTrees.{OtherTrees}
-use Rattle.qg_other_trees.specs.Trees.{nodes_of_trees, root_item_laid}
+use Rattle.qg_other_trees.specs.Trees.{nodes_of_trees, quota_nodes_laid, root_item_laid}
 use Rattle.qg_check.specs.Editable.{AreGroups, AreSubvolumes}
 use Rattle.qg_other_trees.proofs.Enough.{filled_quota, filled_roots}
 use Rattle.qg_other_trees.proofs.One.{one_named, one_told}
+use Rattle.qg_other_trees.proofs.QuotaTree.{HasQuotaTree, quota_there, root_if}
 use Rattle.qg_commit.specs.Fresh.{AreFreshTrees, extent_items, fresh_counters, fresh_nodes, fresh_quota, fresh_root, fresh_roots, fresh_slots, fresh_super, own_leaf, quota_items, root_items}
 use Rattle.qg_commit.proofs.Slots.{node_size_bounds}
 
@@ -117,7 +118,7 @@ one_filled nodesize (inr is) = rw is refl
 -- there are slots enough for the three
 pub fresh-enough : (sizes : Sizes) → is_served sizes ≡ true
     → 5 * nodes_of_trees sizes.nodesize (fresh_table sizes.nodesize (slot_at sizes 2)) (fresh_roots (slot_at sizes 2))
-    (fresh_quota sizes.nodesize) + 3
+    (Some (fresh_quota sizes.nodesize)) + 3
     ≤ length (fresh_slots sizes)
 fresh-enough sizes served =
     let size = (SizesFit-is_served sizes served).node_size in
@@ -163,24 +164,37 @@ module _ (sizes : Sizes) (trees : OtherTrees) (served : is_served sizes ≡ true
   quotas_light : items_bytes (quota_items sizes.nodesize) ≤ capacity sizes.nodesize
   quotas_light = omega (arith, wide, quota_items-bytes sizes.nodesize)
 
-  pub quotas_leaf : LeafAt 8 (quota_items sizes.nodesize) (slot_at sizes 3) trees.quotas
-  quotas_leaf =
-      let first = subst (λ (n : ℕ). BuiltOf 8 are.quota_tree.items (drop n (fresh_slots sizes)) trees.quotas) one_extent
-      are.quota_tree.stands in
-      let built = subst (λ (items : List Item). BuiltOf 8 items (drop 1 (fresh_slots sizes)) trees.quotas)
-      are.quota_tree.told.written first in
-      leaf-IsLeafAt sizes.nodesize 8 (quota_items sizes.nodesize) (slot_at sizes 3) (drop 2 (fresh_slots sizes))
-      trees.quotas.nodes trees.quotas.root trees.quotas.level built quotas_light
+  -- quota is on, so there is a quota tree
+  pub quota_tree : HasQuotaTree sizes.nodesize 1 (fresh_quota sizes.nodesize)
+      (drop (length trees.extents.nodes) (fresh_slots sizes)) trees.quotas
+  quota_tree =
+      quota_there sizes.nodesize 1 (fresh_quota sizes.nodesize) (drop (length trees.extents.nodes) (fresh_slots sizes))
+      trees.quotas are.quota_tree
 
-  one_quota : length trees.quotas.nodes ≡ 1
-  one_quota = ap length quotas_leaf.nodes_are
+  pub quotas_leaf : LeafAt 8 (quota_items sizes.nodesize) (slot_at sizes 3) quota_tree.built
+  quotas_leaf =
+      let first = subst (λ (n : ℕ). BuiltOf 8 quota_tree.stands.items (drop n (fresh_slots sizes)) quota_tree.built) one_extent
+      quota_tree.stands.stands in
+      let built = subst (λ (items : List Item). BuiltOf 8 items (drop 1 (fresh_slots sizes)) quota_tree.built)
+      quota_tree.stands.told.written first in
+      leaf-IsLeafAt sizes.nodesize 8 (quota_items sizes.nodesize) (slot_at sizes 3) (drop 2 (fresh_slots sizes))
+      quota_tree.built.nodes quota_tree.built.root quota_tree.built.level built quotas_light
+
+  pub quotas_laid : quota_nodes_laid trees.quotas ≡ fresh_leaf 8 (slot_at sizes 3) (quota_items sizes.nodesize) ∷ []
+  quotas_laid = ap quota_nodes_laid quota_tree.there ∙ quotas_leaf.nodes_are
+
+  one_quota : length (quota_nodes_laid trees.quotas) ≡ 1
+  one_quota = ap length quotas_laid
 
   -- the ROOT_ITEMs are those of leaves in these slots
   extents_root : root_item_laid trees.extents 1 ≡ fresh_root (slot_at sizes 1)
   extents_root = rw (extents_leaf.root_is, extents_leaf.flat) refl
 
-  quotas_root : root_item_laid trees.quotas 1 ≡ fresh_root (slot_at sizes 3)
-  quotas_root = rw (quotas_leaf.root_is, quotas_leaf.flat) refl
+  quotas_root : root_if 1 trees.quotas ≡ Some (fresh_root (slot_at sizes 3))
+  quotas_root =
+      let own : root_item_laid quota_tree.built 1 ≡ fresh_root (slot_at sizes 3) =
+      rw (quotas_leaf.root_is, quotas_leaf.flat) refl in
+      ap (root_if 1) quota_tree.there ∙ ap (λ (root : RootItem). Some root) own
 
   abbrev named_items : List Item
   named_items = root_items (slot_at sizes 1) (slot_at sizes 2) (slot_at sizes 3)
@@ -188,8 +202,9 @@ module _ (sizes : Sizes) (trees : OtherTrees) (served : is_served sizes ≡ true
   roots_written : are.root_tree.items ≡ named_items
   roots_written =
       are.root_tree.told.written
-      ∙ ap (λ (root : RootItem). items_of_roots root (fresh_roots (slot_at sizes 2)) (root_item_laid trees.quotas 1)) extents_root
-      ∙ ap (λ (root : RootItem). items_of_roots (fresh_root (slot_at sizes 1)) (fresh_roots (slot_at sizes 2)) root) quotas_root
+      ∙ ap (λ (root : RootItem). items_of_roots root (fresh_roots (slot_at sizes 2)) (root_if 1 trees.quotas)) extents_root
+      ∙ ap (λ (quotas : Option RootItem). items_of_roots (fresh_root (slot_at sizes 1)) (fresh_roots (slot_at sizes 2)) quotas)
+      quotas_root
 
   roots_light : items_bytes named_items ≤ capacity sizes.nodesize
   roots_light = omega (arith, wide, root_items-bytes (slot_at sizes 1) (slot_at sizes 2) (slot_at sizes 3))
@@ -197,7 +212,8 @@ module _ (sizes : Sizes) (trees : OtherTrees) (served : is_served sizes ≡ true
   pub roots_leaf : LeafAt 1 named_items (slot_at sizes 0) trees.roots
   roots_leaf =
       let first = subst
-      (λ (n : ℕ). BuiltOf 1 are.root_tree.items (drop (length trees.quotas.nodes) (drop n (fresh_slots sizes))) trees.roots)
+      (λ (n : ℕ). BuiltOf 1 are.root_tree.items (drop (length (quota_nodes_laid trees.quotas)) (drop n (fresh_slots sizes)))
+      trees.roots)
       one_extent are.root_tree.stands in
       let second = subst (λ (n : ℕ). BuiltOf 1 are.root_tree.items (drop n (drop 1 (fresh_slots sizes))) trees.roots) one_quota
       first in
@@ -211,5 +227,8 @@ module _ (sizes : Sizes) (trees : OtherTrees) (served : is_served sizes ≡ true
   pub superblock_is : trees.superblock ≡ fresh_super sizes (slot_at sizes 0)
   superblock_is = are.leads ∙ ap (fresh_super sizes) roots_leaf.root_is
 
-  pub nodes_are : trees.roots.nodes ++ trees.extents.nodes ++ (own_leaf sizes ∷ []) ++ trees.quotas.nodes ≡ fresh_nodes sizes
-  nodes_are = rw (roots_leaf.nodes_are, extents_leaf.nodes_are, quotas_leaf.nodes_are) refl
+  pub nodes_are : trees.roots.nodes ++ trees.extents.nodes ++ (own_leaf sizes ∷ []) ++ quota_nodes_laid trees.quotas
+      ≡ fresh_nodes sizes
+  nodes_are =
+      ap (λ (list : List Node). trees.roots.nodes ++ trees.extents.nodes ++ (own_leaf sizes ∷ []) ++ list) quotas_laid
+      ∙ rw (roots_leaf.nodes_are, extents_leaf.nodes_are) refl

@@ -1,6 +1,6 @@
 -- The nodes and the superblock of an image that is just made: four leaves of generation 1 (this project's own).
 -- Addresses are in bytes.
-use Rattle.std.specs.Prelude.{ℕ, List, [], ◌∷◌, map}
+use Rattle.std.specs.Prelude.{ℕ, List, [], ◌∷◌, map, Some}
 use Rattle.qg_num.specs.declared.counters.Counters.{Counters}
 use Rattle.qg_node.specs.declared.item.Item.{Item}
 use Rattle.qg_node.specs.declared.node.Node.{Node}
@@ -13,7 +13,8 @@ use Rattle.qg_super.specs.declared.superblock.Super.{Super}
 use Rattle.qg_super.specs.Places.{slot_at}
 use Rattle.qg_state.specs.declared.quota.Quota.{Quota}
 use Rattle.qg_verdict.specs.IsFresh.{fresh_leaf}
-use Rattle.qg_contents.specs.Written.{items_of_quota, items_of_roots, status_at}
+use Rattle.qg_contents.specs.Written.{items_of_roots}
+use Rattle.qg_quota.specs.Written.{items_of_quota, status_at}
 use Rattle.qg_extents.specs.Fresh.{fresh_table}
 use Rattle.qg_extents.specs.Written.{item_at}
 use Rattle.qg_other_trees.specs.declared.laying.OtherTrees.{OtherTrees}
@@ -30,7 +31,7 @@ fresh_roots address = (TOP_LEVEL, fresh_root address) ∷ []
 
 -- the root tree's leaf: the extent tree, the top-level subvolume and the quota tree
 abbrev pub root_items : ℕ → ℕ → ℕ → List Item
-root_items extents files quotas = items_of_roots (fresh_root extents) (fresh_roots files) (fresh_root quotas)
+root_items extents files quotas = items_of_roots (fresh_root extents) (fresh_roots files) (Some (fresh_root quotas))
 
 -- the extent tree's leaf: the record of the subvolume's root node at an address, a leaf of generation 1 that isn't
 -- full, with one reference; and that reference, which is the subvolume's
@@ -50,7 +51,7 @@ fresh_quota nodesize = one_group (fresh_counters nodesize) 1
 
 -- the quota tree's leaf: quota is on; the top-level subvolume's group counts its root node and has no limit
 abbrev pub quota_items : ℕ → List Item
-quota_items nodesize = items_of_quota (status_at 1) (fresh_quota nodesize).groups
+quota_items nodesize = items_of_quota (status_at 1) (fresh_quota nodesize)
 
 -- the superblock
 abbrev pub fresh_super : Sizes → ℕ → Super
@@ -88,4 +89,4 @@ fresh_slots sizes =
 abbrev pub AreFreshTrees : Sizes → OtherTrees → Type 0
 AreFreshTrees sizes trees =
     AreTrees sizes 1 (fresh_roots (slot_at sizes 2)) (fresh_table sizes.nodesize (slot_at sizes 2))
-    (fresh_quota sizes.nodesize) (fresh_slots sizes) trees
+    (Some (fresh_quota sizes.nodesize)) (fresh_slots sizes) trees

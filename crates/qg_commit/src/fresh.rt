@@ -4,6 +4,7 @@ ghost use Rattle.qg_super.specs.Places.{is_served, slot_at};
 ghost use Rattle.qg_super.specs.SuperText.{is_super};
 ghost use Rattle.qg_extents.specs.Fresh.{fresh_table};
 ghost use Rattle.qg_extents.specs.Table.{IsTable};
+ghost use Rattle.qg_other_trees.specs.Trees.{quota_nodes_laid};
 ghost use Rattle.qg_commit.specs.Fresh.{AreFreshTrees, fresh_nodes, fresh_quota, fresh_slots, fresh_super, own_leaf};
 
 use qg_extents::fresh_records;
@@ -101,7 +102,8 @@ pub fn lay_fresh(alloc: Global, sizes: Sizes) -> Result<OtherTrees, NoMemory>
     ensures fits { IfOk result (λ trees. IsTrue (is_super trees.superblock)) }
     ensures superblock { IfOk result (λ trees. trees.superblock ≡ fresh_super sizes (slot_at sizes 0)) }
     ensures nodes { IfOk result (λ trees.
-        trees.roots.nodes ++ trees.extents.nodes ++ (own_leaf sizes ∷ []) ++ trees.quotas.nodes ≡ fresh_nodes sizes) }
+        trees.roots.nodes ++ trees.extents.nodes ++ (own_leaf sizes ∷ []) ++ quota_nodes_laid trees.quotas
+        ≡ fresh_nodes sizes) }
 {
     let book = fresh_records(alloc, sizes, slot(sizes, 2))?;
     // A proof knows that a book is a table once its length is read.
@@ -114,7 +116,8 @@ pub fn lay_fresh(alloc: Global, sizes: Sizes) -> Result<OtherTrees, NoMemory>
         level: 0,
     };
     let roots = [(RootId::new(TOP_LEVEL), root)];
-    let quota = fresh_quota(alloc, sizes)?;
+    let group = fresh_quota(alloc, sizes)?;
+    let quota = Some(group);
     let told = Told {
         roots: &roots,
         book: &book,

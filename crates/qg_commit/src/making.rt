@@ -42,7 +42,7 @@ pub fn mkfs<D: Disk>(alloc: Global, disk: &mut D, sizes: Sizes) -> Result<(), Mk
     write_nodes(disk, trees.roots.nodes.as_slice(), buffer)?;
     write_nodes(disk, trees.extents.nodes.as_slice(), buffer)?;
     write_nodes(disk, &own, buffer)?;
-    write_nodes(disk, trees.quotas.nodes.as_slice(), buffer)?;
+    write_nodes(disk, trees.quota_nodes(), buffer)?;
     write_superblocks(disk, &trees.superblock)?;
     Ok(())
 }

@@ -5,10 +5,7 @@ use Rattle.qg_node.specs.Fits.{ItemFits}
 use Rattle.qg_items.specs.declared.file.InodeItem.{InodeItem}
 use Rattle.qg_items.specs.declared.file.ExtentData.{ExtentData}
 use Rattle.qg_items.specs.declared.root.RootItem.{RootItem}
-use Rattle.qg_items.specs.declared.quota.QgroupStatus.{QgroupStatus}
-use Rattle.qg_items.specs.declared.quota.QgroupInfo.{QgroupInfo}
-use Rattle.qg_items.specs.declared.quota.QgroupLimit.{QgroupLimit}
-use Rattle.qg_items.specs.ItemText.{inode_text, extent_data_text, root_text, status_text, info_text, limit_text}
+use Rattle.qg_items.specs.ItemText.{inode_text, extent_data_text, root_text}
 use Rattle.qg_contents.specs.Written.{item_under}
 
 -- ---- each body
@@ -22,20 +19,6 @@ root_text-AreBytes root small =
     let refs = append (append last_snapshot (of_zeros 8)) (of_u32 root.refs) in
     let level = append (append refs (of_zeros 18)) (of_byte root.level small) in
     append level (of_zeros 200)
-
-pub status_text-AreBytes : (status : QgroupStatus) → AreBytes (status_text status)
-unfolding status_text
-status_text-AreBytes status = append (append (append (of_u64 1) (of_u64 status.generation)) (of_u64 status.flags)) (of_u64 status.cursor)
-
-pub info_text-AreBytes : (info : QgroupInfo) → AreBytes (info_text info)
-unfolding info_text
-info_text-AreBytes info =
-    let rfer = append (append (of_u64 info.generation) (of_u64 info.rfer)) (of_u64 info.rfer_cmpr) in
-    append (append rfer (of_u64 info.excl)) (of_u64 info.excl_cmpr)
-
-pub limit_text-AreBytes : (limit : QgroupLimit) → AreBytes (limit_text limit)
-unfolding limit_text
-limit_text-AreBytes limit = append (append (append (of_u64 limit.flags) (of_u64 limit.max_rfer)) (of_u64 limit.max_excl)) (of_zeros 16)
 
 pub inode_text-AreBytes : (inode : InodeItem) → AreBytes (inode_text inode)
 unfolding inode_text

@@ -1,6 +1,5 @@
 pub mod Bodies
 mod RootTree
-mod QuotaTree
 mod FileBounds
 mod FileParts
 mod FileKeys

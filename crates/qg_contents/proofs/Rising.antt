@@ -42,12 +42,5 @@ is_less a b h = sym (nat_cmp_is a b Less h)
 pub before_object : (kind a b : ℕ) → a < b → is_lt (key_cmp (key_with a kind 0) (key_with b kind 0)) ≡ true
 before_object kind a b h = rw (is_less a b h) refl
 
--- and so is one of a lesser offset
-pub before_info : (a b : ℕ) → a < b → is_lt (key_cmp (key_with 0 242 a) (key_with 0 242 b)) ≡ true
-before_info a b h = rw (is_less a b h) refl
-
-pub before_limit : (a b : ℕ) → a < b → is_lt (key_cmp (key_with 0 244 a) (key_with 0 244 b)) ≡ true
-before_limit a b h = rw (is_less a b h) refl
-
 pub both : (a b : Bool) → a ≡ true → b ≡ true → (a && b) ≡ true
 both a b first second = rw (first, second) refl

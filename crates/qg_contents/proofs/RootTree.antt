@@ -1,10 +1,10 @@
 -- The items of the root tree.
-use Rattle.std.proofs.Common.{◌≡◌, ℕ, ◌+◌, ◌*◌, ◌≤◌, ◌<◌, ◌^◌, inl, inr, Bool, true, false, List, [], ◌∷◌, ◌++◌, map, length, refl, sym, ap, ◌∙◌, arith, lit<}
-use Rattle.std.specs.Prelude.{Some, All, not, ◌==◌, ◌&&◌, ◌||◌, nat_lt, nat_le}
+use Rattle.std.proofs.Common.{◌≡◌, ℕ, ◌+◌, ◌*◌, ◌≤◌, ◌<◌, ◌^◌, inl, inr, Bool, true, false, List, [], ◌∷◌, ◌++◌, map, length, take, get_or, refl, sym, ap, ◌∙◌, arith, lit<}
+use Rattle.std.specs.Prelude.{Option, Some, None, All, IfSome, not, ◌==◌, ◌&&◌, ◌||◌, nat_lt}
 use Rattle.std.specs.List.{AllByRecursion, filter_map, list_all}
 use Rattle.std.proofs.lemmas.Bool.{cases_Bool, eq-eqb, eqb-true, le-leb, true≢false}
 use Rattle.std.proofs.lemmas.Bool.Decides.{nat_tests}
-use Rattle.std.proofs.lemmas.List.{map-append, append_assoc}
+use Rattle.std.proofs.lemmas.List.{map-append, append_assoc, take_more}
 use Rattle.std.proofs.lemmas.List.Elements.{All-from_recursion, recursion_from_All}
 use Rattle.std.proofs.lemmas.List.Sums.{sum_by-cons}
 use Rattle.qg_node.specs.declared.item.Item.{Item}
@@ -22,9 +22,9 @@ use Rattle.qg_parts.specs.Keys.{key_with}
 use Rattle.qg_verdict.specs.declared.tree.Tree.TheVariants.{Roots}
 use Rattle.qg_verdict.specs.Walk.{is_item_of}
 use Rattle.qg_contents.specs.Writable.{AreWritableRoots, IsRootBy, IsWritableRoot}
-use Rattle.qg_contents.specs.Written.{item_of_named, item_of_root, items_of_roots, roots_beside, roots_named}
+use Rattle.qg_contents.specs.Written.{item_of_named, items_of_roots, quota_roots, roots_beside, roots_named, with_quotas}
 use Rattle.qg_contents.proofs.Bodies.{item-fits, root_text-AreBytes}
-use Rattle.qg_contents.proofs.Rising.{Above, Above-increasing, Rises, Rises-increasing, before_object, both}
+use Rattle.qg_contents.proofs.Rising.{Above, Rises, Rises-increasing, before_object, both}
 
 -- ---- numbers of subvolumes
 
@@ -98,6 +98,24 @@ above_with n quotas (entry ∷ entries) low numbers above = elim (cases_Bool (na
       rw (before, other) (above.0, above_with entry.0 quotas entries below numbers.1 above.1)
 ]
 
+-- ---- with the quota tree's or without it
+
+-- what holds of each, and of the quota tree's, where there is one, holds of all
+all_with : (P : ℕ × RootItem → Type 0) (quotas : Option RootItem) (entries : List (ℕ × RootItem))
+    → IfSome quotas (λ root. P (8, root)) → AllByRecursion P entries → AllByRecursion P (with_quotas quotas entries)
+all_with P None entries own each = each
+all_with P (Some root) entries own each = all_named P root entries own each
+
+many_with : (quotas : Option RootItem) (entries : List (ℕ × RootItem)) → AreNumbers entries
+    → length (with_quotas quotas entries) ≡ length entries + quota_roots quotas
+many_with None entries numbers = omega arith
+many_with (Some root) entries numbers = one_more root entries numbers
+
+ascend_with : (n : ℕ) (quotas : Option RootItem) (entries : List (ℕ × RootItem)) → n < 8 → AreNumbers entries
+    → Above n entries → Above n (with_quotas quotas entries)
+ascend_with n None entries low numbers above = above
+ascend_with n (Some root) entries low numbers above = above_with n root entries low numbers above
+
 above_two : (entries : List (ℕ × RootItem)) → AreNumbers entries → Rises entries → Above 2 entries
 unfolding AreNumbers
 above_two [] numbers rises = tt
@@ -167,7 +185,12 @@ all_weigh (entry ∷ entries) =
 
 -- ---- all that the root tree names
 
-module _ (extents : RootItem) (subvolumes : List (ℕ × RootItem)) (quotas : RootItem) where
+-- the quota tree's ROOT_ITEM, where there is one
+quotas_named : (quotas : Option RootItem) → IfSome quotas IsWritableRoot → IfSome quotas (λ root. IsNamed (8, root))
+quotas_named None q = tt
+quotas_named (Some root) q = record { known = refl; small = lit< tt; writable = q }
+
+module _ (extents : RootItem) (subvolumes : List (ℕ × RootItem)) (quotas : Option RootItem) where
   numbers_are : AreWritableRoots subvolumes → AreNumbers subvolumes
   unfolding AreNumbers
   numbers_are are = recursion_from_All (λ entry. is_subvolume_number entry.0 ≡ true) subvolumes are.numbers
@@ -192,27 +215,27 @@ module _ (extents : RootItem) (subvolumes : List (ℕ × RootItem)) (quotas : Ro
       either false false c h = h
 
   all_are : IsWritableRoot extents → AreWritableRoots subvolumes → All (λ entry. RootFits entry.1) subvolumes
-      → IsWritableRoot quotas → AllByRecursion IsNamed (roots_named extents subvolumes quotas)
+      → IfSome quotas IsWritableRoot → AllByRecursion IsNamed (roots_named extents subvolumes quotas)
   all_are e are fits q =
       let counted = recursion_from_All (λ entry. entry.1.refs ≡ 1) subvolumes are.counted in
       let fit = recursion_from_All (λ entry. RootFits entry.1) subvolumes fits in
       let own : IsNamed (2, extents) = record { known = refl; small = lit< tt; writable = e } in
-      let of_quotas : IsNamed (8, quotas) = record { known = refl; small = lit< tt; writable = q } in
-      (own, all_named IsNamed quotas subvolumes of_quotas (each_named subvolumes (numbers_are are) counted fit))
+      (own, all_with IsNamed quotas subvolumes (quotas_named quotas q) (each_named subvolumes (numbers_are are) counted fit))
 
   pub roots-told : IsWritableRoot extents → AreWritableRoots subvolumes → All (λ entry. RootFits entry.1) subvolumes
-      → IsWritableRoot quotas
+      → IfSome quotas IsWritableRoot
       → filter_map root_part (items_of_roots extents subvolumes quotas) ≡ roots_named extents subvolumes quotas
   roots-told e are fits q = are_told (roots_named extents subvolumes quotas) (all_are e are fits q)
 
   pub roots-allowed : (generation : ℕ) → IsWritableRoot extents → AreWritableRoots subvolumes → All (λ entry. RootFits entry.1) subvolumes
-      → IsWritableRoot quotas
-      → IsRootBy generation extents → All (λ entry. IsRootBy generation entry.1) subvolumes → IsRootBy generation quotas
+      → IfSome quotas IsWritableRoot
+      → IsRootBy generation extents → All (λ entry. IsRootBy generation entry.1) subvolumes
+      → IfSome quotas (IsRootBy generation)
       → list_all (is_item_of Roots generation) (items_of_roots extents subvolumes quotas) ≡ true
   roots-allowed generation e are fits q by_e by by_q =
       let each = recursion_from_All (λ entry. IsRootBy generation entry.1) subvolumes by in
       are_allowed generation (roots_named extents subvolumes quotas) (all_are e are fits q)
-      (by_e, all_named (λ entry. IsRootBy generation entry.1) quotas subvolumes by_q each)
+      (by_e, all_with (λ entry. IsRootBy generation entry.1) quotas subvolumes by_q each)
 
   pub roots-ascending : AreWritableRoots subvolumes
       → is_ascending (map (λ (item : Item). item.key) (items_of_roots extents subvolumes quotas)) ≡ true
@@ -220,7 +243,7 @@ module _ (extents : RootItem) (subvolumes : List (ℕ × RootItem)) (quotas : Ro
   roots-ascending are =
       let numbers = numbers_are are in
       let above = above_two subvolumes numbers (Rises-increasing subvolumes are.ascending) in
-      ascend_above 2 (with_value 8 quotas subvolumes) (above_with 2 quotas subvolumes (lit< tt) numbers above)
+      ascend_above 2 (with_quotas quotas subvolumes) (ascend_with 2 quotas subvolumes (lit< tt) numbers above)
 
   pub roots-short : All (λ (item : Item). length item.body ≤ 1024) (items_of_roots extents subvolumes quotas)
   roots-short =
@@ -228,14 +251,30 @@ module _ (extents : RootItem) (subvolumes : List (ℕ × RootItem)) (quotas : Ro
       (are_short (roots_named extents subvolumes quotas))
 
   pub roots-fit : IsWritableRoot extents → AreWritableRoots subvolumes → All (λ entry. RootFits entry.1) subvolumes
-      → IsWritableRoot quotas
+      → IfSome quotas IsWritableRoot
       → All ItemFits (items_of_roots extents subvolumes quotas)
   roots-fit e are fits q =
       All-from_recursion ItemFits (items_of_roots extents subvolumes quotas) (all_fit (roots_named extents subvolumes quotas) (all_are e are fits q))
 
-  pub roots-bytes : AreWritableRoots subvolumes → items_bytes (items_of_roots extents subvolumes quotas) ≡ 464 * (length subvolumes + 2)
+  pub roots-bytes : AreWritableRoots subvolumes
+      → items_bytes (items_of_roots extents subvolumes quotas) ≡ 464 * (length subvolumes + 1 + quota_roots quotas)
   roots-bytes are =
-      omega (arith, all_weigh (roots_named extents subvolumes quotas), one_more quotas subvolumes (numbers_are are))
+      omega (arith, all_weigh (roots_named extents subvolumes quotas), many_with quotas subvolumes (numbers_are are))
+
+-- ---- one item more is put
+
+pub one_put : (front items more : List Item) (subvolumes : List (ℕ × RootItem)) (i : ℕ) (entry : ℕ × RootItem)
+    → i < length subvolumes → entry ≡ get_or subvolumes i entry → items ≡ front ++ map item_of_named (take i subvolumes)
+    → more ≡ items ++ item_of_named entry ∷ [] → more ≡ front ++ map item_of_named (take (i + 1) subvolumes)
+one_put front items more subvolumes i entry inside is before put =
+    let here : List (ℕ × RootItem) = entry ∷ [] in
+    let split : take (i + 1) subvolumes ≡ take i subvolumes ++ here =
+    take_more subvolumes i entry inside ∙ ap (λ (e : ℕ × RootItem). take i subvolumes ++ e ∷ []) (sym is) in
+    let mapped : map item_of_named (take (i + 1) subvolumes) ≡ map item_of_named (take i subvolumes) ++ item_of_named entry ∷ [] =
+    ap (map item_of_named) split ∙ map-append item_of_named (take i subvolumes) here in
+    let last : List Item = item_of_named entry ∷ [] in
+    put ∙ ap (λ (all : List Item). all ++ last) before ∙ append_assoc front (map item_of_named (take i subvolumes)) last
+    ∙ ap (λ (all : List Item). front ++ all) (sym mapped)
 
 -- ---- one subvolume more is put
 

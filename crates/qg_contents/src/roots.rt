@@ -1,5 +1,5 @@
 // The items of the root tree.
-ghost use Rattle.std.specs.Prelude.{◌≡◌, ◌≤◌, ◌+◌, ◌*◌, ◌++◌, ℕ, ◌∷◌, [], All, IfOk, OnOk, IsTrue, length, map, nat_lt, not, ◌&&◌, ◌||◌};
+ghost use Rattle.std.specs.Prelude.{◌≡◌, ◌≤◌, ◌+◌, ◌*◌, ◌++◌, ℕ, ◌∷◌, [], None, Some, All, IfOk, IfSome, OnOk, IsTrue, length, map, nat_lt, not, ◌&&◌, ◌||◌};
 ghost use Rattle.std.specs.List.{filter_map, list_all};
 ghost use Rattle.qg_node.specs.Fits.{ItemFits};
 ghost use Rattle.qg_node.specs.Nodes.{is_ascending, items_bytes};
@@ -8,7 +8,7 @@ ghost use Rattle.qg_image.specs.ItemMeaning.{root_part, is_subvolume_number};
 ghost use Rattle.qg_verdict.specs.Walk.{is_item_of};
 ghost use Rattle.qg_verdict.specs.declared.tree.Tree.TheVariants.{Roots};
 ghost use Rattle.qg_contents.specs.Writable.{AreWritableRoots, IsRootBy, IsWritableRoot};
-ghost use Rattle.qg_contents.specs.Written.{item_of_named, item_of_root, items_of_roots, roots_named, roots_beside};
+ghost use Rattle.qg_contents.specs.Written.{item_of_named, item_of_root, items_of_roots, quota_roots, roots_named, roots_beside};
 
 use crate::item::item_under;
 use qg_items::kind::ROOT_ITEM;
@@ -19,26 +19,26 @@ use qg_num::{NoMemory, RootId};
 use std::alloc::{AllocError, Global};
 
 /// The items of the root tree of an image with these subvolumes, ascending by number: a ROOT_ITEM for the extent tree, for each of
-/// them, and for the quota tree (on-disk format, ROOT_ITEM).
+/// them, and for the quota tree, where there is one (on-disk format, ROOT_ITEM).
 pub fn root_items(
     alloc: Global,
     extents: &RootItem,
     subvolumes: &[(RootId, RootItem)],
-    quotas: &RootItem,
+    quotas: &Option<RootItem>,
 ) -> Result<Items, NoMemory>
     requires extents { IsWritableRoot extents.now }
     requires subvolumes { AreWritableRoots subvolumes.now }
-    requires quotas { IsWritableRoot quotas.now }
+    requires quotas { IfSome quotas.now IsWritableRoot }
     ensures exact { IfOk result (λ items. items ≡ items_of_roots extents.now subvolumes.now quotas.now) }
     ensures told { IfOk result (λ items. filter_map root_part items ≡ roots_named extents.now subvolumes.now quotas.now) }
     ensures allowed { IfOk result (λ items. (generation : ℕ)
         → IsRootBy generation extents.now → All (λ entry. IsRootBy generation entry.1) subvolumes.now
-        → IsRootBy generation quotas.now
+        → IfSome quotas.now (IsRootBy generation)
         → IsTrue (list_all (is_item_of Roots generation) items)) }
     ensures ascending { IfOk result (λ items. IsTrue (is_ascending (map (λ item. item.key) items))) }
     ensures short { IfOk result (λ items. All (λ item. length item.body ≤ 1024) items) }
     ensures fit { IfOk result (λ items. All ItemFits items) }
-    ensures weight { IfOk result (λ items. items_bytes items ≡ 464 * (length subvolumes.now + 2)) }
+    ensures weight { IfOk result (λ items. items_bytes items ≡ 464 * (length subvolumes.now + 1 + quota_roots quotas.now)) }
 {
     Ok(items_of_roots(alloc, extents, subvolumes, quotas)?)
 }
@@ -47,10 +47,58 @@ fn items_of_roots(
     alloc: Global,
     extents: &RootItem,
     subvolumes: &[(RootId, RootItem)],
-    quotas: &RootItem,
+    quotas: &Option<RootItem>,
 ) -> Result<Items, AllocError>
     requires { All (λ entry. IsTrue (is_subvolume_number entry.0)) subvolumes.now }
     ensures exact { IfOk result (λ items. items ≡ items_of_roots extents.now subvolumes.now quotas.now) }
+    ensures fits { OnOk result (All (λ entry. RootFits entry.1) subvolumes.now) }
+{
+    match quotas {
+        Some(quotas) => items_beside(alloc, extents, subvolumes, quotas),
+        None => items_alone(alloc, extents, subvolumes),
+    }
+}
+
+// Without a quota tree.
+fn items_alone(
+    alloc: Global,
+    extents: &RootItem,
+    subvolumes: &[(RootId, RootItem)],
+) -> Result<Items, AllocError>
+    ensures exact { IfOk result (λ items. items ≡ items_of_roots extents.now subvolumes.now None) }
+    ensures fits { OnOk result (All (λ entry. RootFits entry.1) subvolumes.now) }
+{
+    let mut items = Items::new(alloc);
+    items.push(item_of_root(alloc, EXTENT_TREE, extents)?)?;
+    for subvolume in subvolumes {
+        put_root(alloc, &mut items, subvolume)?;
+    }
+    Ok(items)
+}
+
+// Puts a subvolume's ROOT_ITEM at the end.
+fn put_root(
+    alloc: Global,
+    items: &mut Items,
+    subvolume: &(RootId, RootItem),
+) -> Result<(), AllocError>
+    ensures ok { OnOk result (items.new ≡ items.old ++ item_of_named subvolume.now ∷ []) }
+    ensures fits { OnOk result (RootFits subvolume.now.1) }
+{
+    let item = item_of_root(alloc, subvolume.0.value(), &subvolume.1)?;
+    items.push(item)?;
+    Ok(())
+}
+
+// With the quota tree in its place.
+fn items_beside(
+    alloc: Global,
+    extents: &RootItem,
+    subvolumes: &[(RootId, RootItem)],
+    quotas: &RootItem,
+) -> Result<Items, AllocError>
+    requires { All (λ entry. IsTrue (is_subvolume_number entry.0)) subvolumes.now }
+    ensures exact { IfOk result (λ items. items ≡ items_of_roots extents.now subvolumes.now (Some quotas.now)) }
     ensures fits { OnOk result (All (λ entry. RootFits entry.1) subvolumes.now) }
 {
     let mut items = Items::new(alloc);

@@ -1,6 +1,8 @@
-pub mod Alone
 pub mod Filtered
-pub mod Counted
+pub mod Beginning
 pub mod Weights
 pub mod Told
 pub mod Members
+pub mod Hits
+pub mod Tallied
+pub mod Direct

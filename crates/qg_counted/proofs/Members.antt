@@ -1,22 +1,21 @@
--- Counters of which some have bytes more, one member after the other; and how many members there are.
-use Rattle.std.proofs.Common.{◌≡◌, ℕ, zero, suc, ◌+◌, ◌<◌, ◌≤◌, Bool, true, false, List, [], length, take, get_or, set}
-use Rattle.std.proofs.Common.{refl, sym, ap, subst, ◌∙◌, arith, ◌⊎◌, inl, inr, get_or-set_same, get_or-set_other}
+-- Who is told, and how many members there are.
+use Rattle.std.proofs.Common.{◌≡◌, ℕ, zero, suc, ◌+◌, ◌<◌, ◌≤◌, Bool, true, false, List, [], length, take, get_or}
+use Rattle.std.proofs.Common.{refl, sym, ap, subst, ◌∙◌, arith, inl, inr}
 use Rattle.std.proofs.Common.{length-take}
-use Rattle.std.specs.Prelude.{◌==◌, ◌&&◌, ◌||◌}
+use Rattle.std.specs.Prelude.{◌==◌, ◌||◌}
 use Rattle.std.specs.List.{All, list_any}
 use Rattle.std.specs.List.Sorted.{IsStrictlyIncreasing}
 use Rattle.std.proofs.lemmas.Bool.{cases_eq, eq-eqb, ne_eqb, eqb-true, or_right}
-use Rattle.std.proofs.lemmas.List.{get_or-take, get_or_default, length-set, take_all}
+use Rattle.std.proofs.lemmas.List.{get_or-take, get_or_default, take_all}
 use Rattle.std.proofs.lemmas.List.Folds.{list_any_more, list_any_none, list_any_at}
 use Rattle.std.proofs.lemmas.List.Kept.{AllPairs-from_increasing}
 use Rattle.std.proofs.lemmas.Map.Views.{Contains-from_any}
 use Rattle.std.proofs.lemmas.List.Elements.{Contains-get_or}
 use Rattle.std.proofs.lemmas.Option.{slice_get_within, get_or_from_slice_get}
-use Rattle.qg_num.specs.declared.counters.Counters.{Counters}
 use Rattle.qg_home.proofs.Listed.{index_of}
 use Rattle.qg_reached.specs.Sets.{HasMember, AreMembers}
-use Rattle.qg_counted.specs.Portions.{given, row_has, member_count, nothing, with_more, HasRoom, HaveMore}
-use Rattle.qg_counted.proofs.Weights.{made, given_is, given_not, has_is, count_first, count_suc, first_false, counters_same}
+use Rattle.qg_counted.specs.Portions.{given, row_has, member_count}
+use Rattle.qg_counted.proofs.Weights.{given_is, given_not, has_is, count_first, count_suc}
 
 -- ---- who is told
 
@@ -24,26 +23,26 @@ use Rattle.qg_counted.proofs.Weights.{made, given_is, given_not, has_is, count_f
 abbrev pub is_told : List ℕ → ℕ → Bool
 is_told members k = list_any (λ member. k == member) members
 
-told_none : (k : ℕ) → is_told [] k ≡ false
+pub told_none : (k : ℕ) → is_told [] k ≡ false
 told_none k = list_any_none (λ member. k == member) [] (λ j d short. absurd (omega (arith, short)))
 
-or_false : (b c : Bool) → c ≡ false → (b || c) ≡ b
+pub or_false : (b c : Bool) → c ≡ false → (b || c) ≡ b
 or_false true c _ = refl
 or_false false c is = is
 
-told_now : (members : List ℕ) (i : ℕ) → i < length members → is_told (take (i + 1) members) (get_or members i 0) ≡ true
+pub told_now : (members : List ℕ) (i : ℕ) → i < length members → is_told (take (i + 1) members) (get_or members i 0) ≡ true
 told_now members i short =
     list_any_more (λ member. get_or members i 0 == member) members i 0 short
     ∙ or_right (is_told (take i members) (get_or members i 0)) (get_or members i 0 == get_or members i 0)
     (eq-eqb (get_or members i 0) (get_or members i 0) refl)
 
-told_other : (members : List ℕ) (i k : ℕ) → i < length members → (k ≡ get_or members i 0 → ⊥)
+pub told_other : (members : List ℕ) (i k : ℕ) → i < length members → (k ≡ get_or members i 0 → ⊥)
     → is_told (take (i + 1) members) k ≡ is_told (take i members) k
 told_other members i k short other =
     list_any_more (λ member. k == member) members i 0 short
     ∙ or_false (is_told (take i members) k) (k == get_or members i 0) (ne_eqb k (get_or members i 0) other)
 
-told_fresh : (members : List ℕ) (i : ℕ) → IsStrictlyIncreasing members → i < length members
+pub told_fresh : (members : List ℕ) (i : ℕ) → IsStrictlyIncreasing members → i < length members
     → is_told (take i members) (get_or members i 0) ≡ false
 told_fresh members i up short = list_any_none (λ member. get_or members i 0 == member) (take i members) each where
   each : All (λ member. (get_or members i 0 == member) ≡ false) (take i members)
@@ -53,84 +52,6 @@ told_fresh members i up short = list_any_none (λ member. get_or members i 0 == 
       let same = get_or_default members j d 0 (omega (arith, below, short)) in
       let less = AllPairs-from_increasing members up j i 0 below short in
       ne_eqb (get_or members i 0) (get_or (take i members) j d) (λ wrong. omega (arith, wrong, is, same, less))
-
--- ---- one member after the other
-
--- the first members have so many bytes more
-pub record AddedFirst (members : List ℕ) (bytes n : ℕ) (alone : Bool) (old new : List Counters) : Type 0 where
-  pub same : length new ≡ length old
-  pub each : (k : ℕ) → k < length old
-      → get_or new k nothing ≡ with_more (is_told (take n members) k) alone bytes (get_or old k nothing)
-
-more_none : (told alone : Bool) (bytes : ℕ) (counters : Counters) → told ≡ false
-    → with_more told alone bytes counters ≡ counters
-more_none told alone bytes counters is =
-    counters_same (with_more told alone bytes counters) counters (omega (arith, given_not told bytes is))
-    (omega (arith, given_not (told && alone) bytes (first_false told alone is)))
-
--- so many bytes more, exclusive ones too or not
-pub more_alone : (alone : Bool) (bytes : ℕ) (counters : Counters) → alone ≡ true
-    → made (counters.rfer + bytes) (counters.excl + bytes) ≡ with_more true alone bytes counters
-more_alone alone bytes counters is =
-    counters_same (made (counters.rfer + bytes) (counters.excl + bytes)) (with_more true alone bytes counters)
-    (omega (arith, given_is true bytes refl)) (omega (arith, given_is alone bytes is))
-
-pub more_shared : (alone : Bool) (bytes : ℕ) (counters : Counters) → alone ≡ false
-    → made (counters.rfer + bytes) counters.excl ≡ with_more true alone bytes counters
-more_shared alone bytes counters is =
-    counters_same (made (counters.rfer + bytes) counters.excl) (with_more true alone bytes counters)
-    (omega (arith, given_is true bytes refl)) (omega (arith, given_not alone bytes is))
-
-pub added_none : (members : List ℕ) (bytes : ℕ) (alone : Bool) (old : List Counters)
-    → AddedFirst members bytes 0 alone old old
-added_none members bytes alone old = record {
-  same = refl;
-  each = λ k short. sym (more_none (is_told [] k) alone bytes (get_or old k nothing) (told_none k));
-}
-
--- the next member's counters are as they were
-pub added_before : (members : List ℕ) (bytes i : ℕ) (alone : Bool) (old mid : List Counters)
-    → IsStrictlyIncreasing members → i < length members → get_or members i 0 < length old
-    → AddedFirst members bytes i alone old mid
-    → get_or mid (get_or members i 0) nothing ≡ get_or old (get_or members i 0) nothing
-added_before members bytes i alone old mid up short inside first =
-    first.each (get_or members i 0) inside
-    ∙ more_none (is_told (take i members) (get_or members i 0)) alone bytes (get_or old (get_or members i 0) nothing)
-    (told_fresh members i up short)
-
-pub added_more : (members : List ℕ) (bytes i : ℕ) (alone : Bool) (old mid : List Counters) (new : Counters)
-    → IsStrictlyIncreasing members → i < length members → get_or members i 0 < length old
-    → new ≡ with_more true alone bytes (get_or mid (get_or members i 0) nothing)
-    → AddedFirst members bytes i alone old mid
-    → AddedFirst members bytes (i + 1) alone old (set mid (get_or members i 0) new)
-added_more members bytes i alone old mid new up short inside is first = record {
-  same = length-set mid (get_or members i 0) new ∙ first.same;
-  each = λ k within. by k within (cases_eq k (get_or members i 0));
-} where
-  here : get_or (set mid (get_or members i 0) new) (get_or members i 0) nothing
-      ≡ with_more (is_told (take (i + 1) members) (get_or members i 0)) alone bytes (get_or old (get_or members i 0) nothing)
-  here =
-      get_or-set_same mid (get_or members i 0) new nothing (omega (arith, inside, first.same)) ∙ is
-      ∙ ap (with_more true alone bytes) (added_before members bytes i alone old mid up short inside first)
-      ∙ ap (λ told. with_more told alone bytes (get_or old (get_or members i 0) nothing)) (sym (told_now members i short))
-
-  by : (k : ℕ) → k < length old → (k ≡ get_or members i 0) ⊎ (k ≡ get_or members i 0 → ⊥)
-      → get_or (set mid (get_or members i 0) new) k nothing
-      ≡ with_more (is_told (take (i + 1) members) k) alone bytes (get_or old k nothing)
-  by k within (inl same) =
-      subst (λ j. get_or (set mid (get_or members i 0) new) j nothing
-      ≡ with_more (is_told (take (i + 1) members) j) alone bytes (get_or old j nothing)) (sym same) here
-  by k within (inr other) =
-      get_or-set_other mid (get_or members i 0) k new nothing other ∙ first.each k within
-      ∙ ap (λ told. with_more told alone bytes (get_or old k nothing)) (sym (told_other members i k short other))
-
--- the next member's counters have room, as all had
-pub room_before : (members : List ℕ) (bytes i : ℕ) (alone : Bool) (old mid : List Counters) (now : Counters)
-    → IsStrictlyIncreasing members → i < length members → get_or members i 0 < length old → All (HasRoom bytes) old
-    → AddedFirst members bytes i alone old mid → now ≡ get_or mid (get_or members i 0) nothing → HasRoom bytes now
-room_before members bytes i alone old mid now up short inside room first is =
-    subst (HasRoom bytes) (sym (is ∙ added_before members bytes i alone old mid up short inside first))
-    (room (get_or members i 0) nothing inside)
 
 -- ---- how many members there are
 
@@ -187,7 +108,7 @@ module _ (row : List ℕ) (n : ℕ) (members : List ℕ) (are : AreMembers row n
       list_any_at (λ member. k == member) members at.0 0 (slice_get_within members at.0 k at.1)
       (eq-eqb k (get_or members at.0 0) (sym (get_or_from_slice_get members at.0 k 0 at.1)))
 
-  told_is : (k : ℕ) → k < n → is_told members k ≡ row_has row k
+  pub told_is : (k : ℕ) → k < n → is_told members k ≡ row_has row k
   told_is k short =
       has_is (is_told members k) row k
       (λ told. ((are.told k).0 (Contains-from_any (λ (x : ℕ) (y : ℕ). eqb-true x y) k members told)).1, told_back k short)
@@ -195,7 +116,7 @@ module _ (row : List ℕ) (n : ℕ) (members : List ℕ) (are : AreMembers row n
   below : All (λ member. member < n) members
   below i d short = ((are.told (get_or members i d)).0 (Contains-get_or members i d short)).0
 
-  many : length members ≡ member_count row n
+  pub many : length members ≡ member_count row n
   many =
       sym (ones_take members n (length members) are.ascending below (omega arith))
       ∙ ap (λ (xs : List ℕ). ones xs n) (take_all (length members) members (omega arith))
@@ -203,17 +124,3 @@ module _ (row : List ℕ) (n : ℕ) (members : List ℕ) (are : AreMembers row n
 
 pub members_below : (row : List ℕ) (n : ℕ) (members : List ℕ) → AreMembers row n members → All (λ member. member < n) members
 members_below row n members are = below row n members are
-
--- where all members have bytes more, those of the row have
-pub added_all : (row members : List ℕ) (bytes i : ℕ) (alone : Bool) (old new : List Counters) → length members ≤ i
-    → AreMembers row (length old) members → alone ≡ (length members == 1) → AddedFirst members bytes i alone old new
-    → HaveMore row bytes old new
-added_all row members bytes i alone old new past are is first = record {
-  same = first.same;
-  each = λ k short.
-      first.each k short
-      ∙ ap (λ (told : List ℕ). with_more (is_told told k) alone bytes (get_or old k nothing)) (take_all i members past)
-      ∙ ap (λ told. with_more told alone bytes (get_or old k nothing)) (told_is row (length old) members are k short)
-      ∙ ap (λ one. with_more (row_has row k) one bytes (get_or old k nothing))
-      (is ∙ ap (λ m. m == 1) (many row (length old) members are));
-}

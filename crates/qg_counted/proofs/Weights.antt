@@ -1,15 +1,13 @@
 -- Sums of bytes by set, one portion and one set after the other.
 use Rattle.std.proofs.Common.{◌≡◌, ℕ, zero, suc, ◌+◌, ◌<◌, ◌≤◌, Bool, true, false, List, [], ◌∷◌, ◌++◌, length, take, get_or, set}
-use Rattle.std.proofs.Common.{Some, refl, sym, ap, ◌∙◌, arith, ◌↔◌, length-take}
-use Rattle.std.specs.Prelude.{◌==◌, ◌&&◌, replicate}
+use Rattle.std.proofs.Common.{refl, sym, ap, ◌∙◌, arith, ◌↔◌, length-take}
+use Rattle.std.specs.Prelude.{◌&&◌, replicate}
 use Rattle.std.proofs.lemmas.Bool.{eq-eqb, ne_eqb, true≢false}
-use Rattle.std.proofs.lemmas.List.{take_more, take_all, get_or-replicate, length-replicate}
-use Rattle.std.proofs.lemmas.Option.{slice_get-get_or}
+use Rattle.std.proofs.lemmas.List.{take_more}
 use Rattle.qg_num.specs.declared.counters.Counters.{Counters}
-use Rattle.qg_reached.specs.Sets.{HasMember, row_of}
+use Rattle.qg_reached.specs.Sets.{HasMember}
 use Rattle.qg_counted.specs.declared.counting.Portion.{Portion}
-use Rattle.qg_counted.specs.Portions.{given, bytes_where, sum_where, row_has, member_count, counted, counted_by, AreCounted}
-use Rattle.qg_counted.specs.Portions.{is_in, is_in_alone, nothing, with_more, HaveMore}
+use Rattle.qg_counted.specs.Portions.{given, bytes_where, sum_where, row_has, member_count}
 
 -- ---- a number or 0
 
@@ -104,7 +102,7 @@ written test ns k n short =
     let here : 0 + k ≡ k = omega arith in
     sum_written test 0 ns k n short ∙ ap (λ j. sum_where test 0 ns + given (test j) n) here
 
-sum_le : (test : ℕ → Bool) (first : ℕ) (ns : List ℕ) → sum_where test first ns ≤ sum_where (λ _. true) first ns
+pub sum_le : (test : ℕ → Bool) (first : ℕ) (ns : List ℕ) → sum_where test first ns ≤ sum_where (λ _. true) first ns
 sum_le test first [] = omega (arith, sum_none test first, sum_none (λ _. true) first)
 sum_le test first (n ∷ ns) =
     omega (
@@ -116,7 +114,7 @@ sum_le test first (n ∷ ns) =
       sum_le test (first + 1) ns,
     )
 
-take_le : (test : ℕ → Bool) (first i : ℕ) (ns : List ℕ) → sum_where test first (take i ns) ≤ sum_where test first ns
+pub take_le : (test : ℕ → Bool) (first i : ℕ) (ns : List ℕ) → sum_where test first (take i ns) ≤ sum_where test first ns
 take_le test first zero ns =
     let is : sum_where test first (take 0 ns) ≡ 0 = sum_none test first in omega (arith, is)
 take_le test first (suc i) [] =
@@ -212,73 +210,8 @@ one_small p bound small =
 
 -- ---- counters
 
--- the counters of the first sets
-pub record SummedFirst (rows : List (List ℕ)) (sums : List ℕ) (subvolumes n : ℕ) (counters : List Counters) : Type 0 where
-  pub all : length counters ≡ subvolumes
-  pub each : (k : ℕ) → k < subvolumes → get_or counters k nothing ≡ counted_by rows subvolumes (take n sums) k
-
 abbrev pub made : ℕ → ℕ → Counters
 made rfer excl = record { rfer = rfer; excl = excl }
 
 pub counters_same : (a b : Counters) → a.rfer ≡ b.rfer → a.excl ≡ b.excl → a ≡ b
 counters_same a b first second = ap (λ n. made n a.excl) first ∙ ap (made b.rfer) second
-
-pub summed_none : (rows : List (List ℕ)) (sums : List ℕ) (subvolumes : ℕ) (counters : List Counters)
-    → counters ≡ replicate subvolumes nothing → SummedFirst rows sums subvolumes 0 counters
-summed_none rows sums subvolumes counters is = record {
-  all = ap length is ∙ length-replicate subvolumes nothing;
-  each = λ k short.
-      ap (λ (now : List Counters). get_or now k nothing) is ∙ get_or-replicate subvolumes k nothing nothing short
-      ∙ counters_same nothing (counted_by rows subvolumes [] k) (sum_start (is_in rows k))
-      (sum_start (is_in_alone rows subvolumes k));
-}
-
--- the bytes of one set more can be counted
-pub summed_room : (rows : List (List ℕ)) (sums : List ℕ) (subvolumes n bound : ℕ) (counters : List Counters)
-    → n < length sums → sum_where (λ _. true) 0 sums < bound → SummedFirst rows sums subvolumes n counters
-    → (k : ℕ) → k < length counters
-    → ((get_or counters k nothing).rfer + get_or sums n 0 < bound) × ((get_or counters k nothing).excl + get_or sums n 0 < bound)
-summed_room rows sums subvolumes n bound counters short small first k inside =
-    let is = first.each k (omega (arith, inside, first.all)) in (
-      room (is_in rows k) (get_or counters k nothing).rfer (ap (λ (c : Counters). c.rfer) is),
-      room (is_in_alone rows subvolumes k) (get_or counters k nothing).excl (ap (λ (c : Counters). c.excl) is),
-    ) where
-      room : (test : ℕ → Bool) (sum : ℕ) → sum ≡ sum_where test 0 (take n sums) → sum + get_or sums n 0 < bound
-      room test sum is =
-          omega (
-            arith,
-            is,
-            sum_le test 0 (take n sums),
-            sum_next (λ _. true) sums n short,
-            given_is true (get_or sums n 0) refl,
-            take_le (λ _. true) 0 (n + 1) sums,
-            small,
-          )
-
--- a set's bytes are added to the counters of its members
-pub summed_more : (rows : List (List ℕ)) (sums : List ℕ) (subvolumes n : ℕ) (old new : List Counters)
-    → n < length sums → SummedFirst rows sums subvolumes n old → HaveMore (row_of rows n) (get_or sums n 0) old new
-    → SummedFirst rows sums subvolumes (n + 1) new
-summed_more rows sums subvolumes n old new short first more = record { all = more.same ∙ first.all; each = each } where
-  each : (k : ℕ) → k < subvolumes → get_or new k nothing ≡ counted_by rows subvolumes (take (n + 1) sums) k
-  each k inside =
-      more.each k (omega (arith, inside, first.all))
-      ∙ ap (λ m. with_more (row_has (row_of rows n) k) (member_count (row_of rows n) m == 1) (get_or sums n 0) (get_or old k nothing)) first.all
-      ∙ ap (with_more (is_in rows k n) (member_count (row_of rows n) subvolumes == 1) (get_or sums n 0)) (first.each k inside)
-      ∙ counters_same
-      (with_more (is_in rows k n) (member_count (row_of rows n) subvolumes == 1) (get_or sums n 0) (counted_by rows subvolumes (take n sums) k))
-      (counted_by rows subvolumes (take (n + 1) sums) k)
-      (sym (sum_next (is_in rows k) sums n short)) (sym (sum_next (is_in_alone rows subvolumes k) sums n short))
-
--- when all sets are through, each subvolume has its counters
-pub summed_all : (rows : List (List ℕ)) (portions : List Portion) (sums : List ℕ) (subvolumes : ℕ) (counters : List Counters)
-    → ((test : ℕ → Bool) → sum_where test 0 sums ≡ bytes_where test portions) → (n : ℕ) → length sums ≤ n
-    → SummedFirst rows sums subvolumes n counters → AreCounted rows portions subvolumes counters
-summed_all rows portions sums subvolumes counters same n past first = record {
-  all = first.all;
-  each = λ k short.
-      slice_get-get_or counters k nothing (omega (arith, short, first.all))
-      ∙ ap Some (first.each k short ∙ ap (λ (ns : List ℕ). counted_by rows subvolumes ns k) (take_all n sums past)
-      ∙ counters_same (counted_by rows subvolumes sums k) (counted rows subvolumes portions k) (same (is_in rows k))
-      (same (is_in_alone rows subvolumes k)));
-}

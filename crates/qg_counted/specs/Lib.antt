@@ -1,4 +1,5 @@
 pub mod Counted
 pub mod Portions
 pub mod Telling
+pub mod Groups
 pub mod Laws

@@ -2,10 +2,12 @@
 #![tactic(auto)]
 
 mod counting;
+mod groups;
 mod laws;
 
-pub use counting::{Portion, counters_of};
-pub use laws::counters_are_direct;
+pub use counting::Portion;
+pub use groups::group_counters;
+pub use laws::groups_are_direct;
 
 #[cfg(test)]
 mod tests;

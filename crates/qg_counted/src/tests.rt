@@ -1,6 +1,6 @@
 ghost use Rattle.std.specs.Prelude.{◌≡◌, ◌<◌, length, IfOk};
 
-use crate::{Portion, counters_of};
+use crate::{Portion, group_counters};
 use qg_home::Linked;
 use qg_num::{Address, Counters, NoMemory, RootId, Sequence};
 use qg_reached::{Reached, SetId, reached_from};
@@ -38,9 +38,16 @@ fn trees(alloc: Global) -> Result<Reached, NoMemory> {
     reached_from(alloc, &roots, &nodes)
 }
 
-// The counters of both by one node alone.
+// Some indices of groups.
+fn places(alloc: Global, told: &[usize]) -> Result<Sequence<usize>, NoMemory>
+    ensures { IfOk result (λ places. places ≡ told.now) }
+{
+    Ok(Sequence::from_slice(alloc, told)?)
+}
+
+// The counters of three groups by one node alone: two of one subvolume each, and one above both.
 #[tactic(auto, using(crate::proofs::Weights::one_small))]
-fn counted_alone(
+fn grouped_alone(
     alloc: Global,
     reached: &Reached,
     set: SetId,
@@ -49,32 +56,37 @@ fn counted_alone(
     requires { set < length reached.now.sets.rows.items }
 {
     let portions = [Portion { bytes, set }];
-    counters_of(alloc, reached, &portions, 2)
+    let above = [places(alloc, &[0, 2])?, places(alloc, &[1, 2])?];
+    group_counters(alloc, reached, &portions, &above, 3)
 }
 
 // The three nodes have 100, 20 and 3 bytes.
 #[test]
-fn shared_bytes_are_referenced_by_both(rt: HostRuntime) -> Result<(), Fail> {
+fn a_group_counts_what_its_members_reach(rt: HostRuntime) -> Result<(), Fail> {
     let reached = trees(rt.alloc())?;
     let sets = [reached.set_of(0), reached.set_of(1), reached.set_of(2)];
     let bytes = [100, 20, 3];
-    let mut counters = [Counters { rfer: 0, excl: 0 }; 2];
+    let mut counters = [Counters { rfer: 0, excl: 0 }; 3];
     for (set, bytes) in sets.iter().zip(bytes.iter()) {
         if set.number() < reached.count() {
-            let one = counted_alone(rt.alloc(), &reached, *set, *bytes)?;
+            let one = grouped_alone(rt.alloc(), &reached, *set, *bytes)?;
             for (sum, counted) in counters.iter_mut().zip(one.iter()) {
                 sum.rfer = sum.rfer.wrapping_add(counted.rfer);
                 sum.excl = sum.excl.wrapping_add(counted.excl);
             }
         }
     }
-    assert_eq!(rt;
-        counters[0],
+    let expected = [
         Counters {
             rfer: 103,
-            excl: 100
-        }
-    );
-    assert_eq!(rt; counters[1], Counters { rfer: 23, excl: 20 });
+            excl: 100,
+        },
+        Counters { rfer: 23, excl: 20 },
+        Counters {
+            rfer: 123,
+            excl: 123,
+        },
+    ];
+    assert!(rt; counters.as_slice() == expected.as_slice());
     Ok(())
 }

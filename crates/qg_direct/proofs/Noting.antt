@@ -14,8 +14,9 @@ use Rattle.qg_home.proofs.Listed.{All-at, at_along, at_one, front_more_cases, in
 use Rattle.qg_home.proofs.Ascending.{one_place}
 use Rattle.qg_reached.specs.Above.{AreEmpty, list_at}
 use Rattle.qg_reached.proofs.Turning.{push_cases, push_keeps, push_there}
+use Rattle.qg_counted.specs.Groups.{AreWithin}
 use Rattle.qg_direct.specs.declared.surveyed.Surveyed.{Surveyed}
-use Rattle.qg_direct.specs.Namers.{AreNamers, AreWithin, HasAtMost, HasNoted}
+use Rattle.qg_direct.specs.Namers.{AreNamers, HasAtMost, HasNoted}
 
 -- ---- a search
 

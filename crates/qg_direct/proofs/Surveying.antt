@@ -1,14 +1,16 @@
 -- Portions of all that was surveyed tell a layout, so their counters are the direct counts.
-use Rattle.std.proofs.Common.{◌≡◌, ℕ, zero, suc, ◌+◌, Bool, true, false, List, [], ◌∷◌, ◌++◌, map, length, Some, refl}
+use Rattle.std.proofs.Common.{◌≡◌, ℕ, zero, suc, ◌<◌, Bool, true, false, List, [], ◌∷◌, ◌++◌, map, length, Some, refl}
 use Rattle.std.proofs.Common.{sym, ap, subst, ◌∙◌, arith, ◌⊎◌, inl, inr}
 use Rattle.std.specs.Prelude.{◌==◌, slice_get, slice_index}
 use Rattle.std.specs.List.{Contains}
 use Rattle.std.specs.List.Sorted.{IsStrictlyIncreasing, IsStrictlySortedBy}
 use Rattle.std.specs.Ordering.{nat_cmp}
+use Rattle.std.specs.declared.cmp.Ordering.TheVariants.{Less}
+use Rattle.std.proofs.lemmas.Bool.Decides.{nat_tests}
 use Rattle.std.proofs.lemmas.Bool.{eq-eqb, eqb-true, or_cases, or_left, or_right, both_ways}
 use Rattle.std.proofs.lemmas.List.{length-map}
-use Rattle.std.proofs.lemmas.List.Elements.{Contains-append_cases, Contains-append_left, Contains-append_right}
-use Rattle.std.proofs.lemmas.Map.Keys.{IsDistinct-tail, sorted_from_strictly_increasing, sorted_tail}
+use Rattle.std.proofs.lemmas.List.Elements.{All-contains, All-from_recursion, Contains-append_cases, Contains-append_left, Contains-append_right}
+use Rattle.std.proofs.lemmas.Map.Keys.{IsDistinct-tail, sorted_from_strictly_increasing, sorted_head, sorted_tail}
 use Rattle.std.proofs.lemmas.Option.{same_Some, none-some, slice_get_within}
 use Rattle.qg_num.specs.declared.counters.Counters.{Counters}
 use Rattle.qg_num.specs.declared.piece.Piece.{Piece}
@@ -16,6 +18,7 @@ use Rattle.qg_image.specs.Table.{keys_of, value_at}
 use Rattle.qg_state.specs.declared.element.Element.{Element}
 use Rattle.qg_state.specs.State.{Layout, Placed, node_at}
 use Rattle.qg_state.specs.Reach.{extent_of, is_among, own_elements, pieces_of, reach, reaches}
+use Rattle.qg_state.specs.Members.{Hierarchy, is_member}
 use Rattle.qg_state.specs.Owed.{layout_extents}
 use Rattle.qg_state.proofs.Contained.{contains_cases, contains_here, contains_later, none_contained}
 use Rattle.qg_reach.proofs.Distinct.{AreApart, apart_first, apart_none, apart_with, begin_alike}
@@ -32,13 +35,16 @@ use Rattle.qg_reached.specs.Roots.{IsReachedFrom}
 use Rattle.qg_reached.specs.Sets.{HasMember, row_of}
 use Rattle.qg_counted.specs.declared.counting.Portion.{Portion}
 use Rattle.qg_counted.specs.Counted.{AreAllReached}
-use Rattle.qg_counted.specs.Portions.{AreCounted, counted, is_in}
+use Rattle.qg_counted.specs.Portions.{is_in}
 use Rattle.qg_counted.specs.Telling.{ArePortionsOf, IsPortionOf}
-use Rattle.qg_counted.proofs.Alone.{less-later}
-use Rattle.qg_counted.proofs.Told.{counters-direct}
+use Rattle.qg_counted.specs.Groups.{counted_for, is_above}
+use Rattle.qg_counted.specs.Laws.{number_at}
+use Rattle.qg_counted.proofs.Direct.{counted-same, groups-direct, number-is}
+use Rattle.qg_counted.proofs.Told.{there-at}
 use Rattle.qg_direct.specs.declared.surveyed.Surveyed.{Surveyed}
 use Rattle.qg_direct.specs.Surveyed.{AreSurveyed, links_in, surveyed_of}
-use Rattle.qg_direct.specs.Direct.{AreDirect}
+use Rattle.qg_direct.specs.Above.{AreMemberships}
+use Rattle.qg_direct.specs.Direct.{AreGroupCounts}
 use Rattle.qg_direct.specs.Namers.{AreNamers}
 use Rattle.qg_direct.specs.Portions.{AreOfNamers, IsOfNodes, node_portions}
 use Rattle.qg_direct.proofs.Reaching.{led_reached, own_is, reached_led, reached_own}
@@ -68,6 +74,15 @@ one_among (x ∷ xs) address is = elim (or_cases (x.address == address) (is_amon
 ]
 
 -- ---- lists that lie apart
+
+-- of numbers that ascend the first is less than each later one
+less-later : (x : ℕ) (xs : List ℕ) (y : ℕ) → IsStrictlySortedBy nat_cmp (x ∷ xs) → Contains xs y → x < y
+less-later x xs y sorted has =
+    is_less x y
+    (All-contains (λ z. nat_cmp x z ≡ Less) xs y (All-from_recursion (λ z. nat_cmp x z ≡ Less) xs (sorted_head nat_cmp x xs sorted)) has)
+  where
+    is_less : (a b : ℕ) → nat_cmp a b ≡ Less → a < b
+    is_less a b less = grind (arith, nat_tests)
 
 apart_sorted : (xs : List Element) → IsStrictlySortedBy nat_cmp (map (λ (e : Element). e.address) xs) → AreApart xs
 apart_sorted [] up = apart_none
@@ -432,12 +447,24 @@ module _ (layout : Layout) (roots : List (ℕ × ℕ)) (nodes : List Surveyed) (
                 length-map reached.numbers.items made ∙ told.same ∙ length-map nodes (λ (s : Surveyed). s.linked)
                 ∙ sym (length-map nodes element_of)
 
-        pub counts_direct : (counters : List Counters)
-            → AreCounted rows (portions ++ node_portions nodesize reached.numbers.items) (length roots) counters
-            → AreDirect layout counters
-        counts_direct counters counted' hierarchy index root at unrelated =
-            let short = slice_get_within roots index root (root_at index root at) in
-            let same = ap (λ (list : List (ℕ × ℕ)). length list) are.links.roots in
-            counted'.each index short
-            ∙ ap Some (ap (λ n. counted rows n all index) same
-            ∙ counters-direct layout hierarchy rows elements all index root are.numbers all_reached are_portions at unrelated)
+        -- whether a subvolume is a member of a group, by its index
+        module _ (hierarchy : Hierarchy) (above : List (List ℕ)) (memberships : AreMemberships roots hierarchy above) where
+          is_above-is : (place group : ℕ) → slice_get hierarchy.groups place ≡ Some group → (i : ℕ)
+              → i < length layout.roots
+              → is_above above place i ≡ is_member hierarchy group (number_at layout.roots i)
+          is_above-is place group at i short =
+              let root = there-at layout.roots i short in
+              (memberships.each i root.0 (root_at i root.0 root.1)).has place group at
+              ∙ ap (λ (n : ℕ). is_member hierarchy group n) (sym (number-is layout.roots i root.0 root.1))
+
+          pub groups_direct : (counters : List Counters)
+              → ((place : ℕ) → place < length hierarchy.groups → slice_get counters place
+              ≡ Some (counted_for rows (length above) (portions ++ node_portions nodesize reached.numbers.items) (is_above above place)))
+              → AreGroupCounts layout hierarchy counters
+          groups_direct counters each place group at =
+              let same = memberships.same ∙ ap (λ (list : List (ℕ × ℕ)). length list) are.links.roots in
+              each place (slice_get_within hierarchy.groups place group at)
+              ∙ ap Some (ap (λ n. counted_for rows n all (is_above above place)) same
+              ∙ counted-same rows (length layout.roots) all (is_above above place)
+              (λ i. is_member hierarchy group (number_at layout.roots i)) (is_above-is place group at)
+              ∙ groups-direct layout hierarchy rows elements all group are.numbers all_reached are_portions)

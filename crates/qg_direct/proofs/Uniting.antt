@@ -16,7 +16,7 @@ use Rattle.qg_reached.specs.Reached.{TellsReach}
 use Rattle.qg_reached.specs.Sets.{HasMember, IsInOne, IsUnionOf, Stand, row_of}
 use Rattle.qg_reached.proofs.Words.{none_has}
 use Rattle.qg_counted.specs.declared.counting.Portion.{Portion}
-use Rattle.qg_direct.specs.Namers.{AreWithin}
+use Rattle.qg_counted.specs.Groups.{AreWithin}
 use Rattle.qg_direct.specs.Portions.{AreOfNamers, IsOfNodes, ReachesOne}
 
 -- ---- lists

@@ -12,6 +12,7 @@ use Rattle.qg_state.specs.declared.element.Element.{Element}
 use Rattle.qg_state.specs.Counts.{bytes_of}
 use Rattle.qg_home.specs.declared.linked.Linked.{Linked}
 use Rattle.qg_counted.specs.declared.counting.Portion.{Portion}
+use Rattle.qg_counted.specs.Groups.{AreWithin}
 use Rattle.qg_counted.specs.Portions.{bytes_where}
 use Rattle.qg_counted.proofs.Weights.{given_is}
 use Rattle.qg_direct.specs.declared.surveyed.Surveyed.{Surveyed}
@@ -28,6 +29,13 @@ links_ascend nodes up = subst IsStrictlyIncreasing (sym (addresses nodes)) up wh
       ≡ map (λ (node : Surveyed). node.linked.address) list
   addresses [] = refl
   addresses (node ∷ list) = ap (λ rest. node.linked.address ∷ rest) (addresses list)
+
+-- indices of nodes are indices of links
+pub among : (nodes : List Surveyed) (lists shown : List (List ℕ)) → shown ≡ lists → AreWithin (length nodes) lists
+    → AreWithin (length (links_in nodes)) shown
+among nodes lists shown same within =
+    subst (AreWithin (length (links_in nodes))) (sym same)
+    (subst (λ n. AreWithin n lists) (sym (length-map nodes (λ (node : Surveyed). node.linked))) within)
 
 bytes_cons : (portion : Portion) (portions : List Portion)
     → bytes_where (λ set. true) (portion ∷ portions) ≡ portion.bytes + bytes_where (λ set. true) portions

@@ -1,5 +1,5 @@
 -- Which nodes name each extent: for each extent a list of indices (this project's own). Addresses are in bytes.
-use Rattle.std.specs.Prelude.{◌≡◌, ◌<◌, ◌↔◌, ◌⊎◌, ℕ, List, Some, slice_get}
+use Rattle.std.specs.Prelude.{◌≡◌, ◌↔◌, ◌⊎◌, ℕ, List, Some, slice_get}
 use Rattle.std.specs.List.{Contains}
 use Rattle.qg_state.specs.declared.element.Element.{Element}
 use Rattle.qg_reached.specs.Above.{list_at}
@@ -11,10 +11,6 @@ AreNamers nodes extents lists =
     (place index : ℕ) (extent : Element) → slice_get extents place ≡ Some extent
     → Contains (list_at lists place) index
     ↔ ((node : Surveyed) × (slice_get nodes index ≡ Some node) × Contains node.extents extent.address)
-
--- each index is below a bound
-abbrev pub AreWithin : ℕ → List (List ℕ) → Type 0
-AreWithin bound lists = (place index : ℕ) → Contains (list_at lists place) index → index < bound
 
 -- ---- on the way there
 

@@ -3,7 +3,8 @@ ghost use Rattle.std.specs.Prelude.{◌≡◌, map, length, IfOk, OnOk, IfSome, 
 ghost use Rattle.std.specs.List.Sorted.{IsStrictlyIncreasing};
 ghost use Rattle.qg_home.specs.Places.{StandsAt, AreOthers};
 ghost use Rattle.qg_reached.specs.Above.{AreEmpty};
-ghost use Rattle.qg_direct.specs.Namers.{AreNamers, AreWithin, HasAtMost, HasNoted};
+ghost use Rattle.qg_counted.specs.Groups.{AreWithin};
+ghost use Rattle.qg_direct.specs.Namers.{AreNamers, HasAtMost, HasNoted};
 
 use crate::Surveyed;
 use qg_num::{Address, Sequence};

@@ -3,7 +3,7 @@ ghost use Rattle.std.specs.Prelude.{◌≡◌, ◌++◌, ℕ, List, [], map, len
 ghost use Rattle.qg_home.specs.declared.linked.Linked.{Linked as Link};
 ghost use Rattle.qg_reached.specs.Reached.{TellsReach};
 ghost use Rattle.qg_reached.specs.Sets.{IsUnionOf};
-ghost use Rattle.qg_direct.specs.Namers.{AreWithin};
+ghost use Rattle.qg_counted.specs.Groups.{AreWithin};
 ghost use Rattle.qg_direct.specs.Portions.{AreOfNamers, node_portions};
 
 use qg_counted::Portion;

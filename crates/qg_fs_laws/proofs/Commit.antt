@@ -1,5 +1,5 @@
 -- A commit whose other trees tell the state that it leaves is one of the machine.
-use Rattle.std.proofs.Common.{◌≡◌, ℕ, Bool, true, false, List, [], ◌∷◌, map, Option, Some, refl, sym, ap, ◌∙◌, inl, inr}
+use Rattle.std.proofs.Common.{◌≡◌, ℕ, Bool, true, false, List, [], ◌∷◌, map, Option, None, Some, refl, sym, ap, ◌∙◌, inl, inr}
 use Rattle.std.specs.Prelude.{◌⊎◌, ◌==◌, ◌&&◌, not, if◌then◌else◌, All}
 use Rattle.std.specs.List.{Contains, list_all, list_any}
 use Rattle.std.specs.Option.{option_map}
@@ -24,7 +24,7 @@ use Rattle.qg_other_trees.specs.declared.laying.OtherTrees.{OtherTrees}
 use Rattle.qg_other_trees.specs.Sound.{committed}
 use Rattle.qg_other_trees.specs.Telling.{AreToldBy}
 use Rattle.qg_other_trees.specs.Trees.{stamp_after}
-use Rattle.qg_fs_laws.specs.Keeping.{AreDirectCounts, group_after, quota_after}
+use Rattle.qg_fs_laws.specs.Keeping.{AreDirectCounts, group_after, quota_after, quota_laid}
 
 -- ---- the group
 
@@ -68,23 +68,26 @@ map_each {A} {B} f g (x ∷ xs) same =
     ap (λ (y : B). y ∷ map f xs) (same x (contains_here x xs))
     ∙ ap (λ (ys : List B). g x ∷ ys) (map_each f g xs (λ y has. same y (contains_later x xs y has)))
 
-module _ (old : State) (quota : Quota) (counters : ℕ → Counters) (is : old.quota ≡ Some quota)
-    (counts : AreDirectCounts old quota counters) where
-  recounted_is : recounted (layout_of old) (next_generation old) quota
-      ≡ quota_after (next_generation old) counters quota
+module _ (old : State) (counters : ℕ → Counters) (counts : AreDirectCounts old counters) where
+  recounted_is : (quota : Quota) → old.quota ≡ Some quota
+      → recounted (layout_of old) (next_generation old) quota ≡ quota_after (next_generation old) counters quota
   unfolding recounted
-  recounted_is =
+  recounted_is quota is =
       ap (λ (groups : List (ℕ × Group)). record quota { groups = groups })
       (map_each (recounted_group (layout_of old) (hierarchy_of quota) (next_generation old))
       (group_after (next_generation old) counters) quota.groups
       (λ entry has. group_is (layout_of old) (hierarchy_of quota) (next_generation old) counters entry
-      (counts entry has)))
+      (counts quota is entry has)))
+
+  quota_by : (quota : Option Quota) → old.quota ≡ quota
+      → option_map (recounted (layout_of old) (next_generation old)) quota
+      ≡ quota_laid (next_generation old) counters quota
+  quota_by None is = refl
+  quota_by (Some quota) is = ap (λ (q : Quota). Some q) (recounted_is quota is)
 
   quota_is : option_map (recounted (layout_of old) (next_generation old)) old.quota
-      ≡ Some (quota_after (next_generation old) counters quota)
-  quota_is =
-      ap (option_map (recounted (layout_of old) (next_generation old))) is
-      ∙ ap (λ (q : Quota). Some q) recounted_is
+      ≡ quota_laid (next_generation old) counters old.quota
+  quota_is = quota_by old.quota refl
 
   abbrev with_quota : List Node → Option Quota → State
   with_quota others quota = as_committed others (record {
@@ -104,7 +107,7 @@ module _ (old : State) (quota : Quota) (counters : ℕ → Counters) (is : old.q
   settled_is others = refl
 
   pub committed-is : (others : List Node)
-      → committed others old (quota_after (next_generation old) counters quota) ≡ as_committed others (settled old)
+      → committed others old (quota_laid (next_generation old) counters old.quota) ≡ as_committed others (settled old)
   committed-is others = ap (with_quota others) (sym quota_is) ∙ settled_is others
 
 -- ---- slots
@@ -122,17 +125,16 @@ each_true test (x ∷ xs) each =
     and_from (test x) (list_all test xs) (each x (contains_here x xs))
     (each_true test xs (λ y has. each y (contains_later x xs y has)))
 
-pub commit-of-machine : (old : State) (quota : Quota) (counters : ℕ → Counters) (slots : List ℕ) (trees : OtherTrees)
-    (others : List Node) → old.quota ≡ Some quota → AreDirectCounts old quota counters
-    → All (λ slot. is_free_slot old slot ≡ true) slots
-    → AreToldBy (committed others old (quota_after (next_generation old) counters quota)) slots trees others
-    → Commits old (committed others old (quota_after (next_generation old) counters quota))
-commit-of-machine old quota counters slots trees others is counts free told = record {
+pub commit-of-machine : (old : State) (counters : ℕ → Counters) (slots : List ℕ) (trees : OtherTrees)
+    (others : List Node) → AreDirectCounts old counters → All (λ slot. is_free_slot old slot ≡ true) slots
+    → AreToldBy (committed others old (quota_laid (next_generation old) counters old.quota)) slots trees others
+    → Commits old (committed others old (quota_laid (next_generation old) counters old.quota))
+commit-of-machine old counters slots trees others counts free told = record {
   others = others;
   slots = each_true (is_other_slot old old) (addresses_of others)
       (λ at has. slot_other old at
       (All-contains (λ slot. is_free_slot old slot ≡ true) slots at free (told.within at has)));
   apart = told.apart;
   trees = told.tell;
-  committed = committed-is old quota counters is counts others;
+  committed = committed-is old counters counts others;
 }

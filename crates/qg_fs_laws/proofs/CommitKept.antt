@@ -19,6 +19,7 @@ use Rattle.qg_image.specs.declared.file.File.{File}
 use Rattle.qg_image.specs.Table.{keys_of, value_at}
 use Rattle.qg_state.specs.declared.element.Element.{Element}
 use Rattle.qg_state.specs.declared.quota.Quota.{Quota}
+use Rattle.qg_state.specs.Record.{Record}
 use Rattle.qg_state.specs.Space.{present_extents}
 use Rattle.qg_state.specs.State.{Placed, State, Subvolume}
 use Rattle.qg_state.proofs.Contained.{contains_later}
@@ -41,11 +42,11 @@ use Rattle.qg_other_trees.specs.declared.laying.OtherTrees.{OtherTrees}
 use Rattle.qg_other_trees.specs.Sound.{committed}
 use Rattle.qg_other_trees.specs.Telling.{AreToldBy}
 use Rattle.qg_other_trees.specs.Trees.{nodes_laid}
-use Rattle.qg_fs_laws.specs.Keeping.{IsKept, KeepsState, OthersHaveFiles, quota_after}
+use Rattle.qg_fs_laws.specs.Keeping.{IsKept, KeepsState, NamesOthers, OthersHaveFiles, quota_laid}
 use Rattle.qg_fs_laws.proofs.Kept.{slot-laid, taken-told, whole}
 use Rattle.qg_fs_laws.proofs.Runs.{runs-told}
 use Rattle.qg_fs_laws.specs.Committing.{KeepsCommit, LaysTree}
-use Rattle.qg_fs_laws.proofs.OtherNames.{names-others, same-recorded}
+use Rattle.qg_fs_laws.proofs.OtherNames.{names-are, names-others, same-recorded}
 
 later_file : (generation : ℕ) (file : ℕ × File) → IsFileBy generation file → IsFileBy (generation + 1) file
 later_file generation file by = record {
@@ -100,14 +101,14 @@ addresses_into nodes others moved slot has =
 -- ---- the trees
 
 module _ (old new : FsTree) (events later : List Event) (bytes : ℕ) (state : State) (mine : Subvolume)
-    (files : List (ℕ × File)) (roots : List (ℕ × RootItem)) (quota : Quota) (counters : ℕ → Counters) (slots : List ℕ)
+    (files : List (ℕ × File)) (roots : List (ℕ × RootItem)) (counters : ℕ → Counters) (slots : List ℕ)
     (trees : OtherTrees) (others : List Node)
-    (lays : LaysTree old events bytes state mine files roots quota counters slots trees)
-    (told : AreToldBy (committed others state (quota_after old.tree.next counters quota)) slots trees others)
+    (lays : LaysTree old events bytes state mine files roots counters slots trees)
+    (told : AreToldBy (committed others state (quota_laid old.tree.next counters state.quota)) slots trees others)
     (becomes : IsCommitted old new (map (λ node. (header_of node).address) (nodes_laid trees)))
     (still : StandsStill old new (Some events) (Some later) (flat_map items_of_file files) (named files)) where
-  abbrev quota_now : Quota
-  quota_now = quota_after old.tree.next counters quota
+  abbrev quota_now : Option Quota
+  quota_now = quota_laid old.tree.next counters state.quota
 
   abbrev after : State
   after = committed others state quota_now
@@ -216,6 +217,7 @@ module _ (old new : FsTree) (events later : List Event) (bytes : ℕ) (state : S
       held_runs = held_runs;
     };
     recorded = recorded;
-    others = names-others old.land.space.sizes old.tree.next roots old.refs.refs quota_now slots trees lays.laid.laid
-        others told.moved after.held (keys_of state.subvolumes) refl lays.roots_are.numbers;
+    others = subst (λ (names : List Record). NamesOthers after.held names) (sym (names-are after))
+        (names-others old.land.space.sizes old.tree.next roots old.refs.refs quota_now slots trees lays.laid.laid
+        others told.moved after.held (keys_of state.subvolumes) refl lays.roots_are.numbers);
   }

@@ -20,7 +20,7 @@ use Rattle.qg_verdict.specs.declared.failure.Failure.TheVariants.{Differs}
 use Rattle.qg_verdict.specs.Failure.{first_failure}
 use Rattle.qg_verdict.specs.Verdict.{counted, counts_failure, group_failure}
 use Rattle.qg_fs_tree.proofs.Lists.{from-mapped}
-use Rattle.qg_fs_laws.specs.Keeping.{AreDirectCounts, group_after, quota_after}
+use Rattle.qg_fs_laws.specs.Keeping.{AreDirectCounts, group_after, quota_after, quota_laid}
 
 -- ---- of any groups
 
@@ -62,8 +62,8 @@ keys_after generation counters [] = refl
 keys_after generation counters (entry ∷ groups) =
     ap (λ (keys : List ℕ). entry.0 ∷ keys) (keys_after generation counters groups)
 
-module _ (state : State) (generation : ℕ) (counters : ℕ → Counters) (quota : Quota)
-    (direct : AreDirectCounts state quota counters) where
+module _ (state : State) (generation : ℕ) (counters : ℕ → Counters) (direct : AreDirectCounts state counters)
+    (quota : Quota) (on : state.quota ≡ Some quota) where
   abbrev after : Quota
   after = quota_after generation counters quota
 
@@ -78,18 +78,43 @@ module _ (state : State) (generation : ℕ) (counters : ℕ → Counters) (quota
       let was = from-mapped (group_after generation counters) quota.groups entry has in
       let count : (group_after generation counters was.0).1.counters
       ≡ direct_count (layout_of state) (hierarchy_of quota) (group_after generation counters was.0).0 =
-      direct was.0 was.1 in
+      direct quota on was.0 was.1 in
       subst (λ (e : ℕ × Group). e.1.counters ≡ direct_count (layout_of state) (hierarchy_of after) e.0) was.2
       (count ∙ ap (λ (h : Hierarchy). direct_count (layout_of state) h was.0.0) (sym hierarchy_after))
 
-  pub counts-kept : counts_failure (layout_of state) (Some after) ≡ None
+  kept_on : counts_failure (layout_of state) (Some after) ≡ None
   unfolding counts_failure
-  counts-kept = groups_keep (layout_of state) (hierarchy_of after) after.groups each_direct
+  kept_on = groups_keep (layout_of state) (hierarchy_of after) after.groups each_direct
 
-  pub stores : (stored : Quota) → Some after ≡ Some stored
+  stores_on : (stored : Quota) → Some after ≡ Some stored
       → All (λ entry. entry.1.counters ≡ direct_count (layout_of state) (hierarchy_of stored) entry.0) stored.groups
-  stores stored there =
+  stores_on stored there =
       subst (λ (q : Quota).
       All (λ (entry : ℕ × Group). entry.1.counters ≡ direct_count (layout_of state) (hierarchy_of q) entry.0) q.groups)
       (same_Some after stored there)
       (λ k d below. each_direct (get_or after.groups k d) (Contains-get_or after.groups k d below))
+
+-- ---- while quota may be off
+
+kept_off : (layout : Layout) → counts_failure layout None ≡ None
+unfolding counts_failure
+kept_off layout = refl
+
+module _ (state : State) (generation : ℕ) (counters : ℕ → Counters) (direct : AreDirectCounts state counters) where
+  kept_by : (quota : Option Quota) → state.quota ≡ quota
+      → counts_failure (layout_of state) (quota_laid generation counters quota) ≡ None
+  kept_by None is = kept_off (layout_of state)
+  kept_by (Some quota) is = kept_on state generation counters direct quota is
+
+  pub counts-kept : counts_failure (layout_of state) (quota_laid generation counters state.quota) ≡ None
+  counts-kept = kept_by state.quota refl
+
+  stores_by : (quota : Option Quota) → state.quota ≡ quota
+      → (stored : Quota) → quota_laid generation counters quota ≡ Some stored
+      → All (λ entry. entry.1.counters ≡ direct_count (layout_of state) (hierarchy_of stored) entry.0) stored.groups
+  stores_by None is stored there = absurd cc
+  stores_by (Some quota) is stored there = stores_on state generation counters direct quota is stored there
+
+  pub stores : (stored : Quota) → quota_laid generation counters state.quota ≡ Some stored
+      → All (λ entry. entry.1.counters ≡ direct_count (layout_of state) (hierarchy_of stored) entry.0) stored.groups
+  stores stored there = stores_by state.quota refl stored there

@@ -1,5 +1,5 @@
 -- What the items of the root and quota trees name, by the numbers of subvolumes and groups and by relations.
-use Rattle.std.proofs.Common.{◌≡◌, ℕ, List, [], ◌∷◌, ◌++◌, map, Some, refl, sym, subst, ◌⊎◌, inl, inr}
+use Rattle.std.proofs.Common.{◌≡◌, ℕ, List, [], ◌∷◌, ◌++◌, map, Option, None, Some, refl, sym, subst, ◌⊎◌, inl, inr}
 use Rattle.std.proofs.Common.{true}
 use Rattle.std.specs.List.{Contains, flat_map}
 use Rattle.std.proofs.lemmas.Bool.{or_left, or_right}
@@ -47,77 +47,62 @@ group_records group = InfoOf group ∷ LimitOf group ∷ []
 abbrev pub pair_records : ℕ × ℕ → List Record
 pair_records pair = RelationOf pair.0 pair.1 ∷ RelationOf pair.1 pair.0 ∷ []
 
-abbrev pub tree_names : List ℕ → List Record
-tree_names numbers = (RootOf EXTENT_TREE ∷ map RootOf numbers) ++ (RootOf QUOTA_TREE ∷ [])
+-- the root of the quota tree, where there is one
+abbrev pub quota_tree_names : Option Quota → List Record
+quota_tree_names None = []
+quota_tree_names (Some quota) = RootOf QUOTA_TREE ∷ []
 
-abbrev pub quota_names : List ℕ → List (ℕ × ℕ) → List Record
-quota_names groups pairs = (Status ∷ flat_map group_records groups) ++ flat_map pair_records pairs
+abbrev pub tree_names : List ℕ → Option Quota → List Record
+tree_names numbers quota = (RootOf EXTENT_TREE ∷ map RootOf numbers) ++ quota_tree_names quota
 
-abbrev pub names_by : List ℕ → List ℕ → List (ℕ × ℕ) → List Record
-names_by numbers groups pairs = tree_names numbers ++ quota_names groups pairs
+abbrev pub quota_names : Option Quota → List Record
+quota_names None = []
+quota_names (Some quota) =
+    (Status ∷ flat_map group_records (keys_of quota.groups)) ++ flat_map pair_records quota.pairs
 
-pub names-are : (state : State) (quota : Quota) → state.quota ≡ Some quota
-    → other_names state ≡ names_by (keys_of state.subvolumes) (keys_of quota.groups) quota.pairs
-names-are state quota is = rw is refl
+abbrev pub names_by : List ℕ → Option Quota → List Record
+names_by numbers quota = tree_names numbers quota ++ quota_names quota
 
-module _ (numbers groups : List ℕ) (pairs : List (ℕ × ℕ)) where
+pub names-are : (state : State) (quota : Option Quota) → state.quota ≡ quota
+    → other_names state ≡ names_by (keys_of state.subvolumes) quota
+names-are state None is = rw is refl
+names-are state (Some quota) is = rw is refl
+
+module _ (numbers : List ℕ) (quota : Option Quota) where
   -- ---- what is named
 
-  of_trees : (one : Record) → Contains (tree_names numbers) one → Contains (names_by numbers groups pairs) one
-  of_trees one has = Contains-append_left (tree_names numbers) (quota_names groups pairs) one has
+  of_trees : (one : Record) → Contains (tree_names numbers quota) one → Contains (names_by numbers quota) one
+  of_trees one has = Contains-append_left (tree_names numbers quota) (quota_names quota) one has
 
-  of_quota : (one : Record) → Contains (quota_names groups pairs) one → Contains (names_by numbers groups pairs) one
-  of_quota one has = Contains-append_right (tree_names numbers) (quota_names groups pairs) one has
+  pub quota-named : (one : Record) → Contains (quota_names quota) one → Contains (names_by numbers quota) one
+  quota-named one has = Contains-append_right (tree_names numbers quota) (quota_names quota) one has
 
-  pub extents-named : Contains (names_by numbers groups pairs) (RootOf EXTENT_TREE)
+  pub extents-named : Contains (names_by numbers quota) (RootOf EXTENT_TREE)
   extents-named = of_trees (RootOf EXTENT_TREE)
-      (Contains-append_left (RootOf EXTENT_TREE ∷ map RootOf numbers) (RootOf QUOTA_TREE ∷ []) (RootOf EXTENT_TREE)
+      (Contains-append_left (RootOf EXTENT_TREE ∷ map RootOf numbers) (quota_tree_names quota) (RootOf EXTENT_TREE)
       (contains_here (RootOf EXTENT_TREE) (map RootOf numbers)))
 
-  pub subvolume-named : (number : ℕ) → Contains numbers number
-      → Contains (names_by numbers groups pairs) (RootOf number)
+  pub subvolume-named : (number : ℕ) → Contains numbers number → Contains (names_by numbers quota) (RootOf number)
   subvolume-named number has = of_trees (RootOf number)
-      (Contains-append_left (RootOf EXTENT_TREE ∷ map RootOf numbers) (RootOf QUOTA_TREE ∷ []) (RootOf number)
+      (Contains-append_left (RootOf EXTENT_TREE ∷ map RootOf numbers) (quota_tree_names quota) (RootOf number)
       (contains_later (RootOf EXTENT_TREE) (map RootOf numbers) (RootOf number) (has-mapped RootOf numbers number has)))
 
-  pub quotas-named : Contains (names_by numbers groups pairs) (RootOf QUOTA_TREE)
-  quotas-named = of_trees (RootOf QUOTA_TREE)
-      (Contains-append_right (RootOf EXTENT_TREE ∷ map RootOf numbers) (RootOf QUOTA_TREE ∷ []) (RootOf QUOTA_TREE)
-      (contains_here (RootOf QUOTA_TREE) []))
-
-  pub status-named : Contains (names_by numbers groups pairs) Status
-  status-named = of_quota Status
-      (Contains-append_left (Status ∷ flat_map group_records groups) (flat_map pair_records pairs) Status
-      (contains_here Status (flat_map group_records groups)))
-
-  pub group-named : (group : ℕ) (one : Record) → Contains groups group → Contains (group_records group) one
-      → Contains (names_by numbers groups pairs) one
-  group-named group one has own = of_quota one
-      (Contains-append_left (Status ∷ flat_map group_records groups) (flat_map pair_records pairs) one
-      (contains_later Status (flat_map group_records groups) one (has-flat group_records groups group one has own)))
-
-  pub pair-named : (pair : ℕ × ℕ) (one : Record) → Contains pairs pair → Contains (pair_records pair) one
-      → Contains (names_by numbers groups pairs) one
-  pair-named pair one has own = of_quota one
-      (Contains-append_right (Status ∷ flat_map group_records groups) (flat_map pair_records pairs) one
-      (has-flat pair_records pairs pair one has own))
+  pub quota-tree-named : (one : Record) → Contains (quota_tree_names quota) one → Contains (names_by numbers quota) one
+  quota-tree-named one has = of_trees one
+      (Contains-append_right (RootOf EXTENT_TREE ∷ map RootOf numbers) (quota_tree_names quota) one has)
 
   -- ---- and nothing else
 
-  -- these records name each tree, each group and each relation
+  -- these records name each tree, and what quota has
   pub record NamesEach (records : List Record) : Type 0 where
     pub extents : is_among records (RootOf EXTENT_TREE) ≡ true
     pub subvolume : (number : ℕ) → Contains numbers number → is_among records (RootOf number) ≡ true
-    pub quotas : is_among records (RootOf QUOTA_TREE) ≡ true
-    pub status : is_among records Status ≡ true
-    pub info : (group : ℕ) → Contains groups group → is_among records (InfoOf group) ≡ true
-    pub limit : (group : ℕ) → Contains groups group → is_among records (LimitOf group) ≡ true
-    pub member : (pair : ℕ × ℕ) → Contains pairs pair → is_among records (RelationOf pair.0 pair.1) ≡ true
-    pub parent : (pair : ℕ × ℕ) → Contains pairs pair → is_among records (RelationOf pair.1 pair.0) ≡ true
+    pub quota_tree : (one : Record) → Contains (quota_tree_names quota) one → is_among records one ≡ true
+    pub own : (one : Record) → Contains (quota_names quota) one → is_among records one ≡ true
 
   module _ (records : List Record) (each : NamesEach records) where
-    a_tree : (one : Record) → Contains (tree_names numbers) one → is_among records one ≡ true
-    a_tree one has = elim (Contains-append_cases (RootOf EXTENT_TREE ∷ map RootOf numbers) (RootOf QUOTA_TREE ∷ []) one
+    a_tree : (one : Record) → Contains (tree_names numbers quota) one → is_among records one ≡ true
+    a_tree one has = elim (Contains-append_cases (RootOf EXTENT_TREE ∷ map RootOf numbers) (quota_tree_names quota) one
         has) [
           | inl front ↦ elim (contains_cases (RootOf EXTENT_TREE) (map RootOf numbers) one front) [
             | inl extents ↦ subst (λ (r : Record). is_among records r ≡ true) extents each.extents
@@ -125,12 +110,50 @@ module _ (numbers groups : List ℕ) (pairs : List (ℕ × ℕ)) where
                 let found = from-mapped RootOf numbers one later in
                 subst (λ (r : Record). is_among records r ≡ true) found.2 (each.subvolume found.0 found.1)
           ]
-          | inr quotas ↦ elim (contains_cases (RootOf QUOTA_TREE) [] one quotas) [
-            | inl is ↦ subst (λ (r : Record). is_among records r ≡ true) is each.quotas
-            | inr none ↦ absurd (none_contained one none)
-          ]
+          | inr quotas ↦ each.quota_tree one quotas
         ]
 
+    pub named-among : (one : Record) → Contains (names_by numbers quota) one → is_among records one ≡ true
+    named-among one has = elim (Contains-append_cases (tree_names numbers quota) (quota_names quota) one has) [
+      | inl tree ↦ a_tree one tree
+      | inr own ↦ each.own one own
+    ]
+
+-- ---- while quota is on
+
+module _ (quota : Quota) where
+  abbrev groups : List ℕ
+  groups = keys_of quota.groups
+
+  abbrev pairs : List (ℕ × ℕ)
+  pairs = quota.pairs
+
+  pub status-named : Contains (quota_names (Some quota)) Status
+  status-named =
+      Contains-append_left (Status ∷ flat_map group_records groups) (flat_map pair_records pairs) Status
+      (contains_here Status (flat_map group_records groups))
+
+  pub group-named : (group : ℕ) (one : Record) → Contains (keys_of quota.groups) group
+      → Contains (group_records group) one → Contains (quota_names (Some quota)) one
+  group-named group one has own =
+      Contains-append_left (Status ∷ flat_map group_records groups) (flat_map pair_records pairs) one
+      (contains_later Status (flat_map group_records groups) one (has-flat group_records groups group one has own))
+
+  pub pair-named : (pair : ℕ × ℕ) (one : Record) → Contains quota.pairs pair → Contains (pair_records pair) one
+      → Contains (quota_names (Some quota)) one
+  pair-named pair one has own =
+      Contains-append_right (Status ∷ flat_map group_records groups) (flat_map pair_records pairs) one
+      (has-flat pair_records pairs pair one has own)
+
+  -- these records name the state of quota, each group and each relation
+  pub record NamesQuota (records : List Record) : Type 0 where
+    pub status : is_among records Status ≡ true
+    pub info : (group : ℕ) → Contains (keys_of quota.groups) group → is_among records (InfoOf group) ≡ true
+    pub limit : (group : ℕ) → Contains (keys_of quota.groups) group → is_among records (LimitOf group) ≡ true
+    pub member : (pair : ℕ × ℕ) → Contains quota.pairs pair → is_among records (RelationOf pair.0 pair.1) ≡ true
+    pub parent : (pair : ℕ × ℕ) → Contains quota.pairs pair → is_among records (RelationOf pair.1 pair.0) ≡ true
+
+  module _ (records : List Record) (each : NamesQuota records) where
     a_group : (one : Record) → Contains (flat_map group_records groups) one → is_among records one ≡ true
     a_group one has =
         let found = from-flat group_records groups one has in
@@ -153,12 +176,9 @@ module _ (numbers groups : List ℕ) (pairs : List (ℕ × ℕ)) where
       | inr later ↦ a_group one later
     ]
 
-    pub named-among : (one : Record) → Contains (names_by numbers groups pairs) one → is_among records one ≡ true
-    named-among one has = elim (Contains-append_cases (tree_names numbers) (quota_names groups pairs) one has) [
-      | inl tree ↦ a_tree one tree
-      | inr quota ↦ elim (Contains-append_cases (Status ∷ flat_map group_records groups) (flat_map pair_records pairs)
-          one quota) [
-            | inl group ↦ of_group one group
-            | inr pair ↦ a_pair one pair
-          ]
-    ]
+    pub quota-among : (one : Record) → Contains (quota_names (Some quota)) one → is_among records one ≡ true
+    quota-among one has = elim (Contains-append_cases (Status ∷ flat_map group_records groups)
+        (flat_map pair_records pairs) one has) [
+          | inl group ↦ of_group one group
+          | inr pair ↦ a_pair one pair
+        ]

@@ -5,7 +5,8 @@ use Rattle.std.proofs.Common.{ap, arith, subst, ◌∙◌, inl, inr}
 use Rattle.std.specs.Prelude.{◌||◌, ◌==◌, is_some, nat_lt}
 use Rattle.std.specs.Bool.{then_some}
 use Rattle.std.specs.List.{Contains, filter_map, list_all, list_any}
-use Rattle.std.proofs.lemmas.Bool.{and_parts, cases_Bool, eq-eqb, eqb-true, lt-ltb, ltb-false, not-true, or_cases}
+use Rattle.std.proofs.lemmas.Bool.{and_parts, cases_Bool, cond-false, cond-true, eq-eqb, eqb-true, lt-ltb, ltb-false}
+use Rattle.std.proofs.lemmas.Bool.{not-true, or_cases}
 use Rattle.std.proofs.lemmas.Bool.{or_left, or_right, true≢false}
 use Rattle.std.proofs.lemmas.Option.{none-some, option_and_then_some, same_Some}
 use Rattle.qg_node.specs.declared.item.Item.{Item}
@@ -29,7 +30,8 @@ use Rattle.qg_state.proofs.Contained.{contains_cases, contains_here, contains_la
 use Rattle.qg_home.proofs.Reaching.{entry_of_value}
 use Rattle.qg_owed.proofs.Filters.{contains_kept, kept_contains}
 use Rattle.qg_verdict.specs.ImageState.{extent_parts, group_told, info_told, limit_told, pair_told, quota_in}
-use Rattle.qg_verdict.specs.ImageState.{quota_parts, quota_told, root_items, roots_in, state_in, subvolume_in}
+use Rattle.qg_verdict.specs.ImageState.{quota_parts, quota_root, quota_told, root_items, roots_in, state_in}
+use Rattle.qg_verdict.specs.ImageState.{subvolume_in}
 use Rattle.qg_verdict.specs.ImageState.{subvolume_roots, subvolumes_in}
 use Rattle.qg_verdict.specs.Verdict.{fits_quota, has_twin, is_status_part}
 use Rattle.qg_weighed.specs.Laws.{is_among, is_of_extents}
@@ -37,10 +39,10 @@ use Rattle.qg_weighed.proofs.Layouts.{bool-iff, in-named, named-in}
 use Rattle.qg_weighed.proofs.Trees.{Are, are-both, none-named, quota-are, root-are}
 use Rattle.qg_fs_tree.proofs.Lists.{from-mapped, from-some, has-mapped, made-some}
 use Rattle.qg_fs_laws.specs.Keeping.{NamesOthers, other_names}
-use Rattle.qg_fs_laws.specs.Opening.{HoldsOthers}
-use Rattle.qg_fs_laws.proofs.Naming.{NamesEach, among-has, extents-named, group-named, has-among}
-use Rattle.qg_fs_laws.proofs.Naming.{named-among, names-are, names_by, pair-named, quotas-named}
-use Rattle.qg_fs_laws.proofs.Naming.{status-named, subvolume-named}
+use Rattle.qg_fs_laws.specs.Opening.{HoldsOthers, HoldsQuota, HoldsQuotaOf}
+use Rattle.qg_fs_laws.proofs.Naming.{NamesEach, NamesQuota, among-has, extents-named, group-named, has-among}
+use Rattle.qg_fs_laws.proofs.Naming.{named-among, names-are, names_by, pair-named, quota-among, quota-named}
+use Rattle.qg_fs_laws.proofs.Naming.{quota-tree-named, quota_names, quota_tree_names, status-named, subvolume-named}
 use Rattle.qg_fs_laws.proofs.OpenedRecords.{among-held, extents_other}
 use Rattle.qg_fs_laws.proofs.OtherRecords.{entry_record}
 
@@ -222,35 +224,173 @@ module _ (parts : List QuotaPart) (fit : list_all (fits_quota parts) parts ≡ t
   member_first group other has less =
       made-some pair_told parts (part.Relation group other) (group, other) has (pair_lesser group other less)
 
--- ---- all of them
+-- ---- what quota names
 
-module _ (super : Super) (image : List ℕ) (quota : Quota) (quota_is : quota_in super image ≡ Some quota)
-    (holds : HoldsOthers super image quota) where
-  abbrev numbers : List ℕ
-  numbers = keys_of (state_in super image).subvolumes
+-- no entry of a table stands under a number that is not there
+none_listed : {A : Type 0} (n : ℕ) (table : List (ℕ × A)) (entry : ℕ × A) → value_at n table ≡ None
+    → Contains table entry → entry.0 ≡ n → ⊥
+none_listed n [] entry none has is = none_contained entry has
+none_listed {A} n (first ∷ table) entry none has is = elim (cases_Bool (first.0 == n)) [
+  | inl same ↦
+      none-some first.1 (sym none ∙ cond-true (first.0 == n) (Some first.1) (value_at n table) same)
+  | inr other ↦ elim (contains_cases first table entry has) [
+    | inl here ↦
+        true≢false (sym (eq-eqb first.0 n (ap (λ (e : ℕ × A). e.0) here ∙ is)) ∙ other)
+    | inr later ↦
+        none_listed n table entry (sym (cond-false (first.0 == n) (Some first.1) (value_at n table) other) ∙ none) later
+        is
+  ]
+]
 
-  abbrev groups : List ℕ
-  groups = keys_of quota.groups
+-- What is known of the items of an image's root and quota trees by this quota: these name the state of quota, its groups
+-- and its relations, and all of them; and the root tree names the quota tree while quota is on
+record KnowsQuota (super : Super) (image : List ℕ) (quota : Option Quota) : Type 0 where
+  tree : (entry : ℕ × RootItem) → Contains (roots_in super image) entry → entry.0 ≡ QUOTA_TREE
+      → Contains (quota_tree_names quota) (RootOf QUOTA_TREE)
+  part : (told : QuotaPart) → Contains (quota_parts super image) told → Contains (quota_names quota) (quota_record told)
+  tree_named : (one : Record) → Contains (quota_tree_names quota) one
+      → is_among (map entry_record (roots_in super image)) one ≡ true
+  part_named : (one : Record) → Contains (quota_names quota) one
+      → is_among (map quota_record (quota_parts super image)) one ≡ true
 
-  state_quota : (state_in super image).quota ≡ Some quota
-  unfolding state_in
-  state_quota = quota_is
+no_parts : (super : Super) (image : List ℕ) → quota_root super image ≡ None → quota_parts super image ≡ []
+unfolding quota_parts
+no_parts super image is = rw is refl
 
-  names_there : other_names (state_in super image)
-      ≡ names_by (keys_of (state_in super image).subvolumes) (keys_of quota.groups) quota.pairs
-  names_there = names-are (state_in super image) quota state_quota
-
-  numbers_there : keys_of (state_in super image).subvolumes ≡ keys_of (subvolume_roots (roots_in super image))
-  unfolding state_in subvolumes_in
-  numbers_there =
-      keys_made (λ (entry : ℕ × RootItem). subvolume_in super image entry.1) (subvolume_roots (roots_in super image))
-
+module _ (super : Super) (image : List ℕ) (root : RootItem) (quota : Quota)
+    (named : quota_root super image ≡ Some root) (holds : HoldsQuota super image root quota) where
   groups_there : keys_of quota.groups ≡ keys_of (filter_map info_told (quota_parts super image))
   groups_there =
       ap (λ (q : Quota). keys_of q.groups) (sym holds.tell) ∙ groups_are (quota_parts super image)
 
   pairs_there : quota.pairs ≡ filter_map pair_told (quota_parts super image)
   pairs_there = ap (λ (q : Quota). q.pairs) (sym holds.tell) ∙ pairs_are (quota_parts super image)
+
+  group_there : (group : ℕ) → Contains (keys_of (filter_map info_told (quota_parts super image))) group
+      → Contains (keys_of quota.groups) group
+  group_there group has = subst (λ (ns : List ℕ). Contains ns group) (sym groups_there) has
+
+  relation_there : (lower higher : ℕ) → Contains (quota_parts super image) (part.Relation lower higher)
+      → Contains (quota_names (Some quota)) (RelationOf lower higher)
+  relation_there lower higher has = elim (cases_Bool (nat_lt (level_of_group lower) (level_of_group higher))) [
+    | inl less ↦
+        pair-named quota (lower, higher) (RelationOf lower higher)
+        (subst (λ (ps : List (ℕ × ℕ)). Contains ps (lower, higher)) (sym pairs_there)
+        (made-some pair_told (quota_parts super image) (part.Relation lower higher) (lower, higher) has
+        (ap (λ (b : Bool). then_some b (lower, higher)) less)))
+        (contains_here (RelationOf lower higher) (RelationOf higher lower ∷ []))
+    | inr past ↦
+        let high = ltb-false (level_of_group lower) (level_of_group higher) past in
+        let twin = twin_there (quota_parts super image) holds.fit lower higher has in
+        let less : level_of_group higher < level_of_group lower =
+        below (level_of_group higher) (level_of_group lower) high
+        (λ same. apart (quota_parts super image) holds.fit lower higher has (sym same)) in
+        pair-named quota (higher, lower) (RelationOf lower higher)
+        (subst (λ (ps : List (ℕ × ℕ)). Contains ps (higher, lower)) (sym pairs_there)
+        (member_first (quota_parts super image) holds.fit higher lower twin less))
+        (contains_later (RelationOf higher lower) (RelationOf lower higher ∷ []) (RelationOf lower higher)
+        (contains_here (RelationOf lower higher) []))
+  ] where
+    below : (a b : ℕ) → a ≤ b → (a ≡ b → ⊥) → a < b
+    below a b low differ = omega arith
+
+  part_there : (told : QuotaPart) → Contains (quota_parts super image) told
+      → Contains (quota_names (Some quota)) (quota_record told)
+  part_there (part.Status status) has = status-named quota
+  part_there (part.Info group info) has =
+      group-named quota group (InfoOf group)
+      (group_there group (info_group (quota_parts super image) holds.fit group info has))
+      (contains_here (InfoOf group) (LimitOf group ∷ []))
+  part_there (part.Limits group limit) has =
+      group-named quota group (LimitOf group)
+      (group_there group (limit_group (quota_parts super image) holds.fit group limit has))
+      (contains_later (InfoOf group) (LimitOf group ∷ []) (LimitOf group) (contains_here (LimitOf group) []))
+  part_there (part.Relation lower higher) has = relation_there lower higher has
+
+  listed_group : (group : ℕ) → Contains (keys_of quota.groups) group
+      → Contains (keys_of (filter_map info_told (quota_parts super image))) group
+  listed_group group has = subst (λ (ns : List ℕ). Contains ns group) groups_there has
+
+  listed_pair : (pair : ℕ × ℕ) → Contains quota.pairs pair
+      → Contains (quota_parts super image) (part.Relation pair.0 pair.1)
+  listed_pair pair has =
+      pair_there (quota_parts super image) holds.fit pair
+      (subst (λ (ps : List (ℕ × ℕ)). Contains ps pair) pairs_there has)
+
+  named_part : (told : QuotaPart) → Contains (quota_parts super image) told
+      → is_among (map quota_record (quota_parts super image)) (quota_record told) ≡ true
+  named_part told has = in-named quota_record (quota_parts super image) told has
+
+  each_part : NamesQuota quota (map quota_record (quota_parts super image))
+  each_part = record {
+    status = status_named (quota_parts super image) holds.status;
+    info = λ group has.
+        let told = group_info (quota_parts super image) holds.fit group (listed_group group has) in
+        named_part (part.Info group told.0) told.1;
+    limit = λ group has.
+        let told = group_limit (quota_parts super image) holds.fit group (listed_group group has) in
+        named_part (part.Limits group told.0) told.1;
+    member = λ pair has. named_part (part.Relation pair.0 pair.1) (listed_pair pair has);
+    parent = λ pair has. named_part (part.Relation pair.1 pair.0)
+        (twin_there (quota_parts super image) holds.fit pair.0 pair.1 (listed_pair pair has));
+  }
+
+  root_named_there : (one : Record) → Contains (RootOf QUOTA_TREE ∷ []) one
+      → is_among (map entry_record (roots_in super image)) one ≡ true
+  root_named_there one has = elim (contains_cases (RootOf QUOTA_TREE) [] one has) [
+    | inl is ↦
+        subst (λ (r : Record). is_among (map entry_record (roots_in super image)) r ≡ true) is
+        (in-named entry_record (roots_in super image) (QUOTA_TREE, root)
+        (entry_of_value QUOTA_TREE root (roots_in super image) named))
+    | inr none ↦ absurd (none_contained one none)
+  ]
+
+  knows_on : KnowsQuota super image (Some quota)
+  knows_on = record {
+    tree = λ entry has is. contains_here (RootOf QUOTA_TREE) [];
+    part = part_there;
+    tree_named = root_named_there;
+    part_named = quota-among quota (map quota_record (quota_parts super image)) each_part;
+  }
+
+knows_off : (super : Super) (image : List ℕ) → quota_root super image ≡ None → KnowsQuota super image None
+knows_off super image none = record {
+  tree = λ entry has is. absurd (none_listed QUOTA_TREE (roots_in super image) entry none has is);
+  part = λ told has.
+      absurd (none_contained told (subst (λ (parts : List QuotaPart). Contains parts told) (no_parts super image none)
+      has));
+  tree_named = λ one has. absurd (none_contained one has);
+  part_named = λ one has. absurd (none_contained one has);
+}
+
+knows : (super : Super) (image : List ℕ) (named : Option RootItem) (quota : Option Quota)
+    → quota_root super image ≡ named → HoldsQuotaOf super image named quota → KnowsQuota super image quota
+knows super image None None is holds = knows_off super image is
+knows super image None (Some quota) is holds = absurd holds
+knows super image (Some root) None is holds = absurd holds
+knows super image (Some root) (Some quota) is holds = knows_on super image root quota is holds
+
+-- ---- all of them
+
+module _ (super : Super) (image : List ℕ) (quota : Option Quota) (quota_is : quota_in super image ≡ quota)
+    (holds : HoldsOthers super image quota) where
+  abbrev numbers : List ℕ
+  numbers = keys_of (state_in super image).subvolumes
+
+  known : KnowsQuota super image quota
+  known = knows super image (quota_root super image) quota refl holds.quota_tree
+
+  state_quota : (state_in super image).quota ≡ quota
+  unfolding state_in
+  state_quota = quota_is
+
+  names_there : other_names (state_in super image) ≡ names_by (keys_of (state_in super image).subvolumes) quota
+  names_there = names-are (state_in super image) quota state_quota
+
+  numbers_there : keys_of (state_in super image).subvolumes ≡ keys_of (subvolume_roots (roots_in super image))
+  unfolding state_in subvolumes_in
+  numbers_there =
+      keys_made (λ (entry : ℕ × RootItem). subvolume_in super image entry.1) (subvolume_roots (roots_in super image))
 
   -- ---- what the items name is there
 
@@ -267,7 +407,7 @@ module _ (super : Super) (image : List ℕ) (quota : Quota) (quota_is : quota_in
       (has-mapped (λ (e : ℕ × RootItem). e.0) (subvolume_roots (roots_in super image)) entry has)
 
   abbrev IsThere : Record → Type 0
-  IsThere one = Contains (names_by (keys_of (state_in super image).subvolumes) (keys_of quota.groups) quota.pairs) one
+  IsThere one = Contains (names_by (keys_of (state_in super image).subvolumes) quota) one
 
   tree_there : (entry : ℕ × RootItem) → Contains (roots_in super image) entry → IsThere (RootOf entry.0)
   tree_there entry has =
@@ -276,56 +416,17 @@ module _ (super : Super) (image : List ℕ) (quota : Quota) (quota_is : quota_in
         | inl other ↦ elim (or_cases (entry.0 == EXTENT_TREE) (entry.0 == QUOTA_TREE) other) [
           | inl extents ↦
               subst (λ (n : ℕ). IsThere (RootOf n)) (sym (eqb-true entry.0 EXTENT_TREE extents))
-              (extents-named numbers groups quota.pairs)
+              (extents-named numbers quota)
           | inr quotas ↦
-              subst (λ (n : ℕ). IsThere (RootOf n)) (sym (eqb-true entry.0 QUOTA_TREE quotas))
-              (quotas-named numbers groups quota.pairs)
+              let is = eqb-true entry.0 QUOTA_TREE quotas in
+              subst (λ (n : ℕ). IsThere (RootOf n)) (sym is)
+              (quota-tree-named numbers quota (RootOf QUOTA_TREE) (known.tree entry has is))
         ]
         | inr subvolume ↦
-            subvolume-named numbers groups quota.pairs entry.0
+            subvolume-named numbers quota entry.0
             (subvolume_there entry
             (contains_kept (λ (e : ℕ × RootItem). is_subvolume_number e.0) (roots_in super image) entry has subvolume))
       ]
-
-  group_there : (group : ℕ) → Contains (keys_of (filter_map info_told (quota_parts super image))) group
-      → Contains (keys_of quota.groups) group
-  group_there group has = subst (λ (ns : List ℕ). Contains ns group) (sym groups_there) has
-
-  relation_there : (lower higher : ℕ) → Contains (quota_parts super image) (part.Relation lower higher)
-      → IsThere (RelationOf lower higher)
-  relation_there lower higher has = elim (cases_Bool (nat_lt (level_of_group lower) (level_of_group higher))) [
-    | inl less ↦
-        pair-named numbers groups quota.pairs (lower, higher) (RelationOf lower higher)
-        (subst (λ (ps : List (ℕ × ℕ)). Contains ps (lower, higher)) (sym pairs_there)
-        (made-some pair_told (quota_parts super image) (part.Relation lower higher) (lower, higher) has
-        (ap (λ (b : Bool). then_some b (lower, higher)) less)))
-        (contains_here (RelationOf lower higher) (RelationOf higher lower ∷ []))
-    | inr past ↦
-        let high = ltb-false (level_of_group lower) (level_of_group higher) past in
-        let twin = twin_there (quota_parts super image) holds.fit lower higher has in
-        let less : level_of_group higher < level_of_group lower =
-        below (level_of_group higher) (level_of_group lower) high
-        (λ same. apart (quota_parts super image) holds.fit lower higher has (sym same)) in
-        pair-named numbers groups quota.pairs (higher, lower) (RelationOf lower higher)
-        (subst (λ (ps : List (ℕ × ℕ)). Contains ps (higher, lower)) (sym pairs_there)
-        (member_first (quota_parts super image) holds.fit higher lower twin less))
-        (contains_later (RelationOf higher lower) (RelationOf lower higher ∷ []) (RelationOf lower higher)
-        (contains_here (RelationOf lower higher) []))
-  ] where
-    below : (a b : ℕ) → a ≤ b → (a ≡ b → ⊥) → a < b
-    below a b low differ = omega arith
-
-  quota_there : (told : QuotaPart) → Contains (quota_parts super image) told → IsThere (quota_record told)
-  quota_there (part.Status status) has = status-named numbers groups quota.pairs
-  quota_there (part.Info group info) has =
-      group-named numbers groups quota.pairs group (InfoOf group)
-      (group_there group (info_group (quota_parts super image) holds.fit group info has))
-      (contains_here (InfoOf group) (LimitOf group ∷ []))
-  quota_there (part.Limits group limit) has =
-      group-named numbers groups quota.pairs group (LimitOf group)
-      (group_there group (limit_group (quota_parts super image) holds.fit group limit has))
-      (contains_later (InfoOf group) (LimitOf group ∷ []) (LimitOf group) (contains_here (LimitOf group) []))
-  quota_there (part.Relation lower higher) has = relation_there lower higher has
 
   held_there : (one : Record) → is_of_extents one ≡ false
       → is_among (held_records (state_in super image).held) one ≡ true → IsThere one
@@ -343,7 +444,8 @@ module _ (super : Super) (image : List ℕ) (quota : Quota) (quota_is : quota_in
         ]
         | inr quotas ↦
             let found = named-in quota_record (quota_parts super image) one quotas in
-            subst (λ (r : Record). IsThere r) (sym found.2) (quota_there found.0 found.1)
+            subst (λ (r : Record). IsThere r) (sym found.2)
+            (quota-named numbers quota (quota_record found.0) (known.part found.0 found.1))
       ]
 
   -- ---- and what is there the items name
@@ -367,11 +469,6 @@ module _ (super : Super) (image : List ℕ) (quota : Quota) (quota_is : quota_in
   named_root number root has =
       root_among (RootOf number) (in-named entry_record (roots_in super image) (number, root) has)
 
-  named_part : (told : QuotaPart) → Contains (quota_parts super image) told
-      → is_among (held_records (state_in super image).held) (quota_record told) ≡ true
-  named_part told has =
-      quota_among (quota_record told) (in-named quota_record (quota_parts super image) told has)
-
   named_subvolume : (number : ℕ) → Contains (keys_of (state_in super image).subvolumes) number
       → is_among (held_records (state_in super image).held) (RootOf number) ≡ true
   named_subvolume number has =
@@ -382,34 +479,13 @@ module _ (super : Super) (image : List ℕ) (quota : Quota) (quota_is : quota_in
       subst (λ (n : ℕ). is_among (held_records (state_in super image).held) (RootOf n) ≡ true) entry.2
       (named_root entry.0.0 entry.0.1 there.0)
 
-  listed_group : (group : ℕ) → Contains (keys_of quota.groups) group
-      → Contains (keys_of (filter_map info_told (quota_parts super image))) group
-  listed_group group has = subst (λ (ns : List ℕ). Contains ns group) groups_there has
-
-  listed_pair : (pair : ℕ × ℕ) → Contains quota.pairs pair
-      → Contains (quota_parts super image) (part.Relation pair.0 pair.1)
-  listed_pair pair has =
-      pair_there (quota_parts super image) holds.fit pair
-      (subst (λ (ps : List (ℕ × ℕ)). Contains ps pair) pairs_there has)
-
-  each_named : NamesEach (keys_of (state_in super image).subvolumes) (keys_of quota.groups) quota.pairs
-      (held_records (state_in super image).held)
+  each_named : NamesEach (keys_of (state_in super image).subvolumes) quota (held_records (state_in super image).held)
   each_named = record {
     extents = named_root EXTENT_TREE holds.extent_root
         (entry_of_value EXTENT_TREE holds.extent_root (roots_in super image) holds.extents_named);
     subvolume = named_subvolume;
-    quotas = named_root QUOTA_TREE holds.quota_root
-        (entry_of_value QUOTA_TREE holds.quota_root (roots_in super image) holds.quotas_named);
-    status = quota_among Status (status_named (quota_parts super image) holds.status);
-    info = λ group has.
-        let told = group_info (quota_parts super image) holds.fit group (listed_group group has) in
-        named_part (part.Info group told.0) told.1;
-    limit = λ group has.
-        let told = group_limit (quota_parts super image) holds.fit group (listed_group group has) in
-        named_part (part.Limits group told.0) told.1;
-    member = λ pair has. named_part (part.Relation pair.0 pair.1) (listed_pair pair has);
-    parent = λ pair has. named_part (part.Relation pair.1 pair.0)
-        (twin_there (quota_parts super image) holds.fit pair.0 pair.1 (listed_pair pair has));
+    quota_tree = λ one has. root_among one (known.tree_named one has);
+    own = λ one has. quota_among one (known.part_named one has);
   }
 
   -- ---- together
@@ -432,9 +508,9 @@ module _ (super : Super) (image : List ℕ) (quota : Quota) (quota_is : quota_in
       bool-iff (is_among (held_records (state_in super image).held) one)
       (is_among (other_names (state_in super image)) one)
       (λ among. ap (λ (names : List Record). is_among names one) names_there
-      ∙ has-among (names_by numbers groups quota.pairs) one (held_there one other among))
-      (λ among. named-among numbers groups quota.pairs (held_records (state_in super image).held) each_named one
-      (among-has (names_by numbers groups quota.pairs) one
+      ∙ has-among (names_by numbers quota) one (held_there one other among))
+      (λ among. named-among numbers quota (held_records (state_in super image).held) each_named one
+      (among-has (names_by numbers quota) one
       (sym (ap (λ (names : List Record). is_among names one) names_there) ∙ among)))
 
   pub opened-names : NamesOthers (state_in super image).held (other_names (state_in super image))

@@ -268,7 +268,7 @@ extents_other (told ∷ parts) = (extent_other told, extents_other parts)
 middle : (a b c : Bool) → a ≡ false → c ≡ false → ((a || b) || c) ≡ b
 middle a b c first last = rw (first, last) (or_none b)
 
-module _ (super : Super) (image : List ℕ) (quota : Quota) (holds : HoldsOthers super image quota) where
+module _ (super : Super) (image : List ℕ) (quota : Option Quota) (holds : HoldsOthers super image quota) where
   abbrev roots : List Record
   roots = map entry_record (roots_in super image)
 

@@ -13,7 +13,7 @@ use Rattle.qg_node.specs.Nodes.{own_items}
 use Rattle.qg_items.specs.declared.kind.TheConstants.{QGROUP_INFO, QGROUP_LIMIT, QGROUP_RELATION, QGROUP_STATUS}
 use Rattle.qg_items.specs.declared.kind.TheConstants.{ROOT_ITEM}
 use Rattle.qg_items.specs.declared.root.RootItem.{RootItem}
-use Rattle.qg_items.specs.declared.tree.TheConstants.{EXTENT_TREE, QUOTA_TREE}
+use Rattle.qg_items.specs.declared.tree.TheConstants.{EXTENT_TREE}
 use Rattle.qg_super.specs.declared.superblock.Super.{Super}
 use Rattle.qg_image.specs.Table.{value_at}
 use Rattle.qg_image.specs.declared.part.ExtentPart.{ExtentPart}
@@ -27,9 +27,9 @@ use Rattle.qg_state.specs.Need.{held_records}
 use Rattle.qg_state.specs.Record.{Record, RootOf, extent_record, quota_record, record_named}
 use Rattle.qg_verdict.specs.declared.tree.Tree.TheVariants.{Extents, Quotas, Roots}
 use Rattle.qg_verdict.specs.ImageState.{extent_parts, items_of_root, nodes_of_root, of_tree, other_nodes, quota_parts}
-use Rattle.qg_verdict.specs.ImageState.{root_items, root_nodes, roots_in, state_in}
+use Rattle.qg_verdict.specs.ImageState.{quota_root, root_items, root_nodes, roots_in, state_in}
 use Rattle.qg_verdict.specs.Walk.{are_by, is_item_of}
-use Rattle.qg_fs_laws.specs.Opening.{HoldsOthers}
+use Rattle.qg_fs_laws.specs.Opening.{HoldsOthers, HoldsQuotaOf}
 
 -- ---- what an item says that its tree may hold
 
@@ -153,35 +153,66 @@ pub extents-say : (super : Super) (image : List ℕ) (root : RootItem)
 unfolding extent_parts
 extents-say super image root named = rw named refl
 
-module _ (super : Super) (image : List ℕ) (quota : Quota) (holds : HoldsOthers super image quota) where
+-- the nodes of the quota tree, and none while quota is off
+abbrev quota_nodes : Super → List ℕ → List Node
+quota_nodes super image = of_tree (nodes_of_root Quotas super image) (quota_root super image)
+
+-- the items of the quota tree, and what they name; none while quota is off
+record QuotaItems (super : Super) (image : List ℕ) : Type 0 where
+  items : List Item
+  stand : items ≡ flat_map own_items (quota_nodes super image)
+  records : filter_map record_named items ≡ map quota_record (quota_parts super image)
+
+no_parts : (super : Super) (image : List ℕ) → quota_root super image ≡ None → quota_parts super image ≡ []
+unfolding quota_parts
+no_parts super image is = rw is refl
+
+quotas_say : (super : Super) (image : List ℕ) (root : RootItem) → quota_root super image ≡ Some root
+    → quota_parts super image ≡ filter_map quota_part (items_of_root Quotas super image root)
+unfolding quota_parts
+quotas_say super image root is = rw is refl
+
+quota_items : (super : Super) (image : List ℕ) (named : Option RootItem) (quota : Option Quota)
+    → quota_root super image ≡ named → HoldsQuotaOf super image named quota → QuotaItems super image
+quota_items super image None None is holds = record {
+  items = [];
+  stand = ap (λ (o : Option RootItem). flat_map own_items (of_tree (nodes_of_root Quotas super image) o)) (sym is);
+  records = ap (map quota_record) (sym (no_parts super image is));
+}
+quota_items super image None (Some quota) is holds = absurd holds
+quota_items super image (Some root) None is holds = absurd holds
+quota_items super image (Some root) (Some quota) is holds = record {
+  items = items_of_root Quotas super image root;
+  stand = holds.items.stand
+      ∙ ap (λ (o : Option RootItem). flat_map own_items (of_tree (nodes_of_root Quotas super image) o)) (sym is);
+  records = all_named quota_part quota_record (is_item_of Quotas super.generation) (quota_said super.generation)
+      quota_names (items_of_root Quotas super image root) holds.items.held
+      ∙ ap (map quota_record) (sym (quotas_say super image root is));
+}
+
+module _ (super : Super) (image : List ℕ) (quota : Option Quota) (holds : HoldsOthers super image quota) where
+  quotas : QuotaItems super image
+  quotas = quota_items super image (quota_root super image) quota refl holds.quota_tree
+
   nodes_there : other_nodes super image ≡ root_nodes super image
-      ++ nodes_of_root Extents super image holds.extent_root
-      ++ nodes_of_root Quotas super image holds.quota_root
+      ++ nodes_of_root Extents super image holds.extent_root ++ quota_nodes super image
   nodes_there =
       ap (λ (o : Option RootItem). root_nodes super image ++ of_tree (nodes_of_root Extents super image) o
-      ++ of_tree (nodes_of_root Quotas super image) (value_at QUOTA_TREE (roots_in super image))) holds.extents_named
-      ∙ ap (λ (o : Option RootItem). root_nodes super image ++ nodes_of_root Extents super image holds.extent_root
-      ++ of_tree (nodes_of_root Quotas super image) o) holds.quotas_named
+      ++ quota_nodes super image) holds.extents_named
 
   items_there : flat_map own_items (other_nodes super image) ≡ root_items super image
-      ++ items_of_root Extents super image holds.extent_root
-      ++ items_of_root Quotas super image holds.quota_root
+      ++ items_of_root Extents super image holds.extent_root ++ quotas.items
   items_there =
       ap (flat_map own_items) nodes_there
       ∙ flat_map-append own_items (root_nodes super image ++ nodes_of_root Extents super image holds.extent_root)
-      (nodes_of_root Quotas super image holds.quota_root)
-      ∙ ap (λ (items : List Item). items ++ flat_map own_items (nodes_of_root Quotas super image holds.quota_root))
+      (quota_nodes super image)
+      ∙ ap (λ (items : List Item). items ++ flat_map own_items (quota_nodes super image))
       (flat_map-append own_items (root_nodes super image) (nodes_of_root Extents super image holds.extent_root))
-      ∙ rw (← holds.roots.stand, ← holds.extents.stand, ← holds.quotas.stand) refl
+      ∙ rw (← holds.roots.stand, ← holds.extents.stand, ← quotas.stand) refl
 
   extents_there : extent_parts super image
       ≡ filter_map extent_part (items_of_root Extents super image holds.extent_root)
   extents_there = extents-say super image holds.extent_root holds.extents_named
-
-  quotas_say : quota_parts super image
-      ≡ filter_map quota_part (items_of_root Quotas super image holds.quota_root)
-  unfolding quota_parts
-  quotas_say = rw holds.quotas_named refl
 
   roots_say : roots_in super image ≡ filter_map root_part (root_items super image)
   unfolding roots_in
@@ -201,13 +232,6 @@ module _ (super : Super) (image : List ℕ) (quota : Quota) (holds : HoldsOthers
       (items_of_root Extents super image holds.extent_root) holds.extents.held
       ∙ ap (map extent_record) (sym extents_there)
 
-  quota_records_there : filter_map record_named (items_of_root Quotas super image holds.quota_root)
-      ≡ map quota_record (quota_parts super image)
-  quota_records_there =
-      all_named quota_part quota_record (is_item_of Quotas super.generation) (quota_said super.generation) quota_names
-      (items_of_root Quotas super image holds.quota_root) holds.quotas.held
-      ∙ ap (map quota_record) (sym quotas_say)
-
   -- what the last commit's items name
   pub records-there : held_records (state_in super image).held
       ≡ map entry_record (roots_in super image) ++ map extent_record (extent_parts super image)
@@ -217,13 +241,11 @@ module _ (super : Super) (image : List ℕ) (quota : Quota) (holds : HoldsOthers
       ap (λ (nodes : List Node). filter_map record_named (flat_map own_items nodes)) (others-there super image)
       ∙ ap (filter_map record_named) items_there
       ∙ filter_map-append record_named
-      (root_items super image ++ items_of_root Extents super image holds.extent_root)
-      (items_of_root Quotas super image holds.quota_root)
-      ∙ ap (λ (records : List Record). records
-      ++ filter_map record_named (items_of_root Quotas super image holds.quota_root))
+      (root_items super image ++ items_of_root Extents super image holds.extent_root) quotas.items
+      ∙ ap (λ (records : List Record). records ++ filter_map record_named quotas.items)
       (filter_map-append record_named (root_items super image)
       (items_of_root Extents super image holds.extent_root))
-      ∙ rw (root_records_there, extent_records_there, quota_records_there) refl
+      ∙ rw (root_records_there, extent_records_there, quotas.records) refl
 
 -- ---- generations
 

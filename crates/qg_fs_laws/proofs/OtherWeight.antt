@@ -1,12 +1,13 @@
 -- What the items of the root and the quota tree take, each once, though they are listed twice.
-use Rattle.std.proofs.Common.{◌≡◌, ℕ, ◌+◌, ◌*◌, Bool, true, false, List, [], ◌∷◌, ◌++◌, map, length, Option, Some}
+use Rattle.std.proofs.Common.{◌≡◌, ℕ, ◌+◌, ◌*◌, ◌<◌, Bool, true, false, List, [], ◌∷◌, ◌++◌, map, length, Option, None, Some}
 use Rattle.std.proofs.Common.{refl, sym, ap, ◌∙◌, arith, inl, inr}
-use Rattle.std.specs.Prelude.{◌||◌, ◌==◌, All}
+use Rattle.std.specs.Prelude.{◌&&◌, ◌||◌, ◌==◌, All}
 use Rattle.std.specs.List.{AllByRecursion, Contains, flat_map}
 use Rattle.std.specs.List.Sorted.{IsStrictlyIncreasing, IsStrictlySortedBy}
-use Rattle.std.specs.Ordering.{nat_cmp}
+use Rattle.std.specs.Ordering.{is_eq, nat_cmp}
 use Rattle.std.specs.declared.cmp.Ordering.TheVariants.{Less}
-use Rattle.std.proofs.lemmas.Bool.{cases_Bool, cond-false, eqb-true, or_from, true≢false}
+use Rattle.std.proofs.lemmas.Bool.{and_from, and_parts, cases_Bool, cond-false, eq-eqb, eqb-true, or_from, or_left, or_right}
+use Rattle.std.proofs.lemmas.Bool.{true≢false}
 use Rattle.std.proofs.lemmas.Bool.Decides.{nat_tests}
 use Rattle.std.proofs.lemmas.List.{append-nil, append_assoc, length-map}
 use Rattle.std.proofs.lemmas.List.Elements.{All-contains}
@@ -19,8 +20,12 @@ use Rattle.qg_state.specs.declared.quota.Group.{Group}
 use Rattle.qg_state.specs.declared.quota.Quota.{Quota}
 use Rattle.qg_state.specs.Record.{Record, RootOf, Status, InfoOf, LimitOf, RelationOf, record_bytes, records_bytes}
 use Rattle.qg_state.specs.Record.{same_record}
+use Rattle.qg_state.specs.Members.{hierarchy_of, level_of_group}
 use Rattle.qg_state.specs.State.{State, Subvolume}
 use Rattle.qg_state.proofs.Contained.{contains_here, contains_later}
+use Rattle.qg_machine.specs.GroupChange.{has_pair}
+use Rattle.qg_hier.specs.Groups.{IsSound, pair_cmp}
+use Rattle.qg_hier.proofs.Sets.{equal_pairs}
 use Rattle.qg_weighed.specs.Laws.{is_among}
 use Rattle.qg_weighed.proofs.Distinct.{adds, bytes-alike, bytes-one}
 use Rattle.qg_fs_tree.proofs.Lists.{from-mapped}
@@ -78,45 +83,146 @@ roots-weigh (sub ∷ subs) rest sorted new =
     (λ other has. new other (contains_later sub subs other has)) in
     omega (arith, one, later)
 
+-- ---- relations
+
+abbrev pairs_named : List (ℕ × ℕ) → List Record
+pairs_named pairs = flat_map (λ pair. RelationOf pair.0 pair.1 ∷ RelationOf pair.1 pair.0 ∷ []) pairs
+
+-- a relation goes up a level
+abbrev Rises : ℕ × ℕ → Type 0
+Rises pair = level_of_group pair.0 < level_of_group pair.1
+
+and_turned : (x y : Bool) → (x && y) ≡ (y && x)
+and_turned true true = refl
+and_turned true false = refl
+and_turned false true = refl
+and_turned false false = refl
+
+-- the keys of two relations that rise are never turned
+never_turned : (a b : ℕ × ℕ) → Rises a → Rises b → ((a.0 == b.1) && (a.1 == b.0)) ≡ false
+never_turned a b up up_too = elim (cases_Bool ((a.0 == b.1) && (a.1 == b.0))) [
+  | inl same ↦
+      let parts = and_parts (a.0 == b.1) (a.1 == b.0) same in
+      let low = ap level_of_group (eqb-true a.0 b.1 parts.0) in
+      let high = ap level_of_group (eqb-true a.1 b.0 parts.1) in
+      absurd (omega (arith, up, up_too, low, high))
+  | inr other ↦ other
+]
+
+-- and of two of which one goes before the other they differ
+pairs_apart : (a b : ℕ × ℕ) → pair_cmp a b ≡ Less → ((a.0 == b.0) && (a.1 == b.1)) ≡ false
+pairs_apart a b less = sym (equal_pairs a b) ∙ ap is_eq less
+
+front_new : (pair : ℕ × ℕ) (pairs : List (ℕ × ℕ)) → AllByRecursion (λ y. pair_cmp pair y ≡ Less) pairs → Rises pair
+    → AllByRecursion Rises pairs → is_among (pairs_named pairs) (RelationOf pair.0 pair.1) ≡ false
+front_new pair [] less up rise = refl
+front_new pair (other ∷ pairs) less up rise =
+    let later = front_new pair pairs less.1 up rise.1 in
+    or_from ((pair.0 == other.0) && (pair.1 == other.1))
+    (((pair.0 == other.1) && (pair.1 == other.0)) || is_among (pairs_named pairs) (RelationOf pair.0 pair.1))
+    (pairs_apart pair other less.0)
+    (or_from ((pair.0 == other.1) && (pair.1 == other.0)) (is_among (pairs_named pairs) (RelationOf pair.0 pair.1))
+    (never_turned pair other up rise.0) later)
+
+back_new : (pair : ℕ × ℕ) (pairs : List (ℕ × ℕ)) → AllByRecursion (λ y. pair_cmp pair y ≡ Less) pairs → Rises pair
+    → AllByRecursion Rises pairs → is_among (pairs_named pairs) (RelationOf pair.1 pair.0) ≡ false
+back_new pair [] less up rise = refl
+back_new pair (other ∷ pairs) less up rise =
+    let later = back_new pair pairs less.1 up rise.1 in
+    let turned = and_turned (pair.1 == other.0) (pair.0 == other.1) ∙ never_turned pair other up rise.0 in
+    let same = and_turned (pair.1 == other.1) (pair.0 == other.0) ∙ pairs_apart pair other less.0 in
+    or_from ((pair.1 == other.0) && (pair.0 == other.1))
+    (((pair.1 == other.1) && (pair.0 == other.0)) || is_among (pairs_named pairs) (RelationOf pair.1 pair.0)) turned
+    (or_from ((pair.1 == other.1) && (pair.0 == other.0)) (is_among (pairs_named pairs) (RelationOf pair.1 pair.0)) same
+    later)
+
+pairs-weigh : (pairs : List (ℕ × ℕ)) → IsStrictlySortedBy pair_cmp pairs → AllByRecursion Rises pairs
+    → records_bytes (pairs_named pairs) ≡ 50 * length pairs
+pairs-weigh [] sorted rise = omega arith
+pairs-weigh (pair ∷ pairs) sorted rise =
+    let less = sorted_head pair_cmp pair pairs sorted in
+    let back : records_bytes (RelationOf pair.1 pair.0 ∷ pairs_named pairs) ≡ 25 + records_bytes (pairs_named pairs) =
+    bytes-new (RelationOf pair.1 pair.0) (pairs_named pairs) (back_new pair pairs less rise.0 rise.1) in
+    let front : records_bytes (RelationOf pair.0 pair.1 ∷ RelationOf pair.1 pair.0 ∷ pairs_named pairs)
+    ≡ 25 + records_bytes (RelationOf pair.1 pair.0 ∷ pairs_named pairs) =
+    bytes-new (RelationOf pair.0 pair.1) (RelationOf pair.1 pair.0 ∷ pairs_named pairs)
+    (or_from ((pair.0 == pair.1) && (pair.1 == pair.0)) (is_among (pairs_named pairs) (RelationOf pair.0 pair.1))
+    (never_turned pair pair rise.0 rise.0) (front_new pair pairs less rise.0 rise.1)) in
+    let later = pairs-weigh pairs (sorted_tail pair_cmp pair pairs sorted) rise.1 in
+    omega (arith, back, front, later)
+
+-- relations that are there rise
+each_rises : (pairs : List (ℕ × ℕ))
+    → ((member parent : ℕ) → has_pair member parent pairs ≡ true → level_of_group member < level_of_group parent)
+    → AllByRecursion Rises pairs
+each_rises [] rising = tt
+each_rises (pair ∷ pairs) rising =
+    let own = and_from (pair.0 == pair.0) (pair.1 == pair.1) (eq-eqb pair.0 pair.0 refl) (eq-eqb pair.1 pair.1 refl) in (
+      rising pair.0 pair.1 (or_left ((pair.0 == pair.0) && (pair.1 == pair.1)) (has_pair pair.0 pair.1 pairs) own),
+      each_rises pairs (λ member parent has. rising member parent
+          (or_right ((member == pair.0) && (parent == pair.1)) (has_pair member parent pairs) has)),
+    )
+
+no_info : (group : ℕ) (pairs : List (ℕ × ℕ)) → is_among (pairs_named pairs) (InfoOf group) ≡ false
+no_info group [] = refl
+no_info group (pair ∷ pairs) = no_info group pairs
+
+no_limit : (group : ℕ) (pairs : List (ℕ × ℕ)) → is_among (pairs_named pairs) (LimitOf group) ≡ false
+no_limit group [] = refl
+no_limit group (pair ∷ pairs) = no_limit group pairs
+
+pairs_no_status : (pairs : List (ℕ × ℕ)) → is_among (pairs_named pairs) Status ≡ false
+pairs_no_status [] = refl
+pairs_no_status (pair ∷ pairs) = pairs_no_status pairs
+
+pairs_no_root : (tree : ℕ) (pairs : List (ℕ × ℕ)) → is_among (pairs_named pairs) (RootOf tree) ≡ false
+pairs_no_root tree [] = refl
+pairs_no_root tree (pair ∷ pairs) = pairs_no_root tree pairs
+
 -- ---- groups
 
 abbrev groups_named : List ℕ → List Record
 groups_named groups = flat_map (λ group. InfoOf group ∷ LimitOf group ∷ []) groups
 
-info_new : (group : ℕ) (groups : List ℕ) → AllByRecursion (λ y. nat_cmp group y ≡ Less) groups
-    → is_among (groups_named groups) (InfoOf group) ≡ false
-info_new group [] less = refl
-info_new group (other ∷ groups) less =
-    or_from (group == other) (is_among (groups_named groups) (InfoOf group)) (less_apart group other less.0)
-    (info_new group groups less.1)
+module _ (pairs : List (ℕ × ℕ)) where
+  -- what groups and relations name
+  abbrev both_named : List ℕ → List Record
+  both_named groups = groups_named groups ++ pairs_named pairs
 
-limit_new : (group : ℕ) (groups : List ℕ) → AllByRecursion (λ y. nat_cmp group y ≡ Less) groups
-    → is_among (groups_named groups) (LimitOf group) ≡ false
-limit_new group [] less = refl
-limit_new group (other ∷ groups) less =
-    or_from (group == other) (is_among (groups_named groups) (LimitOf group)) (less_apart group other less.0)
-    (limit_new group groups less.1)
+  info_new : (group : ℕ) (groups : List ℕ) → AllByRecursion (λ y. nat_cmp group y ≡ Less) groups
+      → is_among (both_named groups) (InfoOf group) ≡ false
+  info_new group [] less = no_info group pairs
+  info_new group (other ∷ groups) less =
+      or_from (group == other) (is_among (both_named groups) (InfoOf group)) (less_apart group other less.0)
+      (info_new group groups less.1)
 
-no_status : (groups : List ℕ) → is_among (groups_named groups) Status ≡ false
-no_status [] = refl
-no_status (group ∷ groups) = no_status groups
+  limit_new : (group : ℕ) (groups : List ℕ) → AllByRecursion (λ y. nat_cmp group y ≡ Less) groups
+      → is_among (both_named groups) (LimitOf group) ≡ false
+  limit_new group [] less = no_limit group pairs
+  limit_new group (other ∷ groups) less =
+      or_from (group == other) (is_among (both_named groups) (LimitOf group)) (less_apart group other less.0)
+      (limit_new group groups less.1)
 
-no_root : (tree : ℕ) (groups : List ℕ) → is_among (groups_named groups) (RootOf tree) ≡ false
-no_root tree [] = refl
-no_root tree (group ∷ groups) = no_root tree groups
+  no_status : (groups : List ℕ) → is_among (both_named groups) Status ≡ false
+  no_status [] = pairs_no_status pairs
+  no_status (group ∷ groups) = no_status groups
 
-groups-weigh : (groups : List ℕ) → IsStrictlySortedBy nat_cmp groups
-    → records_bytes (groups_named groups) ≡ 130 * length groups
-groups-weigh [] sorted = omega arith
-groups-weigh (group ∷ groups) sorted =
-    let less = sorted_head nat_cmp group groups sorted in
-    let second : records_bytes (LimitOf group ∷ groups_named groups) ≡ 65 + records_bytes (groups_named groups) =
-    bytes-new (LimitOf group) (groups_named groups) (limit_new group groups less) in
-    let first : records_bytes (InfoOf group ∷ LimitOf group ∷ groups_named groups)
-    ≡ 65 + records_bytes (LimitOf group ∷ groups_named groups) =
-    bytes-new (InfoOf group) (LimitOf group ∷ groups_named groups) (info_new group groups less) in
-    let later = groups-weigh groups (sorted_tail nat_cmp group groups sorted) in
-    omega (arith, first, second, later)
+  no_root : (tree : ℕ) (groups : List ℕ) → is_among (both_named groups) (RootOf tree) ≡ false
+  no_root tree [] = pairs_no_root tree pairs
+  no_root tree (group ∷ groups) = no_root tree groups
+
+  groups-weigh : (groups : List ℕ) → IsStrictlySortedBy nat_cmp groups
+      → records_bytes (both_named groups) ≡ 130 * length groups + records_bytes (pairs_named pairs)
+  groups-weigh [] sorted = omega arith
+  groups-weigh (group ∷ groups) sorted =
+      let less = sorted_head nat_cmp group groups sorted in
+      let second : records_bytes (LimitOf group ∷ both_named groups) ≡ 65 + records_bytes (both_named groups) =
+      bytes-new (LimitOf group) (both_named groups) (limit_new group groups less) in
+      let first : records_bytes (InfoOf group ∷ LimitOf group ∷ both_named groups)
+      ≡ 65 + records_bytes (LimitOf group ∷ both_named groups) =
+      bytes-new (InfoOf group) (LimitOf group ∷ both_named groups) (info_new group groups less) in
+      let later = groups-weigh groups (sorted_tail nat_cmp group groups sorted) in
+      omega (arith, first, second, later)
 
 -- ---- numbers
 
@@ -136,66 +242,96 @@ other_than_extents n is = elim (cases_Bool (2 == n)) [
 
 -- ---- both trees
 
-abbrev quota_named : List ℕ → List Record
-quota_named groups = RootOf QUOTA_TREE ∷ Status ∷ groups_named groups
+-- what the root tree names besides the quota tree
+abbrev own_named : List ℕ → List Record → List Record
+own_named subs rest = RootOf EXTENT_TREE ∷ map RootOf subs ++ rest
 
-both-weigh : (subs groups : List ℕ) → IsStrictlySortedBy nat_cmp subs → IsStrictlySortedBy nat_cmp groups
+-- what quota names
+abbrev quota_named : List ℕ → List (ℕ × ℕ) → List Record
+quota_named groups pairs = RootOf QUOTA_TREE ∷ Status ∷ groups_named groups ++ pairs_named pairs
+
+own-weigh : (subs : List ℕ) (rest : List Record) → IsStrictlySortedBy nat_cmp subs
     → ((sub : ℕ) → Contains subs sub → is_subvolume_number sub ≡ true)
-    → records_bytes (RootOf EXTENT_TREE ∷ map RootOf subs ++ quota_named groups)
-    ≡ root_tree_bytes (length subs) + quota_tree_bytes (length groups)
-both-weigh subs groups sorted sorted_groups numbers =
-    let extents : is_among (map RootOf subs ++ quota_named groups) (RootOf EXTENT_TREE) ≡ false =
-    root_other EXTENT_TREE subs (quota_named groups) (λ sub has. other_than_extents sub (numbers sub has))
-    (no_root EXTENT_TREE groups) in
-    let first : records_bytes (RootOf EXTENT_TREE ∷ map RootOf subs ++ quota_named groups)
-    ≡ 464 + records_bytes (map RootOf subs ++ quota_named groups) =
-    bytes-new (RootOf EXTENT_TREE) (map RootOf subs ++ quota_named groups) extents in
-    let roots = roots-weigh subs (quota_named groups) sorted
-    (λ sub has. or_from (sub == 8) (is_among (groups_named groups) (RootOf sub))
-    (other_than_quotas sub (numbers sub has)) (no_root sub groups)) in
-    let quotas : records_bytes (quota_named groups) ≡ 464 + records_bytes (Status ∷ groups_named groups) =
-    bytes-new (RootOf QUOTA_TREE) (Status ∷ groups_named groups) (no_root QUOTA_TREE groups) in
-    let status : records_bytes (Status ∷ groups_named groups) ≡ 57 + records_bytes (groups_named groups) =
-    bytes-new Status (groups_named groups) (no_status groups) in
-    omega (arith, first, roots, quotas, status, groups-weigh groups sorted_groups)
+    → ((sub : ℕ) → Contains subs sub → is_among rest (RootOf sub) ≡ false)
+    → is_among rest (RootOf EXTENT_TREE) ≡ false
+    → records_bytes (own_named subs rest) ≡ 464 * (length subs + 1) + records_bytes rest
+own-weigh subs rest sorted numbers new none =
+    let extents = root_other EXTENT_TREE subs rest (λ sub has. other_than_extents sub (numbers sub has)) none in
+    let first : records_bytes (own_named subs rest) ≡ 464 + records_bytes (map RootOf subs ++ rest) =
+    bytes-new (RootOf EXTENT_TREE) (map RootOf subs ++ rest) extents in
+    let roots = roots-weigh subs rest sorted new in
+    omega (arith, first, roots)
+
+both-weigh : (subs groups : List ℕ) (pairs : List (ℕ × ℕ)) → IsStrictlySortedBy nat_cmp subs
+    → IsStrictlySortedBy nat_cmp groups → IsStrictlySortedBy pair_cmp pairs → AllByRecursion Rises pairs
+    → ((sub : ℕ) → Contains subs sub → is_subvolume_number sub ≡ true)
+    → records_bytes (own_named subs (quota_named groups pairs))
+    ≡ 464 * (length subs + 2) + (57 + 130 * length groups + 50 * length pairs)
+both-weigh subs groups pairs sorted sorted_groups sorted_pairs rise numbers =
+    let own = own-weigh subs (quota_named groups pairs) sorted numbers
+    (λ sub has. or_from (sub == 8) (is_among (both_named pairs groups) (RootOf sub))
+    (other_than_quotas sub (numbers sub has)) (no_root pairs sub groups)) (no_root pairs EXTENT_TREE groups) in
+    let quotas : records_bytes (quota_named groups pairs) ≡ 464 + records_bytes (Status ∷ both_named pairs groups) =
+    bytes-new (RootOf QUOTA_TREE) (Status ∷ both_named pairs groups) (no_root pairs QUOTA_TREE groups) in
+    let status : records_bytes (Status ∷ both_named pairs groups) ≡ 57 + records_bytes (both_named pairs groups) =
+    bytes-new Status (both_named pairs groups) (no_status pairs groups) in
+    omega (arith, own, quotas, status, groups-weigh pairs groups sorted_groups, pairs-weigh pairs sorted_pairs rise)
 
 -- ---- what is named
 
-abbrev pairs_named : List (ℕ × ℕ) → List Record
-pairs_named pairs = flat_map (λ pair. RelationOf pair.0 pair.1 ∷ RelationOf pair.1 pair.0 ∷ []) pairs
-
-names_are : (state : State) (quota : Quota) → state.quota ≡ Some quota → quota.pairs ≡ []
-    → other_names state
-    ≡ RootOf EXTENT_TREE ∷ map RootOf (keys_of state.subvolumes) ++ quota_named (keys_of quota.groups)
-names_are state quota is none =
+names_on : (state : State) (quota : Quota) → state.quota ≡ Some quota
+    → other_names state ≡ own_named (keys_of state.subvolumes) (quota_named (keys_of quota.groups) quota.pairs)
+names_on state quota is =
     let roots = map RootOf (keys_of state.subvolumes) in
-    let groups = groups_named (keys_of quota.groups) in
-    let told : other_names state
-    ≡ RootOf EXTENT_TREE ∷ (roots ++ RootOf QUOTA_TREE ∷ []) ++ (Status ∷ groups ++ pairs_named quota.pairs) =
+    let later = Status ∷ groups_named (keys_of quota.groups) ++ pairs_named quota.pairs in
+    let told : other_names state ≡ RootOf EXTENT_TREE ∷ (roots ++ RootOf QUOTA_TREE ∷ []) ++ later =
     ap (λ (o : Option Quota). other_names (record state { quota = o })) is in
-    let bare : groups ++ pairs_named quota.pairs ≡ groups =
-    ap (λ (pairs : List (ℕ × ℕ)). groups ++ pairs_named pairs) none ∙ append-nil groups in
-    told ∙ ap (λ (later : List Record). RootOf EXTENT_TREE ∷ (roots ++ RootOf QUOTA_TREE ∷ []) ++ (Status ∷ later)) bare
-    ∙ ap (λ (later : List Record). RootOf EXTENT_TREE ∷ later)
-    (append_assoc roots (RootOf QUOTA_TREE ∷ []) (Status ∷ groups))
+    told ∙ ap (λ (names : List Record). RootOf EXTENT_TREE ∷ names) (append_assoc roots (RootOf QUOTA_TREE ∷ []) later)
 
-pub others-weigh : (state : State) (quota : Quota) → state.quota ≡ Some quota
-    → IsStrictlyIncreasing (keys_of state.subvolumes) → IsStrictlyIncreasing (keys_of quota.groups) → quota.pairs ≡ []
-    → All (λ entry. is_subvolume_number entry.0 ≡ true) state.subvolumes
-    → other_weight (other_names state) state
-    ≡ root_tree_bytes (length state.subvolumes) + quota_tree_bytes (length quota.groups)
-others-weigh state quota is ascending ascending_groups none numbers =
-    let subs = keys_of state.subvolumes in
-    let groups = keys_of quota.groups in
-    let many = length-map state.subvolumes (λ (e : ℕ × Subvolume). e.0) in
-    let many_groups = length-map quota.groups (λ (e : ℕ × Group). e.0) in
-    bytes-twice (other_names state) ∙ ap records_bytes (names_are state quota is none)
-    ∙ both-weigh subs groups (sorted_from_strictly_increasing subs ascending)
-    (sorted_from_strictly_increasing groups ascending_groups) number
-    ∙ (λ i. root_tree_bytes (many i) + quota_tree_bytes (many_groups i)) where
-      number : (sub : ℕ) → Contains (keys_of state.subvolumes) sub → is_subvolume_number sub ≡ true
-      number sub has =
-          let entry = from-mapped (λ (e : ℕ × Subvolume). e.0) state.subvolumes sub has in
-          let there = All-contains (λ (e : ℕ × Subvolume). is_subvolume_number e.0 ≡ true) state.subvolumes entry.0
-          numbers entry.1 in
-          ap is_subvolume_number (sym entry.2) ∙ there
+names_off : (state : State) → state.quota ≡ None → other_names state ≡ own_named (keys_of state.subvolumes) []
+names_off state is =
+    let roots = map RootOf (keys_of state.subvolumes) in
+    let told : other_names state ≡ RootOf EXTENT_TREE ∷ (roots ++ []) ++ [] =
+    ap (λ (o : Option Quota). other_names (record state { quota = o })) is in
+    told ∙ ap (λ (names : List Record). RootOf EXTENT_TREE ∷ names) (append-nil (roots ++ []))
+
+module _ (state : State) (ascending : IsStrictlyIncreasing (keys_of state.subvolumes))
+    (numbers : All (λ entry. is_subvolume_number entry.0 ≡ true) state.subvolumes) where
+  number : (sub : ℕ) → Contains (keys_of state.subvolumes) sub → is_subvolume_number sub ≡ true
+  number sub has =
+      let entry = from-mapped (λ (e : ℕ × Subvolume). e.0) state.subvolumes sub has in
+      let there = All-contains (λ (e : ℕ × Subvolume). is_subvolume_number e.0 ≡ true) state.subvolumes entry.0
+      numbers entry.1 in
+      ap is_subvolume_number (sym entry.2) ∙ there
+
+  subs_sorted : IsStrictlySortedBy nat_cmp (keys_of state.subvolumes)
+  subs_sorted = sorted_from_strictly_increasing (keys_of state.subvolumes) ascending
+
+  many : length (keys_of state.subvolumes) ≡ length state.subvolumes
+  many = length-map state.subvolumes (λ (e : ℕ × Subvolume). e.0)
+
+  weigh_by : (quota : Option Quota) → state.quota ≡ quota
+      → ((found : Quota) → quota ≡ Some found
+      → IsStrictlyIncreasing (keys_of found.groups) × IsSound (hierarchy_of found))
+      → records_bytes (other_names state) ≡ root_tree_bytes (length state.subvolumes) quota + quota_tree_bytes quota
+  weigh_by None is sound =
+      let own = own-weigh (keys_of state.subvolumes) [] subs_sorted number (λ sub has. refl) refl in
+      let named = ap records_bytes (names_off state is) in
+      let count = many in
+      let none : records_bytes [] ≡ 0 = refl in
+      omega (arith, own, named, count, none)
+  weigh_by (Some quota) is sound =
+      let of = sound quota refl in
+      let both = both-weigh (keys_of state.subvolumes) (keys_of quota.groups) quota.pairs subs_sorted
+      (sorted_from_strictly_increasing (keys_of quota.groups) of.0) of.1.pairs (each_rises quota.pairs of.1.rising)
+      number in
+      let named = ap records_bytes (names_on state quota is) in
+      let count = many in
+      let count_groups = length-map quota.groups (λ (e : ℕ × Group). e.0) in
+      omega (arith, both, named, count, count_groups)
+
+  pub others-weigh : ((quota : Quota) → state.quota ≡ Some quota
+      → IsStrictlyIncreasing (keys_of quota.groups) × IsSound (hierarchy_of quota))
+      → other_weight (other_names state) state
+      ≡ root_tree_bytes (length state.subvolumes) state.quota + quota_tree_bytes state.quota
+  others-weigh sound = bytes-twice (other_names state) ∙ weigh_by state.quota refl sound

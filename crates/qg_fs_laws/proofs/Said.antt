@@ -1,8 +1,8 @@
 -- What items say, where all of them say something, and what they name then.
 use Rattle.std.proofs.Common.{◌≡◌, ℕ, suc, ◌≤◌, Bool, true, false, List, [], ◌∷◌, map, length, Option, Some}
 use Rattle.std.proofs.Common.{None, refl, sym, ap, ◌∙◌, arith, inl, inr}
-use Rattle.std.specs.Prelude.{◌||◌, ◌==◌, nat_lt, if◌then◌else◌}
-use Rattle.std.specs.List.{Contains, cons_option, filter_map, flat_map, list_any}
+use Rattle.std.specs.Prelude.{◌&&◌, ◌||◌, ◌==◌, nat_lt, if◌then◌else◌}
+use Rattle.std.specs.List.{Contains, cons_option, filter_map, flat_map, fold, list_any}
 use Rattle.std.specs.Option.{option_map}
 use Rattle.std.proofs.lemmas.Bool.{cases_Bool, cond-false, cond-true, eqb-true}
 use Rattle.std.proofs.lemmas.List.Concat.{flat_map-cons}
@@ -14,9 +14,12 @@ use Rattle.qg_image.specs.declared.part.QuotaPart.{QuotaPart}
 use Rattle.qg_image.specs.ItemMeaning.{extent_part, first_some, quota_part, root_part}
 use Rattle.qg_image.specs.Table.{keys_of, with_value}
 use Rattle.qg_state.specs.declared.quota.Group.{Group}
-use Rattle.qg_state.specs.Record.{Record, InfoOf, LimitOf, RootOf, extent_record, quota_record, record_named}
+use Rattle.qg_state.specs.Record.{Record, InfoOf, LimitOf, RelationOf, RootOf, extent_record, quota_record}
+use Rattle.qg_state.specs.Record.{record_named}
 use Rattle.qg_state.proofs.Contained.{contains_here, contains_later}
-use Rattle.qg_contents.specs.Written.{info_part, limit_part}
+use Rattle.qg_machine.specs.GroupChange.{same_pair, with_pair}
+use Rattle.qg_hier.proofs.Sets.{pair_is}
+use Rattle.qg_quota.specs.Written.{both_ways, info_part, limit_part, relation_part}
 
 -- ---- lists that are the same
 
@@ -205,3 +208,100 @@ any-both p (group ∷ groups) =
     or_none : (a : Bool) → (a || false) ≡ a
     or_none true = refl
     or_none false = refl
+
+-- ---- relations
+
+-- a relation under one of its keys
+abbrev pub relation_of : ℕ × ℕ → Record
+relation_of pair = RelationOf pair.0 pair.1
+
+-- and under both
+abbrev pub related : ℕ × ℕ → List Record
+related pair = RelationOf pair.0 pair.1 ∷ RelationOf pair.1 pair.0 ∷ []
+
+pub relations-named : (pairs : List (ℕ × ℕ)) → map quota_record (map relation_part pairs) ≡ map relation_of pairs
+relations-named [] = refl
+relations-named (pair ∷ pairs) = ap (λ (records : List Record). relation_of pair ∷ records) (relations-named pairs)
+
+-- relations with one more pass a test as that one and the others do
+any_pair : (p : ℕ × ℕ → Bool) (pair : ℕ × ℕ) (pairs : List (ℕ × ℕ))
+    → list_any p (with_pair pair pairs) ≡ (p pair || list_any p pairs)
+any_pair p pair [] = refl
+any_pair p pair (other ∷ pairs) =
+    let test = nat_lt pair.0 other.0 || ((pair.0 == other.0) && nat_lt pair.1 other.1) in
+    let here : List (ℕ × ℕ) = pair ∷ other ∷ pairs in
+    let there : List (ℕ × ℕ) = other ∷ pairs in
+    let behind : List (ℕ × ℕ) = other ∷ with_pair pair pairs in
+    let either : List (ℕ × ℕ) = if same_pair pair other then there else behind in
+    elim (cases_Bool test) [
+      | inl before ↦ ap (λ (list : List (ℕ × ℕ)). list_any p list) (cond-true test here either before)
+      | inr later ↦ elim (cases_Bool (same_pair pair other)) [
+        | inl same ↦
+            ap (λ (list : List (ℕ × ℕ)). list_any p list)
+            (cond-false test here either later ∙ cond-true (same_pair pair other) there behind same)
+            ∙ or_again (p other) (list_any p pairs)
+            ∙ ap (λ (q : ℕ × ℕ). p q || (p other || list_any p pairs)) (sym (pair_is pair other same))
+        | inr differ ↦
+            ap (λ (list : List (ℕ × ℕ)). list_any p list)
+            (cond-false test here either later ∙ cond-false (same_pair pair other) there behind differ)
+            ∙ ap (λ (b : Bool). p other || b) (any_pair p pair pairs)
+            ∙ or_turned (p other) (p pair) (list_any p pairs)
+      ]
+    ]
+
+or_later : (a b c : Bool) → (b || (a || c)) ≡ ((a || b) || c)
+or_later true true c = refl
+or_later true false c = refl
+or_later false b c = refl
+
+-- so do those that are put in one after the other
+any_put : (p : ℕ × ℕ → Bool) (turned : ℕ × ℕ → ℕ × ℕ) (pairs made : List (ℕ × ℕ))
+    → list_any p (fold (λ done pair. with_pair (turned pair) done) made pairs)
+    ≡ (list_any (λ pair. p (turned pair)) pairs || list_any p made)
+any_put p turned [] made = refl
+any_put p turned (pair ∷ pairs) made =
+    any_put p turned pairs (with_pair (turned pair) made)
+    ∙ ap (λ (b : Bool). list_any (λ (q : ℕ × ℕ). p (turned q)) pairs || b) (any_pair p (turned pair) made)
+    ∙ or_later (p (turned pair)) (list_any (λ (q : ℕ × ℕ). p (turned q)) pairs) (list_any p made)
+
+or_spread : (a b x y : Bool) → (a || (b || (x || y))) ≡ ((a || x) || (b || y))
+or_spread true b x y = refl
+or_spread false true true y = refl
+or_spread false true false y = refl
+or_spread false false x y = refl
+
+any_related : (p : Record → Bool) (pairs : List (ℕ × ℕ))
+    → list_any p (flat_map related pairs)
+    ≡ (list_any (λ pair. p (RelationOf pair.0 pair.1)) pairs || list_any (λ pair. p (RelationOf pair.1 pair.0)) pairs)
+any_related p [] = refl
+any_related p (pair ∷ pairs) =
+    ap (λ (records : List Record). list_any p records) (flat_map-cons related pair pairs)
+    ∙ list_any-append p (related pair) (flat_map related pairs)
+    ∙ or_flat (p (RelationOf pair.0 pair.1)) (p (RelationOf pair.1 pair.0)) (list_any p (flat_map related pairs))
+    ∙ ap (λ (b : Bool). p (RelationOf pair.0 pair.1) || (p (RelationOf pair.1 pair.0) || b)) (any_related p pairs)
+    ∙ or_spread (p (RelationOf pair.0 pair.1)) (p (RelationOf pair.1 pair.0))
+    (list_any (λ (q : ℕ × ℕ). p (RelationOf q.0 q.1)) pairs) (list_any (λ (q : ℕ × ℕ). p (RelationOf q.1 q.0)) pairs)
+  where
+    or_flat : (a b c : Bool) → ((a || (b || false)) || c) ≡ (a || (b || c))
+    or_flat true b c = refl
+    or_flat false true c = refl
+    or_flat false false c = refl
+
+or_swapped : (a b : Bool) → (b || (a || false)) ≡ (a || b)
+or_swapped true true = refl
+or_swapped true false = refl
+or_swapped false true = refl
+or_swapped false false = refl
+
+-- relations written both ways pass a test as each relation's two records, one after the other, do
+pub any-both-ways : (p : Record → Bool) (pairs : List (ℕ × ℕ))
+    → list_any p (map relation_of (both_ways pairs)) ≡ list_any p (flat_map related pairs)
+any-both-ways p pairs =
+    let told : ℕ × ℕ → Bool = λ pair. p (RelationOf pair.0 pair.1) in
+    let own = list_any told pairs in
+    let back = list_any (λ (pair : ℕ × ℕ). p (RelationOf pair.1 pair.0)) pairs in
+    any-mapped p relation_of (both_ways pairs)
+    ∙ any_put told (λ (pair : ℕ × ℕ). (pair.1, pair.0)) pairs
+    (fold (λ (made : List (ℕ × ℕ)) (pair : ℕ × ℕ). with_pair pair made) [] pairs)
+    ∙ ap (λ (b : Bool). back || b) (any_put told (λ (pair : ℕ × ℕ). pair) pairs [])
+    ∙ or_swapped own back ∙ sym (any_related p pairs)

@@ -51,7 +51,7 @@ use Rattle.qg_tree_commit.specs.Writing.{fresh_nodes, nodes_written}
 use Rattle.qg_tree_commit.proofs.NewNodes.{written-new}
 use Rattle.qg_tree_commit.proofs.OnDisk.{on-disk}
 use Rattle.qg_tree_commit.proofs.Subvolume.{fresh-read}
-use Rattle.qg_fs_laws.specs.Keeping.{IsKept, KeepsState, quota_after}
+use Rattle.qg_fs_laws.specs.Keeping.{IsKept, KeepsState, quota_laid}
 use Rattle.qg_fs_laws.proofs.Commit.{commit-of-machine}
 use Rattle.qg_fs_laws.proofs.Free.{space-told}
 use Rattle.qg_fs_laws.proofs.Kept.{counted, counts, draft, each-has, lies, stands, whole}
@@ -118,8 +118,8 @@ module _ (fs : FsTree) (history : Option (List Event)) (bytes : ℕ) (state : St
 -- ---- the commit
 
 module _ (fs : FsTree) (events : List Event) (bytes : ℕ) (state : State) (mine : Subvolume) (files : List (ℕ × File))
-    (roots : List (ℕ × RootItem)) (quota : Quota) (counters : ℕ → Counters) (slots : List ℕ) (trees : OtherTrees)
-    (lays : LaysTree fs events bytes state mine files roots quota counters slots trees) where
+    (roots : List (ℕ × RootItem)) (counters : ℕ → Counters) (slots : List ℕ) (trees : OtherTrees)
+    (lays : LaysTree fs events bytes state mine files roots counters slots trees) where
   abbrev history : Option (List Event)
   history = Some events
 
@@ -130,8 +130,8 @@ module _ (fs : FsTree) (events : List Event) (bytes : ℕ) (state : State) (mine
   image = content (with_tree_commit fs trees events)
 
   -- quota as the commit stores it
-  abbrev quota_now : Quota
-  quota_now = quota_after fs.tree.next counters quota
+  abbrev quota_now : Option Quota
+  quota_now = quota_laid fs.tree.next counters state.quota
 
   next_is : fs.tree.next ≡ next_generation state
   next_is = sym lays.keeps.laid.generation
@@ -186,7 +186,7 @@ module _ (fs : FsTree) (events : List Event) (bytes : ℕ) (state : State) (mine
   is = is_committed sizes roots fs.refs.refs quota_now slots trees state image
       (whole fs history bytes state mine files lays.kept lays.keeps) lays.free.apart are is_state held.commit
       held_layout (lies fs history bytes state mine files lays.kept lays.keeps) space
-      (counts-kept state fs.tree.next counters quota lays.counted)
+      (counts-kept state fs.tree.next counters lays.counted)
       (state-held fs history bytes state mine files lays.kept lays.keeps).home
 
   -- ---- it is one of the machine
@@ -201,10 +201,10 @@ module _ (fs : FsTree) (events : List Event) (bytes : ℕ) (state : State) (mine
   machine : (others : List Node) → AreToldBy (committed others state quota_now) slots trees others
       → Commits state (committed others state quota_now)
   machine others told =
-      subst (λ (n : ℕ). Commits state (committed others state (quota_after n counters quota))) (sym next_is)
-      (commit-of-machine state quota counters slots trees others lays.quota_is lays.counted slots_free
-      (subst (λ (n : ℕ). AreToldBy (committed others state (quota_after n counters quota)) slots trees others) next_is
-      told))
+      subst (λ (n : ℕ). Commits state (committed others state (quota_laid n counters state.quota))) (sym next_is)
+      (commit-of-machine state counters slots trees others lays.counted slots_free
+      (subst (λ (n : ℕ). AreToldBy (committed others state (quota_laid n counters state.quota)) slots trees others)
+      next_is told))
 
   written : (others : List Node) → AreToldBy (committed others state quota_now) slots trees others
       → IsPermutation (nodes_written fs.land.blocks.draft trees)
@@ -221,5 +221,5 @@ module _ (fs : FsTree) (events : List Event) (bytes : ℕ) (state : State) (mine
     is = is;
     machine = machine is.others is.told;
     written = written is.others is.told;
-    counted = stores state fs.tree.next counters quota lays.counted;
+    counted = stores state fs.tree.next counters lays.counted;
   }

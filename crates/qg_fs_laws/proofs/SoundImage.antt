@@ -4,6 +4,7 @@ use Rattle.std.specs.Prelude.{is_some, nat_le, IsTrue}
 use Rattle.std.specs.List.{AllByRecursion, list_all, list_any}
 use Rattle.std.specs.Option.{option_map}
 use Rattle.std.proofs.lemmas.Bool.{and_from, and_parts, leb-true}
+use Rattle.std.proofs.lemmas.Option.{same_Some}
 use Rattle.qg_num.specs.declared.rule.Rule.TheVariants as rule
 use Rattle.qg_node.specs.declared.item.Item.{Item}
 use Rattle.qg_items.specs.declared.root.RootItem.{RootItem}
@@ -31,7 +32,7 @@ use Rattle.qg_verdict.specs.Verdict.{space_failure, subvolume_failure, together_
 use Rattle.qg_verdict.specs.Walk.{are_by, is_item_of, root_expected, root_told, tree_failure}
 use Rattle.qg_walk.proofs.Failures.{kept-none}
 use Rattle.qg_standing.specs.Opening.{IsSoundImage, IsSoundSubvolume}
-use Rattle.qg_fs_laws.specs.Opening.{AreItemsOf, HoldsOthers}
+use Rattle.qg_fs_laws.specs.Opening.{AreItemsOf, HoldsOthers, HoldsQuotaOf}
 use Rattle.qg_fs_laws.proofs.Ascending.{roots-ascend, subvolumes-ascend, value-kept}
 use Rattle.qg_fs_laws.proofs.ImageWalks.{items-ascend, items-held, items-walked, nodes-walked}
 use Rattle.qg_fs_laws.proofs.OtherRecords.{dated-parts, extents-say}
@@ -61,7 +62,7 @@ served_by super is =
 roots_there : (roots : List (ℕ × RootItem)) → are_roots roots ≡ true
     → (has_key EXTENT_TREE roots ≡ true) × (has_key TOP_LEVEL roots ≡ true)
 unfolding are_roots
-roots_there roots are = and_parts _ _ (and_parts _ _ (and_parts _ _ are).0).0
+roots_there roots are = and_parts _ _ are
 
 top_kept : (roots : List (ℕ × RootItem)) → has_key TOP_LEVEL roots ≡ true
     → has_key TOP_LEVEL (subvolume_roots roots) ≡ true
@@ -74,7 +75,7 @@ fits_there : (subvolumes : List ℕ) (super : Super) (image : List ℕ)
     → (list_any is_status_part (quota_parts super image) ≡ true)
     × (list_all (fits_quota (quota_parts super image)) (quota_parts super image) ≡ true)
 unfolding is_quota
-fits_there subvolumes super image is = and_parts _ _ (and_parts _ _ (and_parts _ _ is).0).0
+fits_there subvolumes super image is = and_parts _ _ (and_parts _ _ is).0
 
 -- items that a subvolume's tree may hold, and that keep the rule `file`, are read as files
 files_read : (generation : ℕ) (items : List Item) → list_all (is_item_of Files generation) items ≡ true
@@ -86,11 +87,6 @@ files_read generation items held are =
 some_value : (o : Option RootItem) → is_some o ≡ true → (root : RootItem) × (o ≡ Some root)
 some_value None some = absurd cc
 some_value (Some root) some = (root, refl)
-
-quota_there : (o : Option RootItem) (told quota : Quota) → option_map (λ (root : RootItem). told) o ≡ Some quota
-    → (root : RootItem) × (o ≡ Some root) × (told ≡ quota)
-quota_there None told quota is = absurd cc
-quota_there (Some root) told quota is = (root, refl, cc)
 
 module _ (super : Super) (image : List ℕ) (sound : IsSound image) (chosen : super_of image ≡ Some super) where
   -- the parts of the verdict, in their order
@@ -209,23 +205,29 @@ module _ (super : Super) (image : List ℕ) (sound : IsSound image) (chosen : su
 
   -- ---- the other trees
 
-  pub others-known : (quota : Quota) → quota_in super image ≡ Some quota → HoldsOthers super image quota
-  others-known quota is =
-      let quotas = quota_there (quota_root super image) (quota_told (quota_parts super image)) quota is in
-      let all = subst (λ (o : Option RootItem). quota_failure super image (roots_in super image) o ≡ None) quotas.1
+  quota_known : (named : Option RootItem) (quota : Option Quota) → quota_root super image ≡ named
+      → option_map (λ root. quota_told (quota_parts super image)) named ≡ quota → HoldsQuotaOf super image named quota
+  quota_known None None there is = tt
+  quota_known None (Some quota) there is = absurd cc
+  quota_known (Some root) None there is = absurd cc
+  quota_known (Some root) (Some quota) there is =
+      let all = subst (λ (o : Option RootItem). quota_failure super image (roots_in super image) o ≡ None) there
       none.quotas in
-      let first = none_first (tree_failure Quotas super image (root_told quotas.0) quotas.0.bytenr) _ all in
+      let first = none_first (tree_failure Quotas super image (root_told root) root.bytenr) _ all in
       let second = none_first _ _ first.1 in
-      let fits = fits_there _ super image (kept-none _ rule.Quota quotas.0.bytenr second.0) in
+      let fits = fits_there _ super image (kept-none _ rule.Quota root.bytenr second.0) in
       record {
-        roots = root_tree;
-        extent_root = extent_tree.0;
-        extents_named = extent_tree.1;
-        extents = extent_items;
-        quota_root = quotas.0;
-        quotas_named = quotas.1;
-        quotas = items-held Quotas super image (root_told quotas.0) quotas.0.bytenr first.0;
+        items = items-held Quotas super image (root_told root) root.bytenr first.0;
         status = fits.0;
         fit = fits.1;
-        tell = quotas.2;
+        tell = same_Some (quota_told (quota_parts super image)) quota is;
       }
+
+  pub others-known : (quota : Option Quota) → quota_in super image ≡ quota → HoldsOthers super image quota
+  others-known quota is = record {
+    roots = root_tree;
+    extent_root = extent_tree.0;
+    extents_named = extent_tree.1;
+    extents = extent_items;
+    quota_tree = quota_known (quota_root super image) quota refl is;
+  }

@@ -9,7 +9,6 @@ use Rattle.qg_node.specs.Nodes.{header_of}
 use Rattle.qg_items.specs.declared.root.RootItem.{RootItem}
 use Rattle.qg_super.specs.declared.sizes.Sizes.{Sizes}
 use Rattle.qg_image.specs.declared.file.File.{File}
-use Rattle.qg_state.specs.declared.quota.Quota.{Quota}
 use Rattle.qg_state.specs.Space.{present_extents}
 use Rattle.qg_state.specs.State.{State, Subvolume}
 use Rattle.qg_verdict.specs.Verdict.{extent_set, space_failure}
@@ -22,28 +21,28 @@ use Rattle.qg_other_trees.specs.declared.laying.OtherTrees.{OtherTrees}
 use Rattle.qg_other_trees.specs.Sound.{committed}
 use Rattle.qg_other_trees.specs.Telling.{AreToldBy}
 use Rattle.qg_other_trees.specs.Trees.{nodes_laid}
-use Rattle.qg_fs_laws.specs.Keeping.{KeepsState, LieApart, quota_after}
+use Rattle.qg_fs_laws.specs.Keeping.{KeepsState, LieApart, quota_laid}
 use Rattle.qg_fs_laws.specs.Committing.{AreShort, IsInOrder, IsShort, IsSoundCommit, KeepsCommit, LaysTree}
 use Rattle.qg_fs_laws.specs.Committing.{LeavesShort}
 
 -- once the calls of such a commit were made, the image is sound, and stands for the state that the commit leaves
 abbrev pub TreeCommitIsSound : Type 0
 TreeCommitIsSound = (fs : FsTree) (events : List Event) (bytes : ℕ) (state : State) (mine : Subvolume)
-    (files : List (ℕ × File)) (roots : List (ℕ × RootItem)) (quota : Quota) (counters : ℕ → Counters)
+    (files : List (ℕ × File)) (roots : List (ℕ × RootItem)) (counters : ℕ → Counters)
     (slots : List ℕ) (trees : OtherTrees)
-    → LaysTree fs events bytes state mine files roots quota counters slots trees
-    → IsSoundCommit fs events state (quota_after fs.tree.next counters quota) slots trees
+    → LaysTree fs events bytes state mine files roots counters slots trees
+    → IsSoundCommit fs events state (quota_laid fs.tree.next counters state.quota) slots trees
 
 -- and where the trees were made those of the next generation, and stand still, they are kept of that state
 abbrev pub TreeCommitIsKept : Type 0
 TreeCommitIsKept = (old new : FsTree) (events later : List Event) (bytes : ℕ) (state : State) (mine : Subvolume)
-    (files : List (ℕ × File)) (roots : List (ℕ × RootItem)) (quota : Quota) (counters : ℕ → Counters)
+    (files : List (ℕ × File)) (roots : List (ℕ × RootItem)) (counters : ℕ → Counters)
     (slots : List ℕ) (trees : OtherTrees) (others : List Node)
-    → LaysTree old events bytes state mine files roots quota counters slots trees
-    → AreToldBy (committed others state (quota_after old.tree.next counters quota)) slots trees others
+    → LaysTree old events bytes state mine files roots counters slots trees
+    → AreToldBy (committed others state (quota_laid old.tree.next counters state.quota)) slots trees others
     → IsCommitted old new (map (λ node. (header_of node).address) (nodes_laid trees))
     → StandsStill old new (Some events) (Some later) (flat_map items_of_file files) (named files)
-    → KeepsCommit new (Some later) (committed others state (quota_after old.tree.next counters quota)) mine files
+    → KeepsCommit new (Some later) (committed others state (quota_laid old.tree.next counters state.quota)) mine files
 
 -- where nothing was done but that nodes were read, or a disk was written elsewhere, trees that stand still are kept of
 -- the same state

@@ -31,7 +31,7 @@ use Rattle.qg_other_trees.specs.Sound.{committed}
 use Rattle.qg_other_trees.specs.Sound as sound
 use Rattle.qg_tree_commit.specs.Holds.{AreFree, with_tree_commit}
 use Rattle.qg_tree_commit.specs.Writing.{IsLaying, nodes_written}
-use Rattle.qg_fs_laws.specs.Keeping.{AreDirectCounts, IsKept, KeepsState, NamesOthers, other_names, quota_after}
+use Rattle.qg_fs_laws.specs.Keeping.{AreDirectCounts, IsKept, KeepsState, NamesOthers, other_names, quota_laid}
 
 -- ---- what is asked
 
@@ -89,19 +89,18 @@ pub record AreRootsNow (fs : FsTree) (state : State) (roots : List (ℕ × RootI
 -- Trees are kept of a state over a disk that tells and is as long as the image, and there are counts for its groups.
 -- The root, extent and quota trees of the next generation are laid out in free slots, and tell the trees and the counts
 pub record LaysTree (fs : FsTree) (events : List Event) (bytes : ℕ) (state : State) (mine : Subvolume)
-    (files : List (ℕ × File)) (roots : List (ℕ × RootItem)) (quota : Quota) (counters : ℕ → Counters)
-    (slots : List ℕ) (trees : OtherTrees) : Type 0 where
+    (files : List (ℕ × File)) (roots : List (ℕ × RootItem)) (counters : ℕ → Counters) (slots : List ℕ)
+    (trees : OtherTrees) : Type 0 where
   pub kept : IsKept fs (Some events) bytes
   pub keeps : KeepsState fs (Some events) state mine files
   pub order : IsInOrder fs.land.space
   pub short : IsShort state
   pub long : total_bytes fs.land.space.sizes ≤ length (content events)
-  pub quota_is : state.quota ≡ Some quota
-  pub counted : AreDirectCounts state quota counters
+  pub counted : AreDirectCounts state counters
   pub roots_are : AreRootsNow fs state roots
   pub free : AreFree fs.land.space slots
-  pub laid : IsLaying fs.land.space.sizes fs.tree.next roots fs.refs.refs (quota_after fs.tree.next counters quota)
-      slots fs.land.blocks.draft trees
+  pub laid : IsLaying fs.land.space.sizes fs.tree.next roots fs.refs.refs
+      (quota_laid fs.tree.next counters state.quota) slots fs.land.blocks.draft trees
 
 -- ---- what the disk holds
 
@@ -110,10 +109,10 @@ abbrev pub StoresCounts : State → Type 0
 StoresCounts state = (quota : Quota) → state.quota ≡ Some quota
     → All (λ entry. entry.1.counters ≡ direct_count (layout_of state) (hierarchy_of quota) entry.0) quota.groups
 
--- Once the commit's calls were made the image is sound, and stands for the state that the commit leaves, whose groups
--- are these. That is one of the machine; the nodes written are those that the commit before did not hold, in some
+-- Once the commit's calls were made the image is sound, and stands for the state that the commit leaves, whose quota is
+-- this. That is one of the machine; the nodes written are those that the commit before did not hold, in some
 -- order; and each group stores its direct count
-pub record IsSoundCommit (fs : FsTree) (events : List Event) (state : State) (quota : Quota) (slots : List ℕ)
+pub record IsSoundCommit (fs : FsTree) (events : List Event) (state : State) (quota : Option Quota) (slots : List ℕ)
     (trees : OtherTrees) : Type 0 where
   pub is : sound.IsCommitted trees state quota slots (content (with_tree_commit fs trees events))
   pub machine : Commits state (committed is.others state quota)

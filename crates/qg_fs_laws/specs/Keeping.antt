@@ -5,6 +5,7 @@
 use Rattle.std.specs.Prelude.{◌≡◌, ◌↔◌, ℕ, ◌+◌, ◌^◌, ◌<◌, ◌≤◌, false, ◌==◌, List, ◌∷◌, ◌++◌, length, map, Option}
 use Rattle.std.specs.Prelude.{Some, IsTrue, Contains}
 use Rattle.std.specs.List.{IsDistinct}
+use Rattle.std.specs.Option.{option_map}
 use Rattle.qg_device.specs.History.{Event}
 use Rattle.qg_num.specs.declared.command.Command.TheVariants.{Write, Clone, Truncate, Unlink}
 use Rattle.qg_num.specs.declared.counters.Counters.{Counters}
@@ -167,9 +168,14 @@ group_after generation counters entry = (
 abbrev pub quota_after : ℕ → (ℕ → Counters) → Quota → Quota
 quota_after generation counters quota = record quota { groups = map (group_after generation counters) quota.groups }
 
--- these counters are the direct counts of a state's groups
-abbrev pub AreDirectCounts : State → Quota → (ℕ → Counters) → Type 0
-AreDirectCounts state quota counters = (entry : ℕ × Group) → Contains quota.groups entry
+-- the same of quota that may be off
+abbrev pub quota_laid : ℕ → (ℕ → Counters) → Option Quota → Option Quota
+quota_laid generation counters quota = option_map (quota_after generation counters) quota
+
+-- these counters are the direct counts of a state's groups, while quota is on
+abbrev pub AreDirectCounts : State → (ℕ → Counters) → Type 0
+AreDirectCounts state counters = (quota : Quota) → state.quota ≡ Some quota
+    → (entry : ℕ × Group) → Contains quota.groups entry
     → counters entry.0 ≡ direct_count (layout_of state) (hierarchy_of quota) entry.0
 
 -- ---- a file command

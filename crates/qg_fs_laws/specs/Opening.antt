@@ -1,7 +1,7 @@
 -- What is known of an image that was just opened, and of the trees that are made of it (this project's own).
 --
 -- Addresses and lengths are in bytes.
-use Rattle.std.specs.Prelude.{◌≡◌, ◌↔◌, ◌⊎◌, ℕ, List, Some, IsTrue, All}
+use Rattle.std.specs.Prelude.{◌≡◌, ◌↔◌, ◌⊎◌, ℕ, List, Option, None, Some, IsTrue, All}
 use Rattle.std.specs.List.{AllByRecursion, Contains, flat_map, list_all, list_any}
 use Rattle.qg_bytes.specs.Fields.{IsBytes}
 use Rattle.qg_node.specs.declared.item.Item.{Item}
@@ -55,18 +55,26 @@ pub record AreItemsOf (tree : Tree) (generation : ℕ) (nodes : List Node) (item
   pub stand : items ≡ flat_map own_items nodes
   pub held : IsTrue (list_all (is_item_of tree generation) items)
 
--- What is known of the other trees of a sound image: their items are such, the quota tree's tell the state of quota and
--- fit each other, and they tell this quota
-pub record HoldsOthers (super : Super) (image : List ℕ) (quota : Quota) : Type 0 where
+-- What is known of the quota tree of a sound image: its items are such, tell the state of quota and fit each other, and
+-- they tell this quota
+pub record HoldsQuota (super : Super) (image : List ℕ) (root : RootItem) (quota : Quota) : Type 0 where
+  pub items : AreItemsOf Quotas super.generation (nodes_of_root Quotas super image root)
+      (items_of_root Quotas super image root)
+  pub status : IsTrue (list_any is_status_part (quota_parts super image))
+  pub fit : IsTrue (list_all (fits_quota (quota_parts super image)) (quota_parts super image))
+  pub tell : quota_told (quota_parts super image) ≡ quota
+
+-- so it is of a tree that is named; while quota is off none is
+abbrev pub HoldsQuotaOf : Super → List ℕ → Option RootItem → Option Quota → Type 0
+HoldsQuotaOf super image None None = Unit {0}
+HoldsQuotaOf super image (Some root) (Some quota) = HoldsQuota super image root quota
+HoldsQuotaOf super image _ _ = ⊥
+
+-- What is known of the other trees of a sound image: the items of each are such, and the quota tree's tell this quota
+pub record HoldsOthers (super : Super) (image : List ℕ) (quota : Option Quota) : Type 0 where
   pub roots : AreItemsOf Roots super.generation (root_nodes super image) (root_items super image)
   pub extent_root : RootItem
   pub extents_named : value_at EXTENT_TREE (roots_in super image) ≡ Some extent_root
   pub extents : AreItemsOf Extents super.generation (nodes_of_root Extents super image extent_root)
       (items_of_root Extents super image extent_root)
-  pub quota_root : RootItem
-  pub quotas_named : value_at QUOTA_TREE (roots_in super image) ≡ Some quota_root
-  pub quotas : AreItemsOf Quotas super.generation (nodes_of_root Quotas super image quota_root)
-      (items_of_root Quotas super image quota_root)
-  pub status : IsTrue (list_any is_status_part (quota_parts super image))
-  pub fit : IsTrue (list_all (fits_quota (quota_parts super image)) (quota_parts super image))
-  pub tell : quota_told (quota_parts super image) ≡ quota
+  pub quota_tree : HoldsQuotaOf super image (value_at QUOTA_TREE (roots_in super image)) quota

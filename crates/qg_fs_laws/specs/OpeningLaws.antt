@@ -1,5 +1,5 @@
 -- Laws that lead from a sound image that was just opened to trees that are kept of its state (this project's own).
-use Rattle.std.specs.Prelude.{◌≡◌, ℕ, List, None, Some, IsTrue}
+use Rattle.std.specs.Prelude.{◌≡◌, ℕ, List, Option, None, Some, IsTrue}
 use Rattle.qg_device.specs.History.{Event, content}
 use Rattle.qg_items.specs.declared.root.RootItem.{RootItem}
 use Rattle.qg_super.specs.declared.superblock.Super.{Super}
@@ -30,8 +30,8 @@ SoundImageIsKnown = (super : Super) (image : List ℕ)
 
 -- and its other trees hold what they may
 abbrev pub SoundImageHoldsOthers : Type 0
-SoundImageHoldsOthers = (super : Super) (image : List ℕ) (quota : Quota)
-    → IsSound image → super_of image ≡ Some super → quota_in super image ≡ Some quota
+SoundImageHoldsOthers = (super : Super) (image : List ℕ) (quota : Option Quota)
+    → IsSound image → super_of image ≡ Some super → quota_in super image ≡ quota
     → HoldsOthers super image quota
 
 -- ---- the trees that are made
@@ -46,13 +46,13 @@ OpenedIsKept = (fs : FsTree) (super : Super) (events : List Event) (root : RootI
 
 -- the book is what the last commit recorded
 abbrev pub OpenedIsRecorded : Type 0
-OpenedIsRecorded = (fs : FsTree) (super : Super) (image : List ℕ) (quota : Quota)
+OpenedIsRecorded = (fs : FsTree) (super : Super) (image : List ℕ) (quota : Option Quota)
     → IsTable fs.refs.refs → IsSoundImage super image → IsOpened fs super image
     → HoldsCommit fs super image → HoldsOthers super image quota
     → IsRecorded (state_in super image) fs.refs.held
 
 -- and besides the extent tree's, the last commit's items name what those of its subvolumes and groups do
 abbrev pub OpenedNamesOthers : Type 0
-OpenedNamesOthers = (super : Super) (image : List ℕ) (quota : Quota)
-    → quota_in super image ≡ Some quota → HoldsOthers super image quota
+OpenedNamesOthers = (super : Super) (image : List ℕ) (quota : Option Quota)
+    → quota_in super image ≡ quota → HoldsOthers super image quota
     → NamesOthers (state_in super image).held (other_names (state_in super image))

@@ -1,6 +1,6 @@
 -- Laws that lead from the trees of subvolumes to a step of the machine (this project's own). Addresses, lengths and
 -- weights are in bytes.
-use Rattle.std.specs.Prelude.{◌≡◌, ℕ, ◌+◌, List, [], length, Option, Some, IsTrue, All}
+use Rattle.std.specs.Prelude.{◌≡◌, ℕ, ◌+◌, List, length, Option, Some, IsTrue, All}
 use Rattle.std.specs.List.Sorted.{IsStrictlyIncreasing}
 use Rattle.qg_device.specs.History.{Event}
 use Rattle.qg_num.specs.declared.counters.Counters.{Counters}
@@ -9,6 +9,7 @@ use Rattle.qg_image.specs.declared.file.File.{File}
 use Rattle.qg_image.specs.ItemMeaning.{is_subvolume_number}
 use Rattle.qg_image.specs.Table.{keys_of, value_at}
 use Rattle.qg_state.specs.declared.quota.Quota.{Quota}
+use Rattle.qg_state.specs.Members.{hierarchy_of}
 use Rattle.qg_state.specs.Need.{file_copies, weight}
 use Rattle.qg_state.specs.Record.{Record}
 use Rattle.qg_state.specs.Space.{is_free_slot}
@@ -17,6 +18,7 @@ use Rattle.qg_counted.specs.Counted.{AreAllReached}
 use Rattle.qg_machine.specs.Layout.{IsWhole}
 use Rattle.qg_machine.specs.Refusals.{root_level}
 use Rattle.qg_machine.specs.Step.{Commits}
+use Rattle.qg_hier.specs.Groups.{IsSound}
 use Rattle.qg_weighed.specs.Laws.{CountsLayout, IsRecorded}
 use Rattle.qg_weighed.specs.Weight.{weight_of}
 use Rattle.qg_forest.specs.Standing.{HoldsState}
@@ -29,7 +31,7 @@ use Rattle.qg_other_trees.specs.Trees.{quota_tree_bytes, root_tree_bytes}
 use Rattle.qg_fs_laws.specs.Keeping.{AreDirectCounts, AreTreesOf, AreYoung, FollowsCommand, IsKept}
 use Rattle.qg_fs_laws.specs.Keeping.{KeepsState, LieApart, NamesOthers, OthersHaveFiles}
 use Rattle.qg_fs_laws.specs.Keeping.{TellsChanges, TellsSpace, elements_of, mine_after, other_names, other_weight}
-use Rattle.qg_fs_laws.specs.Keeping.{quota_after, state_after}
+use Rattle.qg_fs_laws.specs.Keeping.{quota_laid, state_after}
 
 -- ---- what the trees tell
 
@@ -54,13 +56,14 @@ WeightIsTold = (fs : FsTree) (history : Option (List Event)) (bytes : ℕ) (stat
     → IsRecorded state fs.refs.held → NamesOthers state.held names
     → weight state ≡ weight_of fs.refs.held fs.refs.refs + other_weight names state
 
--- and where they name what they would name now, these items are those of so many subvolumes and groups
+-- and where they name what they would name now, these items are those of so many subvolumes, groups and relations
 abbrev pub OthersWeigh : Type 0
-OthersWeigh = (state : State) (quota : Quota) → state.quota ≡ Some quota
-    → IsStrictlyIncreasing (keys_of state.subvolumes) → IsStrictlyIncreasing (keys_of quota.groups) → quota.pairs ≡ []
+OthersWeigh = (state : State) → IsStrictlyIncreasing (keys_of state.subvolumes)
     → All (λ entry. IsTrue (is_subvolume_number entry.0)) state.subvolumes
+    → ((quota : Quota) → state.quota ≡ Some quota
+    → IsStrictlyIncreasing (keys_of quota.groups) × IsSound (hierarchy_of quota))
     → other_weight (other_names state) state
-    ≡ root_tree_bytes (length state.subvolumes) + quota_tree_bytes (length quota.groups)
+    ≡ root_tree_bytes (length state.subvolumes) state.quota + quota_tree_bytes state.quota
 
 -- what each file command changes that edits the subvolume at hand is told by its tree's files
 abbrev pub ChangesAreTold : Type 0
@@ -113,9 +116,7 @@ FileCommandCopies = (old new : FsTree) (history : Option (List Event)) (bytes le
 -- a commit whose other trees tell the state that it leaves, its groups having their direct counts, and lie in free
 -- slots, is one of the machine
 abbrev pub CommitIsOfMachine : Type 0
-CommitIsOfMachine = (old : State) (quota : Quota) (counters : ℕ → Counters) (slots : List ℕ) (trees : OtherTrees)
-    (others : List Node)
-    → old.quota ≡ Some quota → AreDirectCounts old quota counters
-    → All (λ slot. IsTrue (is_free_slot old slot)) slots
-    → AreToldBy (committed others old (quota_after (next_generation old) counters quota)) slots trees others
-    → Commits old (committed others old (quota_after (next_generation old) counters quota))
+CommitIsOfMachine = (old : State) (counters : ℕ → Counters) (slots : List ℕ) (trees : OtherTrees) (others : List Node)
+    → AreDirectCounts old counters → All (λ slot. IsTrue (is_free_slot old slot)) slots
+    → AreToldBy (committed others old (quota_laid (next_generation old) counters old.quota)) slots trees others
+    → Commits old (committed others old (quota_laid (next_generation old) counters old.quota))

@@ -1,5 +1,4 @@
 pub mod ScriptText
 pub mod ReplyText
 pub mod FailureText
-pub mod Served
 pub mod Examples

@@ -37,7 +37,7 @@ equal_then Less second = refl
 equal_then Equal second = refl
 equal_then Greater second = refl
 
-equal_pairs : (a b : ℕ × ℕ) → is_eq (pair_cmp a b) ≡ same_pair a b
+pub equal_pairs : (a b : ℕ × ℕ) → is_eq (pair_cmp a b) ≡ same_pair a b
 equal_pairs a b =
     equal_then (nat_cmp a.0 b.0) (nat_cmp a.1 b.1) ∙ ap (λ (here : Bool). here && is_eq (nat_cmp a.1 b.1)) (equal_numbers a.0 b.0)
     ∙ ap (λ (here : Bool). (a.0 == b.0) && here) (equal_numbers a.1 b.1)

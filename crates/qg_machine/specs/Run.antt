@@ -1,29 +1,23 @@
 -- Whole runs of the machine over the lines of a script (this project's own).
-use Rattle.std.specs.Prelude.{◌≡◌, ◌⊎◌, ℕ, List, [], ◌∷◌, ◌++◌, IsTrue}
+use Rattle.std.specs.Prelude.{◌≡◌, ◌⊎◌, ℕ, List, [], ◌∷◌, ◌++◌}
 use Rattle.qg_num.specs.declared.answer.Answer.{Answer}
 use Rattle.qg_num.specs.declared.command.Command.{Command}
 use Rattle.qg_grammar.specs.ScriptText.{IsLineOf}
 use Rattle.qg_grammar.specs.ReplyText.{reply_text, no_line}
-use Rattle.qg_grammar.specs.Served.{is_served_command}
 use Rattle.qg_state.specs.State.{State}
 use Rattle.qg_machine.specs.Step.{Step, Stays}
-
--- the line is that of a command which is served
-pub record Asks (line : List ℕ) (command : Command) : Type 0 where
-  pub line_of : IsLineOf line command
-  pub served : IsTrue (is_served_command command)
 
 -- the line is that of a command, which the machine does or refuses
 pub record Obeys (old : State) (line reply : List ℕ) (commits : List State) (new : State) : Type 0 where
   pub command : Command
   pub answer : Answer
-  pub asked : Asks line command
+  pub asked : IsLineOf line command
   pub step : Step old command answer commits new
   pub told : reply ≡ reply_text answer
 
 -- the line is no command's
 pub record Ignores (old : State) (line reply : List ℕ) (commits : List State) (new : State) : Type 0 where
-  pub asked : (command : Command) → Asks line command → ⊥
+  pub asked : (command : Command) → IsLineOf line command → ⊥
   pub stays : Stays old commits new
   pub told : reply ≡ no_line
 

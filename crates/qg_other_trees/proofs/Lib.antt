@@ -2,6 +2,7 @@ pub mod Slots
 pub mod Enough
 pub mod TreesIn
 pub mod Others
+pub mod QuotaTree
 pub mod Recorded
 pub mod Telling
 pub mod Weight
@@ -16,3 +17,4 @@ pub mod Owing
 pub mod Sound
 mod Lists
 pub mod One
+mod Seventh

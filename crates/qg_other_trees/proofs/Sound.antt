@@ -3,6 +3,7 @@ use Rattle.std.proofs.Common.{◌≡◌, ℕ, ◌+◌, ◌≤◌, Bool, true, fa
 use Rattle.std.specs.Bool.{then_some}
 use Rattle.std.specs.Prelude.{◌&&◌, ◌==◌, nat_le, nat_lt, unwrap_or, Option, Some, None, Ok, slice_range}
 use Rattle.std.specs.List.{All, AllByRecursion, IsDistinct, filter_map, find, list_all}
+use Rattle.std.specs.Option.{option_map}
 use Rattle.std.proofs.lemmas.Bool.{eq-eqb, le-leb}
 use Rattle.std.proofs.lemmas.List.Elements.{All-contains, Contains-append_left, Contains-append_right, Contains-get_or}
 use Rattle.qg_num.specs.declared.rule.Rule.{Rule}
@@ -32,27 +33,30 @@ use Rattle.qg_state.specs.State.{Layout, Placed, State, Subvolume, layout_of, ne
 use Rattle.qg_verdict.specs.declared.failure.Failure.{Failure}
 use Rattle.qg_verdict.specs.declared.tree.Tree.TheVariants.{Extents, Files, Quotas, Roots}
 use Rattle.qg_verdict.specs.Failure.{first_failure, unless}
-use Rattle.qg_verdict.specs.ImageState.{as_committed, extent_parts, items_of_root, layout_in, other_nodes, quota_in, quota_parts, quota_told, roots_in, state_in, subvolume_in, subvolume_roots, subvolumes_in, super_in, super_of}
+use Rattle.qg_verdict.specs.ImageState.{as_committed, extent_parts, items_of_root, layout_in, nodes_of_root, of_tree, other_nodes, quota_in, quota_parts, quota_told, roots_in, state_in, subvolume_in, subvolume_roots, subvolumes_in, super_in, super_of, tree_nodes}
 use Rattle.qg_verdict.specs.OtherTrees.{subvolume_items, super_at}
 use Rattle.qg_verdict.specs.Verdict.{IsSound, are_few, are_roots, counts_failure, extent_set, is_quota, most_subvolumes, places_failure, quota_failure, references_failure, root_failure, roots_failure, space_failure, subvolume_failure, together_failure}
 use Rattle.qg_verdict.specs.Walk.{node_found, root_expected, root_told, tree_failure}
 use Rattle.qg_machine.specs.Layout.{IsTreeOf, IsWhole}
 use Rattle.qg_reach.proofs.Layouts.{layout_by, layout_in-nodes}
 use Rattle.qg_check.proofs.Verdicts.{image_failure_parts, rest_failure, verdict_some}
-use Rattle.qg_contents.specs.Written.{parts_of_quota, roots_named}
+use Rattle.qg_check.specs.Editable.{AreGroupsOf}
+use Rattle.qg_contents.specs.Written.{roots_named}
+use Rattle.qg_tree.specs.declared.building.Built.{Built}
 use Rattle.qg_refs.specs.declared.kept.Kept.{Kept}
 use Rattle.qg_extents.specs.Written.{parts_of_book}
 use Rattle.qg_other_trees.specs.declared.laying.OtherTrees.{OtherTrees}
 use Rattle.qg_other_trees.specs.Holds.{AreRuns, HasCommit, HoldsLayout, IsToCome, IsTreeIn, nodes_of_roots}
 use Rattle.qg_other_trees.specs.Sound.{IsCommitted, KeepsRules, committed}
 use Rattle.qg_other_trees.specs.Telling.{IsStateOf}
-use Rattle.qg_other_trees.specs.Trees.{AreTrees, nodes_laid, superblock_laid}
+use Rattle.qg_other_trees.specs.Trees.{AreTrees, IsQuotaTreeOf, nodes_laid, quota_nodes_laid, root_item_laid, superblock_laid}
 use Rattle.qg_other_trees.proofs.Found.{item_of, items_are, items_of, those_found}
 use Rattle.qg_other_trees.proofs.LayoutSame.{layout_is}
-use Rattle.qg_other_trees.proofs.Lists.{quota_few, quota_keeps, quota_said, quotas_found, roots_keep, subvolumes_named}
+use Rattle.qg_other_trees.proofs.Lists.{quota_few, quota_keeps, quota_said, quotas_named, roots_keep, subvolumes_named}
 use Rattle.qg_other_trees.proofs.MetNodes.{those}
+use Rattle.qg_other_trees.proofs.QuotaTree.{parts_if, quota_walked, root_if}
 use Rattle.qg_other_trees.proofs.Recorded.{book_agrees}
-use Rattle.qg_other_trees.proofs.Telling.{are_those, behind_extents, behind_quotas, extents_root, for_extents, for_quotas, for_roots, others, quotas_root}
+use Rattle.qg_other_trees.proofs.Telling.{are_those, behind_extents, behind_quotas, built_for, extents_root, for_extents, for_roots, others, quotas_root}
 use Rattle.qg_other_trees.proofs.TreesIn.{IsTreeIn-open, IsTreeIn-told, those_open, those_told}
 use Rattle.qg_other_trees.proofs.Walked.{in_slots, tree_in}
 use Rattle.qg_other_trees.proofs.Whole.{nodes}
@@ -142,17 +146,63 @@ references_kept : (super : Super) (image : List ℕ) (layout : Layout) → disag
 unfolding references_failure
 references_kept super image layout agree home = rw (agree, home) refl
 
+-- ---- the quota tree
+
+-- what an image has of the quota tree that was laid out, if one was
+record FindsQuota (super : Super) (image : List ℕ) (nodesize generation : ℕ) (quota : Option Quota) (slots : List ℕ)
+    (quotas : Option Built) (laid : IsQuotaTreeOf nodesize generation quota slots quotas) : Type 0 where
+  nodes : of_tree (nodes_of_root Quotas super image) (root_if generation quotas)
+      ≡ quota_walked nodesize generation quota slots quotas laid
+  parts : filter_map quota_part (of_tree (items_of_root Quotas super image) (root_if generation quotas))
+      ≡ parts_if generation quota
+  walked : root_failure Quotas super image (root_if generation quotas) ≡ None
+
+-- its items tell the quota
+quota_back : (nodesize generation : ℕ) (subvolumes : List ℕ) (quota : Option Quota) (slots : List ℕ) (quotas : Option Built)
+    → AreGroupsOf generation subvolumes quota → IsQuotaTreeOf nodesize generation quota slots quotas
+    → option_map (λ root. quota_told (parts_if generation quota)) (root_if generation quotas) ≡ quota
+quota_back nodesize generation subvolumes None slots None groups laid = refl
+quota_back nodesize generation subvolumes None slots (Some built) groups laid = absurd laid
+quota_back nodesize generation subvolumes (Some quota) slots None groups laid = absurd laid
+quota_back nodesize generation subvolumes (Some quota) slots (Some built) groups laid =
+    ap (λ (q : Quota). Some q) (sym (quota_said generation subvolumes quota groups))
+
+-- and break no rule
+quota_passes : (super : Super) (image : List ℕ) (nodesize generation : ℕ) (subvolumes : List ℕ) (quota : Option Quota)
+    (slots : List ℕ) (quotas : Option Built) (roots : List (ℕ × RootItem)) → AreGroupsOf generation subvolumes quota
+    → IsQuotaTreeOf nodesize generation quota slots quotas → keys_of (subvolume_roots roots) ≡ subvolumes
+    → quota_parts super image ≡ parts_if generation quota
+    → root_failure Quotas super image (root_if generation quotas) ≡ None
+    → quota_failure super image roots (root_if generation quotas) ≡ None
+quota_passes super image nodesize generation subvolumes None slots None roots groups laid same said walked = refl
+quota_passes super image nodesize generation subvolumes None slots (Some built) roots groups laid same said walked =
+    absurd laid
+quota_passes super image nodesize generation subvolumes (Some quota) slots None roots groups laid same said walked =
+    absurd laid
+quota_passes super image nodesize generation subvolumes (Some quota) slots (Some built) roots groups laid same said walked =
+    let root = root_item_laid built generation in
+    let parts = quota_parts super image in
+    let subs = keys_of (subvolume_roots roots) in
+    let keeps : is_quota subs parts ≡ true =
+    ap (λ (list : List ℕ). is_quota list parts) same ∙ ap (is_quota subvolumes) said
+    ∙ quota_keeps generation subvolumes quota groups in
+    let few : are_few parts ≡ true = ap are_few said ∙ quota_few generation subvolumes quota groups in
+    three_none (tree_failure Quotas super image (root_told root) root.bytenr)
+    (unless (is_quota subs parts) rule.Quota root.bytenr) (unless (are_few parts) rule.Limits root.bytenr) walked
+    (kept_so (is_quota subs parts) rule.Quota root.bytenr keeps)
+    (kept_so (are_few parts) rule.Limits root.bytenr few)
+
 -- ---- the image
 
-module _ (sizes : Sizes) (roots : List (ℕ × RootItem)) (book : List (ℕ × Kept)) (quota : Quota) (slots : List ℕ)
-    (trees : OtherTrees) (old : State) (image : List ℕ) (whole : IsWhole old)
+module _ (sizes : Sizes) (roots : List (ℕ × RootItem)) (book : List (ℕ × Kept)) (quota : Option Quota)
+    (slots : List ℕ) (trees : OtherTrees) (old : State) (image : List ℕ) (whole : IsWhole old)
     (differ : IsDistinct (λ a b. a == b) slots)
     (are : AreTrees sizes (next_generation old) roots book quota slots trees)
     (is : IsStateOf sizes (next_generation old) roots book quota (committed [] old quota))
     (has_given : HasCommit trees.superblock (nodes_laid trees) image)
     (holds_given : HoldsLayout trees.superblock image old.layout)
     (runs : AreRuns old) (space : space_failure old.sizes (extent_set (present_extents old)) ≡ None)
-    (counts : counts_failure (layout_of old) (Some quota) ≡ None)
+    (counts : counts_failure (layout_of old) quota ≡ None)
     (home : homeless (layout_of old) ≡ None) where
   abbrev state : State
   state = committed [] old quota
@@ -185,7 +235,7 @@ module _ (sizes : Sizes) (roots : List (ℕ × RootItem)) (book : List (ℕ × K
   IsThere node = node_found super image (header_of node).address ≡ Ok node
 
   found_first : All IsThere (trees.roots.nodes ++ trees.extents.nodes)
-  found_first = all_front IsThere (trees.roots.nodes ++ trees.extents.nodes) trees.quotas.nodes has.found
+  found_first = all_front IsThere (trees.roots.nodes ++ trees.extents.nodes) (quota_nodes_laid trees.quotas) has.found
 
   abbrev root_items : List Item
   root_items = are.root_tree.items
@@ -193,13 +243,10 @@ module _ (sizes : Sizes) (roots : List (ℕ × RootItem)) (book : List (ℕ × K
   abbrev extent_items : List Item
   extent_items = are.extent_tree.items
 
-  abbrev quota_items : List Item
-  quota_items = are.quota_tree.items
-
   abbrev named_extents : RootItem
   named_extents = extents_root sizes generation roots book quota slots trees state differ are is
 
-  abbrev named_quotas : RootItem
+  abbrev named_quotas : Option RootItem
   named_quotas = quotas_root sizes generation roots book quota slots trees state differ are is
 
   root_tree : IsTreeIn Roots super image (root_expected None None) super.root root_items trees.roots.nodes
@@ -235,22 +282,33 @@ module _ (sizes : Sizes) (roots : List (ℕ × RootItem)) (book : List (ℕ × K
       (for_extents sizes generation roots book quota slots trees state differ are is) image
       (all_back IsThere trees.roots.nodes trees.extents.nodes found_first)
 
-  quota_tree : IsTreeIn Quotas super image (root_told named_quotas) named_quotas.bytenr quota_items trees.quotas.nodes
-  quota_tree =
-      IsTreeIn-told Quotas super sizes.nodesize QUOTA_TREE generation quota_items
-      (behind_extents sizes generation roots book quota slots trees state differ are is) trees.quotas.nodes
-      trees.quotas.root trees.quotas.level
-      (for_quotas sizes generation roots book quota slots trees state differ are is) image
-      (all_back IsThere (trees.roots.nodes ++ trees.extents.nodes) trees.quotas.nodes has.found)
+  abbrev behind : List ℕ
+  behind = behind_extents sizes generation roots book quota slots trees state differ are is
 
-  quota_order : quota_tree.those ≡ are.quota_tree.stands.reached.those
-  unfolding quota_tree
-  quota_order =
-      those_told Quotas super sizes.nodesize QUOTA_TREE generation quota_items
-      (behind_extents sizes generation roots book quota slots trees state differ are is) trees.quotas.nodes
-      trees.quotas.root trees.quotas.level
-      (for_quotas sizes generation roots book quota slots trees state differ are is) image
-      (all_back IsThere (trees.roots.nodes ++ trees.extents.nodes) trees.quotas.nodes has.found)
+  -- where its nodes are found
+  quota_finds : (q : Option Quota) (here : List ℕ) (quotas : Option Built)
+      → (laid : IsQuotaTreeOf sizes.nodesize generation q here quotas) → All IsThere (quota_nodes_laid quotas)
+      → FindsQuota super image sizes.nodesize generation q here quotas laid
+  quota_finds None here None laid there = record { nodes = refl; parts = refl; walked = refl }
+  quota_finds None here (Some built) laid there = absurd laid
+  quota_finds (Some q) here None laid there = absurd laid
+  quota_finds (Some q) here (Some built) laid there =
+      let fits = built_for sizes generation roots book quota slots trees state differ are is Quotas QUOTA_TREE _ here built refl
+      laid in
+      let tree = IsTreeIn-told Quotas super sizes.nodesize QUOTA_TREE generation laid.items here built.nodes built.root
+      built.level fits image there in
+      let order = those_told Quotas super sizes.nodesize QUOTA_TREE generation laid.items here built.nodes built.root
+      built.level fits image there in
+      record {
+        nodes = tree.nodes_are ∙ order;
+        parts = ap (λ (items : List Item). filter_map quota_part items) tree.items_are ∙ laid.told.told;
+        walked = tree.walked;
+      }
+
+  quota_tree : FindsQuota super image sizes.nodesize generation quota behind trees.quotas are.quota_tree
+  quota_tree =
+      quota_finds quota behind trees.quotas are.quota_tree
+      (all_back IsThere (trees.roots.nodes ++ trees.extents.nodes) (quota_nodes_laid trees.quotas) has.found)
 
   -- ---- what they say
 
@@ -261,8 +319,8 @@ module _ (sizes : Sizes) (roots : List (ℕ × RootItem)) (book : List (ℕ × K
   extents_named : value_at EXTENT_TREE (roots_in super image) ≡ Some named_extents
   extents_named = ap (value_at EXTENT_TREE) roots_said
 
-  quotas_named : value_at QUOTA_TREE (roots_in super image) ≡ Some named_quotas
-  quotas_named = ap (value_at QUOTA_TREE) roots_said ∙ quotas_found named_quotas roots
+  quotas_there : value_at QUOTA_TREE (roots_in super image) ≡ named_quotas
+  quotas_there = ap (value_at QUOTA_TREE) roots_said ∙ quotas_named generation named_extents roots named_quotas are.subvolumes
 
   only : subvolume_roots (roots_in super image) ≡ roots
   only = ap subvolume_roots roots_said ∙ subvolumes_named generation named_extents roots named_quotas are.subvolumes
@@ -276,11 +334,11 @@ module _ (sizes : Sizes) (roots : List (ℕ × RootItem)) (book : List (ℕ × K
       rw extents_named
       (ap (λ (items : List Item). filter_map extent_part items) extent_tree.items_are ∙ are.extent_tree.told.told)
 
-  quotas_said : quota_parts super image ≡ parts_of_quota generation quota.groups
+  quotas_said : quota_parts super image ≡ parts_if generation quota
   unfolding quota_parts
   quotas_said =
-      rw quotas_named
-      (ap (λ (items : List Item). filter_map quota_part items) quota_tree.items_are ∙ are.quota_tree.told.told)
+      ap (λ (root : Option RootItem). filter_map quota_part (of_tree (items_of_root Quotas super image) root)) quotas_there
+      ∙ quota_tree.parts
 
   agrees : Agrees (layout_of old) (extent_parts super image)
   agrees =
@@ -334,18 +392,23 @@ module _ (sizes : Sizes) (roots : List (ℕ × RootItem)) (book : List (ℕ × K
 
   -- ---- the state
 
+  root_nodes_are : tree_nodes Roots super image (root_expected None None) super.root ≡ are.root_tree.stands.reached.those
+  root_nodes_are = root_tree.nodes_are ∙ root_order
+
+  extent_nodes_are : of_tree (nodes_of_root Extents super image) (value_at EXTENT_TREE (roots_in super image))
+      ≡ are.extent_tree.stands.reached.those
+  extent_nodes_are =
+      ap (of_tree (nodes_of_root Extents super image)) extents_named ∙ extent_tree.nodes_are ∙ extent_order
+
+  quota_nodes_are : of_tree (nodes_of_root Quotas super image) (value_at QUOTA_TREE (roots_in super image))
+      ≡ quota_walked sizes.nodesize generation quota behind trees.quotas are.quota_tree
+  quota_nodes_are = ap (of_tree (nodes_of_root Quotas super image)) quotas_there ∙ quota_tree.nodes
+
+  three_are : (a b c x y z : List Node) → a ≡ x → b ≡ y → c ≡ z → a ++ b ++ c ≡ x ++ y ++ z
+  three_are a b c x y z first second third = rw (first, second, third) refl
+
   others_in : other_nodes super image ≡ others sizes generation roots book quota slots trees state differ are is
-  others_in =
-      rw (
-        extents_named,
-        quotas_named,
-        root_tree.nodes_are,
-        extent_tree.nodes_are,
-        quota_tree.nodes_are,
-        root_order,
-        extent_order,
-        quota_order,
-      ) refl
+  others_in = three_are _ _ _ _ _ _ root_nodes_are extent_nodes_are quota_nodes_are
 
   subvolumes_are : subvolumes_in super image ≡ old.subvolumes
   unfolding subvolumes_in
@@ -361,11 +424,11 @@ module _ (sizes : Sizes) (roots : List (ℕ × RootItem)) (book : List (ℕ × K
       ∙ ap (λ (list : List Node). layout_by (extent_parts super image) list) nodes_are
       ∙ layout_is old whole served runs (in_slots old super image whole comes holds) (extent_parts super image) agrees
 
-  quota_same : quota_in super image ≡ Some quota
+  quota_same : quota_in super image ≡ quota
   quota_same =
-      rw quotas_named
-      (ap (λ (parts : List QuotaPart). Some (quota_told parts)) quotas_said
-      ∙ ap (λ (quota : Quota). Some quota) (sym (quota_said generation (keys_of roots) quota are.groups)))
+      ap (λ (root : Option RootItem). option_map (λ (own : RootItem). quota_told (quota_parts super image)) root) quotas_there
+      ∙ ap (λ (parts : List QuotaPart). option_map (λ (own : RootItem). quota_told parts) named_quotas) quotas_said
+      ∙ quota_back sizes.nodesize generation (keys_of roots) quota behind trees.quotas are.groups are.quota_tree
 
   abbrev laid : List Node
   laid = others sizes generation roots book quota slots trees state differ are is
@@ -412,23 +475,16 @@ module _ (sizes : Sizes) (roots : List (ℕ × RootItem)) (book : List (ℕ × K
   extents_pass : root_failure Extents super image (value_at EXTENT_TREE (roots_in super image)) ≡ None
   extents_pass = ap (root_failure Extents super image) extents_named ∙ extent_tree.walked
 
-  quota_pass : quota_failure super image (roots_in super image) (Some named_quotas) ≡ None
+  subvolumes_keyed : keys_of (subvolume_roots (roots_in super image)) ≡ keys_of roots
+  subvolumes_keyed = ap (λ (list : List (ℕ × RootItem)). keys_of list) only
+
+  quota_pass : quota_failure super image (roots_in super image) named_quotas ≡ None
   quota_pass =
-      let parts = quota_parts super image in
-      let subvolumes = keys_of (subvolume_roots (roots_in super image)) in
-      let named : subvolumes ≡ keys_of roots = ap (λ (list : List (ℕ × RootItem)). keys_of list) only in
-      let keeps : is_quota subvolumes parts ≡ true =
-      ap (λ (subs : List ℕ). is_quota subs parts) named ∙ ap (is_quota (keys_of roots)) quotas_said
-      ∙ quota_keeps generation (keys_of roots) quota are.groups in
-      three_none (tree_failure Quotas super image (root_told named_quotas) named_quotas.bytenr)
-      (unless (is_quota subvolumes parts) rule.Quota named_quotas.bytenr)
-      (unless (are_few parts) rule.Limits named_quotas.bytenr) quota_tree.walked
-      (kept_so (is_quota subvolumes parts) rule.Quota named_quotas.bytenr keeps)
-      (kept_so (are_few parts) rule.Limits named_quotas.bytenr
-      (ap are_few quotas_said ∙ quota_few generation (keys_of roots) quota are.groups))
+      quota_passes super image sizes.nodesize generation (keys_of roots) quota behind trees.quotas (roots_in super image)
+      are.groups are.quota_tree subvolumes_keyed quotas_said quota_tree.walked
 
   quotas_pass : quota_failure super image (roots_in super image) (value_at QUOTA_TREE (roots_in super image)) ≡ None
-  quotas_pass = ap (quota_failure super image (roots_in super image)) quotas_named ∙ quota_pass
+  quotas_pass = ap (quota_failure super image (roots_in super image)) quotas_there ∙ quota_pass
 
   subvolumes_pass : first_failure (map (λ entry. subvolume_failure super image entry.1) (subvolume_roots (roots_in super image)))
       ≡ None
@@ -515,6 +571,7 @@ module _ (sizes : Sizes) (roots : List (ℕ × RootItem)) (book : List (ℕ × K
 
   -- these are the nodes of its other trees, each tree's in the order of its walk
   pub committed_others : is_committed.others
-      ≡ are.root_tree.stands.reached.those ++ are.extent_tree.stands.reached.those ++ are.quota_tree.stands.reached.those
+      ≡ are.root_tree.stands.reached.those ++ are.extent_tree.stands.reached.those
+      ++ quota_walked sizes.nodesize generation quota behind trees.quotas are.quota_tree
   unfolding is_committed
   committed_others = refl

@@ -1,5 +1,5 @@
 -- What state the trees of a commit tell, and what an image stands for that holds them (this project's own).
-use Rattle.std.specs.Prelude.{◌≡◌, ℕ, ◌<◌, ◌≤◌, false, List, [], ◌==◌, map, Some, None, IsTrue}
+use Rattle.std.specs.Prelude.{◌≡◌, ℕ, ◌<◌, ◌≤◌, false, List, [], ◌==◌, map, Option, None, IsTrue}
 use Rattle.std.specs.List.{AllByRecursion, IsDistinct}
 use Rattle.qg_node.specs.declared.node.Node.{Node}
 use Rattle.qg_node.specs.Nodes.{items_bytes}
@@ -38,8 +38,8 @@ ItemsWeighWithin = (layout : Layout) (book : List (ℕ × Kept)) → IsTable boo
 
 -- trees that were laid out in slots that differ tell the state that they were laid out for
 abbrev pub OtherTreesTell : Type 0
-OtherTreesTell = (sizes : Sizes) (generation : ℕ) (roots : List (ℕ × RootItem)) (book : List (ℕ × Kept)) (quota : Quota)
-    (slots : List ℕ) (trees : OtherTrees) (state : State)
+OtherTreesTell = (sizes : Sizes) (generation : ℕ) (roots : List (ℕ × RootItem)) (book : List (ℕ × Kept))
+    (quota : Option Quota) (slots : List ℕ) (trees : OtherTrees) (state : State)
     → IsDistinct (λ a b. a == b) slots → AreTrees sizes generation roots book quota slots trees
     → IsStateOf sizes generation roots book quota state → (others : List Node) × AreToldBy state slots trees others
 
@@ -70,12 +70,12 @@ LayoutIsFound = (state : State) (super : Super) (image : List ℕ)
 -- state's extents keep the rule `space`, the counters told are those of its layout, and its nodes are at home. It stands
 -- for the state that a commit leaves
 abbrev pub CommitIsSound : Type 0
-CommitIsSound = (sizes : Sizes) (roots : List (ℕ × RootItem)) (book : List (ℕ × Kept)) (quota : Quota)
+CommitIsSound = (sizes : Sizes) (roots : List (ℕ × RootItem)) (book : List (ℕ × Kept)) (quota : Option Quota)
     (slots : List ℕ) (trees : OtherTrees) (old : State) (image : List ℕ)
     → IsWhole old → IsDistinct (λ a b. a == b) slots
     → AreTrees sizes (next_generation old) roots book quota slots trees
     → IsStateOf sizes (next_generation old) roots book quota (committed [] old quota)
     → HasCommit trees.superblock (nodes_laid trees) image → HoldsLayout trees.superblock image old.layout
     → AreRuns old → space_failure old.sizes (extent_set (present_extents old)) ≡ None
-    → counts_failure (layout_of old) (Some quota) ≡ None → homeless (layout_of old) ≡ None
+    → counts_failure (layout_of old) quota ≡ None → homeless (layout_of old) ≡ None
     → IsCommitted trees old quota slots image

@@ -1,5 +1,5 @@
 -- Which rules an image keeps that holds the trees of a commit, and the state that it stands for (this project's own).
-use Rattle.std.specs.Prelude.{◌≡◌, ℕ, List, [], length, map, Some, None}
+use Rattle.std.specs.Prelude.{◌≡◌, ℕ, List, [], length, map, Option, None}
 use Rattle.qg_node.specs.declared.node.Node.{Node}
 use Rattle.qg_items.specs.declared.tree.TheConstants.{EXTENT_TREE, QUOTA_TREE}
 use Rattle.qg_super.specs.declared.superblock.Super.{Super}
@@ -17,14 +17,14 @@ use Rattle.qg_verdict.specs.Verdict.{counts_failure, extent_set, places_failure,
 use Rattle.qg_other_trees.specs.declared.laying.OtherTrees.{OtherTrees}
 use Rattle.qg_other_trees.specs.Telling.{AreToldBy}
 
--- the state that a commit leaves of this one, where its groups are then these, and its other trees have these nodes
-abbrev pub committed : List Node → State → Quota → State
+-- the state that a commit leaves of this one, where its quota is then this, and its other trees have these nodes
+abbrev pub committed : List Node → State → Option Quota → State
 committed others old quota = as_committed others (record {
   sizes = old.sizes;
   generation = next_generation old;
   subvolumes = old.subvolumes;
   layout = old.layout;
-  quota = Some quota;
+  quota = quota;
   pending = [];
   held = record { nodes = []; others = []; extents = [] };
 })
@@ -43,7 +43,7 @@ pub record KeepsRules (super : Super) (image : List ℕ) : Type 0 where
 
 -- An image breaks none of the rules, and stands for the state that a commit leaves, its other trees having the nodes that
 -- were laid out in these slots, each tree's in the order of its walk; and they tell that state
-pub record IsCommitted (trees : OtherTrees) (old : State) (quota : Quota) (slots image : List ℕ) : Type 0 where
+pub record IsCommitted (trees : OtherTrees) (old : State) (quota : Option Quota) (slots image : List ℕ) : Type 0 where
   pub others : List Node
   pub told : AreToldBy (committed others old quota) slots trees others
   pub rules : KeepsRules trees.superblock image

@@ -64,14 +64,14 @@ HasRoot layout entry = IsSome (node_at layout entry.1.root)
 
 -- a committed state with these sizes and this generation; its subvolumes have these ROOT_ITEMs, and its quota is this;
 -- and a table has the references to its nodes and data extents
-pub record IsStateOf (sizes : Sizes) (generation : ℕ) (roots : List (ℕ × RootItem)) (book : List (ℕ × Kept)) (quota : Quota)
-    (state : State) : Type 0 where
+pub record IsStateOf (sizes : Sizes) (generation : ℕ) (roots : List (ℕ × RootItem)) (book : List (ℕ × Kept))
+    (quota : Option Quota) (state : State) : Type 0 where
   pub some : 1 ≤ generation
   pub same_sizes : sizes ≡ state.sizes
   pub same_generation : generation ≡ state.generation
   pub there : AllByRecursion (HasRoot state.layout) state.subvolumes
   pub roots_are : subvolume_items state ≡ roots
-  pub quota_is : state.quota ≡ Some quota
+  pub quota_is : state.quota ≡ quota
   pub table : IsTable book
   pub known : Knows (layout_of state) (book_of book)
 

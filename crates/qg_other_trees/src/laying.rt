@@ -3,11 +3,14 @@ ghost use Rattle.std.specs.Prelude.{◌≡◌, ◌<◌, ◌≤◌, ◌-◌, ◌^
 ghost use Rattle.qg_node.specs.NodeText.{IsNodeSize};
 ghost use Rattle.qg_super.specs.Places.{is_served};
 ghost use Rattle.qg_super.specs.SuperText.{is_super};
-ghost use Rattle.qg_other_trees.specs.Trees.{AreTreesOf, CanBeLaid, most_nodes_of_trees, nodes_laid, stamp_after, superblock_laid};
+ghost use Rattle.qg_other_trees.specs.Trees.{AreTreesOf, CanBeLaid, most_nodes_of_trees, nodes_laid, quota_nodes_laid, stamp_after, superblock_laid};
 
-use crate::trees::{OwnRoots, extent_tree, quota_tree, root_of, root_tree};
+use crate::trees::{
+    OwnRoots, extent_tree, quota_len, quota_nodes, quota_root, quota_tree_of, root_of, root_tree,
+};
 use qg_extents::Extents;
 use qg_items::RootItem;
+use qg_node::Node;
 use qg_num::{Address, Counters, Generation, NoMemory, RootId};
 use qg_state::Quota;
 use qg_super::{Sizes, Super};
@@ -21,10 +24,27 @@ pub struct OtherTrees {
     pub superblock: Super,
     /// The extent tree, in the first slots.
     pub extents: Built,
-    /// The quota tree, behind it.
-    pub quotas: Built,
+    /// The quota tree, behind it; none while quota is off.
+    pub quotas: Option<Built>,
     /// The root tree, behind that.
     pub roots: Built,
+}
+
+impl OtherTrees {
+    /// The nodes of the quota tree; none while quota is off.
+    pub fn quota_nodes(&self) -> &[Node]
+        ensures { result.now ≡ quota_nodes_laid self.now.quotas }
+    {
+        quota_nodes(&self.quotas)
+    }
+
+    /// How many nodes the trees have together.
+    pub fn len(&self) -> usize
+        requires { length (nodes_laid self.now) < 2 ^ 64 }
+        ensures { result ≡ length (nodes_laid self.now) }
+    {
+        self.roots.nodes.len() + self.extents.nodes.len() + quota_len(&self.quotas)
+    }
 }
 
 /// What these trees tell (this project's own).
@@ -34,12 +54,13 @@ pub struct Told<'a> {
     pub roots: &'a [(RootId, RootItem)],
     /// The references to their nodes and data extents.
     pub book: &'a Extents,
-    /// The groups, ascending by number: counters, limits and stamps as they are to be stored.
-    pub quota: &'a Quota,
+    /// The groups, ascending by number: counters, limits and stamps as they are to be stored; and their relations. None while
+    /// quota is off.
+    pub quota: &'a Option<Quota>,
 }
 
 /// The root, extent and quota trees of the generation `next` in an image of these sizes, and the superblock that leads to
-/// them.
+/// them. While quota is off there is no quota tree.
 ///
 /// The trees lie in the first of `slots`, which are addresses of free slots, in bytes: the extent tree first, then the
 /// quota tree, then the root tree.
@@ -59,11 +80,11 @@ pub fn lay_other_trees(
     let nodesize = node_size(sizes);
     let extents = extent_tree(alloc, nodesize, next, told.book, slots)?;
     let (_, slots) = slots.split_at(extents.nodes.len());
-    let quotas = quota_tree(alloc, nodesize, next, told.quota, slots)?;
-    let (_, slots) = slots.split_at(quotas.nodes.len());
+    let quotas = quota_tree_of(alloc, nodesize, next, told.quota, slots)?;
+    let (_, slots) = slots.split_at(quota_len(&quotas));
     let own = OwnRoots {
         extents: root_of(&extents, next),
-        quotas: root_of(&quotas, next),
+        quotas: quota_root(&quotas, next),
     };
     let roots = root_tree(alloc, nodesize, next, &own, told.roots, slots)?;
     Ok(OtherTrees {

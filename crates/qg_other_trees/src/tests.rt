@@ -1,6 +1,6 @@
 // What no clause says: that the call succeeds. What the trees then have was worked out by hand.
 ghost use Rattle.std.specs.Prelude.{◌≡◌, [], ◌∷◌, IfOk};
-ghost use Rattle.qg_other_trees.specs.Examples.{fresh_quota};
+ghost use Rattle.qg_other_trees.specs.Examples.{fresh_quota, seventh_roots};
 
 use crate::{OtherTrees, Told, lay_other_trees, stamp_after};
 use qg_extents::fresh_records;
@@ -65,14 +65,21 @@ fn one_group(alloc: Global) -> Result<Quota, NoMemory>
     })
 }
 
-// The trees of the seventh generation, where the subvolume is as it was made.
-fn lay_seventh(alloc: Global) -> Result<OtherTrees, NoMemory> {
-    let sizes = Sizes {
+// The sizes of the image.
+fn sizes() -> Sizes
+    ensures { result ≡ record { nodesize = 4096; slots = 64; sectors = 16 } }
+{
+    Sizes {
         nodesize: 4096,
         slots: 64,
         sectors: 16,
-    };
-    let book = fresh_records(alloc, sizes, Address::new(ROOT))?;
+    }
+}
+
+// The subvolume's ROOT_ITEM, as it was made.
+fn own_roots() -> [(RootId, RootItem); 1]
+    ensures { result ≡ seventh_roots }
+{
     let root = RootItem {
         generation: Generation::new(1),
         bytenr: Address::new(ROOT),
@@ -80,14 +87,34 @@ fn lay_seventh(alloc: Global) -> Result<OtherTrees, NoMemory> {
         refs: 1,
         level: 0,
     };
-    let roots = [(RootId::new(5), root)];
-    let quota = one_group(alloc)?;
+    [(RootId::new(5), root)]
+}
+
+// The trees of the seventh generation, where the subvolume is as it was made.
+fn lay_seventh(alloc: Global) -> Result<OtherTrees, NoMemory> {
+    let book = fresh_records(alloc, sizes(), Address::new(ROOT))?;
+    let roots = own_roots();
+    let group = one_group(alloc)?;
+    let quota = Some(group);
     let told = Told {
         roots: &roots,
         book: &book,
         quota: &quota,
     };
-    lay_other_trees(alloc, sizes, Generation::new(7), &told, &slots())
+    lay_other_trees(alloc, sizes(), Generation::new(7), &told, &slots())
+}
+
+// The same while quota is off.
+fn lay_without_quota(alloc: Global) -> Result<OtherTrees, NoMemory> {
+    let book = fresh_records(alloc, sizes(), Address::new(ROOT))?;
+    let roots = own_roots();
+    let quota = None;
+    let told = Told {
+        roots: &roots,
+        book: &book,
+        quota: &quota,
+    };
+    lay_other_trees(alloc, sizes(), Generation::new(7), &told, &slots())
 }
 
 // The items of a node.
@@ -138,9 +165,23 @@ fn three_leaves_of_the_seventh_generation(rt: HostRuntime) -> Result<(), Fail> {
     let record = [(ROOT, 169, 0), (ROOT, 176, 5)];
     assert!(rt; is_leaf(&trees.extents, 1052672, 2, &record));
     let group = [(0, 240, 0), (0, 242, 5), (0, 244, 5)];
-    assert!(rt; is_leaf(&trees.quotas, 1060864, 8, &group));
+    match &trees.quotas {
+        Some(quotas) => assert!(rt; is_leaf(quotas, 1060864, 8, &group)),
+        None => assert!(rt; false),
+    }
     let roots = [(2, 132, 0), (5, 132, 0), (8, 132, 0)];
     assert!(rt; is_leaf(&trees.roots, 1048576, 1, &roots));
+    Ok(())
+}
+
+#[test]
+fn two_leaves_while_quota_is_off(rt: HostRuntime) -> Result<(), Fail> {
+    let trees = lay_without_quota(rt.alloc())?;
+    let record = [(ROOT, 169, 0), (ROOT, 176, 5)];
+    assert!(rt; is_leaf(&trees.extents, 1052672, 2, &record));
+    assert!(rt; trees.quotas.is_none());
+    let roots = [(2, 132, 0), (5, 132, 0)];
+    assert!(rt; is_leaf(&trees.roots, 1060864, 1, &roots));
     Ok(())
 }
 

@@ -8,7 +8,7 @@ use Rattle.qg_num.specs.declared.command.Command.{Command}
 use Rattle.qg_grammar.specs.ScriptText.{script_lines}
 use Rattle.qg_grammar.specs.ReplyText.{reply_text, no_line}
 use Rattle.qg_script.specs.Lines.{LosesLine, TakesLine}
-use Rattle.qg_script.specs.ServedLines.{IsServedLineOf}
+use Rattle.qg_grammar.specs.ScriptText.{IsLineOf}
 use Rattle.qg_state.specs.State.{State}
 use Rattle.qg_store.specs.Answering.{AnswersOn, IsDoneSoFar}
 use Rattle.qg_store.specs.Stored.{Stored, IsStoreOf}
@@ -21,7 +21,7 @@ use Rattle.qg_program.specs.Turning.{FailsToTurn, IsLineSoFar, IsReply, IsTurn}
 
 -- a command was done or refused
 pub reply-command : (old : State) (events : List Event) (line reply : List ℕ) (store : Stored) (history : Option (List Event)) (command : Command) (answer : Answer)
-    → IsServedLineOf line command → AnswersOn old command answer store.kept events history → store.stopped ≡ None → reply ≡ reply_text answer
+    → IsLineOf line command → AnswersOn old command answer store.kept events history → store.stopped ≡ None → reply ≡ reply_text answer
     → IsReply old events line reply store history
 reply-command old events line reply store history command answer asked does running told = record {
   new = does.1.new;
@@ -29,7 +29,7 @@ reply-command old events line reply store history command answer asked does runn
   turn = inl (record {
     command = command;
     answer = answer;
-    asked = record { line_of = asked.line_of; served = asked.served };
+    asked = asked;
     step = does.1.step;
     told = told;
   });
@@ -39,13 +39,13 @@ reply-command old events line reply store history command answer asked does runn
 
 -- the line is no command's
 pub reply-no_line : (old : State) (events : List Event) (line reply : List ℕ) (store : Stored) (history : Option (List Event))
-    → ((command : Command) → IsServedLineOf line command → ⊥) → IsStoreOf store old history → history ≡ Some events → reply ≡ no_line
+    → ((command : Command) → IsLineOf line command → ⊥) → IsStoreOf store old history → history ≡ Some events → reply ≡ no_line
     → IsReply old events line reply store history
 reply-no_line old events line reply store history none stands known told = record {
   new = old;
   commits = [];
   turn = inr (record {
-    asked = λ command asks. none command (record { line_of = asks.line_of; served = asks.served });
+    asked = none;
     stays = (refl, refl);
     told = told;
   });
@@ -55,10 +55,10 @@ reply-no_line old events line reply store history none stands known told = recor
 
 -- what the command of a line has done
 pub so_far-command : (old : State) (events : List Event) (line : List ℕ) (history : Option (List Event)) (command : Command)
-    → IsServedLineOf line command → IsDoneSoFar old command events history → IsLineSoFar old line events history
+    → IsLineOf line command → IsDoneSoFar old command events history → IsLineSoFar old line events history
 so_far-command old events line history command asked (inl none) = inl none
 so_far-command old events line history command asked (inr starts) =
-    inr (record { command = command; asked = record { line_of = asked.line_of; served = asked.served }; starts = starts })
+    inr (record { command = command; asked = asked; starts = starts })
 
 -- a line that was taken is the first of those that are not answered any more
 stops-before : (old : State) (events : List Event) (before rest line : List ℕ) (history : Option (List Event)) → LosesLine before rest line

@@ -6,9 +6,9 @@ use Rattle.std.specs.Io.KnownBytes.{append_known}
 use Rattle.qg_device.specs.History.{Event, synced}
 use Rattle.qg_edge.specs.Appended.{AppendsFront}
 use Rattle.qg_num.specs.declared.command.Command.{Command}
-use Rattle.qg_grammar.specs.ScriptText.{script_lines, longest_script}
+use Rattle.qg_grammar.specs.ScriptText.{IsLineOf, script_lines, longest_script}
 use Rattle.qg_state.specs.State.{Committed, State}
-use Rattle.qg_machine.specs.Run.{Asks, Run}
+use Rattle.qg_machine.specs.Run.{Run}
 use Rattle.qg_commit.specs.Opened.{IsOpened, IsOpening}
 use Rattle.qg_store.specs.Answering.{StartsCommits}
 use Rattle.qg_store.specs.Making.{AreSynced, MadeCommits}
@@ -29,7 +29,7 @@ pub record MakesAll (held : Committed) (commits : List State) (events : List Eve
 -- a line asks for a command, and the calls of its commits came so far
 pub record StartsLine (old : State) (line : List ℕ) (events : List Event) (history : Option (List Event)) : Type 0 where
   pub command : Command
-  pub asked : Asks line command
+  pub asked : IsLineOf line command
   pub starts : StartsCommits old command events history
 
 -- the first of some lines is broken off in the midst of its commits

@@ -6,7 +6,6 @@ ghost use Rattle.qg_num.specs.declared.fault.BlockFault.{BlockFault};
 ghost use Rattle.qg_num.specs.declared.fault.Stop.TheVariants.{Aborted};
 ghost use Rattle.qg_grammar.specs.FailureText.{broken_text};
 ghost use Rattle.qg_grammar.specs.ScriptText.{is_in_grammar};
-ghost use Rattle.qg_grammar.specs.Served.{is_served_command};
 ghost use Rattle.qg_state.specs.State.{State};
 ghost use Rattle.qg_store.specs.Answering.{AnswersOn, IsDoneSoFar};
 ghost use Rattle.qg_store.specs.Stored.{IsStoreOf, is_of_image};
@@ -40,7 +39,6 @@ impl<L: Ledger, M: Ledger> Session<L, M> {
     ) -> Result<Answer, Status>
         requires ready { IsReady self.old.store (D.history disk.old) (D.size disk.old) }
         requires numbers { IsTrue (is_in_grammar command.now) }
-        requires served { IsTrue (is_served_command command.now) }
         requires blank { text.old ≡ [] }
         ensures step { (state : State) (events : List Event) → IsStoreOf self.old.store state (D.history disk.old)
             → D.history disk.old ≡ Some events

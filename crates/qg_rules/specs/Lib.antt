@@ -1,5 +1,3 @@
 pub mod Files
 pub mod Parts
-pub mod Quota
-pub mod Roots
 pub mod Writable

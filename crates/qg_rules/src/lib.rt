@@ -1,15 +1,12 @@
-//! The rules on what all items of a tree say: the root tree's, the quota tree's and a subvolume's.
+//! The rules on what all items of a tree say: the root tree's and a subvolume's.
 #![tactic(auto)]
 
 mod files;
 mod parts;
-mod quota;
 mod roots;
-mod stage;
 
 pub use files::{
     INODES_END, LARGEST_SIZE, LEAST_INODE, is_aligned, is_between, is_piece, read_files,
 };
 pub use parts::FileParts;
-pub use quota::{QuotaFault, read_quota};
 pub use roots::{are_roots, root_of};

@@ -1,26 +1,19 @@
 // The rule on the root tree.
-ghost use Rattle.std.specs.Prelude.{◌≡◌, ◌==◌, ◌||◌, ℕ, not};
-ghost use Rattle.std.specs.List.{list_all};
+ghost use Rattle.std.specs.Prelude.{◌≡◌};
 ghost use Rattle.qg_image.specs.Table.{has_key, value_at};
 ghost use Rattle.qg_verdict.specs.Verdict.{are_roots};
-ghost use Rattle.qg_rules.specs.Roots.{is_alone};
 
-use crate::stage::SERVES_SUBVOLUMES;
 use qg_image::RootPart;
 use qg_items::RootItem;
-use qg_items::tree::{EXTENT_TREE, QUOTA_TREE, TOP_LEVEL};
+use qg_items::tree::{EXTENT_TREE, TOP_LEVEL};
 use qg_num::RootId;
-use qg_parts::is_subvolume_number;
 
-/// Whether the trees that must be there are, and no others than are served (rule `root`).
+/// Whether the trees that must be there are (rule `root`).
 #[tactic(auto, unfolding(qg_verdict::specs::Verdict::are_roots))]
 pub fn are_roots(parts: &[RootPart]) -> bool
     ensures { result ≡ are_roots parts.now }
 {
-    has_root(EXTENT_TREE, parts)
-        && has_root(TOP_LEVEL, parts)
-        && has_root(QUOTA_TREE, parts)
-        && (SERVES_SUBVOLUMES || is_alone(parts))
+    has_root(EXTENT_TREE, parts) && has_root(TOP_LEVEL, parts)
 }
 
 /// The ROOT_ITEM of a tree; None where there is no such tree.
@@ -39,11 +32,4 @@ fn has_root(tree: u64, parts: &[RootPart]) -> bool
     ensures { result ≡ has_key tree parts.now }
 {
     root_of(RootId::new(tree), parts).is_some()
-}
-
-// Whether the top-level subvolume is the only one.
-fn is_alone(parts: &[RootPart]) -> bool
-    ensures { result ≡ is_alone parts.now }
-{
-    parts.iter().all(|part| part.0.value() == TOP_LEVEL || !is_subvolume_number(part.0.value()))
 }

@@ -3,5 +3,7 @@ pub mod Scanning
 pub mod Adding
 pub mod Places
 pub mod Parting
+pub mod GroupTexts
 pub mod Rows
-pub mod Serving
+pub mod GroupRows
+pub mod Commands

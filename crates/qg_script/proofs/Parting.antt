@@ -41,7 +41,7 @@ decimal_has_no_space = decimal_by_steps (λ n digits. HasNoSpace digits) digit_h
     (λ n digits large front. All-append (λ byte. byte ≢ 32) digits ((48 + n % 10) ∷ []) front (digit_has_no_space (n % 10) (omega arith)))
 
 -- two ways of parting the same bytes are one
-same_parts : (a b rest behind : List ℕ) → HasNoSpace a → HasNoSpace b → IsBehindWord rest → IsBehindWord behind → a ++ rest ≡ b ++ behind → (a ≡ b) × (rest ≡ behind)
+pub same_parts : (a b rest behind : List ℕ) → HasNoSpace a → HasNoSpace b → IsBehindWord rest → IsBehindWord behind → a ++ rest ≡ b ++ behind → (a ≡ b) × (rest ≡ behind)
 same_parts [] [] rest behind plain other first last same = (refl, same)
 same_parts [] (y ∷ b) [] behind plain other first last same = absurd cc
 same_parts [] (y ∷ b) (x ∷ rest) behind plain other first last same =

@@ -1,15 +1,14 @@
 -- What is read behind the first word of a line.
 use Rattle.std.proofs.Common.{◌≡◌, ℕ, ◌+◌, ◌*◌, ◌<◌, ◌^◌, List, [], ◌∷◌, ◌++◌, length, get_or, All, Option, Some, None, true, refl, sym, ap, ◌∙◌, arith, append_assoc, lit<}
-use Rattle.std.specs.Prelude.{codes, IfSome, IfNone, ◌&&◌}
+use Rattle.std.specs.Prelude.{codes, ◌&&◌}
 use Rattle.std.specs.List.{flat_map}
 use Rattle.std.proofs.lemmas.Bool.{and_parts, and_from}
 use Rattle.std.proofs.lemmas.Bool.Decides.{nat_tests}
 use Rattle.std.proofs.lemmas.List.{append-nil, append_cancel_left}
 use Rattle.std.proofs.lemmas.List.Elements.{All-nil, All-cons}
 use Rattle.qg_num.specs.declared.command.Command.{Command}
-use Rattle.qg_num.specs.declared.command.Command.TheVariants.{Write, Clone, Truncate, Unlink, Snap, Delete, Ls, Owners}
+use Rattle.qg_num.specs.declared.command.Command.TheVariants.{Write, Clone, Truncate, Unlink, Delete, Ls, Owners}
 use Rattle.qg_grammar.specs.ScriptText.{command_text, is_in_grammar, is_sub_word, is_ino_word, is_word, then_number}
-use Rattle.qg_grammar.specs.Served.{is_served_command}
 use Rattle.qg_script.specs.Reading.{AreNumbers, IsTextOf, Reads}
 use Rattle.qg_script.proofs.Parting.{number_at}
 
@@ -19,16 +18,6 @@ use Rattle.qg_script.proofs.Parting.{number_at}
 pub reads_none : {text : List ℕ} (found : Option Command) → found ≡ None → ((command : Command) → IsTextOf text command → ⊥) → Reads text found
 reads_none None is none = record { command = tt; none = none }
 reads_none (Some command) is none = absurd cc
-
--- what holds of no text where nothing was read
-pub none_read : {Q : Type 0} (found : Option Command) → Q → IfNone found Q
-none_read None so = so
-none_read (Some command) so = tt
-
--- what holds of every command of a text holds of the one that was read
-pub of_found : {P Q : Command → Type 0} (found : Option Command) → ((command : Command) → P command → Q command) → IfSome found P → IfSome found Q
-of_found None more is = tt
-of_found (Some command) more is = more command is
 
 -- ---- numbers
 
@@ -59,7 +48,7 @@ none_fit = All-nil (λ n. n < 2 ^ 64)
 pub word_fits : (n : ℕ) (numbers : List ℕ) → is_word n ≡ true → Fit numbers → Fit (n ∷ numbers)
 word_fits n numbers is others = All-cons (λ n. n < 2 ^ 64) n numbers (grind (arith, nat_tests)) others
 
-sub_fits : (sub : ℕ) → is_sub_word sub ≡ true → sub < 2 ^ 64
+pub sub_fits : (sub : ℕ) → is_sub_word sub ≡ true → sub < 2 ^ 64
 sub_fits sub is = grind (arith, nat_tests)
 
 ino_fits : (ino : ℕ) → is_ino_word ino ≡ true → ino < 2 ^ 64
@@ -70,7 +59,7 @@ file_fits sub ino numbers is others =
     let parts = and_parts (is_sub_word sub) (is_ino_word ino) is in
     All-cons (λ n. n < 2 ^ 64) sub (ino ∷ numbers) (sub_fits sub parts.0) (All-cons (λ n. n < 2 ^ 64) ino numbers (ino_fits ino parts.1) others)
 
-is_word-fits : (n : ℕ) → n < 2 ^ 64 → is_word n ≡ true
+pub is_word-fits : (n : ℕ) → n < 2 ^ 64 → is_word n ≡ true
 is_word-fits n fits = grind (arith, nat_tests)
 
 -- a number that was read is one that a line may have
@@ -312,26 +301,3 @@ unfolding is_in_grammar
 owners_read {rest} {numbers} are =
     let behind = are.whole ∙ ap (flat_map then_number) (one numbers are) in
     record { spelled = ap (λ (xs : List ℕ). codes "owners" ++ xs) behind ∙ sym (owners_text _); in_grammar = word_at 0 are (lit< tt) }
-
--- ---- a snapshot without groups
-
-pub snap_text : (sub : ℕ) → command_text (Snap sub []) ≡ codes "snap" ++ flat_map then_number (sub ∷ [])
-unfolding command_text
-snap_text sub = simp (append_assoc, append-nil)
-
--- a command that is served, whose text begins with `snap`, is one without groups
-pub only_snap : (P : Command → Type 0) (rest : List ℕ) → ((sub : ℕ) → is_sub_word sub ≡ true → AreNumbers 1 rest (sub ∷ []) → P (Snap sub []))
-    → (command : Command) → is_served_command command ≡ true → IsTextOf (codes "snap" ++ rest) command → P command
-unfolding command_text is_in_grammar
-only_snap P rest snap (Snap sub []) served is =
-    let parts = and_parts (is_sub_word sub) true is.in_grammar in
-    snap sub parts.0 (numbers_of (codes "snap") (is.spelled ∙ snap_text sub) (sub_fit sub parts.0))
-only_snap P rest snap (Snap sub (group ∷ groups)) served is = absurd cc
-only_snap P rest snap command served is = let first = ap mark is.spelled in absurd (omega (arith, first))
-
-pub snap_read : {rest numbers groups : List ℕ} {sub : ℕ} → AreNumbers 1 rest numbers → IsSubRead sub (get_or numbers 0 0) → groups ≡ []
-    → IsTextOf (codes "snap" ++ rest) (Snap sub groups)
-unfolding is_in_grammar
-snap_read {rest} {numbers} {groups} {sub} are of none =
-    let behind = are.whole ∙ ap (flat_map then_number) (one numbers are) in
-    rw (of.1, none) (record { spelled = ap (λ (xs : List ℕ). codes "snap" ++ xs) behind ∙ sym (snap_text _); in_grammar = and_from _ _ of.0 refl })

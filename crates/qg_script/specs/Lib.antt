@@ -3,5 +3,4 @@ pub mod LineBytes
 pub mod Lines
 pub mod ReadLine
 pub mod Reading
-pub mod ServedLines
 pub mod Added

@@ -4,6 +4,7 @@
 mod failure;
 mod fault;
 mod feed;
+mod groups;
 mod line;
 mod next;
 mod numbers;

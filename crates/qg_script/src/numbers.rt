@@ -26,8 +26,8 @@ pub(crate) fn first_word(bytes: &[u8]) -> (&[u8], &[u8])
     (bytes, &[])
 }
 
-// The number behind a space, and what is behind it.
-fn next_number(text: &[u8]) -> Option<(u64, &[u8])>
+/// The number behind a space, and what is behind it.
+pub(crate) fn next_number(text: &[u8]) -> Option<(u64, &[u8])>
     ensures found { IfSome result (λ found. IsNextNumber text.now found.0 found.1.now) }
     ensures none { IfNone result ((number : ℕ) (rest : List ℕ) → IsNextNumber text.now number rest → ⊥) }
 {

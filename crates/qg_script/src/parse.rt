@@ -1,12 +1,12 @@
 // The command of a line.
-ghost use Rattle.std.specs.Prelude.{◌≡◌, ◌≢◌, ◌++◌, codes, IfOk, IfSome, IfNone, IsTrue};
+ghost use Rattle.std.specs.Prelude.{◌≡◌, ◌≢◌, ◌++◌, codes, IfOk, IfSome, IfNone, OnErr};
 ghost use Rattle.qg_num.specs.declared.command.Command.{Command};
-ghost use Rattle.qg_grammar.specs.Served.{is_served_command};
-ghost use Rattle.qg_script.specs.Reading.{IsParted, IsTextOf, Reads};
-ghost use Rattle.qg_script.specs.ServedLines.{IsServedLineOf};
+ghost use Rattle.qg_grammar.specs.ScriptText.{IsLineOf};
+ghost use Rattle.qg_script.specs.Reading.{IsParted, IsSnapshot, Reads};
 
-use crate::numbers::{file_of, first_word, numbers, sub_of};
-use qg_num::{Command, GroupList, NoMemory};
+use crate::groups::{inherited, limit_of, next_group, next_which, one_group, two_groups};
+use crate::numbers::{file_of, first_word, next_number, numbers, sub_of};
+use qg_num::{Command, NoMemory};
 use std::alloc::Global;
 
 /// The most bytes that a line may have.
@@ -66,17 +66,20 @@ fn read_ls(rest: &[u8]) -> Option<Command>
     Some(Command::Ls { sub, ino })
 }
 
-// The command of `snap` and what is behind it, without groups.
-fn read_snap(alloc: Global, rest: &[u8]) -> Option<Command>
-    ensures served { IfSome result (λ command. IsTrue (is_served_command command)) }
-    ensures found { IfSome result (IsTextOf (codes "snap" ++ rest.now)) }
-    ensures none { IfNone result ((command : Command) → IsTrue (is_served_command command)
-        → IsTextOf (codes "snap" ++ rest.now) command → ⊥) }
+// The command of `snap` and what is behind it.
+fn read_snap(alloc: Global, rest: &[u8]) -> Result<Option<Command>, NoMemory>
+    ensures { IfOk result (Reads (codes "snap" ++ rest.now)) }
 {
-    let [sub] = numbers::<1>(rest)?;
-    let sub = sub_of(sub)?;
-    let groups = GroupList::new(alloc);
-    Some(Command::Snap { sub, groups })
+    let Some((sub, rest)) = next_number(rest) else {
+        return Ok(None);
+    };
+    let Some(sub) = sub_of(sub) else {
+        return Ok(None);
+    };
+    let Some(groups) = inherited(alloc, rest)? else {
+        return Ok(None);
+    };
+    Ok(Some(Command::Snap { sub, groups }))
 }
 
 // The command of `delete` and what is behind it.
@@ -96,23 +99,84 @@ fn read_owners(rest: &[u8]) -> Option<Command>
     Some(Command::Owners { address })
 }
 
-// The command of a text, if it is served.
-fn command_of(alloc: Global, text: &[u8]) -> Option<Command>
-    ensures served { IfSome result (λ command. IsTrue (is_served_command command)) }
-    ensures found { IfSome result (IsTextOf text.now) }
-    ensures none { IfNone result ((command : Command) → IsTrue (is_served_command command) → IsTextOf text.now command → ⊥) }
+// The command of `qgroup create` and what is behind it.
+fn read_create(rest: &[u8]) -> Option<Command>
+    ensures { Reads (codes "qgroup create" ++ rest.now) result }
+{
+    let group = one_group(rest)?;
+    Some(Command::GroupCreate { group })
+}
+
+// The command of `qgroup destroy` and what is behind it.
+fn read_destroy(rest: &[u8]) -> Option<Command>
+    ensures { Reads (codes "qgroup destroy" ++ rest.now) result }
+{
+    let group = one_group(rest)?;
+    Some(Command::GroupDestroy { group })
+}
+
+// The command of `qgroup` and what is behind it.
+fn read_qgroup(rest: &[u8]) -> Option<Command>
+    ensures { Reads (codes "qgroup" ++ rest.now) result }
+{
+    if let Some(rest) = rest.strip_prefix(b" create") {
+        return read_create(rest);
+    }
+    let rest = rest.strip_prefix(b" destroy")?;
+    read_destroy(rest)
+}
+
+// The command of `assign` and what is behind it.
+fn read_assign(rest: &[u8]) -> Option<Command>
+    ensures { Reads (codes "assign" ++ rest.now) result }
+{
+    let (member, parent) = two_groups(rest)?;
+    Some(Command::Assign { member, parent })
+}
+
+// The command of `remove` and what is behind it.
+fn read_remove(rest: &[u8]) -> Option<Command>
+    ensures { Reads (codes "remove" ++ rest.now) result }
+{
+    let (member, parent) = two_groups(rest)?;
+    Some(Command::Remove { member, parent })
+}
+
+// The command of `limit` and what is behind it.
+fn read_limit(rest: &[u8]) -> Option<Command>
+    ensures { Reads (codes "limit" ++ rest.now) result }
+{
+    let Some((which, rest)) = next_which(rest) else {
+        return None;
+    };
+    let Some(next) = next_group(rest) else {
+        return None;
+    };
+    let max = limit_of(next.1)?;
+    Some(Command::Limit {
+        group: next.0,
+        which,
+        max,
+    })
+}
+
+// The command of a text by its first word, which isn't `snap`, and what is behind that.
+fn other_command(text: &[u8], word: &[u8], rest: &[u8]) -> Option<Command>
+    requires parted { IsParted text.now word.now rest.now }
+    requires other { word.now ≢ codes "snap" }
+    ensures { Reads text.now result }
 {
     if text == b"commit".as_slice() {
-        return Some(Command::Commit);
-    }
-    if text == b"show".as_slice() {
-        return Some(Command::Show);
-    }
-    if text == b"sub create".as_slice() {
-        return Some(Command::SubCreate);
-    }
-    let (word, rest) = first_word(text);
-    if word == b"write".as_slice() {
+        Some(Command::Commit)
+    } else if text == b"show".as_slice() {
+        Some(Command::Show)
+    } else if text == b"sub create".as_slice() {
+        Some(Command::SubCreate)
+    } else if text == b"quota on".as_slice() {
+        Some(Command::QuotaOn)
+    } else if text == b"quota off".as_slice() {
+        Some(Command::QuotaOff)
+    } else if word == b"write".as_slice() {
         read_write(rest)
     } else if word == b"clone".as_slice() {
         read_clone(rest)
@@ -122,25 +186,45 @@ fn command_of(alloc: Global, text: &[u8]) -> Option<Command>
         read_unlink(rest)
     } else if word == b"ls".as_slice() {
         read_ls(rest)
-    } else if word == b"snap".as_slice() {
-        read_snap(alloc, rest)
     } else if word == b"delete".as_slice() {
         read_delete(rest)
     } else if word == b"owners".as_slice() {
         read_owners(rest)
+    } else if word == b"qgroup".as_slice() {
+        read_qgroup(rest)
+    } else if word == b"assign".as_slice() {
+        read_assign(rest)
+    } else if word == b"remove".as_slice() {
+        read_remove(rest)
+    } else if word == b"limit".as_slice() {
+        read_limit(rest)
     } else {
         None
     }
 }
 
-/// The command that is served and has this line, and `None` exactly where there is none (this project's own).
-pub fn parse_line(alloc: Global, line: &[u8]) -> Result<Option<Command>, NoMemory>
-    ensures found { IfOk result (λ found. IfSome found (λ command. IsServedLineOf line.now command)) }
-    ensures none { IfOk result (λ found. IfNone found ((command : Command) → IsServedLineOf line.now command → ⊥)) }
+// The command of a text.
+fn command_of(alloc: Global, text: &[u8]) -> Result<Option<Command>, NoMemory>
+    ensures read { IfOk result (Reads text.now) }
+    ensures no_memory { OnErr result (IsSnapshot text.now) }
 {
-    if line.len() <= LONGEST_LINE {
-        Ok(command_of(alloc, line))
+    let (word, rest) = first_word(text);
+    if word == b"snap".as_slice() {
+        read_snap(alloc, rest)
     } else {
-        Ok(None)
+        Ok(other_command(text, word, rest))
     }
+}
+
+/// The command that has this line, and `None` exactly where there is none (this project's own). Only a line that begins with the word
+/// of a snapshot, whose list of groups it keeps, takes memory.
+pub fn parse_line(alloc: Global, line: &[u8]) -> Result<Option<Command>, NoMemory>
+    ensures found { IfOk result (λ found. IfSome found (IsLineOf line.now)) }
+    ensures none { IfOk result (λ found. IfNone found ((command : Command) → IsLineOf line.now command → ⊥)) }
+    ensures no_memory { OnErr result (IsSnapshot line.now) }
+{
+    if line.len() > LONGEST_LINE {
+        return Ok(None);
+    }
+    command_of(alloc, line)
 }

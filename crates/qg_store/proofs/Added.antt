@@ -1,10 +1,9 @@
 -- What is kept fits together where a subvolume was added, whose number comes next.
-use Rattle.std.proofs.Common.{◌≡◌, ℕ, ◌+◌, ◌^◌, ◌<◌, ◌≤◌, Bool, true, false, List, [], ◌∷◌, ◌++◌, arith, length, map, Option, Some, None, refl, sym, ap, subst, ◌∙◌, inl, inr}
-use Rattle.std.specs.Prelude.{◌⊎◌, ◌||◌, ◌&&◌, ◌==◌, is_some, nat_le, nat_lt, not, if◌then◌else◌}
-use Rattle.std.specs.List.{All, Contains, list_all}
+use Rattle.std.proofs.Common.{◌≡◌, ℕ, ◌+◌, ◌^◌, ◌<◌, ◌≤◌, Bool, true, false, List, [], ◌∷◌, ◌++◌, ◌*◌, arith, length, map, Option, Some, None, refl, sym, ap, subst, ◌∙◌, inl, inr}
+use Rattle.std.specs.Prelude.{◌⊎◌, ◌||◌, ◌&&◌, ◌==◌, IfSome, is_some, nat_le, nat_lt, not}
+use Rattle.std.specs.List.{All, Contains}
 use Rattle.std.specs.List.Sorted.{IsPermutation, IsStrictlyIncreasing}
-use Rattle.std.proofs.lemmas.Bool.{and_parts, cases_eq, cond-false, eq-eqb, le-leb, le-ltb, leb-false, lt-ltb, ne_eqb}
-use Rattle.std.proofs.lemmas.Bool.{true≢false}
+use Rattle.std.proofs.lemmas.Bool.{cases_eq, cond-false, eq-eqb, eqb-true, le-leb, le-ltb, leb-false, lt-ltb, ltb-false, ne_eqb}
 use Rattle.std.proofs.lemmas.List.{length-append, length-map, map-append}
 use Rattle.std.proofs.lemmas.List.Elements.{All-contains, Contains-append_cases, Contains-append_left}
 use Rattle.std.proofs.lemmas.List.Sorted.{IsPermutation-append_left}
@@ -13,14 +12,12 @@ use Rattle.qg_items.specs.declared.tree.TheConstants.{FIRST_FREE, TOP_LEVEL}
 use Rattle.qg_super.specs.declared.superblock.Super.{Super}
 use Rattle.qg_super.specs.SuperText.{is_super, sizes_of}
 use Rattle.qg_image.specs.ItemMeaning.{is_subvolume_number}
-use Rattle.qg_image.specs.Table.{has_key, keys_of, value_at, with_value}
+use Rattle.qg_image.specs.Table.{has_key, keys_of, with_value}
 use Rattle.qg_state.specs.declared.quota.Group.{Group}
 use Rattle.qg_state.specs.declared.quota.Quota.{Quota}
-use Rattle.qg_state.specs.Members.{id_of_group, level_of_group}
-use Rattle.qg_state.specs.Stage.{serves_subvolumes}
+use Rattle.qg_state.specs.Members.{hierarchy_of, id_of_group, level_of_group}
 use Rattle.qg_state.proofs.Contained.{contains_cases, contains_here, contains_later, none_contained}
-use Rattle.qg_verdict.specs.Verdict.{is_group_number, is_served_number, most_groups, most_subvolumes}
-use Rattle.qg_machine.specs.GroupChange.{new_group, with_group}
+use Rattle.qg_verdict.specs.Verdict.{is_group_number, most_groups, most_relations, most_subvolumes}
 use Rattle.qg_machine.specs.Refusals.{refuse}
 use Rattle.qg_reach.proofs.Layouts.{value_at-with_other, value_at-with_same}
 use Rattle.qg_ground.specs.Land.{IsDrafted}
@@ -28,10 +25,16 @@ use Rattle.qg_descent.specs.Tree.{Root}
 use Rattle.qg_file_items.proofs.Tables.{increasing-with}
 use Rattle.qg_fs_tree.specs.Standing.{AreNumbered, CanTurn, trees_of}
 use Rattle.qg_fs_tree.proofs.Lists.{from-mapped, has-mapped}
-use Rattle.qg_check.specs.Editable.{AreGroups, is_plain_group}
+use Rattle.qg_hier.specs.Faults.{create_fault}
+use Rattle.qg_groups.specs.declared.state.QuotaState.{QuotaState}
+use Rattle.qg_groups.specs.Changing.{groups_in, pairs_in}
+use Rattle.qg_groups.specs.Tracked.{HoldsAtMost, quota_of}
+use Rattle.qg_groups.proofs.Snapped.{group-free}
+use Rattle.qg_check.specs.Editable.{AreGroups, AreGroupsOf}
 use Rattle.qg_store.specs.declared.kept.Kept.{Kept}
-use Rattle.qg_store.specs.Keeping.{AreSubvolumesBy, IsFitted}
+use Rattle.qg_store.specs.Keeping.{AreSubvolumesBy, IsFitted, most_reserved}
 use Rattle.qg_store.specs.Structural.{number_next, too_many_refusal}
+use Rattle.qg_store.proofs.GroupAdded.{AddsGroup, IsWithGroup, IsWithGroupIn, bounded-still, length-put, sound-tracked}
 use Rattle.qg_store.proofs.Looked.{hand-among, tree-listed}
 use Rattle.qg_store.proofs.Numbered.{next-above, next-greater, next-some}
 use Rattle.qg_store.proofs.Tables.{all-of, all-put, key-listed, key-of-value, listed-key, put-into}
@@ -45,10 +48,6 @@ and_both false b first second = first
 or_late : (a b : Bool) → b ≡ true → (a || b) ≡ true
 or_late true b second = refl
 or_late false b second = second
-
-pub or-early : (a b : Bool) → a ≡ true → (a || b) ≡ true
-or-early true b first = refl
-or-early false b first = absurd (true≢false (sym first))
 
 -- ---- behind all others
 
@@ -84,21 +83,6 @@ increasing-last numbers n up less =
 
 -- ---- a group more
 
-length_step : {A : Type 0} (n : ℕ) (value : A) (entry : ℕ × A) (table : List (ℕ × A)) (less same : Bool)
-    → length (with_value n value table) ≤ length table + 1
-    → length (if less then (n, value) ∷ entry ∷ table
-    else (if same then (n, value) ∷ table else entry ∷ with_value n value table))
-    ≤ length (entry ∷ table) + 1
-length_step n value entry table true same rest = omega arith
-length_step n value entry table false true rest = omega arith
-length_step n value entry table false false rest = omega (arith, rest)
-
-pub length-put : {A : Type 0} (n : ℕ) (value : A) (table : List (ℕ × A))
-    → length (with_value n value table) ≤ length table + 1
-length-put n value [] = omega arith
-length-put n value (entry ∷ table) =
-    length_step n value entry table (nat_lt n entry.0) (entry.0 == n) (length-put n value table)
-
 pub key-put : {A : Type 0} (n : ℕ) (value : A) (table : List (ℕ × A)) → has_key n (with_value n value table) ≡ true
 key-put n value table = key-of-value n (with_value n value table) value (value_at-with_same n value table)
 
@@ -110,68 +94,95 @@ key-still {A} n m value table there = elim (cases_eq n m) [
       ap (λ (o : Option A). is_some o) (value_at-with_other n m value table differ) ∙ there
 ]
 
-all_step : {A : Type 0} (p : ℕ × A → Bool) (n : ℕ) (value : A) (entry : ℕ × A) (table : List (ℕ × A))
-    (less same : Bool) → p (n, value) ≡ true → p entry ≡ true → list_all p table ≡ true
-    → list_all p (with_value n value table) ≡ true
-    → list_all p (if less then (n, value) ∷ entry ∷ table
-    else (if same then (n, value) ∷ table else entry ∷ with_value n value table)) ≡ true
-all_step p n value entry table true same new first later rest = and_both _ _ new (and_both _ _ first later)
-all_step p n value entry table false true new first later rest = and_both _ _ new later
-all_step p n value entry table false false new first later rest = and_both _ _ first rest
-
-pub list-put : {A : Type 0} (p : ℕ × A → Bool) (n : ℕ) (value : A) (table : List (ℕ × A)) → p (n, value) ≡ true
-    → list_all p table ≡ true → list_all p (with_value n value table) ≡ true
-list-put p n value [] new all = and_both _ _ new refl
-list-put p n value (entry ∷ table) new all =
-    let both = and_parts (p entry) (list_all p table) all in
-    all_step p n value entry table (nat_lt n entry.0) (entry.0 == n) new both.0 both.1
-    (list-put p n value table new both.1)
-
 -- ---- what too many are
 
-few_by : (a b d : Bool) → refuse (a || b || d) why.TooMany ≡ None → (a ≡ false) × (b ≡ false) × (d ≡ false)
-few_by true b d is = absurd cc
-few_by false true d is = absurd cc
-few_by false false true is = absurd cc
-few_by false false false is = (refl, refl, refl)
+-- the parts of what is refused as one too many
+record AreFew (a b c d : Bool) : Type 0 where
+  subvolumes : a ≡ false
+  groups : b ≡ false
+  pairs : c ≡ false
+  number : d ≡ false
 
-module _ (old : Kept) (sub : ℕ) (comes : sub ≡ number_next old) (few : too_many_refusal old ≡ None) where
-  pub few-parts : (nat_le most_subvolumes (length old.snapshots) ≡ false)
-      × (nat_le most_groups (length old.quota.groups) ≡ false) × (nat_le (2 ^ 48) (number_next old) ≡ false)
-  few-parts =
-      few_by (nat_le most_subvolumes (length old.snapshots)) (nat_le most_groups (length old.quota.groups))
-      (nat_le (2 ^ 48) (number_next old)) few
+few_by : (a b c d : Bool) → refuse (a || b || c || d) why.TooMany ≡ None → AreFew a b c d
+few_by true b c d is = absurd cc
+few_by false true c d is = absurd cc
+few_by false false true d is = absurd cc
+few_by false false false true is = absurd cc
+few_by false false false false is = record { subvolumes = refl; groups = refl; pairs = refl; number = refl }
 
-  pub below : sub < 2 ^ 48
-  below =
-      let under = leb-false (2 ^ 48) (number_next old) few-parts.2 in
-      omega (arith, under, comes)
+module _ (old : Kept) (relations sub : ℕ) (comes : sub ≡ number_next old) (few : too_many_refusal old relations ≡ None)
+  where
+    few_parts : AreFew (nat_le most_subvolumes (length old.snapshots))
+        (is_some (quota_of old.quota) && nat_le most_groups (length (groups_in (quota_of old.quota))))
+        (nat_lt most_relations (length (pairs_in (quota_of old.quota)) + relations)) (nat_le (2 ^ 48) (number_next old))
+    few_parts =
+        few_by (nat_le most_subvolumes (length old.snapshots))
+        (is_some (quota_of old.quota) && nat_le most_groups (length (groups_in (quota_of old.quota))))
+        (nat_lt most_relations (length (pairs_in (quota_of old.quota)) + relations)) (nat_le (2 ^ 48) (number_next old)) few
 
-  pub number-good : is_subvolume_number sub ≡ true
-  unfolding is_subvolume_number
-  number-good =
-      let some = next-some (keys_of old.snapshots) (keys_of old.quota.groups) in
-      let low : 256 ≤ sub = omega (arith, some, comes) in
-      or_late (sub == TOP_LEVEL) (nat_le FIRST_FREE sub && nat_lt sub (2 ^ 48))
-      (and_both (nat_le FIRST_FREE sub) (nat_lt sub (2 ^ 48)) (le-leb FIRST_FREE sub low)
-      (lt-ltb sub (2 ^ 48) below))
+    pub few-subvolumes : length old.snapshots < most_subvolumes
+    few-subvolumes = leb-false most_subvolumes (length old.snapshots) few_parts.subvolumes
 
-  pub level-none : (level_of_group sub == 0) ≡ true
-  level-none = let under = below in eq-eqb (level_of_group sub) 0 (omega (arith, under))
+    -- while quota is on
+    pub few-groups : (quota : Quota) → quota_of old.quota ≡ Some quota → length quota.groups < most_groups
+    few-groups quota on =
+        let fewer : nat_le most_groups (length (keys_of quota.groups)) ≡ false =
+        ap (λ (q : Option Quota). is_some q && nat_le most_groups (length (groups_in q))) (sym on) ∙ few_parts.groups in
+        let under = leb-false most_groups (length (keys_of quota.groups)) fewer in
+        let many = length-map quota.groups (λ (e : ℕ × Group). e.0) in
+        omega (arith, under, many)
 
-  -- there is no group of it
-  pub group-none : value_at sub old.quota.groups ≡ None
-  group-none = by (value_at sub old.quota.groups) refl where
-    by : (found : Option Group) → value_at sub old.quota.groups ≡ found → found ≡ None
-    by None is = refl
-    by (Some group) is =
-        let has = key-listed sub old.quota.groups (key-of-value sub old.quota.groups group is) in
-        let less = next-above (keys_of old.snapshots) (keys_of old.quota.groups) sub has level-none in
-        absurd (omega (arith, less, comes))
+    pub few-pairs : (quota : Quota) → quota_of old.quota ≡ Some quota → length quota.pairs + relations ≤ most_relations
+    few-pairs quota on =
+        let fewer : nat_lt most_relations (length quota.pairs + relations) ≡ false =
+        ap (λ (q : Option Quota). nat_lt most_relations (length (pairs_in q) + relations)) (sym on) ∙ few_parts.pairs in
+        ltb-false most_relations (length quota.pairs + relations) fewer
 
--- What was added to what is kept: behind the other trees one of the next number, with its snapshot and its group; the
--- snapshots of others have the numbers that they had, and nothing else that must fit changed
-pub record IsAdded (old new : Kept) (sub snapshot : ℕ) (group : Group) (tree : Root) : Type 0 where
+    pub below : sub < 2 ^ 48
+    below =
+        let under = leb-false (2 ^ 48) (number_next old) few_parts.number in
+        omega (arith, under, comes)
+
+    pub number-good : is_subvolume_number sub ≡ true
+    unfolding is_subvolume_number
+    number-good =
+        let some = next-some (keys_of old.snapshots) (groups_in (quota_of old.quota)) in
+        let low : 256 ≤ sub = omega (arith, some, comes) in
+        or_late (sub == TOP_LEVEL) (nat_le FIRST_FREE sub && nat_lt sub (2 ^ 48))
+        (and_both (nat_le FIRST_FREE sub) (nat_lt sub (2 ^ 48)) (le-leb FIRST_FREE sub low)
+        (lt-ltb sub (2 ^ 48) below))
+
+    pub level-none : (level_of_group sub == 0) ≡ true
+    level-none = let under = below in eq-eqb (level_of_group sub) 0 (omega (arith, under))
+
+    pub level-lowest : level_of_group sub ≡ 0
+    level-lowest = eqb-true (level_of_group sub) 0 level-none
+
+    -- there is no group of it
+    pub group-none : (quota : Quota) → quota_of old.quota ≡ Some quota → has_key sub quota.groups ≡ false
+    group-none quota on = by (has_key sub quota.groups) refl where
+      by : (found : Bool) → has_key sub quota.groups ≡ found → found ≡ false
+      by false is = refl
+      by true is =
+          let has : Contains (groups_in (quota_of old.quota)) sub =
+          subst (λ (q : Option Quota). Contains (groups_in q) sub) (sym on) (key-listed sub quota.groups is) in
+          let less = next-above (keys_of old.snapshots) (groups_in (quota_of old.quota)) sub has level-none in
+          absurd (omega (arith, less, comes))
+
+    -- so one may be made, while quota is on
+    free_by : (tracked : Option QuotaState) → quota_of tracked ≡ quota_of old.quota
+        → IfSome tracked (λ state. create_fault (hierarchy_of state.quota) sub ≡ None)
+    free_by None same = tt
+    free_by (Some state) same = group-free state.quota sub (group-none state.quota (sym same))
+
+    pub group-may-come : (tracked : Option QuotaState) → tracked ≡ old.quota
+        → IfSome tracked (λ state. create_fault (hierarchy_of state.quota) sub ≡ None)
+    group-may-come tracked same = free_by tracked (ap (λ (q : Option QuotaState). quota_of q) same)
+
+-- What was added to what is kept: behind the other trees one of the next number, with its snapshot, and while quota is
+-- on its group, with so many relations at the most; the snapshots of others have the numbers that they had, and nothing
+-- else that must fit changed
+pub record IsAdded (old new : Kept) (relations sub snapshot : ℕ) (tree : Root) : Type 0 where
   pub superblock : new.superblock ≡ old.superblock
   pub hand : new.fs.tree ≡ old.fs.tree
   pub others : new.fs.others.items ≡ old.fs.others.items ++ tree ∷ []
@@ -182,18 +193,18 @@ pub record IsAdded (old new : Kept) (sub snapshot : ℕ) (group : Group) (tree :
   pub copied : All (λ entry. entry.1 ≤ old.fs.tree.next) earlier
   pub snapshots : new.snapshots ≡ earlier ++ (sub, snapshot) ∷ []
   pub dated : snapshot ≤ old.fs.tree.next
-  pub quota : new.quota ≡ with_group sub group old.quota
-  pub plain : group ≡ new_group old.fs.tree.next
+  pub groups : AddsGroup old new sub relations
+  pub pending : new.pending ≡ old.pending
   pub sizes : new.fs.land.space.sizes ≡ old.fs.land.space.sizes
   pub drafted : IsDrafted new.fs.land old.fs.tree.next
 
-module _ (old new : Kept) (sub snapshot : ℕ) (group : Group) (tree : Root) (fits : IsFitted old)
-    (serves : serves_subvolumes ≡ true) (comes : sub ≡ number_next old) (few : too_many_refusal old ≡ None)
-    (added : IsAdded old new sub snapshot group tree) where
+module _ (old new : Kept) (relations sub snapshot : ℕ) (tree : Root) (fits : IsFitted old)
+    (comes : sub ≡ number_next old) (few : too_many_refusal old relations ≡ None)
+    (added : IsAdded old new relations sub snapshot tree) where
   -- the number is greater than all, and one that a subvolume may have
   pub greater : (number : ℕ) → Contains (keys_of old.snapshots) number → number < sub
   greater number has =
-      let less = next-greater (keys_of old.snapshots) (keys_of old.quota.groups) number has in
+      let less = next-greater (keys_of old.snapshots) (groups_in (quota_of old.quota)) number has in
       omega (arith, less, comes)
 
   number_known : (number : ℕ) → Contains (keys_of old.snapshots) number → is_subvolume_number number ≡ true
@@ -245,7 +256,7 @@ module _ (old new : Kept) (sub snapshot : ℕ) (group : Group) (tree : Root) (fi
       let second = length-map old.snapshots (λ (e : ℕ × ℕ). e.0) in
       let all = ap (λ (ns : List ℕ). length ns) keys-added in
       let parts = length-append (keys_of old.snapshots) (sub ∷ []) in
-      let fewer = leb-false most_subvolumes (length old.snapshots) (few-parts old sub comes few).0 in
+      let fewer = few-subvolumes old relations sub comes few in
       omega (arith, first, second, all, parts, fewer)
 
   pub subvolumes-added : AreSubvolumesBy new.fs.tree.next new.snapshots
@@ -254,7 +265,7 @@ module _ (old new : Kept) (sub snapshot : ℕ) (group : Group) (tree : Root) (fi
     ascending = subst (λ (table : List (ℕ × ℕ)). IsStrictlyIncreasing (keys_of table)) (sym snapshots_put)
         (increasing-with sub added.earlier earlier_up snapshot);
     numbers = all-of (λ (e : ℕ × ℕ). is_subvolume_number e.0 ≡ true) new.snapshots (λ entry has. elim (entry_cases entry has) [
-      | inl own ↦ subst (λ (e : ℕ × ℕ). is_subvolume_number e.0 ≡ true) own (number-good old sub comes few)
+      | inl own ↦ subst (λ (e : ℕ × ℕ). is_subvolume_number e.0 ≡ true) own (number-good old relations sub comes few)
       | inr there ↦ number_known entry.0 (earlier_listed entry there)
     ]);
     top_level = listed-key TOP_LEVEL new.snapshots
@@ -269,7 +280,6 @@ module _ (old new : Kept) (sub snapshot : ℕ) (group : Group) (tree : Root) (fi
           let next = next_is in
           omega (arith, dated, next)
     ]);
-    served = or-early serves_subvolumes (list_all (λ (e : ℕ × ℕ). e.0 == TOP_LEVEL) new.snapshots) serves;
   }
 
   pub trees-added : IsPermutation (map (λ (t : Root). t.owner) (trees_of new.fs)) (keys_of new.snapshots)
@@ -331,64 +341,82 @@ module _ (old new : Kept) (sub snapshot : ℕ) (group : Group) (tree : Root) (fi
     owner = λ other has. elim (other_cases other has) [
       | inl there ↦ fits.turn.owner other there
       | inr own ↦ subst (λ (t : Root). is_subvolume_number t.owner ≡ true) own
-          (ap is_subvolume_number added.owner ∙ (number-good old sub comes few))
+          (ap is_subvolume_number added.owner ∙ (number-good old relations sub comes few))
     ];
   }
 
-  groups_put : new.quota.groups ≡ with_value sub group old.quota.groups
-  groups_put = ap (λ (quota : Quota). quota.groups) added.quota
-
   group_number : is_group_number sub ≡ true
   group_number =
-      let id : id_of_group sub ≡ sub = let under = below old sub comes few in omega (arith, under) in
+      let id : id_of_group sub ≡ sub = let under = below old relations sub comes few in omega (arith, under) in
       or_late (not (level_of_group sub == 0)) (is_subvolume_number (id_of_group sub))
-      (ap is_subvolume_number id ∙ (number-good old sub comes few))
+      (ap is_subvolume_number id ∙ (number-good old relations sub comes few))
 
-  group_plain : is_plain_group (sub, group) ≡ true
-  group_plain =
-      let served : is_served_number sub ≡ true =
-      or_late (sub == TOP_LEVEL) (serves_subvolumes && (level_of_group sub == 0))
-      (and_both serves_subvolumes (level_of_group sub == 0) serves (level-none old sub comes few)) in
-      ap (λ (g : Group). is_plain_group (sub, g)) added.plain
-      ∙ and_both (is_served_number sub && true) true (and_both (is_served_number sub) true served refl) refl
+  -- the groups, while quota is on
+  module _ (before after : Quota) (on : quota_of old.quota ≡ Some before) (still_on : quota_of new.quota ≡ Some after)
+      (grown : IsWithGroup old.fs.tree.next sub relations before after) where
+    fits_before : AreGroups old.fs.tree.next (keys_of old.snapshots) before
+    fits_before =
+        subst (λ (q : Option Quota). AreGroupsOf old.fs.tree.next (keys_of old.snapshots) q) on fits.groups
 
-  pub groups-added : AreGroups new.fs.tree.next (keys_of new.snapshots) new.quota
-  groups-added = record {
-    few =
-        let more = length-put sub group old.quota.groups in
-        let same = ap (λ (groups : List (ℕ × Group)). length groups) groups_put in
-        let fewer = leb-false most_groups (length old.quota.groups) (few-parts old sub comes few).1 in
-        omega (arith, more, same, fewer);
-    ascending = subst (λ (groups : List (ℕ × Group)). IsStrictlyIncreasing (keys_of groups)) (sym groups_put)
-        (increasing-with sub old.quota.groups fits.groups.ascending group);
-    numbers = subst (λ (groups : List (ℕ × Group)). All (λ (e : ℕ × Group). is_group_number e.0 ≡ true) groups)
-        (sym groups_put)
-        (all-put (λ (e : ℕ × Group). is_group_number e.0 ≡ true) sub group old.quota.groups group_number
-        fits.groups.numbers);
-    own = subst (λ (ns : List ℕ). All (λ (n : ℕ). has_key n new.quota.groups ≡ true) ns) (sym keys-added)
-        (subst (λ (groups : List (ℕ × Group)).
-        All (λ (n : ℕ). has_key n groups ≡ true) (keys_of old.snapshots ++ sub ∷ [])) (sym groups_put)
-        (all-of (λ (n : ℕ). has_key n (with_value sub group old.quota.groups) ≡ true)
-        (keys_of old.snapshots ++ sub ∷ [])
-        (λ number has. elim (Contains-append_cases (keys_of old.snapshots) (sub ∷ []) number has) [
-          | inl there ↦ key-still sub number group old.quota.groups
-              (All-contains (λ (n : ℕ). has_key n old.quota.groups ≡ true) (keys_of old.snapshots) number
-              fits.groups.own there)
-          | inr last ↦ elim (contains_cases sub [] number last) [
-            | inl own ↦ subst (λ (n : ℕ). has_key n (with_value sub group old.quota.groups) ≡ true) own
-                (key-put sub group old.quota.groups)
-            | inr none ↦ absurd (none_contained number none)
-          ]
-        ])));
-    stamped = subst (λ (groups : List (ℕ × Group)). All (λ (e : ℕ × Group). e.1.stamp ≤ new.fs.tree.next) groups)
-        (sym groups_put)
-        (subst (λ (n : ℕ). All (λ (e : ℕ × Group). e.1.stamp ≤ n) (with_value sub group old.quota.groups)) (sym next_is)
-        (all-put (λ (e : ℕ × Group). e.1.stamp ≤ old.fs.tree.next) sub group old.quota.groups
-        (let stamp = ap (λ (g : Group). g.stamp) added.plain in omega (arith, stamp)) fits.groups.stamped));
-    alone = ap (λ (quota : Quota). quota.pairs) added.quota ∙ fits.groups.alone;
-    served = ap (λ (groups : List (ℕ × Group)). list_all is_plain_group groups) groups_put
-        ∙ list-put is_plain_group sub group old.quota.groups group_plain fits.groups.served;
-  }
+    -- what holds of the groups with this one holds of those that are there then
+    groups_so : (P : List (ℕ × Group) → Type 0) → P (with_value sub grown.group before.groups) → P after.groups
+    groups_so P holds = subst P (sym grown.groups) holds
+
+    own_group : (number : ℕ) → Contains (keys_of old.snapshots ++ sub ∷ []) number
+        → has_key number (with_value sub grown.group before.groups) ≡ true
+    own_group number has = elim (Contains-append_cases (keys_of old.snapshots) (sub ∷ []) number has) [
+      | inl there ↦ key-still sub number grown.group before.groups
+          (All-contains (λ (n : ℕ). has_key n before.groups ≡ true) (keys_of old.snapshots) number fits_before.own there)
+      | inr last ↦ elim (contains_cases sub [] number last) [
+        | inl own ↦ subst (λ (n : ℕ). has_key n (with_value sub grown.group before.groups) ≡ true) own
+            (key-put sub grown.group before.groups)
+        | inr none ↦ absurd (none_contained number none)
+      ]
+    ]
+
+    groups_on : AreGroups new.fs.tree.next (keys_of new.snapshots) after
+    groups_on = record {
+      few =
+          let more = length-put sub grown.group before.groups in
+          let same = ap (λ (groups : List (ℕ × Group)). length groups) grown.groups in
+          let fewer = few-groups old relations sub comes few before on in
+          omega (arith, more, same, fewer);
+      ascending = groups_so (λ (groups : List (ℕ × Group)). IsStrictlyIncreasing (keys_of groups))
+          (increasing-with sub before.groups fits_before.ascending grown.group);
+      numbers = groups_so (λ (groups : List (ℕ × Group)). All (λ (e : ℕ × Group). is_group_number e.0 ≡ true) groups)
+          (all-put (λ (e : ℕ × Group). is_group_number e.0 ≡ true) sub grown.group before.groups group_number
+          fits_before.numbers);
+      own = subst (λ (ns : List ℕ). All (λ (n : ℕ). has_key n after.groups ≡ true) ns) (sym keys-added)
+          (groups_so (λ (groups : List (ℕ × Group)).
+          All (λ (n : ℕ). has_key n groups ≡ true) (keys_of old.snapshots ++ sub ∷ []))
+          (all-of (λ (n : ℕ). has_key n (with_value sub grown.group before.groups) ≡ true)
+          (keys_of old.snapshots ++ sub ∷ []) own_group));
+      stamped = subst (λ (n : ℕ). All (λ (e : ℕ × Group). e.1.stamp ≤ n) after.groups) (sym next_is)
+          (groups_so (λ (groups : List (ℕ × Group)). All (λ (e : ℕ × Group). e.1.stamp ≤ old.fs.tree.next) groups)
+          (all-put (λ (e : ℕ × Group). e.1.stamp ≤ old.fs.tree.next) sub grown.group before.groups grown.stamp
+          fits_before.stamped));
+      few_pairs =
+          let more = grown.pairs in
+          let fewer = few-pairs old relations sub comes few before on in
+          omega (arith, more, fewer);
+      sound = sound-tracked new.quota after still_on added.groups.tracked;
+    }
+
+  groups_by : (before after : Option Quota) → quota_of old.quota ≡ before → quota_of new.quota ≡ after
+      → IsWithGroupIn old.fs.tree.next sub relations before after
+      → AreGroupsOf new.fs.tree.next (keys_of new.snapshots) after
+  groups_by None None was is grown = tt
+  groups_by None (Some after) was is grown = absurd grown
+  groups_by (Some before) None was is grown = tt
+  groups_by (Some before) (Some after) was is grown = groups_on before after was is grown
+
+  pub groups-added : AreGroupsOf new.fs.tree.next (keys_of new.snapshots) (quota_of new.quota)
+  groups-added = groups_by (quota_of old.quota) (quota_of new.quota) refl refl added.groups.quota
+
+  bounded_added : IfSome new.quota (HoldsAtMost (new.pending * most_reserved))
+  bounded_added =
+      subst (λ (n : ℕ). IfSome new.quota (HoldsAtMost (n * most_reserved))) (sym added.pending)
+      (bounded-still old new (old.pending * most_reserved) added.groups.held fits.bounded)
 
   pub fitted-added : IsFitted new
   fitted-added = record {
@@ -398,6 +426,8 @@ module _ (old new : Kept) (sub snapshot : ℕ) (group : Group) (tree : Root) (fi
     numbered = numbered-added;
     turn = turn-added;
     groups = groups-added;
+    tracked = added.groups.tracked;
+    bounded = bounded_added;
     next = next_is ∙ fits.next ∙ ap (λ (super : Super). super.generation + 1) (sym added.superblock);
     sizes = added.sizes ∙ fits.sizes ∙ ap sizes_of (sym added.superblock);
     drafted = subst (λ (n : ℕ). IsDrafted new.fs.land n) (sym next_is) added.drafted;

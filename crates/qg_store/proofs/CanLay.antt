@@ -1,9 +1,9 @@
 -- The trees of a plan can be laid out. Weights are in bytes.
 use Rattle.std.proofs.Common.{◌≡◌, ℕ, ◌+◌, ◌-◌, ◌*◌, ◌/◌, ◌<◌, ◌≤◌, Bool, true, false, List, [], ◌∷◌, length, map}
-use Rattle.std.proofs.Common.{Some, inl, inr, refl, sym, ap, subst, ◌∙◌, arith}
-use Rattle.std.specs.Prelude.{◌==◌, ◌&&◌, ◌||◌, All, IsTrue, if◌then◌else◌}
+use Rattle.std.proofs.Common.{Option, Some, None, inl, inr, refl, sym, ap, subst, ◌∙◌, arith}
+use Rattle.std.specs.Prelude.{◌==◌, ◌&&◌, All, IsTrue, if◌then◌else◌}
 use Rattle.std.specs.BTreeMap.{is_at}
-use Rattle.std.specs.List.{AllByRecursion, Contains, list_all, list_any}
+use Rattle.std.specs.List.{AllByRecursion, Contains, list_any}
 use Rattle.std.specs.List.Sorted.{IsStrictlyIncreasing}
 use Rattle.std.specs.Map.{lookup}
 use Rattle.std.specs.Ordering.{nat_cmp}
@@ -24,9 +24,10 @@ use Rattle.qg_image.specs.Table.{has_key, keys_of, value_at}
 use Rattle.qg_state.specs.declared.quota.Group.{Group}
 use Rattle.qg_state.specs.declared.quota.Quota.{Quota}
 use Rattle.qg_state.specs.Need.{nodes_filled}
-use Rattle.qg_state.specs.Stage.{serves_groups, serves_subvolumes}
+use Rattle.qg_state.specs.Members.{hierarchy_of}
 use Rattle.qg_state.proofs.Contained.{contains_here, contains_later}
 use Rattle.qg_verdict.specs.Verdict.{is_group_number}
+use Rattle.qg_hier.specs.Groups.{IsSound}
 use Rattle.qg_reach.proofs.Members.{contains_map, one_mapped}
 use Rattle.qg_home.proofs.Reaching.{value_of_entry}
 use Rattle.qg_contents.specs.Writable.{IsRootBy}
@@ -36,10 +37,11 @@ use Rattle.qg_refs.specs.Book.{what_in}
 use Rattle.qg_extents.specs.Written.{items_of_book}
 use Rattle.qg_descent.specs.Tree.{Root}
 use Rattle.qg_fs_tree.specs.Standing.{trees_of}
-use Rattle.qg_check.specs.Editable.{AreGroups, AreSubvolumes, is_plain_group}
+use Rattle.qg_groups.specs.Tracked.{SameButCounts, quota_of}
+use Rattle.qg_check.specs.Editable.{AreGroups, AreGroupsOf, AreSubvolumes}
 use Rattle.qg_other_trees.specs.Trees.{AreEnough, nodes_of_trees}
 use Rattle.qg_other_trees.specs.Trees.{quota_tree_bytes, root_tree_bytes}
-use Rattle.qg_fs_laws.specs.Keeping.{group_after, quota_after}
+use Rattle.qg_fs_laws.specs.Keeping.{group_after, quota_after, quota_laid}
 use Rattle.qg_fs_laws.specs.Committing.{IsRootNow}
 use Rattle.qg_store.specs.declared.kept.Kept.{Kept}
 use Rattle.qg_store.specs.declared.planning.Plan.{Plan}
@@ -47,6 +49,7 @@ use Rattle.qg_store.specs.Committing.{AreRootsOf, IsPlanOf}
 use Rattle.qg_store.specs.Keeping.{IsFitted, book_weight, quota_weight, root_weight}
 use Rattle.qg_store.specs.Planning.{IsPlanSo}
 use Rattle.qg_store.proofs.Looked.{node-size}
+use Rattle.qg_store.proofs.OnOff.{bytes-recounted, laid-recounted, roots-recounted}
 
 div-more : (a b k : ℕ) → 0 < k → a ≤ b → a / k ≤ b / k
 div-more a b k some more = le-div (a / k) b k some (omega (arith, div-mul-le_self a k, more))
@@ -101,11 +104,6 @@ key_by {A} n (entry ∷ table) = from (key_by n table) (entry.0 == n) refl where
       → has_key n (entry ∷ table) ≡ list_any (λ m. m == n) (keys_of (entry ∷ table))
   from rest true is = rw is refl
   from rest false is = rw is rest
-
-pub all_by : {A : Type 0} (table : List (ℕ × A))
-    → list_all (λ entry. entry.0 == TOP_LEVEL) table ≡ list_all (λ n. n == TOP_LEVEL) (keys_of table)
-all_by [] = refl
-all_by (entry ∷ table) = ap (λ (b : Bool). (entry.0 == TOP_LEVEL) && b) (all_by table)
 
 three-trees : (book root quota given more most need : ℕ) → book ≤ given → root ≡ more → quota ≡ most
     → 5 * (given + more + most) + 3 ≤ need → 5 * (book + root + quota) + 3 ≤ need
@@ -187,9 +185,6 @@ module _ (kept : Kept) (fits : IsFitted kept) (roots : List (ℕ × RootItem)) (
     counted = All-from-contains (λ (e : ℕ × RootItem). e.1.refs ≡ 1) roots (λ entry has. (each-by entry has).0);
     by = All-from-contains (λ (e : ℕ × RootItem). IsRootBy kept.fs.tree.next e.1) roots
         (λ entry has. (each-by entry has).1);
-    served = ap (λ (b : Bool). serves_subvolumes || b)
-        (all_by roots ∙ ap (λ (ns : List ℕ). list_all (λ n. n == TOP_LEVEL) ns) are.numbers
-        ∙ sym (all_by kept.snapshots)) ∙ fits.subvolumes.served;
   }
 
 -- ---- the groups
@@ -206,11 +201,6 @@ module _ (generation : ℕ) (counters : ℕ → Counters) (subvolumes : List ℕ
   before : (entry : ℕ × Group) → Contains (quota_after generation counters quota).groups entry
       → (old : ℕ × Group) × Contains quota.groups old × (group_after generation counters old ≡ entry)
   before entry has = one_mapped (group_after generation counters) quota.groups entry has
-
-  plain_after : (table : List (ℕ × Group))
-      → list_all is_plain_group (map (group_after generation counters) table) ≡ list_all is_plain_group table
-  plain_after [] = refl
-  plain_after (entry ∷ table) = ap (λ (b : Bool). is_plain_group entry && b) (plain_after table)
 
   -- the quota tree can tell them with other counters
   pub told-groups : AreGroups generation subvolumes (quota_after generation counters quota)
@@ -236,8 +226,8 @@ module _ (generation : ℕ) (counters : ℕ → Counters) (subvolumes : List ℕ
         (stamp-by ((old.0.1.counters.rfer == (counters old.0.0).rfer) && (old.0.1.counters.excl == (counters old.0.0).excl))
         old.0.1.stamp generation
         (All-contains (λ (e : ℕ × Group). e.1.stamp ≤ generation) quota.groups old.0 groups.stamped old.1)));
-    alone = groups.alone;
-    served = ap (λ (b : Bool). serves_groups || b) (plain_after quota.groups) ∙ groups.served;
+    few_pairs = groups.few_pairs;
+    sound = subst (λ (ns : List ℕ). IsSound (record (hierarchy_of quota) { groups = ns })) (sym keys-then) groups.sound;
   }
 
 -- and so it can in a later generation
@@ -249,9 +239,23 @@ groups-later generation next subvolumes quota later groups = record {
   numbers = groups.numbers;
   own = groups.own;
   stamped = λ k d below. let old = groups.stamped k d below in omega (arith, old, later);
-  alone = groups.alone;
-  served = groups.served;
+  few_pairs = groups.few_pairs;
+  sound = groups.sound;
 }
+
+-- so it is of quota that may be off
+pub told-of : (generation : ℕ) (counters : ℕ → Counters) (subvolumes : List ℕ) (quota : Option Quota)
+    → AreGroupsOf generation subvolumes quota
+    → AreGroupsOf generation subvolumes (quota_laid generation counters quota)
+told-of generation counters subvolumes None groups = tt
+told-of generation counters subvolumes (Some quota) groups =
+    told-groups generation counters subvolumes quota groups
+
+pub later-of : (generation next : ℕ) (subvolumes : List ℕ) (quota : Option Quota) → generation ≤ next
+    → AreGroupsOf generation subvolumes quota → AreGroupsOf next subvolumes quota
+later-of generation next subvolumes None later groups = tt
+later-of generation next subvolumes (Some quota) later groups =
+    groups-later generation next subvolumes quota later groups
 
 -- ---- the plan
 
@@ -262,11 +266,17 @@ module _ (kept : Kept) (plan : Plan) (fits : IsFitted kept) (so : IsPlanSo kept 
   pub plan-named : AreSubvolumes kept.fs.tree.next plan.roots
   plan-named = named-subvolumes kept fits plan.roots is.roots is.earlier
 
-  pub plan-told : AreGroups kept.fs.tree.next (keys_of plan.roots) plan.quota
+  pub plan-told : AreGroupsOf kept.fs.tree.next (keys_of plan.roots) plan.quota
   plan-told =
-      subst (λ (numbers : List ℕ). AreGroups kept.fs.tree.next numbers plan.quota) (sym is.roots.numbers)
-      (subst (λ (quota : Quota). AreGroups kept.fs.tree.next (keys_of kept.snapshots) quota) (sym is.quota)
-      (told-groups kept.fs.tree.next so.counters (keys_of kept.snapshots) kept.quota fits.groups))
+      subst (λ (numbers : List ℕ). AreGroupsOf kept.fs.tree.next numbers plan.quota) (sym is.roots.numbers)
+      (subst (λ (quota : Option Quota). AreGroupsOf kept.fs.tree.next (keys_of kept.snapshots) quota) (sym is.quota)
+      (told-of kept.fs.tree.next so.counters (keys_of kept.snapshots) (quota_of kept.quota) fits.groups))
+
+  -- its groups and relations are those that are kept
+  pub plan-recounted : SameButCounts (quota_of kept.quota) plan.quota
+  plan-recounted =
+      subst (λ (quota : Option Quota). SameButCounts (quota_of kept.quota) quota) (sym is.quota)
+      (laid-recounted kept.fs.tree.next so.counters (quota_of kept.quota))
 
   root_count : length plan.roots ≡ length kept.snapshots
   root_count =
@@ -275,10 +285,13 @@ module _ (kept : Kept) (plan : Plan) (fits : IsFitted kept) (so : IsPlanSo kept 
       let theirs = length-map kept.snapshots (λ (e : ℕ × ℕ). e.0) in
       omega (arith, many, mine, theirs)
 
-  group_count : length plan.quota.groups ≡ length kept.quota.groups
-  group_count =
-      ap (λ (quota : Quota). length quota.groups) is.quota
-      ∙ length-map kept.quota.groups (group_after kept.fs.tree.next so.counters)
+  root_bytes : root_tree_bytes (length plan.roots) plan.quota ≡ root_weight kept
+  root_bytes =
+      roots-recounted (quota_of kept.quota) plan.quota (length kept.snapshots) (length plan.roots) root_count
+      plan-recounted
+
+  quota_bytes : quota_tree_bytes plan.quota ≡ quota_weight kept
+  quota_bytes = bytes-recounted (quota_of kept.quota) plan.quota plan-recounted
 
   pub room : items_bytes (items_of_book kept.fs.refs.refs) ≤ book_weight kept
       → AreEnough (5 * nodes_of_trees kept.superblock.nodesize kept.fs.refs.refs plan.roots plan.quota + 3) plan.slots
@@ -286,15 +299,15 @@ module _ (kept : Kept) (plan : Plan) (fits : IsFitted kept) (so : IsPlanSo kept 
       let nodesize = kept.superblock.nodesize in
       let fewer = fewer-filled nodesize (items_bytes (items_of_book kept.fs.refs.refs)) (book_weight kept)
       (node-size kept fits) light in
-      let roots = ap (λ (n : ℕ). nodes_filled nodesize (root_tree_bytes n)) root_count in
-      let groups = ap (λ (n : ℕ). nodes_filled nodesize (quota_tree_bytes n)) group_count in
+      let roots = ap (λ (n : ℕ). nodes_filled nodesize n) root_bytes in
+      let groups = ap (λ (n : ℕ). nodes_filled nodesize n) quota_bytes in
       let enough = is.enough in
       record {
         apart = is.free.apart;
         few = is.few;
         enough = three-trees (nodes_filled nodesize (items_bytes (items_of_book kept.fs.refs.refs)))
-            (nodes_filled nodesize (root_tree_bytes (length plan.roots)))
-            (nodes_filled nodesize (quota_tree_bytes (length plan.quota.groups)))
+            (nodes_filled nodesize (root_tree_bytes (length plan.roots) plan.quota))
+            (nodes_filled nodesize (quota_tree_bytes plan.quota))
             (nodes_filled nodesize (book_weight kept)) (nodes_filled nodesize (root_weight kept))
             (nodes_filled nodesize (quota_weight kept)) (length plan.slots) fewer roots groups enough;
       }

@@ -23,7 +23,7 @@ use Rattle.qg_weighed.specs.Weight.{weight_of}
 use Rattle.qg_weighed.proofs.Law.{no-less}
 use Rattle.qg_other_trees.specs.declared.laying.OtherTrees.{OtherTrees}
 use Rattle.qg_other_trees.specs.declared.laying.Told.{Told}
-use Rattle.qg_check.specs.Editable.{AreGroups, AreSubvolumes}
+use Rattle.qg_check.specs.Editable.{AreGroupsOf, AreSubvolumes}
 use Rattle.qg_other_trees.specs.Trees.{AreEnough, CanBeLaid, nodes_of_trees}
 use Rattle.qg_other_trees.proofs.Weight.{records_weigh}
 use Rattle.qg_tree_commit.specs.Writing.{AreWritable, IsLaying, StopsLaying}
@@ -46,7 +46,7 @@ book-light held refs is =
     subst (λ (n : ℕ). n ≤ weight_of held refs) (sym weigh) least
 
 -- slots are enough for three trees in an image of these sizes
-abbrev HaveRoom : Sizes → List (ℕ × Reference) → List (ℕ × RootItem) → Quota → List ℕ → Type 0
+abbrev HaveRoom : Sizes → List (ℕ × Reference) → List (ℕ × RootItem) → Option Quota → List ℕ → Type 0
 HaveRoom sizes book roots quota slots = AreEnough (5 * nodes_of_trees sizes.nodesize book roots quota + 3) slots
 
 abbrev KnowsBy : ℕ → List (ℕ × Reference) → Type 0
@@ -91,10 +91,10 @@ module _ (kept : Kept) (plan : Plan) (fits : IsFitted kept) (is : IsPlanSo kept 
         subst (λ (T : Type 0). T) (λ i. AreSubvolumes (sym tells.next_is i) (sym tells.roots i))
         (plan-named kept plan fits is)
 
-    told-by : AreGroups next (keys_of told.roots.now) told.quota.now
+    told-by : AreGroupsOf next (keys_of told.roots.now) told.quota.now
     told-by =
         subst (λ (T : Type 0). T)
-        (λ i. AreGroups (sym tells.next_is i) (keys_of (sym tells.roots i)) (sym tells.quota i))
+        (λ i. AreGroupsOf (sym tells.next_is i) (keys_of (sym tells.roots i)) (sym tells.quota i))
         (plan-told kept plan fits is)
 
     knows-by : KnowsBy next told.book.now

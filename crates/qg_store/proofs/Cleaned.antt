@@ -48,6 +48,7 @@ keeps_clean kept clean history state names keeps = record {
   short = keeps.short;
   snapshots = keeps.snapshots;
   quota = keeps.quota;
+  holds = keeps.holds;
   pending = keeps.pending;
   recorded = keeps.recorded;
   others = keeps.others;

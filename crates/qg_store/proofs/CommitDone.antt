@@ -23,7 +23,7 @@ use Rattle.qg_other_trees.specs.declared.laying.OtherTrees.{OtherTrees}
 use Rattle.qg_other_trees.specs.Sound.{committed}
 use Rattle.qg_tree_commit.specs.Holds.{with_tree_commit}
 use Rattle.qg_tree_commit.specs.Writing.{IsLaying, nodes_written}
-use Rattle.qg_fs_laws.specs.Keeping.{quota_after}
+use Rattle.qg_fs_laws.specs.Keeping.{quota_laid}
 use Rattle.qg_fs_laws.specs.Committing.{AreRootsNow, IsSoundCommit, LaysTree}
 use Rattle.qg_fs_laws.specs.Committing as kept_by
 use Rattle.qg_fs_laws.proofs.CommitKept.{commit-kept}
@@ -36,6 +36,7 @@ use Rattle.qg_store.specs.Making.{BringsTo}
 use Rattle.qg_store.specs.Planning.{CommitsOn, IsPlanTold, StartsCommitOf}
 use Rattle.qg_store.proofs.ByNumber.{keys-kept}
 use Rattle.qg_store.proofs.Cleaned.{tree-now}
+use Rattle.qg_store.proofs.OnOff.{settled-holds}
 
 -- the generation of a subvolume's last snapshot
 abbrev copied : ℕ × Subvolume → ℕ × ℕ
@@ -58,8 +59,12 @@ module _ (old : Kept) (plan : Plan) (trees : OtherTrees) (events : List Event) (
     (long : total_bytes old.fs.land.space.sizes ≤ length (content events)) where
   -- ---- what it tells of the state
 
-  abbrev pub quota_then : Quota
-  quota_then = quota_after old.fs.tree.next so.counters old.quota
+  abbrev pub quota_then : Option Quota
+  quota_then = quota_laid old.fs.tree.next so.counters state.quota
+
+  -- the plan tells quota so
+  planned : plan.quota ≡ quota_then
+  planned = so.is.quota ∙ ap (quota_laid old.fs.tree.next so.counters) (sym keeps.quota)
 
   snapshot_there : (tree : Root) (subvolume : Subvolume) → value_at tree.owner state.subvolumes ≡ Some subvolume
       → value_at tree.owner old.snapshots ≡ Some subvolume.last_snapshot
@@ -80,17 +85,16 @@ module _ (old : Kept) (plan : Plan) (trees : OtherTrees) (events : List Event) (
   laying =
       subst (λ (sizes : Sizes). IsLaying sizes old.fs.tree.next plan.roots old.fs.refs.refs quota_then plan.slots
       old.fs.land.blocks.draft trees) (sym fits.fitted.sizes)
-      (subst (λ (told : Quota). IsLaying (sizes_of old.superblock) old.fs.tree.next plan.roots old.fs.refs.refs told
-      plan.slots old.fs.land.blocks.draft trees) so.is.quota laid)
+      (subst (λ (told : Option Quota). IsLaying (sizes_of old.superblock) old.fs.tree.next plan.roots old.fs.refs.refs
+      told plan.slots old.fs.land.blocks.draft trees) planned laid)
 
-  lays : LaysTree old.fs events bytes state keeps.mine keeps.files plan.roots old.quota so.counters plan.slots trees
+  lays : LaysTree old.fs events bytes state keeps.mine keeps.files plan.roots so.counters plan.slots trees
   lays = record {
     kept = tree-now old (Some events) bytes fits so.is.table;
     keeps = keeps.keeps;
     order = so.is.order;
     short = keeps.short;
     long = long;
-    quota_is = keeps.quota;
     counted = so.direct;
     roots_are = roots-are;
     free = so.is.free;
@@ -98,8 +102,7 @@ module _ (old : Kept) (plan : Plan) (trees : OtherTrees) (events : List Event) (
   }
 
   pub sound : IsSoundCommit old.fs events state quota_then plan.slots trees
-  sound = sound-commit old.fs events bytes state keeps.mine keeps.files plan.roots old.quota so.counters plan.slots
-      trees lays
+  sound = sound-commit old.fs events bytes state keeps.mine keeps.files plan.roots so.counters plan.slots trees lays
 
   -- the state that it comes to
   abbrev pub state_now : State
@@ -133,8 +136,8 @@ module _ (old : Kept) (plan : Plan) (trees : OtherTrees) (events : List Event) (
       (still : StandsStill old.fs new.fs (Some events) (Some later) (flat_map items_of_file keeps.files)
       (named keeps.files)) where
     kept-now : kept_by.KeepsCommit new.fs (Some later) state_now keeps.mine keeps.files
-    kept-now = commit-kept old.fs new.fs events later bytes state keeps.mine keeps.files plan.roots old.quota
-        so.counters plan.slots trees sound.is.others lays sound.is.told becomes.fs still
+    kept-now = commit-kept old.fs new.fs events later bytes state keeps.mine keeps.files plan.roots so.counters
+        plan.slots trees sound.is.others lays sound.is.told becomes.fs still
 
     keeps-now : IsKeptOf new state_now (Some later)
     keeps-now = record {
@@ -143,7 +146,8 @@ module _ (old : Kept) (plan : Plan) (trees : OtherTrees) (events : List Event) (
       keeps = kept-now.keeps;
       short = keeps.short;
       snapshots = keeps.snapshots ∙ sym becomes.snapshots;
-      quota = ap (λ (quota : Quota). Some quota) (sym (becomes.quota ∙ so.is.quota));
+      quota = sym (becomes.quota ∙ planned);
+      holds = settled-holds new.quota becomes.settled;
       pending = sym becomes.pending;
       recorded = kept-now.recorded;
       others = kept-now.others;

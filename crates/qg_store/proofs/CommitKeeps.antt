@@ -1,5 +1,5 @@
 -- What a commit leaves over any disk: what is kept fits together still, and clean nodes are the disk's. All in bytes.
-use Rattle.std.proofs.Common.{◌≡◌, ℕ, ◌+◌, ◌≤◌, List, [], ◌∷◌, length, map, Option, Some, refl, sym, ap, subst, ◌∙◌}
+use Rattle.std.proofs.Common.{◌≡◌, ℕ, ◌+◌, ◌*◌, ◌≤◌, List, [], ◌∷◌, length, map, Option, Some, refl, sym, ap, subst, ◌∙◌}
 use Rattle.std.proofs.Common.{arith}
 use Rattle.std.specs.Prelude.{All, IsTrue}
 use Rattle.std.specs.List.{Contains}
@@ -21,18 +21,20 @@ use Rattle.qg_descent.specs.Tree.{Root}
 use Rattle.qg_fs_tree.specs.Standing.{AreNumbered, CanTurn, IsSubvolume, trees_of}
 use Rattle.qg_standing.specs.Committing.{for_generation}
 use Rattle.qg_other_trees.specs.declared.laying.OtherTrees.{OtherTrees}
-use Rattle.qg_check.specs.Editable.{AreGroups}
+use Rattle.qg_groups.specs.Tracked.{quota_of}
+use Rattle.qg_check.specs.Editable.{AreGroupsOf}
 use Rattle.qg_tree_commit.specs.Holds.{AreForgotten, IsFlushed, with_tree_commit}
 use Rattle.qg_tree_commit.specs.Writing.{IsLaying, fresh_nodes}
 use Rattle.qg_tree_commit.proofs.OnDisk.{is-flushed}
-use Rattle.qg_fs_laws.specs.Keeping.{quota_after}
+use Rattle.qg_fs_laws.specs.Keeping.{quota_laid}
 use Rattle.qg_store.specs.declared.kept.Kept.{Kept}
 use Rattle.qg_store.specs.declared.planning.Plan.{Plan}
 use Rattle.qg_store.specs.Committing.{IsLaidBy, IsPlanOf, KeepsCommit}
-use Rattle.qg_store.specs.Keeping.{AreSubvolumesBy, IsFitted, IsKept}
+use Rattle.qg_store.specs.Keeping.{AreSubvolumesBy, IsFitted, IsKept, most_reserved}
 use Rattle.qg_store.specs.Planning.{IsPlanSo, IsPlanTold}
-use Rattle.qg_store.proofs.CanLay.{groups-later, told-groups}
+use Rattle.qg_store.proofs.CanLay.{later-of, told-of}
 use Rattle.qg_store.proofs.Looked.{with_blocks}
+use Rattle.qg_store.proofs.OnOff.{settled-bounded, settled-tracked}
 
 -- a plan is one with other nodes in memory
 plan_still : (kept : Kept) (blocks : Held) (counters : ℕ → Counters) (plan : Plan) → IsPlanOf kept counters plan
@@ -144,17 +146,21 @@ module _ (kept : Kept) (plan : Plan) (trees : OtherTrees) (fits : IsFitted kept)
             numbers = fits.subvolumes.numbers;
             top_level = fits.subvolumes.top_level;
             copied = λ k d below. let old = fits.subvolumes.copied k d below in omega (arith, old, later);
-            served = fits.subvolumes.served;
           })
 
-      groups_now : AreGroups new.fs.tree.next (keys_of new.snapshots) new.quota
+      groups_laid : AreGroupsOf new.fs.tree.next (keys_of kept.snapshots)
+          (quota_laid kept.fs.tree.next is.counters (quota_of kept.quota))
+      groups_laid =
+          later-of kept.fs.tree.next new.fs.tree.next (keys_of kept.snapshots)
+          (quota_laid kept.fs.tree.next is.counters (quota_of kept.quota)) (omega (arith, later))
+          (told-of kept.fs.tree.next is.counters (keys_of kept.snapshots) (quota_of kept.quota) fits.groups)
+
+      groups_now : AreGroupsOf new.fs.tree.next (keys_of new.snapshots) (quota_of new.quota)
       groups_now =
-          subst (λ (table : List (ℕ × ℕ)). AreGroups new.fs.tree.next (keys_of table) new.quota) (sym becomes.snapshots)
-          (subst (λ (quota : Quota). AreGroups new.fs.tree.next (keys_of kept.snapshots) quota)
-          (sym (becomes.quota ∙ is.is.quota))
-          (groups-later kept.fs.tree.next new.fs.tree.next (keys_of kept.snapshots)
-          (quota_after kept.fs.tree.next is.counters kept.quota) (omega (arith, later))
-          (told-groups kept.fs.tree.next is.counters (keys_of kept.snapshots) kept.quota fits.groups)))
+          subst (λ (table : List (ℕ × ℕ)). AreGroupsOf new.fs.tree.next (keys_of table) (quota_of new.quota))
+          (sym becomes.snapshots)
+          (subst (λ (quota : Option Quota). AreGroupsOf new.fs.tree.next (keys_of kept.snapshots) quota)
+          (sym (becomes.quota ∙ is.is.quota)) groups_laid)
 
       fitted-now : IsFitted new
       fitted-now =
@@ -169,6 +175,8 @@ module _ (kept : Kept) (plan : Plan) (trees : OtherTrees) (fits : IsFitted kept)
             numbered = numbered_now;
             turn = turn;
             groups = groups_now;
+            tracked = settled-tracked new.quota becomes.settled;
+            bounded = settled-bounded (new.pending * most_reserved) new.quota becomes.settled;
             next = omega (arith, generation, next);
             sizes = becomes.fs.sizes ∙ fits.sizes ∙ sym sizes-now;
             drafted = subvolume.editable.drafted;

@@ -2,7 +2,6 @@
 use Rattle.std.proofs.Common.{◌≡◌, ℕ, zero, suc, ◌+◌, ◌*◌, ◌^◌, ◌<◌, ◌≤◌, Bool, true, false, List, [], ◌∷◌, ◌++◌, length, Option, Some, None, arith, refl, sym, ap, subst, ◌∙◌, inl, inr}
 use Rattle.std.specs.Prelude.{◌⊎◌, ◌||◌, IfOk, MatchBool, MatchOption, OnOk, Result, Ok, Err}
 use Rattle.std.proofs.lemmas.Bool.{cond-true, le-ltb, lt-ltb}
-use Rattle.std.proofs.lemmas.List.{length-map}
 use Rattle.std.proofs.lemmas.List.Folds.{list_any-append}
 use Rattle.qg_device.specs.History.{Event}
 use Rattle.qg_num.specs.declared.answer.Answer.TheVariants as answer
@@ -14,7 +13,6 @@ use Rattle.qg_super.specs.declared.sizes.Sizes.{Sizes}
 use Rattle.qg_super.specs.declared.superblock.Super.{Super}
 use Rattle.qg_super.specs.Places.{capacity}
 use Rattle.qg_super.specs.SuperText.{sizes_of}
-use Rattle.qg_state.specs.declared.quota.Group.{Group}
 use Rattle.qg_state.specs.Need.{nodes_filled}
 use Rattle.qg_state.specs.Record.{records_bytes, same_record}
 use Rattle.qg_state.specs.State.{State}
@@ -29,13 +27,15 @@ use Rattle.qg_weighed.proofs.Distinct.{bytes-alike}
 use Rattle.qg_weighed.proofs.Law.{no-less}
 use Rattle.qg_space.specs.Holding.{free_slots}
 use Rattle.qg_descent.specs.Tree.{Root}
-use Rattle.qg_other_trees.specs.Trees.{quota_tree_bytes, root_tree_bytes}
+use Rattle.qg_groups.specs.Tracked.{quota_of}
+use Rattle.qg_groups.proofs.Recounted.{recounted-self}
 use Rattle.qg_store.specs.declared.kept.Kept.{Kept}
 use Rattle.qg_store.specs.Keeping.{IsFitted, IsKeptOf, book_weight, commit_need, filled_by, quota_weight}
 use Rattle.qg_store.specs.Keeping.{root_weight, structural_need_of}
 use Rattle.qg_store.specs.Planning.{CommitsOn, LeavesRoom, StartsCommitOf}
 use Rattle.qg_store.specs.Structural.{HasCommitted, HasRoom, IsDoneFirst, IsSettledFrom}
 use Rattle.qg_store.proofs.Looked.{node-size}
+use Rattle.qg_store.proofs.OnOff.{bytes-recounted, roots-recounted}
 use Rattle.qg_store.proofs.Reasoned.{generation-told}
 use Rattle.qg_store.proofs.Room.{commit-few, fills-more, left-first, left-none, left-second}
 
@@ -65,16 +65,12 @@ module _ (old new : Kept) (leaves : LeavesRoom old new) (sizes : sizes_of new.su
       omega (arith, same, less)
 
   root_same : root_weight new ≡ root_weight old
-  root_same = ap (λ (table : List (ℕ × ℕ)). root_tree_bytes (length table)) leaves.snapshots
-
-  groups_same : length new.quota.groups ≡ length old.quota.groups
-  groups_same =
-      sym (length-map new.quota.groups (λ (entry : ℕ × Group). entry.0))
-      ∙ ap (λ (keys : List ℕ). length keys) leaves.groups
-      ∙ length-map old.quota.groups (λ (entry : ℕ × Group). entry.0)
+  root_same =
+      roots-recounted (quota_of old.quota) (quota_of new.quota) (length old.snapshots) (length new.snapshots)
+      (ap (λ (table : List (ℕ × ℕ)). length table) leaves.snapshots) leaves.groups
 
   quota_same : quota_weight new ≡ quota_weight old
-  quota_same = ap quota_tree_bytes groups_same
+  quota_same = bytes-recounted (quota_of old.quota) (quota_of new.quota) leaves.groups
 
   nodesize_same : new.superblock.nodesize ≡ old.superblock.nodesize
   nodesize_same = ap (λ (s : Sizes). s.nodesize) sizes
@@ -125,18 +121,18 @@ pub room-same : (kept : Kept) (copies : ℕ) → structural_need_of kept copies 
 room-same kept copies enough =
     record { free = left-none copies (filled_by kept) (free_slots kept.fs.land.space) enough }
 
--- What a change leaves, which makes the extent tree's items so much heavier at the most, adds one subvolume and one group
--- at the most, and takes so many slots
-pub room-changed : (old new : Kept) (copies k took more : ℕ) → IsFitted old → IsFitted new → HasRoom old copies
+-- What a change leaves, which makes the extent tree's items so much heavier at the most, and those of the root and quota
+-- trees so much, and takes so many slots
+pub room-grown : (old new : Kept) (copies k took more others : ℕ) → IsFitted old → IsFitted new → HasRoom old copies
     → new.superblock ≡ old.superblock → book_weight new ≤ book_weight old + more
-    → length new.snapshots ≤ length old.snapshots + 1 → length new.quota.groups ≤ length old.quota.groups + 1
-    → more + 594 ≤ k * capacity old.superblock.nodesize
+    → root_weight new + quota_weight new ≤ root_weight old + quota_weight old + others
+    → more + others ≤ k * capacity old.superblock.nodesize
     → free_slots old.fs.land.space ≤ free_slots new.fs.land.space + took → 5 * k + took + 13 ≤ 10 * copies + 67
     → commit_need new ≤ free_slots new.fs.land.space
-room-changed old new copies k took more fits fits_new room same heavier subs groups few taken small =
+room-grown old new copies k took more others fits fits_new room same heavier beside few taken small =
     let bytes : book_weight new + root_weight new + quota_weight new
     ≤ book_weight old + root_weight old + quota_weight old + k * capacity old.superblock.nodesize =
-    omega (arith, heavier, subs, groups, few) in
+    omega (arith, heavier, beside, few) in
     let filled : nodes_filled old.superblock.nodesize (book_weight new + root_weight new + quota_weight new)
     ≤ filled_by old + k =
     fills-more old.superblock.nodesize (book_weight old + root_weight old + quota_weight old)
@@ -148,7 +144,13 @@ room-changed old new copies k took more fits fits_new room same heavier subs gro
 -- ---- what is the same
 
 pub settled-same : (kept : Kept) → kept.pending ≡ 0 → IsSettledFrom kept kept
-settled-same kept none = record { pending = none; snapshots = refl; groups = refl; owner = refl; last = inl refl }
+settled-same kept none = record {
+  pending = none;
+  snapshots = refl;
+  groups = recounted-self (quota_of kept.quota);
+  owner = refl;
+  last = inl refl;
+}
 
 pub settled-committed : (old new : Kept) → 0 < old.pending → LeavesRoom old new → IsSettledFrom old new
 settled-committed old new some leaves = record {

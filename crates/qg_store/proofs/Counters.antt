@@ -22,11 +22,13 @@ use Rattle.qg_space.specs.Holding.{AscendApart}
 use Rattle.qg_direct.specs.Surveyed.{AreSurveyed, surveyed_of}
 use Rattle.qg_direct.specs.declared.surveyed.Surveyed.{Surveyed}
 use Rattle.qg_survey.proofs.Links.{surveyed-held}
+use Rattle.qg_groups.specs.Tracked.{quota_of}
 use Rattle.qg_fs_laws.proofs.Kept.{counted}
 use Rattle.qg_fs_laws.proofs.Runs.{runs-told}
 use Rattle.qg_fs_laws.specs.Committing.{IsInOrder}
 use Rattle.qg_store.specs.declared.kept.Kept.{Kept}
 use Rattle.qg_store.specs.Keeping.{IsFitted, IsKept, IsKeptWith}
+use Rattle.qg_store.specs.Planning.{AreInOrder, HasSurveyed}
 use Rattle.qg_store.proofs.Cleaned.{held-now, tree-now}
 
 -- ---- how many
@@ -124,3 +126,24 @@ module _ (kept : Kept) (history : Option (List Event)) (bytes : ℕ) (state : St
       let size : state.sizes.nodesize ≡ nodesize = size_now ∙ sym of_size in
       subst (λ (T : Type 0). T)
       (λ i. AreSurveyed (layout_of state) (sym of_roots i) (sym of_nodes i) (size i) (sym of_extents i)) surveyed_now
+
+-- ---- after the survey
+
+-- what was surveyed is in order still
+pub order-still : (old new : Kept) (before after : Option (List Event)) (bytes left : ℕ) (nodes given : List Surveyed)
+    → HasSurveyed old new before after bytes left → given ≡ nodes → AreInOrder old nodes → AreInOrder new given
+order-still old new before after bytes left nodes given looked same order =
+    subst (λ (list : List Surveyed). AreInOrder new list) (sym same)
+    (subst (λ (kept : Kept). AreInOrder kept nodes) (sym looked.rest)
+    (record { ascending = order.ascending; few = order.few }))
+
+-- and so is the space, where it was before
+pub space-still : (old new : Kept) (before after : Option (List Event)) (bytes left : ℕ)
+    → HasSurveyed old new before after bytes left → IsInOrder old.fs.land.space → IsInOrder new.fs.land.space
+space-still old new before after bytes left looked order =
+    subst (λ (kept : Kept). IsInOrder kept.fs.land.space) (sym looked.rest) order
+
+-- quota is the same
+pub quota-still : (old new : Kept) (before after : Option (List Event)) (bytes left : ℕ)
+    → HasSurveyed old new before after bytes left → quota_of new.quota ≡ quota_of old.quota
+quota-still old new before after bytes left looked = ap (λ (kept : Kept). quota_of kept.quota) looked.rest

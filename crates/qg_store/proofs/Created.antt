@@ -1,11 +1,10 @@
 -- What is kept is kept of a state that has one subvolume more. Where that was made without files, no node but its leaf is
 -- fresh.
-use Rattle.std.proofs.Common.{◌≡◌, ◌≢◌, ℕ, ◌+◌, ◌<◌, ◌≤◌, true, false, List, [], ◌∷◌, ◌++◌, arith, length, map, Option, Some, refl, sym, ap, subst, ◌∙◌, inl, inr}
+use Rattle.std.proofs.Common.{◌≡◌, ◌≢◌, ℕ, ◌+◌, ◌<◌, ◌≤◌, true, false, List, [], ◌∷◌, ◌++◌, append-nil, arith, length, map, Option, Some, None, refl, sym, ap, subst, ◌∙◌, inl, inr}
 use Rattle.std.specs.Prelude.{◌⊎◌, ◌==◌, not}
 use Rattle.std.specs.BTreeMap.{is_at}
 use Rattle.std.specs.Ordering.{nat_cmp}
 use Rattle.std.specs.List.{All, Contains}
-use Rattle.std.specs.Option.{option_map}
 use Rattle.std.proofs.lemmas.List.{append_cancel_left, map-append}
 use Rattle.std.proofs.lemmas.List.Elements.{All-nil, Contains-append_cases, filter-append, recursion_from_All}
 use Rattle.std.proofs.lemmas.Option.{same_Some}
@@ -22,7 +21,6 @@ use Rattle.qg_state.specs.Space.{is_free_slot}
 use Rattle.qg_state.specs.State.{Accepted, Committed, Placed, State, Subvolume, next_generation}
 use Rattle.qg_state.proofs.Contained.{contains_cases, contains_later, none_contained}
 use Rattle.qg_rules.specs.Writable.{IsFileBy, IsWritableFile}
-use Rattle.qg_machine.specs.GroupChange.{new_group, with_group}
 use Rattle.qg_machine.specs.Step.{CreatesSubvolume, empty_leaf}
 use Rattle.qg_reach.proofs.Layouts.{value_at-with_other, value_at-with_same}
 use Rattle.qg_blocks.specs.Told.{fresh_at}
@@ -34,6 +32,7 @@ use Rattle.qg_weighed.specs.Laws.{IsRecorded, is_among}
 use Rattle.qg_weighed.specs.Weight.{records_in}
 use Rattle.qg_descent.specs.Tree.{Reaches, Root}
 use Rattle.qg_home.proofs.Reaching.{entry_of_value}
+use Rattle.qg_groups.specs.Tracked.{quota_of}
 use Rattle.qg_forest.specs.Standing.{HoldsState, tree_of}
 use Rattle.qg_fs_tree.specs.declared.fs_tree.FsTree.{FsTree}
 use Rattle.qg_fs_tree.specs.Standing.{IsReachedBy, nodes_of, trees_of}
@@ -42,7 +41,7 @@ use Rattle.qg_fs_laws.specs.Committing.{AreShort, IsShort}
 use Rattle.qg_fs_laws.specs.Keeping.{AreTreesOf, AreYoung, KeepsState, NamesOthers, OthersHaveFiles, other_names}
 use Rattle.qg_fs_laws.proofs.HeldStands.{held-kept}
 use Rattle.qg_store.specs.declared.kept.Kept.{Kept}
-use Rattle.qg_store.specs.Keeping.{IsKept, IsKeptOf, IsKeptWith}
+use Rattle.qg_store.specs.Keeping.{HoldsPending, IsKept, IsKeptOf, IsKeptWith}
 use Rattle.qg_store.proofs.Added.{put-last}
 use Rattle.qg_store.proofs.Grown.{files-grown, free-none, layout-grown, old-none-fresh, still-grown, tree-grown}
 use Rattle.qg_store.proofs.CanLay.{early-known}
@@ -55,12 +54,11 @@ use Rattle.qg_store.proofs.Young.{dated-still, fresh-told}
 
 -- ---- a subvolume more
 
--- A state has one subvolume more, whose root is this node in a slot that was free, with its group
+-- A state has one subvolume more, whose root is this node in a slot that was free
 pub record AddsSubvolume (old new : State) (sub : ℕ) (made : Subvolume) (placed : Placed) : Type 0 where
   pub free : is_free_slot old made.root ≡ true
   pub subvolumes : new.subvolumes ≡ with_value sub made old.subvolumes
   pub layout : new.layout ≡ with_value made.root placed old.layout
-  pub quota : new.quota ≡ option_map (with_group sub (new_group (next_generation old))) old.quota
   pub generation : new.generation ≡ old.generation
   pub pending : new.pending ≡ old.pending
   pub held : new.held ≡ old.held
@@ -76,7 +74,6 @@ adds-created state after sub creates = record {
   free = creates.free;
   subvolumes = ap (λ (s : State). s.subvolumes) creates.created;
   layout = ap (λ (s : State). s.layout) creates.created;
-  quota = ap (λ (s : State). s.quota) creates.created;
   generation = ap (λ (s : State). s.generation) creates.created;
   pending = ap (λ (s : State). s.pending) creates.created;
   held = ap (λ (s : State). s.held) creates.created;
@@ -92,13 +89,31 @@ append-again : (front : List Record) (one : Record) (back : List Record)
 append-again [] one back = refl
 append-again (first ∷ front) one back = ap (λ (records : List Record). first ∷ records) (append-again front one back)
 
--- where quota is on
-pub names-are : (state : State) (quota : Quota) → state.quota ≡ Some quota
-    → other_names state
-    ≡ (RootOf EXTENT_TREE ∷ map RootOf (keys_of state.subvolumes)) ++ RootOf QUOTA_TREE ∷ quota_records (Some quota)
-names-are state quota is =
+-- what is named behind the subvolumes: the quota tree and what that names, while quota is on
+abbrev pub quota_names : Option Quota → List Record
+quota_names None = []
+quota_names (Some quota) = RootOf QUOTA_TREE ∷ quota_records (Some quota)
+
+-- what the other trees name, by whether quota is on
+pub names-are : (state : State) (quota : Option Quota) → state.quota ≡ quota
+    → other_names state ≡ (RootOf EXTENT_TREE ∷ map RootOf (keys_of state.subvolumes)) ++ quota_names quota
+names-are state None is =
+    rw is (append-nil ((RootOf EXTENT_TREE ∷ map RootOf (keys_of state.subvolumes)) ++ []))
+names-are state (Some quota) is =
     rw is (append-again (RootOf EXTENT_TREE ∷ map RootOf (keys_of state.subvolumes)) (RootOf QUOTA_TREE)
     (quota_records (Some quota)))
+
+-- the quota tree is not named where a subvolume of such a number would be
+quota-first : (quota : Option Quota) (sub : ℕ) (rest : List Record) → 255 < sub
+    → quota_names quota ≡ RootOf sub ∷ rest → ⊥
+quota-first None sub rest large same =
+    let none : 0 ≡ length (RootOf sub ∷ rest) = ap (λ (records : List Record). length records) same in
+    omega (arith, none)
+quota-first (Some quota) sub rest large same =
+    let first : RootOf QUOTA_TREE ≡ RootOf sub =
+    head_of (RootOf QUOTA_TREE) (RootOf sub) (quota_records (Some quota)) rest same in
+    let number : QUOTA_TREE ≡ sub = cc in
+    omega (arith, number, large)
 
 module _ (old new : Kept) (history : Option (List Event)) (bytes : ℕ) (state after : State) (sub : ℕ) (tree : Root)
     (fits : IsKept old history bytes) (keeps : IsKeptOf old state history) (none : old.pending ≡ 0)
@@ -111,7 +126,8 @@ module _ (old new : Kept) (history : Option (List Event)) (bytes : ℕ) (state a
     (others : new.fs.others.items ≡ old.fs.others.items ++ tree ∷ [])
     (book : new.fs.refs.tree ≡ old.fs.tree.owner) (same_held : new.fs.refs.held ≡ old.fs.refs.held)
     (snapshots : new.snapshots ≡ old.snapshots ++ (sub, made.last_snapshot) ∷ [])
-    (quota : new.quota ≡ with_group sub (new_group old.fs.tree.next) old.quota) (pending : new.pending ≡ old.pending)
+    (quota : after.quota ≡ quota_of new.quota) (groups_held : HoldsPending new after.pending)
+    (pending : new.pending ≡ old.pending)
   where
     abbrev own : ℕ
     own = old.fs.tree.owner
@@ -130,9 +146,6 @@ module _ (old new : Kept) (history : Option (List Event)) (bytes : ℕ) (state a
 
     next : new.fs.tree.next ≡ old.fs.tree.next
     next = ap (λ (t : Root). t.next) hand
-
-    come_is : next_generation state ≡ old.fs.tree.next
-    come_is = keeps.keeps.laid.generation
 
     -- ---- the subvolumes that there were
 
@@ -274,13 +287,6 @@ module _ (old new : Kept) (history : Option (List Event)) (bytes : ℕ) (state a
         ∙ map-append (λ (entry : ℕ × Subvolume). (entry.0, entry.1.last_snapshot)) state.subvolumes ((sub, made) ∷ [])
         ∙ ap (λ (table : List (ℕ × ℕ)). table ++ (sub, made.last_snapshot) ∷ []) keeps.snapshots ∙ sym snapshots
 
-    quota_then : after.quota ≡ Some new.quota
-    quota_then =
-        adds.quota
-        ∙ ap (λ (o : Option Quota). option_map (with_group sub (new_group (next_generation state))) o) keeps.quota
-        ∙ ap (λ (n : ℕ). Some (with_group sub (new_group n) old.quota)) come_is
-        ∙ ap (λ (q : Quota). Some q) (sym quota)
-
     recorded_then : IsRecorded after new.fs.refs.held
     recorded_then =
         subst (λ (book : List (ℕ × Reference)). IsRecorded after book) (sym same_held)
@@ -296,22 +302,16 @@ module _ (old new : Kept) (history : Option (List Event)) (bytes : ℕ) (state a
         let keys : keys_of after.subvolumes ≡ keys_of state.subvolumes ++ sub ∷ [] =
         ap (λ (table : List (ℕ × Subvolume)). keys_of table) subs_last
         ∙ map-append (λ (entry : ℕ × Subvolume). entry.0) state.subvolumes ((sub, made) ∷ []) in
-        let before = names-are state old.quota keeps.quota in
-        let now = names-are after new.quota quota_then
-        ∙ ap (λ (numbers : List ℕ). RootOf EXTENT_TREE ∷ map RootOf numbers ++ RootOf QUOTA_TREE
-        ∷ quota_records (Some new.quota)) keys
-        ∙ ap (λ (records : List Record). RootOf EXTENT_TREE ∷ records ++ RootOf QUOTA_TREE
-        ∷ quota_records (Some new.quota)) (map-append RootOf (keys_of state.subvolumes) (sub ∷ [])) in
-        let first = head_of (RootOf QUOTA_TREE) (RootOf sub) (quota_records (Some old.quota))
-        (RootOf QUOTA_TREE ∷ quota_records (Some new.quota))
-        (append_cancel_left (RootOf EXTENT_TREE ∷ map RootOf (keys_of state.subvolumes))
-        (RootOf QUOTA_TREE ∷ quota_records (Some old.quota))
-        (RootOf sub ∷ RootOf QUOTA_TREE ∷ quota_records (Some new.quota))
-        (sym before ∙ same ∙ now
-        ∙ append-again (RootOf EXTENT_TREE ∷ map RootOf (keys_of state.subvolumes)) (RootOf sub)
-        (RootOf QUOTA_TREE ∷ quota_records (Some new.quota)))) in
-        let number : QUOTA_TREE ≡ sub = let e : RootOf QUOTA_TREE ≡ RootOf sub = first in cc in
-        omega (arith, number, large)
+        let front : List Record = RootOf EXTENT_TREE ∷ map RootOf (keys_of state.subvolumes) in
+        let before : other_names state ≡ front ++ quota_names state.quota = names-are state state.quota refl in
+        let now : other_names after ≡ (front ++ RootOf sub ∷ []) ++ quota_names after.quota =
+        names-are after after.quota refl
+        ∙ ap (λ (numbers : List ℕ). (RootOf EXTENT_TREE ∷ map RootOf numbers) ++ quota_names after.quota) keys
+        ∙ ap (λ (records : List Record). (RootOf EXTENT_TREE ∷ records) ++ quota_names after.quota)
+        (map-append RootOf (keys_of state.subvolumes) (sub ∷ [])) in
+        quota-first state.quota sub (quota_names after.quota) large
+        (append_cancel_left front (quota_names state.quota) (RootOf sub ∷ quota_names after.quota)
+        (sym before ∙ same ∙ now ∙ append-again front (RootOf sub) (quota_names after.quota)))
 
     pub keeps-added : IsKeptWith new after history (other_names state)
     keeps-added = record {
@@ -320,7 +320,8 @@ module _ (old new : Kept) (history : Option (List Event)) (bytes : ℕ) (state a
       keeps = state_then;
       short = short_then;
       snapshots = snapshots_then;
-      quota = quota_then;
+      quota = quota;
+      holds = groups_held;
       pending = ap (λ (pending : List Accepted). length pending) adds.pending ∙ keeps.pending ∙ sym pending;
       recorded = recorded_then;
       others = subst (λ (committed : Committed). NamesOthers committed (other_names state)) (sym held_same)

@@ -2,6 +2,7 @@
 use Rattle.std.proofs.Common.{◌≡◌, ℕ, ◌+◌, ◌*◌, ◌<◌, ◌≤◌, true, List, [], ◌∷◌, ◌++◌, arith, length, Option, Some, None, refl, sym, ap, subst, ◌∙◌, inl, inr}
 use Rattle.std.specs.Prelude.{◌⊎◌, not}
 use Rattle.std.specs.List.{Contains}
+use Rattle.std.specs.Option.{option_map}
 use Rattle.std.proofs.lemmas.Bool.{cases_Bool}
 use Rattle.std.proofs.lemmas.List.{length-append}
 use Rattle.std.proofs.lemmas.List.Elements.{All-nil}
@@ -13,14 +14,14 @@ use Rattle.qg_super.specs.Places.{capacity, total_bytes}
 use Rattle.qg_super.specs.SuperText.{sizes_of}
 use Rattle.qg_image.specs.declared.file.File.{File}
 use Rattle.qg_image.specs.Table.{keys_of, value_at}
-use Rattle.qg_state.specs.declared.quota.Quota.{Quota}
-use Rattle.qg_state.specs.Stage.{serves_subvolumes}
-use Rattle.qg_state.specs.State.{State, Subvolume, has_subvolume, next_generation}
+use Rattle.qg_state.specs.State.{Accepted, State, Subvolume, has_subvolume, next_generation}
 use Rattle.qg_machine.specs.GroupChange.{new_group, with_group}
 use Rattle.qg_machine.specs.Refusals.{number_to_come}
 use Rattle.qg_machine.specs.Step.{CreatesSubvolume, empty_leaf}
 use Rattle.qg_reach.proofs.Layouts.{value_at-with_same}
 use Rattle.qg_blocks.specs.Told.{IsBacked}
+use Rattle.qg_groups.specs.Changing.{groups_in}
+use Rattle.qg_groups.specs.Tracked.{quota_of}
 use Rattle.qg_space.specs.Holding.{free_slots}
 use Rattle.qg_ground.specs.declared.ground.Ground.{Ground}
 use Rattle.qg_ground.specs.Land.{IsDrafted}
@@ -40,11 +41,12 @@ use Rattle.qg_fs_tree.proofs.Lists.{has-mapped}
 use Rattle.qg_fs_laws.specs.Committing.{AreShortPieces}
 use Rattle.qg_fs_laws.specs.Keeping.{other_names}
 use Rattle.qg_store.specs.declared.kept.Kept.{Kept}
-use Rattle.qg_store.specs.Keeping.{IsFitted, IsKept, IsKeptOf, IsKeptWith, book_weight}
+use Rattle.qg_store.specs.Keeping.{HoldsPending, IsFitted, IsKept, IsKeptOf, IsKeptWith, book_weight, quota_weight, root_weight}
 use Rattle.qg_store.specs.Structural.{HasRoom, IsChanged, number_next, too_many_refusal}
-use Rattle.qg_store.proofs.Added.{IsAdded, fitted-added, greater, length-put}
-use Rattle.qg_store.proofs.Committed.{large, room-changed}
+use Rattle.qg_store.proofs.Added.{IsAdded, fitted-added, greater}
+use Rattle.qg_store.proofs.Committed.{large}
 use Rattle.qg_store.proofs.Created.{adds-created, at-leaf, empty-files, keeps-added, made_empty, young-added}
+use Rattle.qg_store.proofs.GroupAdded.{AddsGroup, holds-still, room-grown, weighs-more}
 use Rattle.qg_store.proofs.Known.{sub-known}
 use Rattle.qg_store.proofs.Numbered.{next-greater, next-some}
 use Rattle.qg_store.proofs.Reasoned.{number-told}
@@ -58,20 +60,21 @@ pub number-new : (kept : Kept) (state : State) (history : Option (List Event)) (
 number-new kept state history sub fits keeps comes = elim (cases_Bool (has_subvolume state sub)) [
   | inl there ↦
       let has = key-listed sub kept.snapshots (sym (sub-known kept state history keeps sub) ∙ there) in
-      let less = next-greater (keys_of kept.snapshots) (keys_of kept.quota.groups) sub has in
+      let less = next-greater (keys_of kept.snapshots) (groups_in (quota_of kept.quota)) sub has in
       absurd (omega (arith, less, comes))
   | inr none ↦ ap not none
 ]
 
 -- `land` and `book` are what making the leaf left; then the book stands for the tree at hand again, and the tree, its
--- snapshot and its group were put in
+-- snapshot and, while quota is on, its group were put in
 module _ (old new : Kept) (land : Ground) (book : TreeRefs) (before after : Option (List Event)) (bytes left sub : ℕ)
-    (tree : Root) (fits : IsKept old before bytes) (serves : serves_subvolumes ≡ true) (comes : sub ≡ number_next old)
-    (few : too_many_refusal old ≡ None) (rests : LeavesBe old.fs.land land before after bytes left old.fs.tree.next)
+    (tree : Root) (fits : IsKept old before bytes) (comes : sub ≡ number_next old)
+    (few : too_many_refusal old 0 ≡ None) (rests : LeavesBe old.fs.land land before after bytes left old.fs.tree.next)
     (tree_is : tree ≡ record { address = tree.address; height = 0; owner = sub; next = old.fs.tree.next })
     (others : new.fs.others.items ≡ old.fs.others.items ++ tree ∷ [])
     (snapshots : new.snapshots ≡ old.snapshots ++ (tree.owner, 0) ∷ [])
-    (quota : new.quota ≡ with_group tree.owner (new_group old.fs.tree.next) old.quota)
+    (quota : quota_of new.quota ≡ option_map (with_group sub (new_group old.fs.tree.next)) (quota_of old.quota))
+    (groups : AddsGroup old new sub 0)
     (rest : new ≡ record old {
       fs = record old.fs { others = new.fs.others; land = land; refs = record book { tree = old.fs.tree.owner } };
       snapshots = new.snapshots;
@@ -83,7 +86,10 @@ module _ (old new : Kept) (land : Ground) (book : TreeRefs) (before after : Opti
   superblock : new.superblock ≡ old.superblock
   superblock = ap (λ (k : Kept). k.superblock) rest
 
-  abbrev added : IsAdded old new sub 0 (new_group old.fs.tree.next) tree
+  pending : new.pending ≡ old.pending
+  pending = ap (λ (k : Kept). k.pending) rest
+
+  abbrev added : IsAdded old new 0 sub 0 tree
   added = record {
     superblock = superblock;
     hand = ap (λ (k : Kept). k.fs.tree) rest;
@@ -95,15 +101,15 @@ module _ (old new : Kept) (land : Ground) (book : TreeRefs) (before after : Opti
     copied = fits.fitted.subvolumes.copied;
     snapshots = snapshots ∙ ap (λ (n : ℕ). old.snapshots ++ (n, 0) ∷ []) owner;
     dated = omega arith;
-    quota = quota ∙ ap (λ (n : ℕ). with_group n (new_group old.fs.tree.next) old.quota) owner;
-    plain = refl;
+    groups = groups;
+    pending = pending;
     sizes = ap (λ (k : Kept). k.fs.land.space.sizes) rest ∙ rests.rests.sizes;
     drafted = subst (λ (k : Kept). IsDrafted k.fs.land old.fs.tree.next) (sym rest) rests.rests.drafted;
   }
 
   pub kept-created : IsKept new after left
   kept-created = record {
-    fitted = fitted-added old new sub 0 (new_group old.fs.tree.next) tree fits.fitted serves comes few added;
+    fitted = fitted-added old new 0 sub 0 tree fits.fitted comes few added;
     backed = subst (λ (k : Kept). IsBacked k.fs.land.blocks after) (sym rest) rests.rests.backed;
     long = subst (λ (s : Super). total_bytes (sizes_of s) ≤ left) (sym superblock)
         (subst (λ (n : ℕ). total_bytes (sizes_of old.superblock) ≤ n) (sym rests.size) fits.long);
@@ -132,13 +138,13 @@ module _ (old new : Kept) (land : Ground) (book : TreeRefs) (before after : Opti
 
     less : (entry : ℕ × Subvolume) → Contains state.subvolumes entry → entry.0 < sub
     less entry has =
-        greater old new sub 0 (new_group old.fs.tree.next) tree fits.fitted serves comes few added entry.0
+        greater old new 0 sub 0 tree fits.fitted comes few added entry.0
         (subst (λ (keys : List ℕ). Contains keys entry.0) (keys-kept old state before (other_names state) fits.fitted keeps)
         (has-mapped (λ (e : ℕ × Subvolume). e.0) state.subvolumes entry has))
 
     large_number : 255 < sub
     large_number =
-        let some = next-some (keys_of old.snapshots) (keys_of old.quota.groups) in
+        let some = next-some (keys_of old.snapshots) (groups_in (quota_of old.quota)) in
         omega (arith, some, comes)
 
     place : tree.address ≡ creates.address
@@ -184,11 +190,27 @@ module _ (old new : Kept) (land : Ground) (book : TreeRefs) (before after : Opti
         let parts = length-append old.snapshots ((tree.owner, 0) ∷ []) in
         omega (arith, all, parts)
 
-    groups : length new.quota.groups ≤ length old.quota.groups + 1
-    groups =
-        let all = ap (λ (q : Quota). length q.groups) quota in
-        let more = length-put tree.owner (new_group old.fs.tree.next) old.quota.groups in
-        omega (arith, all, more)
+    weighs : root_weight new + quota_weight new ≤ root_weight old + quota_weight old + (594 + 50 * 0)
+    weighs =
+        weighs-more old.fs.tree.next sub 0 (length old.snapshots) (length new.snapshots) (quota_of old.quota)
+        (quota_of new.quota) many groups.quota
+
+    -- the machine's group is the one that is kept
+    quota_now : next.quota ≡ quota_of new.quota
+    quota_now =
+        ap (λ (s : State). s.quota) creates.created
+        ∙ (λ i. option_map (with_group sub (new_group (keeps.keeps.laid.generation i))) (keeps.quota i))
+        ∙ sym quota
+
+    none_pending : length next.pending ≡ 0
+    none_pending =
+        ap (λ (s : State). length s.pending) creates.created ∙ keeps.pending ∙ none
+
+    holds_now : HoldsPending new next.pending
+    holds_now =
+        holds-still old new next.pending none_pending groups.held
+        (subst (λ (list : List Accepted). HoldsPending old list) (sym (ap (λ (s : State). s.pending) creates.created))
+        keeps.holds)
 
     space_same : free_slots new.fs.land.space ≡ free_slots land.space
     space_same = ap (λ (k : Kept). free_slots k.fs.land.space) rest
@@ -207,7 +229,7 @@ module _ (old new : Kept) (land : Ground) (book : TreeRefs) (before after : Opti
         young is added.hand others
         (ap (λ (r : TreeRefs). r.tree) refs_are)
         (ap (λ (r : TreeRefs). r.held) refs_are ∙ heavier.held)
-        added.snapshots added.quota (ap (λ (k : Kept). k.pending) rest) in
+        added.snapshots quota_now holds_now pending in
         record {
           changed = next;
           changes = (ap (λ (n : ℕ). Sub n) number, subst (λ (n : ℕ). CreatesSubvolume state n next) number creates);
@@ -215,7 +237,7 @@ module _ (old new : Kept) (land : Ground) (book : TreeRefs) (before after : Opti
               keeps_now;
           room =
               let wide = large old fits.fitted in
-              let few_bytes : node_bytes + 594 ≤ 1 * capacity old.superblock.nodesize = omega (arith, wide) in
-              room-changed old new 18 1 1 node_bytes fits.fitted kept_then.fitted room superblock weight many groups
-              few_bytes (let same = space_same in omega (arith, slots, same)) (omega arith);
+              let few_bytes : node_bytes + (594 + 50 * 0) ≤ 1 * capacity old.superblock.nodesize = omega (arith, wide) in
+              room-grown old new 18 1 1 node_bytes (594 + 50 * 0) fits.fitted kept_then.fitted room superblock weight
+              weighs few_bytes (let same = space_same in omega (arith, slots, same)) (omega arith);
         }

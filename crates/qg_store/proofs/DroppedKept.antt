@@ -1,6 +1,6 @@
 -- What is kept where a subvolume went: it fits together, and is kept of the state that this leaves.
 use Rattle.std.proofs.Common.{◌≡◌, ◌≢◌, ℕ, ◌+◌, ◌*◌, ◌<◌, ◌≤◌, Bool, true, false, List, ◌∷◌, arith, length, map, Option, Some, refl, sym, ap, subst, ◌∙◌, inl, inr}
-use Rattle.std.specs.Prelude.{◌⊎◌, ◌==◌, not}
+use Rattle.std.specs.Prelude.{◌⊎◌, ◌==◌, IfSome, not}
 use Rattle.std.specs.List.{Contains, filter}
 use Rattle.std.proofs.lemmas.Bool.{eq-eqb}
 use Rattle.std.proofs.lemmas.List.{length-append, length-map}
@@ -11,16 +11,13 @@ use Rattle.qg_device.specs.History.{Event}
 use Rattle.qg_num.specs.declared.answer.Answer.TheVariants.{Done}
 use Rattle.qg_num.specs.declared.command.Command.TheVariants.{Delete}
 use Rattle.qg_node.specs.declared.node.Node.{Node}
-use Rattle.qg_items.specs.declared.tree.TheConstants.{EXTENT_TREE, QUOTA_TREE, TOP_LEVEL}
+use Rattle.qg_items.specs.declared.tree.TheConstants.{EXTENT_TREE, TOP_LEVEL}
 use Rattle.qg_super.specs.declared.sizes.Sizes.{Sizes}
 use Rattle.qg_super.specs.declared.superblock.Super.{Super}
 use Rattle.qg_super.specs.Places.{capacity, total_bytes}
 use Rattle.qg_super.specs.SuperText.{sizes_of}
 use Rattle.qg_image.specs.Table.{has_key, keys_of, value_at, without_key}
-use Rattle.qg_state.specs.declared.quota.Quota.{Quota}
-use Rattle.qg_state.specs.Need.{quota_records}
 use Rattle.qg_state.specs.Record.{Record, RootOf}
-use Rattle.qg_state.specs.Stage.{serves_subvolumes}
 use Rattle.qg_state.specs.State.{State, Subvolume}
 use Rattle.qg_machine.specs.Refusals.{nodes_reached}
 use Rattle.qg_machine.specs.Step.{deleted}
@@ -31,6 +28,8 @@ use Rattle.qg_space.proofs.Members.{contains_filter}
 use Rattle.qg_blocks.specs.Told.{IsBacked, fresh_at}
 use Rattle.qg_ground.specs.declared.ground.Ground.{Ground}
 use Rattle.qg_ground.specs.Land.{IsDrafted}
+use Rattle.qg_groups.specs.declared.state.QuotaState.{QuotaState}
+use Rattle.qg_groups.specs.Tracked.{HoldsAll, quota_of}
 use Rattle.qg_refs.specs.declared.kept.What.{What}
 use Rattle.qg_refs.specs.Book.{what_in}
 use Rattle.qg_refs.specs.declared.kept.Kept.{Kept as Reference}
@@ -50,12 +49,14 @@ use Rattle.qg_fs_laws.specs.Committing.{AreShort, IsShort}
 use Rattle.qg_fs_laws.specs.Keeping.{AreTreesOf, AreYoung, KeepsState, OthersHaveFiles, other_names}
 use Rattle.qg_fs_laws.proofs.HeldStands.{held-kept}
 use Rattle.qg_store.specs.declared.kept.Kept.{Kept}
-use Rattle.qg_store.specs.Keeping.{IsKept, IsKeptOf, IsKeptWith, SameButClean, book_weight}
+use Rattle.qg_store.specs.Keeping.{HoldsPending, IsKept, IsKeptOf, IsKeptWith, SameButClean, book_weight, quota_weight}
+use Rattle.qg_store.specs.Keeping.{root_weight}
 use Rattle.qg_store.specs.Structural.{HasRoom, IsChanged, without_tree}
-use Rattle.qg_store.proofs.Committed.{large, room-changed}
-use Rattle.qg_store.proofs.Created.{dated-before, names-are}
+use Rattle.qg_store.proofs.Committed.{large}
+use Rattle.qg_store.proofs.Created.{dated-before, names-are, quota_names}
 use Rattle.qg_store.proofs.Dropped.{still-left, value-left}
 use Rattle.qg_store.proofs.Gone.{IsGone, fitted-gone, other-left, others-gone}
+use Rattle.qg_store.proofs.GroupAdded.{room-grown, weighs-same}
 use Rattle.qg_store.proofs.Grown.{files-grown, old-none-fresh, tree-grown}
 use Rattle.qg_store.proofs.Known.{sub-known}
 use Rattle.qg_store.proofs.Looked.{hand-among, is-near, is-subvolume}
@@ -80,12 +81,11 @@ shorter {A} n value table there =
     omega (arith, own.1, both)
 
 -- how many records name what a state's root and quota trees would
-count_names : (state : State) (quota : Quota) → state.quota ≡ Some quota
-    → length (other_names state) ≡ length state.subvolumes + 2 + length (quota_records (Some quota))
-count_names state quota is =
-    let all = ap (λ (records : List Record). length records) (names-are state quota is) in
-    let parts = length-append (RootOf EXTENT_TREE ∷ map RootOf (keys_of state.subvolumes))
-    (RootOf QUOTA_TREE ∷ quota_records (Some quota)) in
+count_names : (state : State)
+    → length (other_names state) ≡ length state.subvolumes + 1 + length (quota_names state.quota)
+count_names state =
+    let all = ap (λ (records : List Record). length records) (names-are state state.quota refl) in
+    let parts = length-append (RootOf EXTENT_TREE ∷ map RootOf (keys_of state.subvolumes)) (quota_names state.quota) in
     let roots = length-map (keys_of state.subvolumes) RootOf in
     let keys = length-map state.subvolumes (λ (entry : ℕ × Subvolume). entry.0) in
     omega (arith, all, parts, roots, keys)
@@ -124,7 +124,7 @@ rest-dropped old taken new land book now sub hand taken_is now_is hand_is is =
 -- `land` and `book` are what the drop left; then the book stands for the tree at hand again, the tree that went is no more
 -- among the others, and its number not among the snapshots
 module _ (old new : Kept) (land : Ground) (book : TreeRefs) (before after : Option (List Event)) (bytes left sub : ℕ)
-    (fits : IsKept old before bytes) (serves : serves_subvolumes ≡ true) (top : old.fs.tree.owner ≡ TOP_LEVEL)
+    (fits : IsKept old before bytes) (top : old.fs.tree.owner ≡ TOP_LEVEL)
     (other : sub ≡ TOP_LEVEL → ⊥) (rests : RestsButRuns old.fs.land land after old.fs.tree.next)
     (same_history : after ≡ before) (same_size : left ≡ bytes)
     (others : new.fs.others.items ≡ without_tree sub old.fs.others.items)
@@ -142,13 +142,14 @@ module _ (old new : Kept) (land : Ground) (book : TreeRefs) (before after : Opti
     others = others;
     snapshots = ap (λ (k : Kept). k.snapshots) rest;
     quota = ap (λ (k : Kept). k.quota) rest;
+    pending = ap (λ (k : Kept). k.pending) rest;
     sizes = ap (λ (k : Kept). k.fs.land.space.sizes) rest ∙ rests.sizes;
     drafted = subst (λ (k : Kept). IsDrafted k.fs.land old.fs.tree.next) (sym rest) rests.drafted;
   }
 
   pub kept-dropped : IsKept new after left
   kept-dropped = record {
-    fitted = fitted-gone old new sub fits.fitted serves top other gone;
+    fitted = fitted-gone old new sub fits.fitted top other gone;
     backed = subst (λ (k : Kept). IsBacked k.fs.land.blocks after) (sym rest) rests.backed;
     long = subst (λ (s : Super). total_bytes (sizes_of s) ≤ left) (sym superblock)
         (subst (λ (n : ℕ). total_bytes (sizes_of old.superblock) ≤ n) (sym same_size) fits.long);
@@ -238,7 +239,7 @@ module _ (old new : Kept) (land : Ground) (book : TreeRefs) (before after : Opti
     other_in : (tree : Root) → Contains new.fs.others.items tree
         → Contains (trees_of old.fs) tree × (tree.owner ≢ sub)
     other_in tree has =
-        let both = other-left old new sub fits.fitted serves top other gone tree has in
+        let both = other-left old new sub fits.fitted top other gone tree has in
         (contains_later old.fs.tree old.fs.others.items tree both.0, both.1)
 
     tree_in : (tree : Root) → Contains (trees_of new.fs) tree → Contains (trees_of old.fs) tree × (tree.owner ≢ sub)
@@ -279,7 +280,7 @@ module _ (old new : Kept) (land : Ground) (book : TreeRefs) (before after : Opti
 
     numbers_then : map (λ (t : Root). t.owner) new.fs.others.items ≡ keys_of (without_key own stay)
     numbers_then =
-        others-gone old new sub fits.fitted serves top other gone
+        others-gone old new sub fits.fitted top other gone
         ∙ ap (λ (ns : List ℕ). filter (λ (n : ℕ). not (n == own)) ns) keys_then
         ∙ sym (numbers-without (λ (entry : ℕ × Subvolume). entry.0) own stay)
 
@@ -327,8 +328,13 @@ module _ (old new : Kept) (land : Ground) (book : TreeRefs) (before after : Opti
         All-filter (λ (entry : ℕ × Subvolume). not (entry.0 == sub))
         (λ (entry : ℕ × Subvolume). AreShort entry.1.files) state.subvolumes keeps.short
 
-    quota_then : next.quota ≡ Some new.quota
-    quota_then = keeps.quota ∙ ap (λ (quota : Quota). Some quota) (sym gone.quota)
+    quota_then : next.quota ≡ quota_of new.quota
+    quota_then = keeps.quota ∙ ap (λ (quota : Option QuotaState). quota_of quota) (sym gone.quota)
+
+    holds_then : HoldsPending new next.pending
+    holds_then =
+        subst (λ (quota : Option QuotaState). IfSome quota (λ tracked. HoldsAll tracked state.pending)) (sym gone.quota)
+        keeps.holds
 
     recorded_then : IsRecorded next new.fs.refs.held
     recorded_then =
@@ -339,8 +345,8 @@ module _ (old new : Kept) (land : Ground) (book : TreeRefs) (before after : Opti
     -- the root tree named one more
     names_differ : other_names state ≡ other_names next → ⊥
     names_differ same =
-        let first = count_names state new.quota quota_then in
-        let second = count_names next new.quota quota_then in
+        let first = count_names state in
+        let second : length (other_names next) ≡ length stay + 1 + length (quota_names state.quota) = count_names next in
         let all = ap (λ (records : List Record). length records) same in
         let less = shorter sub went.0 state.subvolumes went.1 in
         omega (arith, first, second, all, less)
@@ -353,6 +359,7 @@ module _ (old new : Kept) (land : Ground) (book : TreeRefs) (before after : Opti
       short = short_then;
       snapshots = snapshots_then;
       quota = quota_then;
+      holds = holds_then;
       pending = keeps.pending ∙ sym (ap (λ (k : Kept). k.pending) rest);
       recorded = recorded_then;
       others = keeps.others;
@@ -380,10 +387,10 @@ module _ (old new : Kept) (land : Ground) (book : TreeRefs) (before after : Opti
         let less = shorter sub mine.0 old.snapshots mine.1 in
         omega (arith, all, less)
 
-    groups : length new.quota.groups ≤ length old.quota.groups + 1
-    groups =
-        let same = ap (λ (quota : Quota). length quota.groups) gone.quota in
-        omega (arith, same)
+    weighs : root_weight new + quota_weight new ≤ root_weight old + quota_weight old + 594
+    weighs =
+        weighs-same (length old.snapshots) (length new.snapshots) (quota_of old.quota) (quota_of new.quota) many
+        (ap (λ (quota : Option QuotaState). quota_of quota) gone.quota)
 
     few_bytes : nodes_reached state sub * capacity old.superblock.nodesize + 594
         ≤ (nodes_reached state sub + 1) * capacity old.superblock.nodesize
@@ -407,7 +414,7 @@ module _ (old new : Kept) (land : Ground) (book : TreeRefs) (before after : Opti
       changes = (refl, refl);
       keeps = subst (λ (h : Option (List Event)). IsKeptWith new next h (other_names state)) (sym same_history)
           keeps_now;
-      room = room-changed old new copies (nodes_reached state sub + 1) 0
-          (nodes_reached state sub * capacity old.superblock.nodesize) fits.fitted kept_then.fitted room superblock weight
-          many groups few_bytes slots (omega (arith, count));
+      room = room-grown old new copies (nodes_reached state sub + 1) 0
+          (nodes_reached state sub * capacity old.superblock.nodesize) 594 fits.fitted kept_then.fitted room superblock
+          weight weighs few_bytes slots (omega (arith, count));
     }

@@ -1,7 +1,7 @@
 -- What is kept fits together where a subvolume other than the top-level one went.
-use Rattle.std.proofs.Common.{◌≡◌, ◌≢◌, ℕ, ◌+◌, ◌≤◌, true, List, ◌∷◌, arith, length, map, sym, ap, subst, ◌∙◌, inl, inr}
-use Rattle.std.specs.Prelude.{◌==◌, not}
-use Rattle.std.specs.List.{All, Contains, filter, list_all}
+use Rattle.std.proofs.Common.{◌≡◌, ◌≢◌, ℕ, ◌+◌, ◌*◌, ◌≤◌, true, List, ◌∷◌, Option, Some, None, arith, length, map, sym, ap, subst, ◌∙◌, inl, inr}
+use Rattle.std.specs.Prelude.{◌==◌, IfSome, not}
+use Rattle.std.specs.List.{All, Contains, filter}
 use Rattle.std.specs.List.Sorted.{IsPermutation, IsStrictlyIncreasing}
 use Rattle.std.proofs.lemmas.List.Elements.{All-contains, All-filter}
 use Rattle.std.proofs.lemmas.List.Kept.{IsStrictlyIncreasing-filter}
@@ -12,18 +12,18 @@ use Rattle.qg_super.specs.SuperText.{is_super, sizes_of}
 use Rattle.qg_image.specs.ItemMeaning.{is_subvolume_number}
 use Rattle.qg_image.specs.Table.{has_key, keys_of, without_key}
 use Rattle.qg_state.specs.declared.quota.Quota.{Quota}
-use Rattle.qg_state.specs.Stage.{serves_subvolumes}
 use Rattle.qg_state.proofs.Contained.{contains_cases, contains_later}
 use Rattle.qg_space.proofs.Members.{contains_filter, filter_contains}
 use Rattle.qg_ground.specs.Land.{IsDrafted}
 use Rattle.qg_descent.specs.Tree.{Root}
 use Rattle.qg_fs_tree.specs.Standing.{AreNumbered, CanTurn, trees_of}
 use Rattle.qg_fs_tree.proofs.Lists.{from-mapped, has-mapped}
-use Rattle.qg_check.specs.Editable.{AreGroups}
+use Rattle.qg_groups.specs.declared.state.QuotaState.{QuotaState}
+use Rattle.qg_groups.specs.Tracked.{HoldsAtMost, IsTracked, quota_of}
+use Rattle.qg_check.specs.Editable.{AreGroupsOf}
 use Rattle.qg_store.specs.declared.kept.Kept.{Kept}
-use Rattle.qg_store.specs.Keeping.{AreSubvolumesBy, IsFitted}
+use Rattle.qg_store.specs.Keeping.{AreSubvolumesBy, IsFitted, most_reserved}
 use Rattle.qg_store.specs.Structural.{without_tree}
-use Rattle.qg_store.proofs.Added.{or-early}
 use Rattle.qg_store.proofs.Looked.{hand-among, tree-listed}
 use Rattle.qg_store.proofs.Numbers.{in-front, not-same, numbers-same, numbers-without, other-number}
 use Rattle.qg_store.proofs.Tables.{key-listed, listed-key}
@@ -47,11 +47,12 @@ pub record IsGone (old new : Kept) (sub : ℕ) : Type 0 where
   pub others : new.fs.others.items ≡ without_tree sub old.fs.others.items
   pub snapshots : new.snapshots ≡ without_key sub old.snapshots
   pub quota : new.quota ≡ old.quota
+  pub pending : new.pending ≡ old.pending
   pub sizes : new.fs.land.space.sizes ≡ old.fs.land.space.sizes
   pub drafted : IsDrafted new.fs.land old.fs.tree.next
 
-module _ (old new : Kept) (sub : ℕ) (fits : IsFitted old) (serves : serves_subvolumes ≡ true)
-    (top : old.fs.tree.owner ≡ TOP_LEVEL) (other : sub ≡ TOP_LEVEL → ⊥) (gone : IsGone old new sub) where
+module _ (old new : Kept) (sub : ℕ) (fits : IsFitted old) (top : old.fs.tree.owner ≡ TOP_LEVEL)
+    (other : sub ≡ TOP_LEVEL → ⊥) (gone : IsGone old new sub) where
   abbrev own : ℕ
   own = old.fs.tree.owner
 
@@ -121,7 +122,6 @@ module _ (old new : Kept) (sub : ℕ) (fits : IsFitted old) (serves : serves_sub
         (λ same. other (sym same)));
     copied = all_left (λ (e : ℕ × ℕ). e.1 ≤ new.fs.tree.next)
         (subst (λ (n : ℕ). All (λ (e : ℕ × ℕ). e.1 ≤ n) old.snapshots) (sym next_is) fits.subvolumes.copied);
-    served = or-early serves_subvolumes (list_all (λ (e : ℕ × ℕ). e.0 == TOP_LEVEL) new.snapshots) serves;
   }
 
   -- ---- the trees
@@ -187,23 +187,32 @@ module _ (old new : Kept) (sub : ℕ) (fits : IsFitted old) (serves : serves_sub
 
   -- ---- the groups
 
-  groups_left : AreGroups old.fs.tree.next (keys_of new.snapshots) old.quota
-  groups_left = record {
-    few = fits.groups.few;
-    ascending = fits.groups.ascending;
-    numbers = fits.groups.numbers;
-    own = subst (λ (ns : List ℕ). All (λ (n : ℕ). has_key n old.quota.groups ≡ true) ns) (sym keys_left)
-        (All-filter (λ (n : ℕ). not (n == sub)) (λ (n : ℕ). has_key n old.quota.groups ≡ true)
-        (keys_of old.snapshots) fits.groups.own);
-    stamped = fits.groups.stamped;
-    alone = fits.groups.alone;
-    served = fits.groups.served;
+  groups_left : (quota : Option Quota) → AreGroupsOf old.fs.tree.next (keys_of old.snapshots) quota
+      → AreGroupsOf old.fs.tree.next (keys_of new.snapshots) quota
+  groups_left None groups = tt
+  groups_left (Some quota) groups = record {
+    few = groups.few;
+    ascending = groups.ascending;
+    numbers = groups.numbers;
+    own = subst (λ (ns : List ℕ). All (λ (n : ℕ). has_key n quota.groups ≡ true) ns) (sym keys_left)
+        (All-filter (λ (n : ℕ). not (n == sub)) (λ (n : ℕ). has_key n quota.groups ≡ true) (keys_of old.snapshots)
+        groups.own);
+    stamped = groups.stamped;
+    few_pairs = groups.few_pairs;
+    sound = groups.sound;
   }
 
-  groups_gone : AreGroups new.fs.tree.next (keys_of new.snapshots) new.quota
+  groups_gone : AreGroupsOf new.fs.tree.next (keys_of new.snapshots) (quota_of new.quota)
   groups_gone =
-      subst (λ (quota : Quota). AreGroups new.fs.tree.next (keys_of new.snapshots) quota) (sym gone.quota)
-      (subst (λ (n : ℕ). AreGroups n (keys_of new.snapshots) old.quota) (sym next_is) groups_left)
+      subst (λ (quota : Option QuotaState). AreGroupsOf new.fs.tree.next (keys_of new.snapshots) (quota_of quota))
+      (sym gone.quota)
+      (subst (λ (n : ℕ). AreGroupsOf n (keys_of new.snapshots) (quota_of old.quota)) (sym next_is)
+      (groups_left (quota_of old.quota) fits.groups))
+
+  bounded_gone : IfSome new.quota (HoldsAtMost (new.pending * most_reserved))
+  bounded_gone =
+      subst (λ (quota : Option QuotaState). IfSome quota (HoldsAtMost (new.pending * most_reserved))) (sym gone.quota)
+      (subst (λ (n : ℕ). IfSome old.quota (HoldsAtMost (n * most_reserved))) (sym gone.pending) fits.bounded)
 
   pub fitted-gone : IsFitted new
   fitted-gone = record {
@@ -213,6 +222,8 @@ module _ (old new : Kept) (sub : ℕ) (fits : IsFitted old) (serves : serves_sub
     numbered = numbered_gone;
     turn = turn_gone;
     groups = groups_gone;
+    tracked = subst (λ (quota : Option QuotaState). IfSome quota IsTracked) (sym gone.quota) fits.tracked;
+    bounded = bounded_gone;
     next = next_is ∙ fits.next ∙ ap (λ (super : Super). super.generation + 1) (sym gone.superblock);
     sizes = gone.sizes ∙ fits.sizes ∙ ap sizes_of (sym gone.superblock);
     drafted = subst (λ (n : ℕ). IsDrafted new.fs.land n) (sym next_is) gone.drafted;

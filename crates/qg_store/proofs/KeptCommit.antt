@@ -12,6 +12,7 @@ use Rattle.qg_store.specs.declared.kept.Kept.{Kept}
 use Rattle.qg_store.specs.declared.planning.Plan.{Plan}
 use Rattle.qg_store.specs.Committing.{IsLaidBy}
 use Rattle.qg_store.specs.Keeping.{IsFitted}
+use Rattle.qg_store.specs.Planning.{IsPlanSo}
 use Rattle.qg_store.proofs.WhereLaid.{same-slots, within}
 
 -- the slots of the other trees may be named otherwise
@@ -39,19 +40,24 @@ later-fits kept fits early = let next = fits.next in omega (arith, next, early)
 
 module _ (kept : Kept) (plan : Plan) (trees : OtherTrees) (laid : IsLaidBy kept plan trees) where
   abbrev pub count-laid : ℕ
-  count-laid = length trees.extents.nodes + length trees.quotas.nodes + length trees.roots.nodes
+  count-laid = length (nodes_laid trees)
 
   pub count-within : count-laid ≤ length plan.slots
   count-within = within (sizes_of kept.superblock) kept.fs.tree.next plan.roots kept.fs.refs.refs plan.quota plan.slots
       trees laid.laid
 
-  -- the slots in front, told by the number of each tree's nodes
-  pub front-told : (given front : List ℕ) (extents quotas roots : ℕ) → front ≡ take (extents + quotas + roots) given
-      → given ≡ plan.slots → extents ≡ length trees.extents.nodes → quotas ≡ length trees.quotas.nodes
-      → roots ≡ length trees.roots.nodes → front ≡ take count-laid plan.slots
-  front-told given front extents quotas roots is same of_extents of_quotas of_roots =
-      let count : extents + quotas + roots ≡ count-laid = omega (arith, of_extents, of_quotas, of_roots) in
-      is ∙ ap (λ (n : ℕ). take n given) count ∙ ap (take count-laid) same
+  -- a machine can tell how many they are
+  pub count-small : IsPlanSo kept plan → count-laid < 2 ^ 64
+  count-small so =
+      let inside = count-within in
+      let few = so.is.few in
+      omega (arith, inside, few)
+
+  -- the slots in front, told by the number of the trees' nodes
+  pub front-told : (given front : List ℕ) (count : ℕ) → front ≡ take count given → given ≡ plan.slots
+      → count ≡ count-laid → front ≡ take count-laid plan.slots
+  front-told given front count is same many =
+      is ∙ ap (λ (n : ℕ). take n given) many ∙ ap (take count-laid) same
 
   pub committed-laid : (old new : FsTree) (front : List ℕ) → front ≡ take count-laid plan.slots
       → IsCommitted old new front → IsCommitted old new (map (λ node. (header_of node).address) (nodes_laid trees))

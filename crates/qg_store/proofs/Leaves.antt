@@ -1,5 +1,5 @@
 -- What an edit leaves follows the state, and leaves the slots that a commit may want. Weights are in bytes.
-use Rattle.std.proofs.Common.{◌≡◌, ℕ, ◌+◌, ◌-◌, ◌*◌, ◌^◌, ◌<◌, ◌≤◌, List, Option, sym, ap, subst, arith}
+use Rattle.std.proofs.Common.{◌≡◌, ℕ, ◌+◌, ◌*◌, ◌^◌, ◌<◌, ◌≤◌, List, Option, sym, ap, subst, arith}
 use Rattle.std.proofs.Common.{inl, inr}
 use Rattle.qg_device.specs.History.{Event}
 use Rattle.qg_node.specs.NodeText.{IsNodeSize}
@@ -69,7 +69,7 @@ module _ (old : Kept) (fs : FsTree) (before after : Option (List Event)) (bytes 
       let kept : step.IsKept fs after left = record { subvolume = held.subvolume; table = table_new; near = near } in
       subst (λ (history : Option (List Event)). step.IsKept fs history left) held.history kept
 
-  weighs : book_weight (edited old fs) ≤ book_weight old
+  weighs : book_weight (edited old fs old.quota) ≤ book_weight old
       + ((pieces + 3) * edit_bytes old.fs.land.space.sizes.nodesize 3 + names * name_new_bytes)
   weighs = held-heavier old.fs.refs fs.refs
       ((pieces + 3) * edit_bytes old.fs.land.space.sizes.nodesize 3 + names * name_new_bytes) heavier
@@ -83,30 +83,30 @@ module _ (old : Kept) (fs : FsTree) (before after : Option (List Event)) (bytes 
 
   heavier-by : GetsHeavierBy old.superblock.nodesize old.fs.tree.height pieces 3 (pieces + 3) names
       (book_weight old + root_weight old + quota_weight old)
-      (book_weight (edited old fs) + root_weight old + quota_weight old)
+      (book_weight (edited old fs old.quota) + root_weight old + quota_weight old)
   heavier-by = record {
     size = wide old.superblock.nodesize (node-size old fits.fitted);
     low = omega arith;
     few_edits = omega arith;
     few_names = omega arith;
-    after_most = after-most (book_weight old) (book_weight (edited old fs)) (root_weight old) (quota_weight old)
+    after_most = after-most (book_weight old) (book_weight (edited old fs old.quota)) (root_weight old) (quota_weight old)
         ((pieces + 3) * edit_bytes old.superblock.nodesize 3) (names * name_new_bytes)
-        (subst (λ (nodesize : ℕ). book_weight (edited old fs) ≤ book_weight old
+        (subst (λ (nodesize : ℕ). book_weight (edited old fs old.quota) ≤ book_weight old
         + ((pieces + 3) * edit_bytes nodesize 3 + names * name_new_bytes)) nodesize-is weighs);
   }
 
-  reserved : commit_need (edited old fs) ≤ free_slots fs.land.space
+  reserved : commit_need (edited old fs old.quota) ≤ free_slots fs.land.space
   reserved =
       let nodesize = old.superblock.nodesize in
       let whole = leaves-need nodesize old.fs.tree.height pieces 3 (pieces + 3) names
       (book_weight old + root_weight old + quota_weight old)
-      (book_weight (edited old fs) + root_weight old + quota_weight old) (free_slots old.fs.land.space)
+      (book_weight (edited old fs old.quota) + root_weight old + quota_weight old) (free_slots old.fs.land.space)
       (free_slots fs.land.space) heavier-by enough leaves.free in
-      parts-need (nodes_filled nodesize (book_weight (edited old fs))) (nodes_filled nodesize (root_weight old))
+      parts-need (nodes_filled nodesize (book_weight (edited old fs old.quota))) (nodes_filled nodesize (root_weight old))
       (nodes_filled nodesize (quota_weight old))
-      (nodes_filled nodesize (book_weight (edited old fs) + root_weight old + quota_weight old))
+      (nodes_filled nodesize (book_weight (edited old fs old.quota) + root_weight old + quota_weight old))
       (free_slots fs.land.space)
-      (fills-apart nodesize (book_weight (edited old fs)) (root_weight old) (quota_weight old)
+      (fills-apart nodesize (book_weight (edited old fs old.quota)) (root_weight old) (quota_weight old)
       (wide nodesize (node-size old fits.fitted))) whole
 
   copied : (last : Accepted) → FollowsCommand fs before state (state_after state files fs before last)

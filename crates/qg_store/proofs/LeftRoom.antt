@@ -1,16 +1,16 @@
 -- What a commit leaves of what is kept, over any disk: the same trees and references, and no fewer free slots than it may
 -- take.
-use Rattle.std.proofs.Common.{◌≡◌, ℕ, ◌≤◌, true, List, map, length, ap, ◌∙◌, arith}
+use Rattle.std.proofs.Common.{◌≡◌, ℕ, ◌≤◌, true, List, Option, map, length, sym, ap, subst, ◌∙◌, arith}
 use Rattle.std.specs.List.{Contains}
 use Rattle.std.proofs.lemmas.List.Elements.{All-contains}
 use Rattle.qg_node.specs.Nodes.{header_of}
 use Rattle.qg_super.specs.declared.superblock.Super.{Super}
 use Rattle.qg_super.specs.SuperText.{sizes_of}
-use Rattle.qg_image.specs.Table.{keys_of}
 use Rattle.qg_state.specs.declared.quota.Quota.{Quota}
 use Rattle.qg_space.specs.Holding.{is_free_slot}
 use Rattle.qg_space.proofs.Marks.{SlotsFit-is_served}
 use Rattle.qg_tree_refs.specs.TreeBook.{TreeBook}
+use Rattle.qg_groups.specs.Tracked.{SameButCounts, quota_of}
 use Rattle.qg_other_trees.specs.declared.laying.OtherTrees.{OtherTrees}
 use Rattle.qg_other_trees.specs.Trees.{nodes_laid}
 use Rattle.qg_store.specs.declared.kept.Kept.{Kept}
@@ -18,7 +18,7 @@ use Rattle.qg_store.specs.declared.planning.Plan.{Plan}
 use Rattle.qg_store.specs.Committing.{IsLaidBy, KeepsCommit}
 use Rattle.qg_store.specs.Keeping.{IsFitted, commit_need}
 use Rattle.qg_store.specs.Planning.{IsPlanSo, LeavesRoom}
-use Rattle.qg_store.proofs.CanLay.{keys-then}
+use Rattle.qg_store.proofs.CanLay.{plan-recounted}
 use Rattle.qg_store.proofs.RoomAfter.{free-after}
 use Rattle.qg_store.proofs.WhereLaid.{laid-among, laid-many}
 
@@ -45,8 +45,8 @@ module _ (old new : Kept) (plan : Plan) (trees : OtherTrees) (fits : IsFitted ol
         let next = fits.next in
         omega (arith, leads, next);
     snapshots = becomes.snapshots;
-    groups = ap (λ (quota : Quota). keys_of quota.groups) (becomes.quota ∙ is.is.quota)
-        ∙ keys-then old.fs.tree.next is.counters (keys_of old.snapshots) old.quota fits.groups;
+    groups = subst (λ (quota : Option Quota). SameButCounts (quota_of old.quota) quota) (sym becomes.quota)
+        (plan-recounted old plan fits is);
     tree = becomes.fs.tree;
     others = becomes.fs.others;
     refs = ap (λ (book : TreeBook). book.refs) becomes.fs.refs;

@@ -7,6 +7,8 @@ pub mod Committed
 pub mod Structured
 pub mod Reasoned
 pub mod Numbered
+pub mod GroupAdded
+pub mod Regrouped
 pub mod Added
 pub mod Grown
 pub mod Young
@@ -15,7 +17,6 @@ pub mod Marked
 pub mod Snapped
 pub mod SnappedKept
 pub mod CreatedKept
-pub mod Placed
 pub mod Numbers
 pub mod Gone
 pub mod Dropped
@@ -26,6 +27,8 @@ pub mod Stepped
 pub mod Changed
 pub mod Touched
 pub mod Leaves
+pub mod ReservedBy
+pub mod Accepting
 pub mod Edited
 pub mod Reasons
 pub mod Written
@@ -68,3 +71,4 @@ pub mod LeftRoom
 pub mod OpenedFits
 pub mod Owned
 pub mod OwnersNow
+pub mod OnOff

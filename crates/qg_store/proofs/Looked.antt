@@ -1,5 +1,5 @@
 -- What is kept may be read, and is left so by a reading.
-use Rattle.std.proofs.Common.{◌≡◌, ℕ, ◌^◌, ◌<◌, ◌≤◌, List, length, map, Option, Some, refl, sym, ap, subst, ◌∙◌, arith}
+use Rattle.std.proofs.Common.{◌≡◌, ℕ, ◌^◌, ◌<◌, ◌≤◌, List, length, map, Option, refl, sym, ap, subst, ◌∙◌, arith}
 use Rattle.std.specs.Prelude.{IsTrue}
 use Rattle.std.specs.List.{Contains, flat_map}
 use Rattle.std.proofs.lemmas.List.Elements.{All-contains}
@@ -37,11 +37,12 @@ use Rattle.qg_standing.proofs.Alike.{stands-alike}
 use Rattle.qg_space.specs.Holding.{free_slots}
 use Rattle.qg_weighed.specs.Laws.{IsRecorded}
 use Rattle.qg_descent.specs.Tree.{Root}
+use Rattle.qg_groups.specs.Tracked.{quota_of}
 use Rattle.qg_fs_laws.specs.Keeping.{KeepsState, other_names}
 use Rattle.qg_fs_laws.proofs.KeptStill.{kept-still}
 use Rattle.qg_store.specs.declared.kept.Kept.{Kept}
 use Rattle.qg_store.specs.Editing.{HasReadNodes}
-use Rattle.qg_store.specs.Keeping.{IsFitted, IsKept, IsKeptWith, commit_need}
+use Rattle.qg_store.specs.Keeping.{HoldsPending, IsFitted, IsKept, IsKeptWith, commit_need}
 
 -- ---- what may be done
 
@@ -107,6 +108,8 @@ fitted-blocks kept blocks same fits = record {
   numbered = record { ascending = fits.numbered.ascending; apart_at = fits.numbered.apart_at };
   turn = record { next = fits.turn.next; owner = fits.turn.owner };
   groups = fits.groups;
+  tracked = fits.tracked;
+  bounded = fits.bounded;
   next = fits.next;
   sizes = fits.sizes;
   drafted = record {
@@ -248,8 +251,12 @@ module _ (old new : Kept) (before after : Option (List Event)) (bytes left : ℕ
       ≡ new.snapshots
   snapshots-looked = keeps.snapshots ∙ ap (λ (kept : Kept). kept.snapshots) (sym looked.same)
 
-  pub quota-looked : state.quota ≡ Some new.quota
-  quota-looked = keeps.quota ∙ ap (λ (kept : Kept). Some kept.quota) (sym looked.same)
+  pub quota-looked : state.quota ≡ quota_of new.quota
+  quota-looked = keeps.quota ∙ ap (λ (kept : Kept). quota_of kept.quota) (sym looked.same)
+
+  pub pending-held-looked : HoldsPending new state.pending
+  pending-held-looked =
+      subst (λ (kept : Kept). HoldsPending kept state.pending) (sym looked.same) keeps.holds
 
   pub pending-looked : length state.pending ≡ new.pending
   pending-looked = keeps.pending ∙ ap (λ (kept : Kept). kept.pending) (sym looked.same)
@@ -277,6 +284,7 @@ module _ (old new : Kept) (before after : Option (List Event)) (bytes left : ℕ
     short = keeps.short;
     snapshots = snapshots-looked;
     quota = quota-looked;
+    holds = pending-held-looked;
     pending = pending-looked;
     recorded = recorded-looked;
     others = keeps.others;

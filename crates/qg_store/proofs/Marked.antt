@@ -1,27 +1,26 @@
 -- What is kept, where the last snapshot of the subvolume at hand is another one: it is kept of the state that says so.
 use Rattle.std.proofs.Common.{◌≡◌, ℕ, ◌≤◌, Bool, true, false, List, [], ◌∷◌, arith, length, map, Option, Some, refl, sym, ap, subst, ◌∙◌}
 use Rattle.std.specs.Prelude.{◌==◌, nat_lt, if◌then◌else◌}
-use Rattle.std.specs.List.{list_all}
 use Rattle.std.specs.List.Sorted.{IsPermutation, IsStrictlyIncreasing}
 use Rattle.std.proofs.lemmas.List.{length-map}
 use Rattle.qg_device.specs.History.{Event}
 use Rattle.qg_items.specs.declared.tree.TheConstants.{TOP_LEVEL}
+use Rattle.qg_groups.specs.Tracked.{quota_of}
 use Rattle.qg_image.specs.ItemMeaning.{is_subvolume_number}
 use Rattle.qg_image.specs.Table.{keys_of, value_at, with_value}
 use Rattle.qg_state.specs.Record.{Record}
-use Rattle.qg_state.specs.Stage.{serves_subvolumes}
 use Rattle.qg_state.specs.State.{Layout, State, Subvolume, layout_of}
 use Rattle.qg_reach.proofs.Layouts.{value_at-with_other, value_at-with_same}
 use Rattle.qg_descent.specs.Tree.{Root}
 use Rattle.qg_forest.proofs.Snapshotted.{root_entry}
 use Rattle.qg_file_items.proofs.Tables.{increasing-with}
 use Rattle.qg_fs_tree.specs.Standing.{trees_of}
-use Rattle.qg_check.specs.Editable.{AreGroups}
+use Rattle.qg_check.specs.Editable.{AreGroupsOf}
 use Rattle.qg_fs_laws.specs.Committing.{AreShort}
 use Rattle.qg_fs_laws.specs.Keeping.{KeepsState, NamesOthers, other_names}
 use Rattle.qg_store.specs.declared.kept.Kept.{Kept}
 use Rattle.qg_store.specs.Keeping.{IsFitted, IsKept, IsKeptOf}
-use Rattle.qg_store.proofs.Added.{key-still, or-early}
+use Rattle.qg_store.proofs.Added.{key-still}
 use Rattle.qg_store.proofs.Changed.{short-files}
 use Rattle.qg_store.proofs.Looked.{hand-among, tree-listed, tree-numbered}
 use Rattle.qg_store.proofs.Stepped.{ascend-kept, names-same}
@@ -54,8 +53,7 @@ mapped-put f n value (entry ∷ table) =
 abbrev pub marked : Kept → ℕ → Kept
 marked kept stamp = record kept { snapshots = with_value kept.fs.tree.owner stamp kept.snapshots }
 
-module _ (old : Kept) (stamp : ℕ) (fits : IsFitted old) (serves : serves_subvolumes ≡ true)
-    (dated : stamp ≤ old.fs.tree.next) where
+module _ (old : Kept) (stamp : ℕ) (fits : IsFitted old) (dated : stamp ≤ old.fs.tree.next) where
   abbrev own : ℕ
   own = old.fs.tree.owner
 
@@ -82,14 +80,15 @@ module _ (old : Kept) (stamp : ℕ) (fits : IsFitted old) (serves : serves_subvo
           (tree-numbered old fits old.fs.tree (hand-among old.fs)) fits.subvolumes.numbers;
       top_level = key-still own TOP_LEVEL stamp old.snapshots fits.subvolumes.top_level;
       copied = all-put (λ (e : ℕ × ℕ). e.1 ≤ old.fs.tree.next) own stamp old.snapshots dated fits.subvolumes.copied;
-      served = or-early serves_subvolumes
-          (list_all (λ (e : ℕ × ℕ). e.0 == TOP_LEVEL) (with_value own stamp old.snapshots)) serves;
     };
     trees = subst (λ (keys : List ℕ). IsPermutation (map (λ (t : Root). t.owner) (trees_of old.fs)) keys)
         (sym keys-marked) fits.trees;
     numbered = fits.numbered;
     turn = fits.turn;
-    groups = subst (λ (keys : List ℕ). AreGroups old.fs.tree.next keys old.quota) (sym keys-marked) fits.groups;
+    groups = subst (λ (keys : List ℕ). AreGroupsOf old.fs.tree.next keys (quota_of old.quota)) (sym keys-marked)
+        fits.groups;
+    tracked = fits.tracked;
+    bounded = fits.bounded;
     next = fits.next;
     sizes = fits.sizes;
     drafted = fits.drafted;
@@ -159,6 +158,7 @@ module _ (old : Kept) (stamp : ℕ) (history : Option (List Event)) (bytes : ℕ
     snapshots = mapped-put (λ (subvolume : Subvolume). subvolume.last_snapshot) own_number mine_marked state.subvolumes
         ∙ ap (λ (table : List (ℕ × ℕ)). with_value own_number stamp table) keeps.snapshots;
     quota = keeps.quota;
+    holds = keeps.holds;
     pending = keeps.pending;
     recorded = record { kept = keeps.recorded.kept; same = keeps.recorded.same };
     others = subst (λ (names : List Record). NamesOthers state.held names) (sym names_same) keeps.others;

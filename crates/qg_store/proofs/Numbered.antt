@@ -1,20 +1,24 @@
 -- The next number is greater than those that there are.
-use Rattle.std.proofs.Common.{◌≡◌, ◌≢◌, ℕ, zero, suc, ◌+◌, ◌^◌, ◌<◌, ◌≤◌, true, false, List, [], ◌∷◌, ◌++◌, arith, get_or, length, take, refl, sym, ap, subst, ◌∙◌, inl, inr}
+use Rattle.std.proofs.Common.{◌≡◌, ◌≢◌, ℕ, zero, suc, ◌+◌, ◌^◌, ◌<◌, ◌≤◌, true, false, List, [], ◌∷◌, ◌++◌, arith, get_or, length, take, Option, Some, None, refl, sym, ap, ◌∙◌, inl, inr}
 use Rattle.std.specs.Prelude.{◌==◌, ◌&&◌, max, nat_le, nat_lt}
-use Rattle.std.specs.List.{All, Contains, filter, fold}
+use Rattle.std.specs.List.{Contains, filter, fold}
 use Rattle.std.proofs.Math.Nat.{le-max_left, le-max_right}
 use Rattle.std.proofs.Math.Seq.{take-suc}
 use Rattle.std.proofs.lemmas.Bool.{and_parts, cond-false, cond-true, eq-eqb, eqb-true, ltb-true, or_cases, true≢false}
 use Rattle.std.proofs.lemmas.Bool.Decides.{eqb_tells}
-use Rattle.std.proofs.lemmas.List.{get_or-take, length-take-le, map-append}
+use Rattle.std.proofs.lemmas.List.{map-append}
 use Rattle.std.proofs.lemmas.List.Elements.{filter-append}
 use Rattle.std.proofs.lemmas.List.Sums.{fold-append}
 use Rattle.qg_items.specs.declared.tree.TheConstants.{FIRST_FREE, TOP_LEVEL}
 use Rattle.qg_image.specs.ItemMeaning.{is_subvolume_number}
 use Rattle.qg_image.specs.Table.{keys_of}
+use Rattle.qg_state.specs.declared.quota.Quota.{Quota}
 use Rattle.qg_state.specs.Members.{level_of_group, next_subvolume}
 use Rattle.qg_state.proofs.Contained.{contains_cases, none_contained}
+use Rattle.qg_verdict.specs.Verdict.{most_relations}
 use Rattle.qg_space.proofs.Members.{contains_filter}
+use Rattle.qg_groups.specs.Changing.{pairs_in}
+use Rattle.qg_check.specs.Editable.{AreGroupsOf}
 
 -- ---- numbers of subvolumes
 
@@ -160,24 +164,10 @@ none-there {A} table number i found inside is differs before k d less same = eli
   | inr (unequal, differ) ↦ before k d (omega (arith, less, differ)) same
 ]
 
--- one more that is no greater
-pub low-there : {A : Type 0} (table : List (ℕ × A)) (number i : ℕ) (found : ℕ × A) → i < length table
-    → found ≡ get_or table i found → found.0 ≤ number
-    → ((k : ℕ) (d : ℕ × A) → k < i → (get_or table k d).0 ≤ number)
-    → (k : ℕ) (d : ℕ × A) → k < i + 1 → (get_or table k d).0 ≤ number
-low-there {A} table number i found inside is low before k d less = elim (eqb_tells k i) [
-  | inl (equal, here) ↦
-      let there = ap (λ (e : ℕ × A). e.0) (is ∙ index_same table i found d inside) in
-      let own = ap (λ (j : ℕ). (get_or table j d).0) here in
-      omega (arith, there, own, low)
-  | inr (unequal, differ) ↦ before k d (omega (arith, less, differ))
-]
+-- ---- relations
 
--- the front of those that are no greater
-pub low-front : {A : Type 0} (table : List (ℕ × A)) (number place : ℕ) → place ≤ length table
-    → ((k : ℕ) (d : ℕ × A) → k < place → (get_or table k d).0 ≤ number)
-    → All (λ entry. entry.0 ≤ number) (take place table)
-low-front {A} table number place inside before = λ k d below.
-    let many = length-take-le place table inside in
-    let short : k < place = omega (arith, below, many) in
-    subst (λ (e : ℕ × A). e.0 ≤ number) (sym (get_or-take place table k d short)) (before k d short)
+-- there are no more than an image can have
+pub pairs-few : (generation : ℕ) (subvolumes : List ℕ) (quota : Option Quota) → AreGroupsOf generation subvolumes quota
+    → length (pairs_in quota) ≤ most_relations
+pairs-few generation subvolumes None groups = omega arith
+pairs-few generation subvolumes (Some quota) groups = groups.few_pairs

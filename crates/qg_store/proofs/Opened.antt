@@ -13,9 +13,8 @@ use Rattle.qg_super.specs.SuperText.{is_super, sizes_of}
 use Rattle.qg_image.specs.declared.file.File.{File}
 use Rattle.qg_image.specs.Table.{value_at}
 use Rattle.qg_state.specs.declared.element.Element.{Element}
-use Rattle.qg_state.specs.declared.quota.Quota.{Quota}
 use Rattle.qg_state.specs.Space.{present_extents}
-use Rattle.qg_state.specs.State.{State, Subvolume}
+use Rattle.qg_state.specs.State.{Accepted, State, Subvolume}
 use Rattle.qg_state.proofs.Contained.{contains_cases, none_contained}
 use Rattle.qg_verdict.specs.declared.tree.Tree.TheVariants.{Files}
 use Rattle.qg_verdict.specs.ImageState.{addresses_of, extent_parts, nodes_of_root, quota_in, roots_in, state_in}
@@ -32,6 +31,8 @@ use Rattle.qg_extents.specs.Table.{IsTable, book_of}
 use Rattle.qg_extents.specs.Told.{IsTold}
 use Rattle.qg_weighed.specs.Laws.{IsRecorded}
 use Rattle.qg_tree_refs.specs.TreeBook.{TreeBook}
+use Rattle.qg_groups.specs.declared.state.QuotaState.{QuotaState}
+use Rattle.qg_groups.specs.Tracked.{quota_of}
 use Rattle.qg_check.specs.declared.image.Image.{Image}
 use Rattle.qg_check.specs.IsImage.{IsEditable, IsImage, IsSubvolumeOf}
 use Rattle.qg_descent.specs.Tree.{Root}
@@ -44,9 +45,10 @@ use Rattle.qg_fs_laws.proofs.OpenedRecords.{opened-recorded}
 use Rattle.qg_fs_laws.proofs.SoundImage.{image-known, others-known}
 use Rattle.qg_fs_laws.proofs.Short.{spaced-short}
 use Rattle.qg_store.specs.declared.kept.Kept.{Kept}
-use Rattle.qg_store.specs.Keeping.{IsKeptOf}
+use Rattle.qg_store.specs.Keeping.{HoldsPending, IsKeptOf}
 use Rattle.qg_store.specs.Opened.{snapshot_of}
-use Rattle.qg_store.proofs.OpenedFits.{IsMadeOf}
+use Rattle.qg_store.proofs.OnOff.{settled-holds}
+use Rattle.qg_store.proofs.OpenedFits.{IsMadeOf, settled}
 
 -- what failed is not there
 pub never-ok : {A E : Type 0} (P : A → Type 0) (result : Result A E) (Q : E → Type 0) → IsErrAnd result Q
@@ -75,9 +77,9 @@ quota_there : (super : Super) (bytes : List ℕ) → (state_in super bytes).quot
 unfolding state_in
 quota_there super bytes = refl
 
-pending_there : (super : Super) (bytes : List ℕ) → length (state_in super bytes).pending ≡ 0
+pending_none : (super : Super) (bytes : List ℕ) → (state_in super bytes).pending ≡ []
 unfolding state_in
-pending_there super bytes = refl
+pending_none super bytes = refl
 
 copied_roots : (super : Super) (bytes : List ℕ) (roots : List (ℕ × RootItem))
     → map (λ (entry : ℕ × Subvolume). (entry.0, entry.1.last_snapshot))
@@ -270,18 +272,29 @@ module _ (kept : Kept) (image : Image) (made : IsMadeOf kept image) (holds : Hol
 
   -- ---- the other trees
 
-  counted : quota_in image.superblock (content events) ≡ Some kept.quota
-  counted = is.kept.quota ∙ ap (λ (quota : Quota). Some quota) (sym made.quota)
+  counted : quota_in image.superblock (content events) ≡ quota_of kept.quota
+  counted = is.kept.quota ∙ ap (λ (quota : Option QuotaState). quota_of quota) (sym made.quota)
 
-  others : HoldsOthers image.superblock (content events) kept.quota
-  others = others-known image.superblock (content events) is.sound is.chosen kept.quota counted
+  others : HoldsOthers image.superblock (content events) (quota_of kept.quota)
+  others = others-known image.superblock (content events) is.sound is.chosen (quota_of kept.quota) counted
 
   recorded : IsRecorded state kept.fs.refs.held
   recorded =
-      opened-recorded kept.fs image.superblock (content events) kept.quota table_there sound opened commit others
+      opened-recorded kept.fs image.superblock (content events) (quota_of kept.quota) table_there sound opened commit
+      others
 
   named : NamesOthers state.held (other_names state)
-  named = opened-names image.superblock (content events) kept.quota counted others
+  named = opened-names image.superblock (content events) (quota_of kept.quota) counted others
+
+  -- ---- what is pending
+
+  none_pending : state.pending ≡ []
+  none_pending = pending_none image.superblock (content events)
+
+  holds_there : HoldsPending kept state.pending
+  holds_there =
+      subst (λ (pending : List Accepted). HoldsPending kept pending) (sym none_pending)
+      (settled-holds kept.quota (settled kept image made fits))
 
   -- ---- what is kept
 
@@ -294,7 +307,8 @@ module _ (kept : Kept) (image : Image) (made : IsMadeOf kept image) (holds : Hol
     snapshots = snapshots_there image.superblock (content events) ∙ ap (map snapshot_of) is.kept.roots
         ∙ sym made.snapshots;
     quota = quota_there image.superblock (content events) ∙ counted;
-    pending = pending_there image.superblock (content events) ∙ sym made.idle;
+    holds = holds_there;
+    pending = ap (λ (pending : List Accepted). length pending) none_pending ∙ sym made.idle;
     recorded = recorded;
     others = named;
     reserved = λ some. let none = made.idle in absurd (omega (arith, some, none));

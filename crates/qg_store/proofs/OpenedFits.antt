@@ -1,8 +1,8 @@
 -- What is made of an image that was read fits together, over any disk.
-use Rattle.std.proofs.Common.{◌≡◌, ◌≢◌, ℕ, suc, ◌+◌, ◌<◌, ◌≤◌, Bool, true, false, cond, List, [], ◌∷◌, ◌++◌, length, map, get_or, take, Option, None}
+use Rattle.std.proofs.Common.{◌≡◌, ◌≢◌, ℕ, suc, ◌+◌, ◌*◌, ◌<◌, ◌≤◌, Bool, true, false, cond, List, [], ◌∷◌, ◌++◌, length, map, get_or, take, Option, None}
 use Rattle.std.proofs.Common.{Some, refl, sym, ap, subst, ◌∙◌, arith, inl, inr}
-use Rattle.std.specs.Prelude.{◌==◌, ◌||◌, IsTrue, is_some, not}
-use Rattle.std.specs.List.{Contains, filter, list_all, list_any}
+use Rattle.std.specs.Prelude.{◌==◌, IfSome, IsTrue, is_some, not}
+use Rattle.std.specs.List.{Contains, filter, list_any}
 use Rattle.std.specs.List.Sorted.{IsPermutation, IsStrictlyIncreasing}
 use Rattle.std.proofs.lemmas.Bool.{cases_Bool, cond-false, cond-true, eq-eqb, eqb-true, ne_eqb, not-true, not_from_false, not_from_true, true≢false}
 use Rattle.std.proofs.lemmas.List.{append-nil, length-map, map-append}
@@ -20,7 +20,6 @@ use Rattle.qg_super.specs.SuperText.{is_super, sizes_of}
 use Rattle.qg_super.proofs.Served.{SuperFits-is_super}
 use Rattle.qg_image.specs.ItemMeaning.{is_subvolume_number}
 use Rattle.qg_image.specs.Table.{has_key, keys_of, value_at}
-use Rattle.qg_state.specs.Stage.{serves_subvolumes}
 use Rattle.qg_state.proofs.Contained.{contains_cases, contains_here, contains_later, none_contained}
 use Rattle.qg_reach.proofs.Members.{contains_map, one_mapped}
 use Rattle.qg_home.proofs.Reaching.{entry_of_value}
@@ -36,11 +35,14 @@ use Rattle.qg_descent.specs.Tree.{Root}
 use Rattle.qg_fs_tree.specs.Standing.{AreNumbered, CanTurn, trees_of}
 use Rattle.qg_check.specs.declared.image.Image.{Image}
 use Rattle.qg_check.specs.IsImage.{IsEditable}
-use Rattle.qg_check.specs.Editable.{AreGroups}
+use Rattle.qg_groups.specs.declared.state.QuotaState.{QuotaState}
+use Rattle.qg_groups.specs.Tracked.{HoldsAll, IsTracked, quota_of}
+use Rattle.qg_check.specs.Editable.{AreGroupsOf}
 use Rattle.qg_store.specs.declared.kept.Kept.{Kept}
-use Rattle.qg_store.specs.Keeping.{AreSubvolumesBy, IsFitted}
+use Rattle.qg_store.specs.Keeping.{AreSubvolumesBy, IsFitted, most_reserved}
 use Rattle.qg_store.specs.Opened.{AreTreesIn, snapshot_of, tree_for}
-use Rattle.qg_store.proofs.CanLay.{All-from-contains, all_by, groups-later, key_by}
+use Rattle.qg_store.proofs.CanLay.{All-from-contains, key_by, later-of}
+use Rattle.qg_store.proofs.OnOff.{settled-bounded, settled-tracked}
 
 -- What is made of an image: its trees over its space and its book, which is held too; nothing is pending
 pub record IsMadeOf (kept : Kept) (image : Image) : Type 0 where
@@ -168,10 +170,6 @@ module _ (kept : Kept) (image : Image) (made : IsMadeOf kept image) (fits : IsEd
             let last = ap (λ (e : ℕ × ℕ). e.1) root.2 in
             let after = later in
             omega (arith, by, last, after));
-        served = ap (λ (b : Bool). serves_subvolumes || b)
-            (all_by (map snapshot_of image.roots)
-            ∙ ap (λ (ns : List ℕ). list_all (λ n. n == TOP_LEVEL) ns) (keys_snapshots image.roots)
-            ∙ sym (all_by image.roots)) ∙ fits.roots.served;
       })
 
   abbrev others_left : List (ℕ × RootItem)
@@ -226,6 +224,21 @@ module _ (kept : Kept) (image : Image) (made : IsMadeOf kept image) (fits : IsEd
   none_fresh at node is =
       none-some node (sym (ap (λ (draft : Draft). fresh_at draft at) made.trees.draft) ∙ is)
 
+  -- ---- the groups
+
+  groups_made : AreGroupsOf kept.fs.tree.next (keys_of kept.snapshots) (quota_of kept.quota)
+  groups_made =
+      subst (λ (T : Type 0). T)
+      (λ i. AreGroupsOf kept.fs.tree.next (sym keys_made i) (quota_of (sym made.quota i)))
+      (later-of image.superblock.generation kept.fs.tree.next (keys_of image.roots) (quota_of image.quota) later
+      fits.quota)
+
+  -- nothing is held
+  pub settled : IfSome kept.quota (λ state. IsTracked state × HoldsAll state [])
+  settled =
+      subst (λ (quota : Option QuotaState). IfSome quota (λ state. IsTracked state × HoldsAll state []))
+      (sym made.quota) fits.tracked
+
   -- so it fits together
   pub fitted-made : IsFitted kept
   fitted-made =
@@ -238,10 +251,9 @@ module _ (kept : Kept) (image : Image) (made : IsMadeOf kept image) (fits : IsEd
         trees = trees_made;
         numbered = numbered_made;
         turn = turn_made;
-        groups = subst (λ (T : Type 0). T)
-            (λ i. AreGroups kept.fs.tree.next (sym keys_made i) (sym made.quota i))
-            (groups-later image.superblock.generation kept.fs.tree.next (keys_of image.roots) image.quota later
-            fits.quota);
+        groups = groups_made;
+        tracked = settled-tracked kept.quota settled;
+        bounded = settled-bounded (kept.pending * most_reserved) kept.quota settled;
         next = next ∙ ap (λ (super : Super). super.generation + 1) (sym made.superblock);
         sizes = made.sizes ∙ ap sizes_of (sym made.superblock);
         drafted = record {

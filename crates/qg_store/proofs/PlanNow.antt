@@ -1,32 +1,33 @@
 -- What a commit is told of what is kept: the ROOT_ITEMs of its trees, the groups with their direct counts, and slots.
-use Rattle.std.proofs.Common.{◌≡◌, ℕ, ◌≤◌, List, [], ◌∷◌, map, length, Option, refl, sym, ap, subst, ◌∙◌}
-use Rattle.std.specs.Prelude.{IsTrue}
-use Rattle.std.specs.List.{Contains}
+use Rattle.std.proofs.Common.{◌≡◌, ℕ, ◌≤◌, List, length, Option, Some, sym, ap, subst, ◌∙◌}
 use Rattle.std.specs.List.Sorted.{IsNonDecreasingBy, IsPermutation}
-use Rattle.std.proofs.lemmas.List.Elements.{All-contains}
 use Rattle.qg_device.specs.History.{Event}
 use Rattle.qg_num.specs.declared.counters.Counters.{Counters}
-use Rattle.qg_image.specs.ItemMeaning.{is_subvolume_number}
 use Rattle.qg_image.specs.Table.{keys_of}
 use Rattle.qg_state.specs.Record.{Record}
-use Rattle.qg_state.specs.State.{State, Subvolume, layout_of}
-use Rattle.qg_reach.proofs.Members.{one_mapped}
+use Rattle.qg_state.specs.declared.quota.Quota.{Quota}
+use Rattle.qg_state.specs.Members.{hierarchy_of}
+use Rattle.qg_state.specs.State.{State, layout_of}
 use Rattle.qg_extents.specs.Table.{IsTable}
 use Rattle.qg_descent.specs.Tree.{Root}
-use Rattle.qg_direct.specs.Direct.{AreDirect}
+use Rattle.qg_direct.specs.Direct.{AreGroupCounts}
 use Rattle.qg_fs_tree.specs.Standing.{trees_of}
 use Rattle.qg_survey.specs.Surveying.{trees_of as trees_of_state}
 use Rattle.qg_tree_commit.specs.Holds.{AreFree}
-use Rattle.qg_fs_laws.specs.Keeping.{AreDirectCounts, quota_after}
+use Rattle.qg_groups.specs.Changing.{groups_in}
+use Rattle.qg_groups.specs.Tracked.{quota_of}
+use Rattle.qg_fs_laws.specs.Keeping.{AreDirectCounts}
 use Rattle.qg_fs_laws.specs.Committing.{IsInOrder}
 use Rattle.qg_store.specs.declared.kept.Kept.{Kept}
 use Rattle.qg_store.specs.declared.planning.Plan.{Plan}
 use Rattle.qg_store.specs.Committing.{IsPlanOf, KnowsNoLater}
 use Rattle.qg_store.specs.Keeping.{IsKept, IsKeptWith, commit_need}
 use Rattle.qg_store.specs.Planning.{AreRootsBy, HasSurveyed, IsPlanSo, IsPlanTold, counters_by, numbers_of}
-use Rattle.qg_store.proofs.ByNumber.{keys-kept, numbers-are, trees-are}
+use Rattle.qg_store.proofs.ByNumber.{numbers-are, trees-are}
 use Rattle.qg_store.proofs.Cleaned.{surveyed-keeps}
-use Rattle.qg_store.proofs.GroupCounts.{counts-direct}
+use Rattle.qg_store.proofs.Counters.{quota-still}
+use Rattle.qg_store.proofs.GroupCounts.{direct-told}
+use Rattle.qg_store.proofs.OnOff.{laid_by}
 use Rattle.qg_store.proofs.RootsNow.{roots-of}
 
 -- ---- the trees and the numbers, after the survey
@@ -56,18 +57,13 @@ pub record IsPlanned (old new : Kept) (before after : Option (List Event)) (byte
   pub moved : IsPermutation (trees_of old.fs) trees
   pub up : IsNonDecreasingBy (λ tree. tree.owner) trees
   pub roots : AreRootsBy new trees new.snapshots plan.roots
-  pub quota : plan.quota ≡ quota_after new.fs.tree.next (counters_by (numbers_of trees) counts) new.quota
+  pub quota : plan.quota ≡ laid_by new.fs.tree.next counts new.quota
   pub order : IsInOrder new.fs.land.space
   pub earlier : KnowsNoLater new
   pub free : AreFree new.fs.land.space plan.slots
   pub few : length plan.slots ≤ 16128
   pub enough : commit_need new ≤ length plan.slots
   pub most : length plan.slots ≤ commit_need new
-
-keys_rooted : (table : List (ℕ × Subvolume))
-    → keys_of (map (λ (entry : ℕ × Subvolume). (entry.0, entry.1.root)) table) ≡ keys_of table
-keys_rooted [] = refl
-keys_rooted (entry ∷ table) = ap (λ (ns : List ℕ). entry.0 ∷ ns) (keys_rooted table)
 
 module _ (old new : Kept) (before after : Option (List Event)) (bytes left : ℕ) (trees : List Root)
     (counts : List Counters) (plan : Plan) (is : IsPlanned old new before after bytes left trees counts plan) where
@@ -79,9 +75,9 @@ module _ (old new : Kept) (before after : Option (List Event)) (bytes left : ℕ
       subst (λ (kept : Kept). IsTable kept.fs.refs.refs) (sym is.looked.rest) is.table
 
   abbrev counted : ℕ → Counters
-  counted = counters_by (numbers_of trees) counts
+  counted = counters_by (groups_in (quota_of new.quota)) counts
 
-  plan_is : IsPlanOf new (counters_by (numbers_of trees) counts) plan
+  plan_is : IsPlanOf new counted plan
   plan_is = record {
     roots = roots-of new trees plan.roots is.kept.fitted moved_now is.up is.roots;
     quota = is.quota;
@@ -95,36 +91,24 @@ module _ (old new : Kept) (before after : Option (List Event)) (bytes left : ℕ
   }
 
   pub plan-so : IsPlanSo new plan
-  plan-so = record { counters = counters_by (numbers_of trees) counts; is = plan_is }
+  plan-so = record { counters = counted; is = plan_is }
 
   module _ (state : State) (names : List Record) (keeps : IsKeptWith old state before names)
-      (direct : trees ≡ trees_of_state state → AreDirect (layout_of state) counts) where
+      (direct : (quota : Quota) → trees ≡ trees_of_state state → quota_of old.quota ≡ Some quota
+      → AreGroupCounts (layout_of state) (hierarchy_of quota) counts) where
     keeps_now : IsKeptWith new state after names
     keeps_now = surveyed-keeps old new before after bytes left is.looked state names keeps
 
-    counts_are : AreDirect (layout_of state) counts
-    counts_are =
-        direct (trees-are old before bytes state names trees is.fits is.table keeps is.moved is.up)
+    trees_state : trees ≡ trees_of_state state
+    trees_state = trees-are old before bytes state names trees is.fits is.table keeps is.moved is.up
 
-    numbers_now : keys_of new.snapshots ≡ keys_of (layout_of state).roots
-    numbers_now = keys-kept new state after names keeps_now ∙ sym (keys_rooted state.subvolumes)
+    quota_same : quota_of new.quota ≡ quota_of old.quota
+    quota_same = quota-still old new before after bytes left is.looked
 
-    low : (n : ℕ) → Contains (keys_of new.snapshots) n → IsTrue (is_subvolume_number n)
-    low n has =
-        let entry = one_mapped (λ (e : ℕ × ℕ). e.0) new.snapshots n has in
-        subst (λ (m : ℕ). IsTrue (is_subvolume_number m)) entry.2
-        (All-contains (λ (e : ℕ × ℕ). IsTrue (is_subvolume_number e.0)) new.snapshots entry.0
-        is.kept.fitted.subvolumes.numbers entry.1)
-
-    direct_now : AreDirectCounts state new.quota (counters_by (keys_of new.snapshots) counts)
-    direct_now entry has =
-        counts-direct (layout_of state) new.quota new.fs.tree.next (keys_of new.snapshots) counts
-        is.kept.fitted.groups numbers_now low is.kept.fitted.subvolumes.ascending counts_are entry has
+    direct_now : AreDirectCounts state counted
+    direct_now =
+        direct-told state new.fs.tree.next (keys_of new.snapshots) (quota_of new.quota) counts keeps_now.quota
+        is.kept.fitted.groups (λ quota on. direct quota trees_state (sym quota_same ∙ on))
 
     pub plan-told : IsPlanTold state new plan
-    plan-told = record {
-      counters = counters_by (numbers_of trees) counts;
-      is = plan_is;
-      direct = subst (λ (numbers : List ℕ). AreDirectCounts state new.quota (counters_by numbers counts))
-          (sym (numbers-are new is.kept.fitted trees moved_now is.up)) direct_now;
-    }
+    plan-told = record { counters = counted; is = plan_is; direct = direct_now }

@@ -66,6 +66,16 @@ run-write state sub ino off len range limits =
     ∙ ap (λ (limit : Option Refusal). first_some (limit ∷ refuse (is_none (first_run state len)) why.NoRun
     ∷ no_nodes_for state (file_change state (Write sub ino off len)) ∷ [])) limits
 
+-- a limit is passed
+pub limit-write : (state : State) (sub ino off len : ℕ) (reason : Refusal) → range_refusal state sub off len ≡ None
+    → over_limit state sub (len + state.sizes.nodesize) ≡ Some reason
+    → refusal state (Write sub ino off len) ≡ Some reason
+unfolding refusal
+limit-write state sub ino off len reason range passed =
+    first_late (write_parts state sub off len) (write_later state sub ino off len) range
+    ∙ ap (λ (limit : Option Refusal). first_some (limit ∷ refuse (is_none (first_run state len)) why.NoRun
+    ∷ no_nodes_for state (file_change state (Write sub ino off len)) ∷ [])) passed
+
 -- no run is free
 pub runless-write : (state : State) (sub ino off len : ℕ) → range_refusal state sub off len ≡ None
     → Unlimited state sub len → first_run state len ≡ None → refusal state (Write sub ino off len) ≡ Some why.NoRun
@@ -103,6 +113,16 @@ module _ (state : State) (sub ino off len to_sub to_ino to_off : ℕ) where
       → refusal state (Clone sub ino off len to_sub to_ino to_off) ≡ Some reason
   unfolding refusal
   early-clone reason is = first_early reason clone_parts clone_later is
+
+  -- a limit is passed
+  pub limit-clone : (reason : Refusal) → clone_refusal state sub ino off len to_sub to_ino to_off ≡ None
+      → over_limit state to_sub state.sizes.nodesize ≡ Some reason
+      → refusal state (Clone sub ino off len to_sub to_ino to_off) ≡ Some reason
+  unfolding refusal
+  limit-clone reason passes passed =
+      first_late clone_parts clone_later passes
+      ∙ ap (λ (limit : Option Refusal). first_some (limit
+      ∷ no_nodes_for state (file_change state (Clone sub ino off len to_sub to_ino to_off)) ∷ [])) passed
 
   pub late-clone : clone_refusal state sub ino off len to_sub to_ino to_off ≡ None
       → over_limit state to_sub state.sizes.nodesize ≡ None

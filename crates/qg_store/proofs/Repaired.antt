@@ -65,6 +65,7 @@ kept-told kept before after state alike keeps = record {
   short = keeps.short;
   snapshots = keeps.snapshots;
   quota = keeps.quota;
+  holds = keeps.holds;
   pending = keeps.pending;
   recorded = keeps.recorded;
   others = keeps.others;

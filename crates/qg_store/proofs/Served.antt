@@ -1,11 +1,9 @@
--- What is known of a command that is served, and of its answer.
-use Rattle.std.proofs.Common.{◌≡◌, ℕ, ◌<◌, ◌≤◌, true, List, [], ◌∷◌, refl, sym}
+-- What is known of the numbers of a command that the grammar has.
+use Rattle.std.proofs.Common.{◌≡◌, ℕ, ◌<◌, ◌≤◌, true}
 use Rattle.std.specs.Prelude.{◌&&◌, nat_le, nat_lt}
-use Rattle.std.proofs.lemmas.Bool.{and_parts, leb-true, ltb-true, true≢false}
-use Rattle.qg_num.specs.declared.command.Command.TheVariants.{Clone, Delete, Snap, SubCreate, Write}
+use Rattle.std.proofs.lemmas.Bool.{and_parts, leb-true, ltb-true}
+use Rattle.qg_num.specs.declared.command.Command.TheVariants.{Clone, Write}
 use Rattle.qg_image.specs.FilesOf.{inodes_end, least_inode}
-use Rattle.qg_state.specs.Stage.{serves_subvolumes}
-use Rattle.qg_grammar.specs.Served.{is_served_command}
 use Rattle.qg_grammar.specs.ScriptText.{is_in_grammar, is_ino_word, is_sub_word, is_word}
 
 -- the inode of a write has a number of a file
@@ -27,20 +25,3 @@ target_told sub ino off len to_sub to_ino to_off numbers =
     let to_ino' = and_parts (source && is_sub_word to_sub) (is_ino_word to_ino) to_target.0 in
     let both = and_parts (nat_le least_inode to_ino) (nat_lt to_ino inodes_end) to_ino'.1 in
     (leb-true least_inode to_ino both.0, ltb-true to_ino inodes_end both.1)
-
--- ---- structural commands are served where subvolumes are
-
-pub serves-create : is_served_command SubCreate ≡ true → serves_subvolumes ≡ true
-serves-create is = is
-
-pub serves-delete : (sub : ℕ) → is_served_command (Delete sub) ≡ true → serves_subvolumes ≡ true
-serves-delete sub is = is
-
-pub serves-snap : (sub : ℕ) (groups : List ℕ) → is_served_command (Snap sub groups) ≡ true → serves_subvolumes ≡ true
-serves-snap sub [] is = is
-serves-snap sub (group ∷ groups) is = absurd (true≢false (sym is))
-
--- a snapshot is put into no groups
-pub snap-alone : (sub : ℕ) (groups : List ℕ) → is_served_command (Snap sub groups) ≡ true → groups ≡ []
-snap-alone sub [] is = refl
-snap-alone sub (group ∷ groups) is = absurd (true≢false (sym is))

@@ -12,26 +12,33 @@ use Rattle.qg_state.specs.State.{State}
 use Rattle.qg_machine.specs.Refusals.{refusal, refuse}
 use Rattle.qg_machine.specs.Step.{rows_of}
 use Rattle.qg_machine.specs.Step as machine
+use Rattle.qg_groups.specs.Tracked.{quota_of}
 use Rattle.qg_store.specs.declared.kept.Kept.{Kept}
-use Rattle.qg_store.specs.Answering.{Answered}
+use Rattle.qg_store.specs.Answering.{Answered, shown}
 use Rattle.qg_store.specs.Keeping.{IsKeptOf}
 
--- quota is on
-unrefused : (state : State) (quota : Quota) → state.quota ≡ Some quota → refusal state Show ≡ None
+-- it is refused while quota is off
+refused_so : (state : State) (quota : Option Quota) → state.quota ≡ quota
+    → refusal state Show ≡ refuse (not (is_some quota)) why.NoQuota
 unfolding refusal
-unrefused state quota is = ap (λ (o : Option Quota). refuse (not (is_some o)) why.NoQuota) is
+refused_so state quota is = ap (λ (o : Option Quota). refuse (not (is_some o)) why.NoQuota) is
+
+-- and told else
+told_so : (state : State) (reply : Answer) (quota : Option Quota) → state.quota ≡ quota → reply ≡ shown quota
+    → MatchOption (refuse (not (is_some quota)) why.NoQuota) (machine.Does state Show reply [] state)
+    (λ reason. (reply ≡ Refused reason) × machine.Stays state [] state)
+told_so state reply None off is = (is, (refl, refl))
+told_so state reply (Some quota) on is =
+    (is ∙ ap (λ (o : Option Quota). Shown (rows_of o)) (sym on), (refl, refl))
 
 -- the state stays
-pub does_show : (kept : Kept) (state : State) (reply : Answer) (history : Option (List Event)) → IsKeptOf kept state history
-    → reply ≡ Shown (rows_of (Some kept.quota))
-    → Answered state Show reply [] kept history
-does_show kept state reply history keeps is =
-    let told : reply ≡ Shown (rows_of state.quota) =
-    is ∙ ap (λ (quota : Option Quota). Shown (rows_of quota)) (sym keeps.quota) in
-    record {
-      new = state;
-      step = subst (λ (refused : Option Refusal). MatchOption refused (machine.Does state Show reply [] state)
-          (λ reason. (reply ≡ Refused reason) × machine.Stays state [] state))
-          (sym (unrefused state kept.quota keeps.quota)) (told, (refl, refl));
-      keeps = keeps;
-    }
+pub does_show : (kept : Kept) (state : State) (reply : Answer) (history : Option (List Event))
+    → IsKeptOf kept state history → reply ≡ shown (quota_of kept.quota) → Answered state Show reply [] kept history
+does_show kept state reply history keeps is = record {
+  new = state;
+  step = subst (λ (refused : Option Refusal). MatchOption refused (machine.Does state Show reply [] state)
+      (λ reason. (reply ≡ Refused reason) × machine.Stays state [] state))
+      (sym (refused_so state (quota_of kept.quota) keeps.quota))
+      (told_so state reply (quota_of kept.quota) keeps.quota is);
+  keeps = keeps;
+}

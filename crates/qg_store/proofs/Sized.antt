@@ -22,7 +22,7 @@ use Rattle.qg_store.proofs.Changed.{changes-here, hand-short}
 use Rattle.qg_store.proofs.Leaves.{follows-edit}
 use Rattle.qg_fs_laws.proofs.Short.{short-left}
 use Rattle.qg_store.proofs.Stepped.{Follows, IsLate, change_to, does_edit, does_nothing, edited}
-use Rattle.qg_store.proofs.Stepped.{late-refusal}
+use Rattle.qg_store.proofs.Stepped.{late-refusal, reserves-nothing}
 
 -- it is refused
 pub refuses-size : (kept : Kept) (state : State) (history : Option (List Event)) (sub ino size : ℕ)
@@ -57,14 +57,14 @@ module _ (kept : Kept) (state : State) (history : Option (List Event)) (bytes su
 
   pub sizes : (fs : FsTree) (after : Option (List Event)) → None ≡ slots_refusal kept pieces
       → Follows kept fs state keeps.mine history files_now pieces → after ≡ history
-      → Answered state (Truncate sub ino size) Done [] (edited kept fs) after
+      → Answered state (Truncate sub ino size) Done [] (edited kept fs kept.quota) after
   sizes fs after enough follows same =
-      subst (λ (sub : ℕ). Answered state (Truncate sub ino size) Done [] (edited kept fs) after) (sym top)
+      subst (λ (sub : ℕ). Answered state (Truncate sub ino size) Done [] (edited kept fs kept.quota) after) (sym top)
       (does_edit kept fs history after bytes state (Truncate kept.fs.tree.owner ino size) Done files_now 0 pieces fits keeps
-      table is-late enough refl follows same (λ done. done))
+      table is-late enough refl follows same kept.quota (reserves-nothing kept) (λ done. done))
 
   -- the file was cut, or grew
-  pub sized : (fs : FsTree) (new : Kept) (after : Option (List Event)) (left : ℕ) → new ≡ edited kept fs
+  pub sized : (fs : FsTree) (new : Kept) (after : Option (List Event)) (left : ℕ) → new ≡ edited kept fs kept.quota
       → IsTable new.fs.refs.refs → None ≡ slots_refusal kept pieces
       → need_of kept pieces ≤ free_slots kept.fs.land.space
       → LeavesHeld kept.fs fs history after bytes left

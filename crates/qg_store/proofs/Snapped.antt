@@ -1,10 +1,6 @@
 -- A snapshot adds a subvolume to the state in which its source was marked.
-use Rattle.std.proofs.Common.{◌≡◌, ℕ, zero, suc, ◌<◌, ◌≤◌, true, false, List, [], Option, Some, None, refl, sym, ap, ◌∙◌, inl, inr}
+use Rattle.std.proofs.Common.{◌≡◌, ℕ, zero, suc, ◌<◌, ◌≤◌, true, false, List, Option, Some, refl, sym, ap, ◌∙◌, inl, inr}
 use Rattle.std.specs.Prelude.{◌⊎◌, slice_get}
-use Rattle.std.specs.List.{list_all}
-use Rattle.std.specs.Option.{option_map}
-use Rattle.std.proofs.lemmas.List.Elements.{All-contains}
-use Rattle.std.proofs.lemmas.List.Sums.{AllPass-from_list_all}
 use Rattle.std.proofs.lemmas.Option.{same_Some}
 use Rattle.qg_device.specs.History.{Event}
 use Rattle.qg_node.specs.declared.node.Node.{Node}
@@ -15,37 +11,16 @@ use Rattle.qg_super.specs.declared.superblock.Super.{Super}
 use Rattle.qg_image.specs.declared.file.File.{File}
 use Rattle.qg_image.specs.Below.{items_below}
 use Rattle.qg_image.specs.ItemMeaning.{is_subvolume_number}
-use Rattle.qg_image.specs.Table.{value_at, with_value}
-use Rattle.qg_state.specs.declared.quota.Group.{Group}
-use Rattle.qg_state.specs.declared.quota.Quota.{Quota}
+use Rattle.qg_image.specs.Table.{with_value}
 use Rattle.qg_state.specs.Space.{is_free_slot}
 use Rattle.qg_state.specs.State.{Placed, State, Subvolume, next_generation}
-use Rattle.qg_machine.specs.GroupChange.{inherited, limits_of, new_group, with_group}
 use Rattle.qg_machine.specs.Step.{Snapshots, copy_of}
-use Rattle.qg_home.proofs.Reaching.{entry_of_value}
 use Rattle.qg_descent.specs.Tree.{Reaches, Root}
 use Rattle.qg_snap.proofs.CopyWalked.{copy-items}
 use Rattle.qg_fs_tree.specs.declared.fs_tree.FsTree.{FsTree}
 use Rattle.qg_fs_tree.specs.Standing.{items_in, nodes_of}
 use Rattle.qg_file_edits.specs.Files.{HasFiles}
-use Rattle.qg_check.specs.Editable.{is_plain_group}
-use Rattle.qg_store.specs.declared.kept.Kept.{Kept}
-use Rattle.qg_store.specs.Keeping.{IsFitted, IsKeptOf}
 use Rattle.qg_store.proofs.Created.{AddsSubvolume}
-use Rattle.qg_store.proofs.Known.{no-excl, no-rfer}
-
--- a group without limits gives none
-limits_none : (generation : ℕ) (groups : List (ℕ × Group)) (source : ℕ) (found : Option Group)
-    → value_at source groups ≡ found → list_all is_plain_group groups ≡ true
-    → limits_of generation found ≡ new_group generation
-limits_none generation groups source None is plain = refl
-limits_none generation groups source (Some group) is plain =
-    let own = All-contains (λ (entry : ℕ × Group). is_plain_group entry ≡ true) groups (source, group)
-    (AllPass-from_list_all is_plain_group groups plain) (entry_of_value source group groups is) in
-    λ i. record (new_group generation) {
-      max_rfer = no-rfer (source, group) own i;
-      max_excl = no-excl (source, group) own i;
-    }
 
 -- the snapshot's subvolume, and its root
 abbrev pub made_copy : Subvolume → ℕ → ℕ → Subvolume
@@ -62,17 +37,7 @@ with_mark state sub source = record state {
   subvolumes = with_value sub (record source { last_snapshot = next_generation state }) state.subvolumes;
 }
 
-module _ (kept : Kept) (state after : State) (history : Option (List Event)) (sub copy : ℕ) (fits : IsFitted kept)
-    (keeps : IsKeptOf kept state history) (snap : Snapshots state sub [] copy after) where
-  quota_snapped : after.quota
-      ≡ option_map (with_group copy (new_group (next_generation state))) state.quota
-  quota_snapped =
-      ap (λ (s : State). s.quota) snap.copied
-      ∙ ap (λ (o : Option Quota). option_map (inherited (next_generation state) sub copy []) o) keeps.quota
-      ∙ ap (λ (group : Group). Some (with_group copy group kept.quota))
-      (limits_none (next_generation state) kept.quota.groups sub (value_at sub kept.quota.groups) refl fits.groups.served)
-      ∙ sym (ap (λ (o : Option Quota). option_map (with_group copy (new_group (next_generation state))) o) keeps.quota)
-
+module _ (state after : State) (sub copy : ℕ) (parents : List ℕ) (snap : Snapshots state sub parents copy after) where
   free_marked : is_free_slot (with_mark state sub snap.source) snap.address ≡ true
   unfolding is_free_slot
   free_marked = snap.free
@@ -84,7 +49,6 @@ module _ (kept : Kept) (state after : State) (history : Option (List Event)) (su
     free = free_marked;
     subvolumes = ap (λ (s : State). s.subvolumes) snap.copied;
     layout = ap (λ (s : State). s.layout) snap.copied;
-    quota = quota_snapped;
     generation = ap (λ (s : State). s.generation) snap.copied;
     pending = ap (λ (s : State). s.pending) snap.copied;
     held = ap (λ (s : State). s.held) snap.copied;

@@ -1,6 +1,6 @@
 -- What is kept where a snapshot of the subvolume at hand was made: it fits together, and is kept of the state that this
 -- leaves.
-use Rattle.std.proofs.Common.{◌≡◌, ℕ, ◌+◌, ◌*◌, ◌<◌, ◌≤◌, true, List, [], ◌∷◌, ◌++◌, arith, length, Option, Some, None, refl, sym, ap, subst, ◌∙◌, inl, inr}
+use Rattle.std.proofs.Common.{◌≡◌, ℕ, ◌+◌, ◌*◌, ◌<◌, ◌≤◌, List, [], ◌∷◌, ◌++◌, arith, length, Option, Some, None, refl, sym, ap, subst, ◌∙◌, inl, inr}
 use Rattle.std.specs.Prelude.{◌⊎◌}
 use Rattle.std.specs.List.{Contains}
 use Rattle.std.proofs.lemmas.List.{length-append}
@@ -18,15 +18,15 @@ use Rattle.qg_super.specs.declared.superblock.Super.{Super}
 use Rattle.qg_super.specs.Places.{capacity, total_bytes}
 use Rattle.qg_super.specs.SuperText.{sizes_of}
 use Rattle.qg_image.specs.Table.{keys_of, value_at, with_value}
-use Rattle.qg_state.specs.declared.quota.Quota.{Quota}
-use Rattle.qg_state.specs.Stage.{serves_subvolumes}
 use Rattle.qg_state.specs.Record.{Record}
-use Rattle.qg_state.specs.State.{Placed, State, Subvolume, next_generation}
-use Rattle.qg_machine.specs.GroupChange.{new_group, with_group}
+use Rattle.qg_state.specs.State.{Accepted, Placed, State, Subvolume, next_generation}
+use Rattle.qg_machine.specs.GroupChange.{inherited}
 use Rattle.qg_machine.specs.Refusals.{number_to_come}
 use Rattle.qg_machine.specs.Step.{Snapshots, copy_of}
 use Rattle.qg_reach.proofs.Layouts.{value_at-with_same}
 use Rattle.qg_blocks.specs.Told.{IsBacked}
+use Rattle.qg_groups.specs.Changing.{groups_in}
+use Rattle.qg_groups.specs.Tracked.{quota_of}
 use Rattle.qg_space.specs.Holding.{free_slots}
 use Rattle.qg_ground.specs.declared.ground.Ground.{Ground}
 use Rattle.qg_ground.specs.Land.{IsDrafted}
@@ -45,13 +45,14 @@ use Rattle.qg_fs_tree.specs.Standing.{IsReachedBy, nodes_of}
 use Rattle.qg_fs_tree.proofs.Lists.{has-mapped}
 use Rattle.qg_fs_laws.specs.Keeping.{AreYoung, other_names}
 use Rattle.qg_store.specs.declared.kept.Kept.{Kept}
-use Rattle.qg_store.specs.Keeping.{IsKept, IsKeptOf, IsKeptWith, book_weight}
+use Rattle.qg_store.specs.Keeping.{HoldsPending, IsKept, IsKeptOf, IsKeptWith, book_weight, quota_weight, root_weight}
 use Rattle.qg_store.specs.Structural.{HasRoom, IsChanged, number_next, too_many_refusal}
-use Rattle.qg_store.proofs.Added.{IsAdded, fitted-added, greater, length-put, number-good}
+use Rattle.qg_store.proofs.Added.{IsAdded, fitted-added, greater, number-good}
 use Rattle.qg_store.proofs.Changed.{short-files}
-use Rattle.qg_store.proofs.Committed.{large, room-changed}
+use Rattle.qg_store.proofs.Committed.{large}
 use Rattle.qg_store.proofs.Created.{AddsSubvolume, keeps-added, young-added}
 use Rattle.qg_store.proofs.Grown.{files-grown, free-none, layout-grown, still-grown}
+use Rattle.qg_store.proofs.GroupAdded.{AddsGroup, holds-still, relations-room, room-grown, weighs-more}
 use Rattle.qg_store.proofs.Looked.{hand-among}
 use Rattle.qg_store.proofs.Marked.{fitted-marked, keeps-marked, keys-marked, many-marked, marked, names_same}
 use Rattle.qg_store.proofs.Marked.{state_marked}
@@ -99,14 +100,16 @@ rest-snapped old mid new land book now sub stamp now_is hand mid_is is =
     }) (now_is ∙ ap (λ (n : ℕ). record book { tree = n }) (sym hand))
 
 module _ (old new : Kept) (land : Ground) (book : TreeRefs) (before after : Option (List Event))
-    (bytes left sub copy : ℕ) (tree : Root) (fits : IsKept old before bytes) (serves : serves_subvolumes ≡ true)
-    (hand_is : old.fs.tree.owner ≡ sub) (comes : copy ≡ number_next old) (few : too_many_refusal old ≡ None)
+    (bytes left sub copy : ℕ) (parents : List ℕ) (tree : Root) (fits : IsKept old before bytes)
+    (hand_is : old.fs.tree.owner ≡ sub) (comes : copy ≡ number_next old)
+    (few : too_many_refusal old (length parents) ≡ None)
     (rests : LeavesBe old.fs.land land before after bytes left old.fs.tree.next)
     (tree_is : tree ≡ record old.fs.tree { address = tree.address; owner = copy })
     (others : new.fs.others.items ≡ old.fs.others.items ++ tree ∷ [])
     (snapshots : new.snapshots
     ≡ with_value old.fs.tree.owner old.fs.tree.next old.snapshots ++ (tree.owner, old.fs.tree.next) ∷ [])
-    (quota : new.quota ≡ with_group tree.owner (new_group old.fs.tree.next) old.quota)
+    (quota : quota_of new.quota ≡ option_map (inherited old.fs.tree.next sub copy parents) (quota_of old.quota))
+    (groups : AddsGroup old new copy (length parents))
     (rest : new ≡ record old {
       fs = record old.fs { others = new.fs.others; land = land; refs = record book { tree = old.fs.tree.owner } };
       snapshots = new.snapshots;
@@ -122,7 +125,10 @@ module _ (old new : Kept) (land : Ground) (book : TreeRefs) (before after : Opti
   abbrev source_marked : Kept
   source_marked = marked old old.fs.tree.next
 
-  abbrev added : IsAdded old new copy old.fs.tree.next (new_group old.fs.tree.next) tree
+  pending : new.pending ≡ old.pending
+  pending = ap (λ (k : Kept). k.pending) rest
+
+  abbrev added : IsAdded old new (length parents) copy old.fs.tree.next tree
   added = record {
     superblock = superblock;
     hand = ap (λ (k : Kept). k.fs.tree) rest;
@@ -130,22 +136,21 @@ module _ (old new : Kept) (land : Ground) (book : TreeRefs) (before after : Opti
     owner = owner;
     next = ap (λ (t : Root). t.next) tree_is;
     earlier = with_value old.fs.tree.owner old.fs.tree.next old.snapshots;
-    keys = keys-marked old old.fs.tree.next fits.fitted serves (omega arith);
+    keys = keys-marked old old.fs.tree.next fits.fitted (omega arith);
     copied = all-put (λ (e : ℕ × ℕ). e.1 ≤ old.fs.tree.next) old.fs.tree.owner old.fs.tree.next old.snapshots
         (omega arith) fits.fitted.subvolumes.copied;
     snapshots = snapshots ∙ ap (λ (n : ℕ). with_value old.fs.tree.owner old.fs.tree.next old.snapshots
         ++ (n, old.fs.tree.next) ∷ []) owner;
     dated = omega arith;
-    quota = quota ∙ ap (λ (n : ℕ). with_group n (new_group old.fs.tree.next) old.quota) owner;
-    plain = refl;
+    groups = groups;
+    pending = pending;
     sizes = ap (λ (k : Kept). k.fs.land.space.sizes) rest ∙ rests.rests.sizes;
     drafted = subst (λ (k : Kept). IsDrafted k.fs.land old.fs.tree.next) (sym rest) rests.rests.drafted;
   }
 
   pub kept-snapped : IsKept new after left
   kept-snapped = record {
-    fitted = fitted-added old new copy old.fs.tree.next (new_group old.fs.tree.next) tree fits.fitted serves comes few
-        added;
+    fitted = fitted-added old new (length parents) copy old.fs.tree.next tree fits.fitted comes few added;
     backed = subst (λ (k : Kept). IsBacked k.fs.land.blocks after) (sym rest) rests.rests.backed;
     long = subst (λ (s : Super). total_bytes (sizes_of s) ≤ left) (sym superblock)
         (subst (λ (n : ℕ). total_bytes (sizes_of old.superblock) ≤ n) (sym rests.size) fits.long);
@@ -153,15 +158,16 @@ module _ (old new : Kept) (land : Ground) (book : TreeRefs) (before after : Opti
 
   marked_kept : IsKept source_marked before bytes
   marked_kept = record {
-    fitted = fitted-marked old old.fs.tree.next fits.fitted serves (omega arith);
+    fitted = fitted-marked old old.fs.tree.next fits.fitted (omega arith);
     backed = fits.backed;
     long = fits.long;
   }
 
   -- ---- of a state
 
-  module _ (state next : State) (keeps : IsKeptOf old state before) (none : old.pending ≡ 0) (room : HasRoom old 18)
-      (table : IsTable old.fs.refs.refs) (table_book : IsTable book.refs) (snap : Snapshots state sub [] copy next)
+  module _ (state next : State) (keeps : IsKeptOf old state before) (none : old.pending ≡ 0)
+      (room : HasRoom old (18 + length parents)) (table : IsTable old.fs.refs.refs) (table_book : IsTable book.refs)
+      (snap : Snapshots state sub parents copy next)
       (held : HoldsState land after book next) (is : tree ≡ tree_of next copy)
       (heavier : BookGetsHeavier (record old.fs.refs { tree = copy }) book
       (node_bytes + capacity old.fs.land.space.sizes.nodesize))
@@ -213,7 +219,7 @@ module _ (old new : Kept) (land : Ground) (book : TreeRefs) (before after : Opti
     adds : AddsSubvolume state_then next copy made placed
     adds =
         subst (λ (s : State). AddsSubvolume s next copy made placed) state_is
-        (adds-snapped old state next before sub copy fits.fitted keeps snap)
+        (adds-snapped state next sub copy parents snap)
 
     grown : (q : ℕ) (other : Placed) → value_at q state.layout ≡ Some other → value_at q next.layout ≡ Some other
     grown q other there =
@@ -267,7 +273,7 @@ module _ (old new : Kept) (land : Ground) (book : TreeRefs) (before after : Opti
     made_files =
         subst (λ (m : Subvolume). HasFiles new.fs before tree m.files) (sym source_is)
         (copy-files new.fs before (record old.superblock { generation = next_generation state }) (next_generation state)
-        copy tree old.fs.tree snap.root keeps.mine.files (number-good old copy comes few) (omega arith) (omega arith)
+        copy tree old.fs.tree snap.root keeps.mine.files (number-good old (length parents) copy comes few) (omega arith) (omega arith)
         height told_root told_copy
         (files-grown old before bytes state (other_names state) fits keeps next new.fs held_then come_next next_same
         old.fs.tree (hand-among old.fs)
@@ -288,15 +294,15 @@ module _ (old new : Kept) (land : Ground) (book : TreeRefs) (before after : Opti
 
     less : (entry : ℕ × Subvolume) → Contains state_then.subvolumes entry → entry.0 < copy
     less entry has =
-        greater old new copy old.fs.tree.next (new_group old.fs.tree.next) tree fits.fitted serves comes few added entry.0
+        greater old new (length parents) copy old.fs.tree.next tree fits.fitted comes few added entry.0
         (subst (λ (keys : List ℕ). Contains keys entry.0)
         (keys-kept source_marked state_then before (other_names state_then) marked_kept.fitted marked_keeps
-        ∙ keys-marked old old.fs.tree.next fits.fitted serves (omega arith))
+        ∙ keys-marked old old.fs.tree.next fits.fitted (omega arith))
         (has-mapped (λ (e : ℕ × Subvolume). e.0) state_then.subvolumes entry has))
 
     large_number : 255 < copy
     large_number =
-        let some = next-some (keys_of old.snapshots) (keys_of old.quota.groups) in
+        let some = next-some (keys_of old.snapshots) (groups_in (quota_of old.quota)) in
         omega (arith, some, comes)
 
     known_then : (at : ℕ) (what : What) → what_in (book_of new.fs.refs.refs at) ≡ Some what
@@ -320,14 +326,31 @@ module _ (old new : Kept) (land : Ground) (book : TreeRefs) (before after : Opti
         let front = with_value old.fs.tree.owner old.fs.tree.next old.snapshots in
         let all = ap (λ (t : List (ℕ × ℕ)). length t) snapshots in
         let parts = length-append front ((tree.owner, old.fs.tree.next) ∷ []) in
-        let same = many-marked old old.fs.tree.next fits.fitted serves (omega arith) in
+        let same = many-marked old old.fs.tree.next fits.fitted (omega arith) in
         omega (arith, all, parts, same)
 
-    groups : length new.quota.groups ≤ length old.quota.groups + 1
-    groups =
-        let all = ap (λ (q : Quota). length q.groups) quota in
-        let more = length-put tree.owner (new_group old.fs.tree.next) old.quota.groups in
-        omega (arith, all, more)
+    weighs : root_weight new + quota_weight new
+        ≤ root_weight old + quota_weight old + (594 + 50 * length parents)
+    weighs =
+        weighs-more old.fs.tree.next copy (length parents) (length old.snapshots) (length new.snapshots)
+        (quota_of old.quota) (quota_of new.quota) many groups.quota
+
+    -- the machine's group is the one that is kept
+    quota_now : next.quota ≡ quota_of new.quota
+    quota_now =
+        ap (λ (s : State). s.quota) snap.copied
+        ∙ (λ i. option_map (inherited (come i) sub copy parents) (keeps.quota i))
+        ∙ sym quota
+
+    none_pending : length next.pending ≡ 0
+    none_pending =
+        ap (λ (s : State). length s.pending) snap.copied ∙ keeps.pending ∙ none
+
+    holds_now : HoldsPending new next.pending
+    holds_now =
+        holds-still old new next.pending none_pending groups.held
+        (subst (λ (list : List Accepted). HoldsPending old list) (sym (ap (λ (s : State). s.pending) snap.copied))
+        keeps.holds)
 
     space_same : free_slots new.fs.land.space ≡ free_slots land.space
     space_same = ap (λ (k : Kept). free_slots k.fs.land.space) rest
@@ -345,22 +368,25 @@ module _ (old new : Kept) (land : Ground) (book : TreeRefs) (before after : Opti
         (ap (λ (r : TreeRefs). r.tree) refs_are)
         (ap (λ (r : TreeRefs). r.held) refs_are ∙ heavier.held)
         (added.snapshots ∙ ap (λ (n : ℕ). source_marked.snapshots ++ (copy, n) ∷ []) (sym come))
-        added.quota (ap (λ (k : Kept). k.pending) rest)
+        quota_now holds_now pending
 
-    pub changed-snapped : IsChanged state (Snap sub []) (Sub copy) new after
+    pub changed-snapped : IsChanged state (Snap sub parents) (Sub copy) new after
     changed-snapped =
         let number : copy ≡ number_to_come state = comes ∙ sym (number-told old state before fits.fitted keeps) in
         record {
           changed = next;
-          changes = (ap (λ (n : ℕ). Sub n) number, subst (λ (n : ℕ). Snapshots state sub [] n next) number snap);
+          changes = (ap (λ (n : ℕ). Sub n) number, subst (λ (n : ℕ). Snapshots state sub parents n next) number snap);
           keeps = subst (λ (h : Option (List Event)). IsKeptWith new next h (other_names state)) (sym rests.history)
               (subst (λ (names : List Record). IsKeptWith new next before names)
               (names_same old old.fs.tree.next before bytes state fits keeps none) keeps_now);
           room =
               let wide = large old fits.fitted in
-              let few_bytes : node_bytes + capacity old.superblock.nodesize + 594
-              ≤ 2 * capacity old.superblock.nodesize = omega (arith, wide) in
-              room-changed old new 18 2 1 (node_bytes + capacity old.superblock.nodesize) fits.fitted kept_then.fitted
-              room superblock weight many groups few_bytes
+              let few_bytes : node_bytes + capacity old.superblock.nodesize + (594 + 50 * length parents)
+              ≤ (2 + length parents) * capacity old.superblock.nodesize =
+              relations-room (length parents) (capacity old.superblock.nodesize) node_bytes (omega (arith, wide))
+              (omega (arith, wide)) in
+              room-grown old new (18 + length parents) (2 + length parents) 1
+              (node_bytes + capacity old.superblock.nodesize) (594 + 50 * length parents) fits.fitted kept_then.fitted
+              room superblock weight weighs few_bytes
               (let same = space_same in omega (arith, slots, same)) (omega arith);
         }

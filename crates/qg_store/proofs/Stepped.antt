@@ -1,7 +1,7 @@
 -- What the machine does where nothing changes, and where files are edited, by what is kept. Weights are in bytes.
 use Rattle.std.proofs.Common.{◌≡◌, ℕ, ◌+◌, ◌*◌, ◌≤◌, true, List, [], ◌∷◌, None, Some, Option, map, refl, sym, ap, subst, ◌∙◌}
 use Rattle.std.proofs.Common.{arith}
-use Rattle.std.specs.Prelude.{MatchOption, length, nat_lt}
+use Rattle.std.specs.Prelude.{IfSome, MatchOption, length, nat_lt}
 use Rattle.std.specs.List.{All, Contains}
 use Rattle.std.specs.List.Sorted.{IsStrictlyIncreasing}
 use Rattle.std.proofs.lemmas.List.{length-map}
@@ -16,6 +16,8 @@ use Rattle.qg_super.specs.declared.sizes.Sizes.{Sizes}
 use Rattle.qg_image.specs.declared.file.File.{File}
 use Rattle.qg_image.specs.ItemMeaning.{is_subvolume_number}
 use Rattle.qg_image.specs.Table.{keys_of, value_at, with_value}
+use Rattle.qg_state.specs.declared.quota.Quota.{Quota}
+use Rattle.qg_state.specs.Members.{hierarchy_of}
 use Rattle.qg_state.specs.Need.{file_copies, held_records, nodes_filled, weight}
 use Rattle.qg_state.specs.Record.{Record}
 use Rattle.qg_state.specs.State.{Accepted, Committed, State, Subvolume}
@@ -26,6 +28,10 @@ use Rattle.qg_machine.specs.Refusals.{change_copies, change_need, no_nodes_for, 
 use Rattle.qg_machine.specs.Step.{ChangesFiles, Step, accepted, file_answer, with_tree}
 use Rattle.qg_machine.specs.Step as machine
 use Rattle.qg_space.specs.Holding.{free_slots}
+use Rattle.qg_hier.specs.Groups.{IsSound}
+use Rattle.qg_groups.specs.declared.state.QuotaState.{QuotaState}
+use Rattle.qg_groups.specs.Tracked.{HoldsAll, quota_of}
+use Rattle.qg_groups.proofs.Reserved.{holds-nothing}
 use Rattle.qg_extents.specs.Table.{IsTable}
 use Rattle.qg_refs.specs.declared.kept.Kept.{Kept as Reference}
 use Rattle.qg_weighed.specs.Laws.{IsRecorded, is_among}
@@ -33,7 +39,8 @@ use Rattle.qg_weighed.specs.Weight.{records_in}
 use Rattle.qg_fs_tree.specs.declared.fs_tree.FsTree.{FsTree}
 use Rattle.qg_fs_tree.proofs.Lists.{has-mapped}
 use Rattle.qg_fs_layout.specs.Laying.{nodes_in}
-use Rattle.qg_other_trees.specs.Trees.{root_tree_bytes}
+use Rattle.qg_check.specs.Editable.{AreGroups, AreGroupsOf}
+use Rattle.qg_other_trees.specs.Trees.{quota_tree_bytes, root_tree_bytes}
 use Rattle.qg_fs_laws.specs.Keeping.{FollowsCommand, NamesOthers, mine_after, other_names, other_weight, state_after}
 use Rattle.qg_fs_laws.specs.Keeping as step
 use Rattle.qg_fs_laws.proofs.Free.{space-told}
@@ -44,8 +51,8 @@ use Rattle.qg_fs_laws.specs.Committing.{AreShort, IsShort}
 use Rattle.qg_store.specs.declared.kept.Kept.{Kept}
 use Rattle.qg_store.specs.Answering.{Answered}
 use Rattle.qg_store.specs.Editing.{slots_refusal}
-use Rattle.qg_store.specs.Keeping.{IsFitted, IsKept, IsKeptOf, IsKeptWith, book_weight, commit_need, need_of, quota_weight}
-use Rattle.qg_store.specs.Keeping.{root_weight}
+use Rattle.qg_store.specs.Keeping.{HoldsPending, IsFitted, IsKept, IsKeptOf, IsKeptWith, book_weight, commit_need}
+use Rattle.qg_store.specs.Keeping.{need_of, quota_weight, root_weight}
 use Rattle.qg_store.proofs.Looked.{is-near, is-subvolume}
 use Rattle.qg_store.proofs.Tables.{all-of, all-put, keys-mapped, map-put}
 
@@ -109,11 +116,20 @@ module _ (kept : Kept) (state : State) (history : Option (List Event)) (names : 
       sym (length-map state.subvolumes (λ (entry : ℕ × Subvolume). (entry.0, entry.1.last_snapshot)))
       ∙ ap (λ (table : List (ℕ × ℕ)). length table) keeps.snapshots
 
+  -- groups and relations are in order, while quota is on
+  pub groups-kept : (quota : Quota) → state.quota ≡ Some quota
+      → IsStrictlyIncreasing (keys_of quota.groups) × IsSound (hierarchy_of quota)
+  groups-kept quota on =
+      let groups : AreGroups kept.fs.tree.next (keys_of kept.snapshots) quota =
+      subst (λ (q : Option Quota). AreGroupsOf kept.fs.tree.next (keys_of kept.snapshots) q) (sym keeps.quota ∙ on)
+      fits.groups in
+      (groups.ascending, groups.sound)
+
   -- what the other trees' items take now
   pub others-kept : other_weight (other_names state) state ≡ root_weight kept + quota_weight kept
   others-kept =
-      others-weigh state kept.quota keeps.quota ascend-kept fits.groups.ascending fits.groups.alone numbers-kept
-      ∙ ap (λ (n : ℕ). root_tree_bytes n + quota_weight kept) many-kept
+      others-weigh state ascend-kept numbers-kept groups-kept
+      ∙ (λ i. root_tree_bytes (many-kept i) (keeps.quota i) + quota_tree_bytes (keeps.quota i))
 
 module _ (kept : Kept) (state : State) (history : Option (List Event)) (bytes : ℕ) (fits : IsKept kept history bytes)
     (keeps : IsKeptOf kept state history) (table : IsTable kept.fs.refs.refs) where
@@ -165,9 +181,40 @@ Edits state command reply new =
     MatchOption (file_change state command) ⊥ (machine.DoesChange state command reply [] new)
     → machine.Does state command reply [] new
 
--- what is kept after a command that left the tree so
-abbrev pub edited : Kept → FsTree → Kept
-edited old fs = record old { fs = fs; pending = old.pending + 1 }
+-- what is kept after a command that left the tree so, and quota
+abbrev pub edited : Kept → FsTree → Option QuotaState → Kept
+edited old fs quota = record old { fs = fs; pending = old.pending + 1; quota = quota }
+
+-- A command reserved so many bytes into the subvolume at hand: they are held for the groups of its path, and of quota
+-- nothing else is changed
+pub record Reserves (old : Kept) (quota : Option QuotaState) (amount : ℕ) : Type 0 where
+  pub same : quota_of quota ≡ quota_of old.quota
+  pub holds : (given : Accepted) (pending : List Accepted) → given.sub ≡ old.fs.tree.owner → given.amount ≡ amount
+      → HoldsPending old pending → IfSome quota (λ tracked. HoldsAll tracked (given ∷ pending))
+
+-- a command that reserves nothing leaves quota
+pub reserves-nothing : (old : Kept) → Reserves old old.quota 0
+reserves-nothing old = record {
+  same = refl;
+  holds = λ given pending own none held. more old.quota given pending none held;
+} where
+  more : (quota : Option QuotaState) (given : Accepted) (pending : List Accepted) → given.amount ≡ 0
+      → IfSome quota (λ tracked. HoldsAll tracked pending) → IfSome quota (λ tracked. HoldsAll tracked (given ∷ pending))
+  more None given pending none held = tt
+  more (Some tracked) given pending none held = holds-nothing tracked given pending none held
+
+-- the amount may be told otherwise
+pub reserves-so : (old : Kept) (quota : Option QuotaState) (amount other : ℕ) → amount ≡ other
+    → Reserves old quota amount → Reserves old quota other
+reserves-so old quota amount other same reserves = subst (λ (n : ℕ). Reserves old quota n) same reserves
+
+-- what a commit needs asks of quota only what the quota tree tells
+needs-same : (old : Kept) (fs : FsTree) (quota : Option QuotaState) → quota_of quota ≡ quota_of old.quota
+    → commit_need (edited old fs quota) ≡ commit_need (edited old fs old.quota)
+needs-same old fs quota same = λ i.
+    5 * (nodes_filled old.superblock.nodesize (book_weight (edited old fs old.quota))
+    + nodes_filled old.superblock.nodesize (root_tree_bytes (length old.snapshots) (same i))
+    + nodes_filled old.superblock.nodesize (quota_tree_bytes (same i))) + 3
 
 -- A command changed the tree at hand: it follows the state by copy on write, it is the same subvolume's still, what the
 -- last commit recorded stays, and a commit finds its slots
@@ -178,7 +225,7 @@ pub record Follows (old : Kept) (fs : FsTree) (state : State) (mine : Subvolume)
   pub owner : fs.tree.owner ≡ old.fs.tree.owner
   pub short : AreShort files
   pub held : fs.refs.held ≡ old.fs.refs.held
-  pub reserved : commit_need (edited old fs) ≤ free_slots fs.land.space
+  pub reserved : commit_need (edited old fs old.quota) ≤ free_slots fs.land.space
 
 tree_is : (state : State) (sub : ℕ) (mine : Subvolume) (files : List (ℕ × File)) (root : ℕ)
     → value_at sub state.subvolumes ≡ Some mine
@@ -276,9 +323,6 @@ module _ (old : Kept) (fs : FsTree) (before after : Option (List Event)) (bytes 
       (all-put (λ (entry : ℕ × Subvolume). AreShort entry.1.files) own mine_now state.subvolumes follows.short
       keeps.short)
 
-  quota-now : state_now.quota ≡ Some old.quota
-  quota-now = ap (λ (s : State). s.quota) tree-now ∙ keeps.quota
-
   names-now : other_names state_now ≡ other_names state
   names-now =
       ap (λ (s : State). other_names s) tree-now
@@ -289,25 +333,40 @@ module _ (old : Kept) (fs : FsTree) (before after : Option (List Event)) (bytes 
       subst (λ (names : List Record). NamesOthers state_now.held names) (sym names-now)
       (subst (λ (held : Committed). NamesOthers held (other_names state)) (sym held-now) keeps.others)
 
-  keeps-now : IsKeptOf (edited old fs) state_now before
-  keeps-now = record {
-    files = files;
-    mine = mine_now;
-    keeps = (follows.copied last).keeps;
-    short = short-now;
-    snapshots = snapshots-now;
-    quota = quota-now;
-    pending = omega (arith, keeps.pending);
-    recorded = recorded-now;
-    others = others-now;
-    reserved = λ some. follows.reserved;
-    idle = λ none same. absurd (omega (arith, none));
-  }
+  -- ---- quota
 
-  -- a command that changes files and is not refused
-  pub does_edit : Edits state command reply state_now → Answered state command reply [] (edited old fs) after
-  does_edit does = record {
-    new = state_now;
-    step = steps does;
-    keeps = subst (λ (history : Option (List Event)). IsKeptOf (edited old fs) state_now history) (sym same) keeps-now;
-  }
+  module _ (quota : Option QuotaState) (reserves : Reserves old quota amount) where
+    quota-now : state_now.quota ≡ quota_of quota
+    quota-now = ap (λ (s : State). s.quota) tree-now ∙ keeps.quota ∙ sym reserves.same
+
+    holds-now : HoldsPending (edited old fs quota) state_now.pending
+    holds-now = reserves.holds last state.pending refl refl keeps.holds
+
+    reserved-now : commit_need (edited old fs quota) ≤ free_slots fs.land.space
+    reserved-now =
+        subst (λ (n : ℕ). n ≤ free_slots fs.land.space) (sym (needs-same old fs quota reserves.same)) follows.reserved
+
+    keeps-now : IsKeptOf (edited old fs quota) state_now before
+    keeps-now = record {
+      files = files;
+      mine = mine_now;
+      keeps = (follows.copied last).keeps;
+      short = short-now;
+      snapshots = snapshots-now;
+      quota = quota-now;
+      holds = holds-now;
+      pending = omega (arith, keeps.pending);
+      recorded = recorded-now;
+      others = others-now;
+      reserved = λ some. reserved-now;
+      idle = λ none same. absurd (omega (arith, none));
+    }
+
+    -- a command that changes files and is not refused
+    pub does_edit : Edits state command reply state_now → Answered state command reply [] (edited old fs quota) after
+    does_edit does = record {
+      new = state_now;
+      step = steps does;
+      keeps = subst (λ (history : Option (List Event)). IsKeptOf (edited old fs quota) state_now history) (sym same)
+          keeps-now;
+    }

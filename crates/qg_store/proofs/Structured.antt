@@ -1,17 +1,20 @@
 -- What a structural command does: what was pending is committed, then its change, and that is committed.
 use Rattle.std.proofs.Common.{◌≡◌, ℕ, ◌+◌, ◌^◌, ◌<◌, ◌≤◌, Bool, true, false, List, [], ◌∷◌, ◌++◌, Option, Some, None, arith, refl, sym, ap, subst, ◌∙◌, inl, inr}
 use Rattle.std.specs.Prelude.{◌⊎◌, MatchBool, MatchOption}
+use Rattle.std.proofs.lemmas.Bool.{true≢false}
 use Rattle.qg_device.specs.History.{Event}
 use Rattle.qg_num.specs.declared.answer.Answer.{Answer}
 use Rattle.qg_num.specs.declared.answer.Answer.TheVariants.{Refused}
 use Rattle.qg_num.specs.declared.command.Command.{Command}
 use Rattle.qg_num.specs.declared.command.Command.TheVariants.{Delete, Snap, SubCreate}
+use Rattle.qg_num.specs.declared.command.Command.TheVariants as command
 use Rattle.qg_num.specs.declared.refusal.Refusal.{Refusal}
 use Rattle.qg_super.specs.declared.superblock.Super.{Super}
 use Rattle.qg_state.specs.State.{Committed, State}
 use Rattle.qg_machine.specs.Refusals.{is_pending, nodes_reached, refusal}
 use Rattle.qg_machine.specs.Step.{Changes, Commits, CommitsPending, DoesStructural}
 use Rattle.qg_machine.specs.Step as machine
+use Rattle.qg_groups.specs.Changing.{is_group_command}
 use Rattle.qg_commit.specs.Calls.{with_commit}
 use Rattle.qg_store.specs.declared.kept.Kept.{Kept}
 use Rattle.qg_store.specs.Answering.{AnswersOn, IsDoneSoFar, comes_to_disk, is_structural}
@@ -41,13 +44,25 @@ pub held-created : (before changed : State) (reply : Answer) → Changes before 
     → changed.held ≡ before.held
 held-created before changed reply changes = ap (λ (s : State). s.held) changes.1.created
 
-pub held-snapped : (before changed : State) (sub : ℕ) (reply : Answer) → Changes before (Snap sub []) reply changed
-    → changed.held ≡ before.held
-held-snapped before changed sub reply changes = ap (λ (s : State). s.held) changes.1.copied
+pub held-snapped : (before changed : State) (sub : ℕ) (parents : List ℕ) (reply : Answer)
+    → Changes before (Snap sub parents) reply changed → changed.held ≡ before.held
+held-snapped before changed sub parents reply changes = ap (λ (s : State). s.held) changes.1.copied
 
 pub held-deleted : (before changed : State) (sub : ℕ) (reply : Answer) → Changes before (Delete sub) reply changed
     → changed.held ≡ before.held
 held-deleted before changed sub reply changes = ap (λ (s : State). s.held) changes.1
+
+pub held-regrouped : (before changed : State) (given : Command) (reply : Answer) → is_group_command given ≡ true
+    → Changes before given reply changed → changed.held ≡ before.held
+held-regrouped before changed command.QuotaOn reply group changes = ap (λ (s : State). s.held) changes.1
+held-regrouped before changed command.QuotaOff reply group changes = ap (λ (s : State). s.held) changes.1
+held-regrouped before changed (command.GroupCreate number) reply group changes = ap (λ (s : State). s.held) changes.1
+held-regrouped before changed (command.GroupDestroy number) reply group changes = ap (λ (s : State). s.held) changes.1
+held-regrouped before changed (command.Assign member parent) reply group changes = ap (λ (s : State). s.held) changes.1
+held-regrouped before changed (command.Remove member parent) reply group changes = ap (λ (s : State). s.held) changes.1
+held-regrouped before changed (command.Limit number which max) reply group changes =
+    ap (λ (s : State). s.held) changes.1
+held-regrouped before changed _ reply group changes = absurd (true≢false (sym group))
 
 -- ---- the first commit
 

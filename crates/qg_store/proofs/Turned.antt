@@ -38,7 +38,8 @@ use Rattle.qg_exchange.specs.Named.{named}
 use Rattle.qg_file_edits.specs.Files.{HasFiles, HoldsFiles}
 use Rattle.qg_file_edits.proofs.Sources.{own_files}
 use Rattle.qg_fs_laws.specs.Keeping.{KeepsState, other_names}
-use Rattle.qg_check.specs.Editable.{AreGroups}
+use Rattle.qg_groups.specs.Tracked.{quota_of}
+use Rattle.qg_check.specs.Editable.{AreGroupsOf}
 use Rattle.qg_store.specs.declared.kept.Kept.{Kept}
 use Rattle.qg_store.specs.Answering.{is_unchanging}
 use Rattle.qg_store.specs.Editing.{HasLooked, HasReadNodes}
@@ -208,7 +209,9 @@ module _ (old : Kept) (fs : FsTree) (number : ℕ) (fits : IsFitted old) (turned
         fits.trees;
     numbered = numbered;
     turn = turn-turned;
-    groups = subst (λ (n : ℕ). AreGroups n (keys_of old.snapshots) old.quota) (sym next-turned) fits.groups;
+    groups = subst (λ (n : ℕ). AreGroupsOf n (keys_of old.snapshots) (quota_of old.quota)) (sym next-turned) fits.groups;
+    tracked = fits.tracked;
+    bounded = fits.bounded;
     next = next-turned ∙ fits.next;
     sizes = ap (λ (land : Ground). land.space.sizes) turned.land ∙ fits.sizes;
     drafted = subst (λ (land : Ground). IsDrafted land fs.tree.next) (sym turned.land)
@@ -369,6 +372,7 @@ module _ (old : Kept) (history : Option (List Event)) (bytes : ℕ) (state : Sta
         short = keeps.short;
         snapshots = keeps.snapshots;
         quota = keeps.quota;
+        holds = keeps.holds;
         pending = keeps.pending;
         recorded = recorded_now;
         others = keeps.others;

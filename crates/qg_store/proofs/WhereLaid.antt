@@ -1,5 +1,5 @@
 -- Where the root, extent and quota trees of a commit lie: in the first of the slots. Addresses are in bytes.
-use Rattle.std.proofs.Common.{◌≡◌, ℕ, ◌+◌, ◌≤◌, true, List, ◌++◌, get_or, map, length, take, drop, sym, ap, subst, ◌∙◌, arith}
+use Rattle.std.proofs.Common.{◌≡◌, ℕ, ◌≤◌, true, List, ◌++◌, Option, get_or, map, length, take, drop, sym, ap, subst, ◌∙◌, arith}
 use Rattle.std.proofs.Common.{length-append, take-append-drop}
 use Rattle.std.specs.Prelude.{◌↔◌}
 use Rattle.std.specs.List.{Contains, list_all}
@@ -16,7 +16,8 @@ use Rattle.qg_space.specs.Holding.{Holding, is_free_slot}
 use Rattle.qg_refs.specs.declared.kept.Kept.{Kept}
 use Rattle.qg_tree.specs.Row.{address_of}
 use Rattle.qg_other_trees.specs.declared.laying.OtherTrees.{OtherTrees}
-use Rattle.qg_other_trees.specs.Trees.{AreTrees, nodes_laid}
+use Rattle.qg_other_trees.specs.Trees.{AreTrees, nodes_laid, quota_nodes_laid}
+use Rattle.qg_other_trees.proofs.QuotaTree.{quota_placed}
 use Rattle.qg_other_trees.proofs.Slots.{LieFirst, LieFirst-more, LieFirst-placed}
 use Rattle.qg_tree_commit.specs.Holds.{AreFree}
 
@@ -25,44 +26,48 @@ first_of_both : (xs ys zs : List ℕ) → xs ++ ys ≡ zs → take (length xs) z
 first_of_both xs ys zs is =
     ap (take (length xs)) (sym is) ∙ take-append-le (length xs) xs ys (omega arith) ∙ take_all (length xs) xs (omega arith)
 
-module _ (sizes : Sizes) (generation : ℕ) (roots : List (ℕ × RootItem)) (book : List (ℕ × Kept)) (quota : Quota)
-    (slots : List ℕ) (trees : OtherTrees) (are : AreTrees sizes generation roots book quota slots trees) where
+module _ (sizes : Sizes) (generation : ℕ) (roots : List (ℕ × RootItem)) (book : List (ℕ × Kept))
+    (quota : Option Quota) (slots : List ℕ) (trees : OtherTrees)
+    (are : AreTrees sizes generation roots book quota slots trees) where
   abbrev pub count : ℕ
-  count = length trees.extents.nodes + length trees.quotas.nodes + length trees.roots.nodes
+  count = length (nodes_laid trees)
+
+  abbrev quota_nodes : List Node
+  quota_nodes = quota_nodes_laid trees.quotas
 
   abbrev behind_extents : List ℕ
   behind_extents = drop (length trees.extents.nodes) slots
 
   abbrev behind_quotas : List ℕ
-  behind_quotas = drop (length trees.quotas.nodes) behind_extents
+  behind_quotas = drop (length quota_nodes) behind_extents
 
   abbrev rest : List ℕ
   rest = drop (length trees.roots.nodes) behind_quotas
 
   -- the nodes in the order in which they lie
   abbrev in_order : List Node
-  in_order = trees.extents.nodes ++ trees.quotas.nodes ++ trees.roots.nodes
+  in_order = trees.extents.nodes ++ quota_nodes ++ trees.roots.nodes
 
   turned : IsPermutation in_order (nodes_laid trees)
   turned =
       subst (λ (nodes : List Node). IsPermutation in_order nodes)
-      (sym (append_assoc trees.roots.nodes trees.extents.nodes trees.quotas.nodes))
-      (IsPermutation-append_comm (trees.extents.nodes ++ trees.quotas.nodes) trees.roots.nodes)
+      (sym (append_assoc trees.roots.nodes trees.extents.nodes quota_nodes))
+      (IsPermutation-append_comm (trees.extents.nodes ++ quota_nodes) trees.roots.nodes)
 
   one_behind : LieFirst in_order slots rest
   one_behind =
-      let two = LieFirst-more trees.extents.nodes trees.quotas.nodes slots behind_extents behind_quotas
-      (LieFirst-placed trees.extents.nodes slots are.extent_tree.stands.placed)
-      (LieFirst-placed trees.quotas.nodes behind_extents are.quota_tree.stands.placed) in
-      LieFirst-more (trees.extents.nodes ++ trees.quotas.nodes) trees.roots.nodes slots behind_quotas rest two
+      let quota_first = LieFirst-placed quota_nodes behind_extents
+      (quota_placed sizes.nodesize generation quota behind_extents trees.quotas are.quota_tree) in
+      let two = LieFirst-more trees.extents.nodes quota_nodes slots behind_extents behind_quotas
+      (LieFirst-placed trees.extents.nodes slots are.extent_tree.stands.placed) quota_first in
+      LieFirst-more (trees.extents.nodes ++ quota_nodes) trees.roots.nodes slots behind_quotas rest two
       (LieFirst-placed trees.roots.nodes behind_quotas are.root_tree.stands.placed)
 
   counted : length (map address_of in_order) ≡ count
   counted =
       let all = length-map in_order address_of in
-      let front = length-append trees.extents.nodes trees.quotas.nodes in
-      let both = length-append (trees.extents.nodes ++ trees.quotas.nodes) trees.roots.nodes in
-      omega (arith, all, front, both)
+      let moved = length_permutation in_order (nodes_laid trees) turned in
+      omega (arith, all, moved)
 
   pub within : count ≤ length slots
   within =

@@ -5,9 +5,12 @@ use Rattle.qg_num.specs.declared.answer.Answer.{Answer}
 use Rattle.qg_num.specs.declared.answer.Answer.TheVariants as answer
 use Rattle.qg_num.specs.declared.command.Command.{Command}
 use Rattle.qg_num.specs.declared.command.Command.TheVariants.{Commit, Delete, Snap, SubCreate}
+use Rattle.qg_num.specs.declared.refusal.Refusal.TheVariants as why
+use Rattle.qg_state.specs.declared.quota.Quota.{Quota}
 use Rattle.qg_state.specs.State.{State}
 use Rattle.qg_machine.specs.Refusals.{refusal}
-use Rattle.qg_machine.specs.Step.{Step}
+use Rattle.qg_machine.specs.Step.{Step, rows_of}
+use Rattle.qg_groups.specs.Changing.{is_group_command}
 use Rattle.qg_store.specs.declared.kept.Kept.{Kept}
 use Rattle.qg_store.specs.Keeping.{IsKeptOf}
 use Rattle.qg_store.specs.Making.{MadeCommits, StartsCommit, StartsSecond}
@@ -31,7 +34,7 @@ abbrev pub is_structural : Command → Bool
 is_structural SubCreate = true
 is_structural (Snap sub groups) = true
 is_structural (Delete sub) = true
-is_structural _ = false
+is_structural command = is_group_command command
 
 -- a command that comes to the disk: a commit, or a structural one
 abbrev pub comes_to_disk : Command → Bool
@@ -50,6 +53,11 @@ pub record StartsCommits (old : State) (command : Command) (events : List Event)
 -- what a command has done to the disk, whatever is answered: nothing, or calls of the commits that it makes
 abbrev pub IsDoneSoFar : State → Command → List Event → Option (List Event) → Type 0
 IsDoneSoFar old command events history = (history ≡ Some events) ⊎ StartsCommits old command events history
+
+-- the answer to `show`: each group's stored counters and limits, while quota is on
+abbrev pub shown : Option Quota → Answer
+shown None = answer.Refused why.NoQuota
+shown (Some quota) = answer.Shown (rows_of (Some quota))
 
 -- an answer that says that nothing was changed
 abbrev pub is_unchanging : Answer → Bool

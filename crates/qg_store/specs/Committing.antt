@@ -1,5 +1,5 @@
 -- What a commit lays out and leaves of what is kept (this project's own). Addresses and lengths are in bytes.
-use Rattle.std.specs.Prelude.{◌≡◌, ℕ, ◌≤◌, All, List, length, map, Option, Some}
+use Rattle.std.specs.Prelude.{◌≡◌, ℕ, ◌≤◌, All, List, [], length, map, Option, Some, IfSome}
 use Rattle.std.specs.List.{Contains}
 use Rattle.qg_device.specs.History.{Event}
 use Rattle.qg_num.specs.declared.counters.Counters.{Counters}
@@ -16,7 +16,8 @@ use Rattle.qg_other_trees.specs.declared.laying.OtherTrees.{OtherTrees}
 use Rattle.qg_other_trees.specs.Trees.{nodes_laid}
 use Rattle.qg_tree_commit.specs.Holds.{AreFree}
 use Rattle.qg_tree_commit.specs.Writing.{IsLaying, nodes_written}
-use Rattle.qg_fs_laws.specs.Keeping.{quota_after}
+use Rattle.qg_groups.specs.Tracked.{HoldsAll, IsTracked, quota_of}
+use Rattle.qg_fs_laws.specs.Keeping.{quota_laid}
 use Rattle.qg_fs_laws.specs.Committing.{IsInOrder, IsRootNow}
 use Rattle.qg_store.specs.declared.planning.Plan.{Plan}
 use Rattle.qg_store.specs.declared.kept.Kept.{Kept}
@@ -39,7 +40,7 @@ pub record AreRootsOf (kept : Kept) (roots : List (ℕ × RootItem)) : Type 0 wh
 -- as many as it may take and free
 pub record IsPlanOf (kept : Kept) (counters : ℕ → Counters) (plan : Plan) : Type 0 where
   pub roots : AreRootsOf kept plan.roots
-  pub quota : plan.quota ≡ quota_after kept.fs.tree.next counters kept.quota
+  pub quota : plan.quota ≡ quota_laid kept.fs.tree.next counters (quota_of kept.quota)
   pub order : IsInOrder kept.fs.land.space
   pub table : IsTable kept.fs.refs.refs
   pub earlier : KnowsNoLater kept
@@ -63,10 +64,11 @@ pub record LaysSoFar (kept : Kept) (plan : Plan) (events : List Event) (history 
 -- ---- what it leaves
 
 -- These trees are committed: what is known of the last commit is told by them and the plan, the subvolumes' trees are
--- those of the next generation, and nothing is pending
+-- those of the next generation, nothing is pending, and nothing is held for the groups
 pub record KeepsCommit (old : Kept) (plan : Plan) (trees : OtherTrees) (new : Kept) : Type 0 where
   pub superblock : new.superblock ≡ trees.superblock
   pub snapshots : new.snapshots ≡ old.snapshots
-  pub quota : new.quota ≡ plan.quota
+  pub quota : quota_of new.quota ≡ plan.quota
+  pub settled : IfSome new.quota (λ quota. IsTracked quota × HoldsAll quota [])
   pub fs : IsCommitted old.fs new.fs (map (λ node. (header_of node).address) (nodes_laid trees))
   pub pending : new.pending ≡ 0

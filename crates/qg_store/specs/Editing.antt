@@ -57,6 +57,15 @@ size_refusal state sub ino size = first_some
 abbrev pub unlink_refusal : State → ℕ → ℕ → Option Refusal
 unlink_refusal state sub ino = first_some (no_sub state sub ∷ no_file state sub ino ∷ too_many_pending state ∷ [])
 
+-- ---- reservations
+
+-- what a write into a subvolume and a clone into one reserve, in bytes: what is written, and a node
+abbrev pub write_reserves : Kept → ℕ → ℕ
+write_reserves kept len = len + kept.superblock.nodesize
+
+abbrev pub clone_reserves : Kept → ℕ
+clone_reserves kept = kept.superblock.nodesize
+
 -- ---- slots
 
 -- a command that touches so many pieces is refused for want of slots

@@ -21,6 +21,7 @@ use Rattle.qg_descent.specs.Tree.{Root}
 use Rattle.qg_descent.specs.Way.{HasRead}
 use Rattle.qg_direct.specs.declared.surveyed.Surveyed.{Surveyed}
 use Rattle.qg_standing.specs.Committing.{for_generation}
+use Rattle.qg_groups.specs.Tracked.{SameButCounts, quota_of}
 use Rattle.qg_fs_laws.specs.Keeping.{AreDirectCounts}
 use Rattle.qg_fs_laws.specs.Committing.{root_made}
 use Rattle.qg_store.specs.declared.kept.Kept.{Kept}
@@ -102,7 +103,7 @@ pub record IsPlanSo (kept : Kept) (plan : Plan) : Type 0 where
 pub record IsPlanTold (state : State) (kept : Kept) (plan : Plan) : Type 0 where
   pub counters : ℕ → Counters
   pub is : IsPlanOf kept counters plan
-  pub direct : AreDirectCounts state kept.quota counters
+  pub direct : AreDirectCounts state counters
 
 -- ---- what a commit does, and leaves
 
@@ -125,13 +126,14 @@ pub record StartsCommitOf (old : State) (events : List Event) (history : Option 
   pub brings : BringsTo old.held new events super nodes
   pub made : MadeFront (commit_calls super nodes) events history
 
--- What a commit leaves of what is kept, over any disk: nothing is pending, subvolumes and groups are the same, and so are
--- the trees, but for the generation to come, and the references, which are held; and it took no more slots than it may
+-- What a commit leaves of what is kept, over any disk: nothing is pending, subvolumes are the same, groups too but for
+-- their counts, and so are the trees, but for the generation to come, and the references, which are held; and it took no
+-- more slots than it may
 pub record LeavesRoom (old new : Kept) : Type 0 where
   pub pending : new.pending ≡ 0
   pub generation : new.superblock.generation ≡ old.superblock.generation + 1
   pub snapshots : new.snapshots ≡ old.snapshots
-  pub groups : keys_of new.quota.groups ≡ keys_of old.quota.groups
+  pub groups : SameButCounts (quota_of old.quota) (quota_of new.quota)
   pub tree : new.fs.tree ≡ for_generation (old.fs.tree.next + 1) old.fs.tree
   pub others : new.fs.others.items ≡ map (for_generation (old.fs.tree.next + 1)) old.fs.others.items
   pub refs : new.fs.refs.refs ≡ old.fs.refs.refs

@@ -1,18 +1,23 @@
 -- What a structural command changes of what is kept, and why it is refused (this project's own).
-use Rattle.std.specs.Prelude.{◌⊎◌, ◌+◌, ◌*◌, Some, ◌≡◌, ◌||◌, ℕ, ◌^◌, ◌<◌, ◌≤◌, ◌==◌, not, List, [], ◌∷◌, length, Option, nat_le, nat_lt}
+use Rattle.std.specs.Prelude.{◌⊎◌, ◌+◌, ◌*◌, None, Some, ◌≡◌, ◌&&◌, ◌||◌, ℕ, ◌^◌, ◌<◌, ◌≤◌, ◌==◌, not, List, [], ◌∷◌, length, Option, is_some, IfSome, MatchOption, nat_le, nat_lt}
 use Rattle.std.specs.List.{filter}
 use Rattle.qg_device.specs.History.{Event}
 use Rattle.qg_num.specs.declared.answer.Answer.{Answer}
 use Rattle.qg_num.specs.declared.command.Command.{Command}
+use Rattle.qg_num.specs.declared.command.Command.TheVariants.{QuotaOn}
 use Rattle.qg_num.specs.declared.refusal.Refusal.{Refusal}
 use Rattle.qg_num.specs.declared.refusal.Refusal.TheVariants as why
 use Rattle.qg_image.specs.ItemMeaning.{first_some}
 use Rattle.qg_image.specs.Table.{has_key, keys_of}
 use Rattle.qg_state.specs.Members.{next_subvolume}
 use Rattle.qg_state.specs.State.{State}
-use Rattle.qg_verdict.specs.Verdict.{most_groups, most_subvolumes}
+use Rattle.qg_verdict.specs.Verdict.{most_groups, most_relations, most_subvolumes}
 use Rattle.qg_machine.specs.Refusals.{last_generation, refuse}
 use Rattle.qg_machine.specs.Step.{Changes, CommitsPending}
+use Rattle.qg_limits.specs.Limit.{SameHeld}
+use Rattle.qg_groups.specs.Changing.{groups_in, pairs_in}
+use Rattle.qg_groups.specs.OnOrOff.{snap_refusal}
+use Rattle.qg_groups.specs.Tracked.{SameButCounts, quota_of}
 use Rattle.qg_space.specs.Holding.{free_slots}
 use Rattle.qg_descent.specs.Tree.{Root}
 use Rattle.qg_fs_laws.specs.Keeping.{other_names}
@@ -24,14 +29,30 @@ use Rattle.qg_store.specs.Making.{Makes, StartsCommit}
 
 -- the number that the next subvolume gets
 abbrev pub number_next : Kept → ℕ
-number_next kept = next_subvolume (keys_of kept.snapshots) (keys_of kept.quota.groups)
+number_next kept = next_subvolume (keys_of kept.snapshots) (groups_in (quota_of kept.quota))
 
--- one subvolume more, with its group, would pass a limit
-abbrev pub too_many_refusal : Kept → Option Refusal
-too_many_refusal kept = refuse
-    (nat_le most_subvolumes (length kept.snapshots) || nat_le most_groups (length kept.quota.groups)
-    || nat_le (2 ^ 48) (number_next kept))
+-- one subvolume more, with its group and so many relations, would pass a limit
+abbrev pub too_many_refusal : Kept → ℕ → Option Refusal
+too_many_refusal kept relations = refuse
+    (nat_le most_subvolumes (length kept.snapshots)
+    || (is_some (quota_of kept.quota) && nat_le most_groups (length (groups_in (quota_of kept.quota))))
+    || nat_lt most_relations (length (pairs_in (quota_of kept.quota)) + relations) || nat_le (2 ^ 48) (number_next kept))
     why.TooMany
+
+-- a snapshot may be made a member of these groups, and one subvolume more passes no limit
+pub record CanSnap (kept : Kept) (groups : List ℕ) : Type 0 where
+  pub few : too_many_refusal kept (length groups) ≡ None
+  pub parents : snap_refusal (quota_of kept.quota) groups ≡ None
+
+-- as many bytes are held for each group as were
+abbrev pub SameHeldIn : Kept → Kept → Type 0
+SameHeldIn old new =
+    MatchOption old.quota (new.quota ≡ None) (λ before. IfSome new.quota (λ after. SameHeld before.limits after.limits))
+
+-- the nodes that a command of quota may copy: 18, and one for each subvolume's group that is made as quota is turned on
+abbrev pub group_copies : Kept → Command → ℕ
+group_copies kept QuotaOn = 18 + length kept.snapshots
+group_copies kept _ = 18
 
 -- there is no such subvolume
 abbrev pub sub_refusal : Kept → ℕ → Option Refusal
@@ -59,12 +80,13 @@ pub record HasRoom (kept : Kept) (copies : ℕ) : Type 0 where
 
 -- ---- what was pending
 
--- Nothing is pending any more, subvolumes and groups are the same, the same one's tree is at hand, and the last commit is
+-- Nothing is pending any more, subvolumes are the same, groups too but for their counts, the same one's tree is at hand,
+-- and the last commit is
 -- the one before or, where something was pending, the next
 pub record IsSettledFrom (old new : Kept) : Type 0 where
   pub pending : new.pending ≡ 0
   pub snapshots : new.snapshots ≡ old.snapshots
-  pub groups : keys_of new.quota.groups ≡ keys_of old.quota.groups
+  pub groups : SameButCounts (quota_of old.quota) (quota_of new.quota)
   pub owner : new.fs.tree.owner ≡ old.fs.tree.owner
   pub last : (new.superblock ≡ old.superblock)
       ⊎ (0 < old.pending) × (new.superblock.generation ≡ old.superblock.generation + 1)

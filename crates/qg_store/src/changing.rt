@@ -1,29 +1,32 @@
 // What structural commands change of what is kept, between their commits.
-ghost use Rattle.std.specs.Prelude.{◌≡◌, ◌≢◌, ◌+◌, ◌++◌, ◌∷◌, [], All, IfNone, IfOk, IfSome, IsTrue, List, None, Some, OnOk, map};
+ghost use Rattle.std.specs.Prelude.{◌≡◌, ◌≢◌, ◌+◌, ◌++◌, ◌∷◌, [], All, IfNone, IfOk, IfSome, IsTrue, List, None, Some, OnOk, length, map};
 ghost use Rattle.std.specs.List.{Contains};
+ghost use Rattle.std.specs.Option.{option_map};
 ghost use Rattle.std.specs.List.Sorted.{IsStrictlyIncreasing};
 ghost use Rattle.qg_device.specs.Cause.{HasCause};
 ghost use Rattle.qg_device.specs.History.{Event};
 ghost use Rattle.qg_num.specs.declared.answer.Answer.TheVariants.{Done, Sub};
 ghost use Rattle.qg_num.specs.declared.command.Command.TheVariants.{Delete, Snap, SubCreate};
 ghost use Rattle.qg_items.specs.declared.tree.TheConstants.{TOP_LEVEL as top_level};
-ghost use Rattle.qg_image.specs.Table.{has_key, keys_of, value_at, with_value, without_key};
-ghost use Rattle.qg_state.specs.Stage.{serves_subvolumes};
+ghost use Rattle.qg_image.specs.Table.{has_key, keys_of, with_value, without_key};
 ghost use Rattle.qg_state.specs.State.{State};
-ghost use Rattle.qg_machine.specs.GroupChange.{new_group, with_group};
+ghost use Rattle.qg_state.specs.Members.{hierarchy_of, level_of_group};
+ghost use Rattle.qg_machine.specs.GroupChange.{inherited, new_group, with_group};
 ghost use Rattle.qg_machine.specs.Refusals.{nodes_reached};
 ghost use Rattle.qg_blocks.specs.Told.{BreaksNone};
+ghost use Rattle.qg_hier.specs.Faults.{create_fault};
+ghost use Rattle.qg_groups.specs.Changing.{AreParents};
+ghost use Rattle.qg_groups.specs.Tracked.{IsTracked, quota_of};
 ghost use Rattle.qg_store.specs.Keeping.{IsKept, IsKeptOf};
-ghost use Rattle.qg_store.specs.Structural.{HasRoom, IsChanged, number_next, too_many_refusal, without_tree};
+ghost use Rattle.qg_store.specs.Structural.{CanSnap, HasRoom, IsChanged, SameHeldIn, number_next, too_many_refusal, without_tree};
 
 use crate::kept::Kept;
-use crate::numbering::{place_of_group, place_of_snapshot};
+use crate::numbering::place_of_snapshot;
 use crate::turning::turn_to;
 use qg_descent::Tree;
 use qg_disk::Disk;
 use qg_items::tree::TOP_LEVEL;
-use qg_num::{BlockFault, Counters, Generation, GroupId, NoMemory, RootId, Rule, Steps};
-use qg_state::Group;
+use qg_num::{BlockFault, Generation, GroupId, NoMemory, RootId, Rule, Steps};
 use std::sync::ledger::Ledger;
 
 /// A subvolume without files is made. Nothing is written to the disk.
@@ -37,9 +40,8 @@ pub(crate) fn create_change<D: Disk, L: Ledger>(
     reads: &mut Steps<L>,
 ) -> Result<(), BlockFault>
     requires kept { IsKept kept.old (D.history disk.old) (D.size disk.old) }
-    requires serves { IsTrue serves_subvolumes }
     requires number { sub ≡ number_next kept.old }
-    requires few { too_many_refusal kept.old ≡ None }
+    requires few { too_many_refusal kept.old 0 ≡ None }
     requires room { HasRoom kept.old 18 }
     ensures kept { IfOk result (λ done. IsKept kept.new (D.history disk.new) (D.size disk.new)) }
     ensures changed { (state : State) → IsKeptOf kept.old state (D.history disk.old) → kept.old.pending ≡ 0
@@ -71,28 +73,29 @@ pub(crate) fn create_change<D: Disk, L: Ledger>(
     )?;
     kept.fs.refs.stand_for(hand);
     let _ascending_still = kept.fs.refs.refs().len();
-    add_subvolume(kept, tree, Generation::new(0), new_group(next))?;
+    add_subvolume(kept, tree, Generation::new(0))?;
+    add_group(kept, sub, next)?;
     Ok(())
 }
 
-/// A subvolume begins as the one at hand is, whose last snapshot this is. No group has a limit so far, so its own has
-/// none. Else as [`create_change`].
+/// A subvolume begins as the one at hand is, whose last snapshot this is. Its group has the limits of the other's, and is
+/// a member of the groups of a list. Else as [`create_change`].
 pub(crate) fn snap_change<D: Disk, L: Ledger>(
     kept: &mut Kept,
     disk: &mut D,
     sub: RootId,
     copy: RootId,
+    parents: &[GroupId],
     reads: &mut Steps<L>,
 ) -> Result<(), BlockFault>
     requires kept { IsKept kept.old (D.history disk.old) (D.size disk.old) }
-    requires serves { IsTrue serves_subvolumes }
     requires hand { kept.old.fs.tree.owner ≡ sub }
     requires number { copy ≡ number_next kept.old }
-    requires few { too_many_refusal kept.old ≡ None }
-    requires room { HasRoom kept.old 18 }
+    requires listed { CanSnap kept.old parents.now }
+    requires room { HasRoom kept.old (18 + length parents.now) }
     ensures kept { IfOk result (λ done. IsKept kept.new (D.history disk.new) (D.size disk.new)) }
     ensures changed { (state : State) → IsKeptOf kept.old state (D.history disk.old) → kept.old.pending ≡ 0
-        → IfOk result (λ done. IsChanged state (Snap sub []) (Sub copy) kept.new (D.history disk.new)) }
+        → IfOk result (λ done. IsChanged state (Snap sub parents.now) (Sub copy) kept.new (D.history disk.new)) }
     ensures sound { (state : State) (events : List Event) → IsKeptOf kept.old state (D.history disk.old)
         → D.history disk.old ≡ Some events → BreaksNone result }
     ensures superblock { kept.new.superblock ≡ kept.old.superblock }
@@ -114,7 +117,8 @@ pub(crate) fn snap_change<D: Disk, L: Ledger>(
     kept.fs.refs.stand_for(sub);
     let _ascending_still = kept.fs.refs.refs().len();
     mark_snapshot(kept, sub, next);
-    add_subvolume(kept, tree, next, new_group(next))?;
+    add_subvolume(kept, tree, next)?;
+    inherit_group(kept, sub, copy, parents, next)?;
     Ok(())
 }
 
@@ -127,7 +131,6 @@ pub(crate) fn delete_change<D: Disk, L: Ledger>(
     reads: &mut Steps<L>,
 ) -> Result<(), BlockFault>
     requires kept { IsKept kept.old (D.history disk.old) (D.size disk.old) }
-    requires serves { IsTrue serves_subvolumes }
     requires there { IsTrue (has_key sub kept.old.snapshots) }
     requires other { sub ≡ top_level → ⊥ }
     requires room { HasRoom kept.old copies }
@@ -186,42 +189,65 @@ fn forget_snapshot(kept: &mut Kept, sub: RootId)
     }
 }
 
-// A group that is made in this generation: nothing is counted, no limit is set.
-fn new_group(stamp: Generation) -> Group
-    ensures { result ≡ new_group stamp }
-{
-    Group {
-        counters: Counters { rfer: 0, excl: 0 },
-        max_rfer: None,
-        max_excl: None,
-        stamp,
-    }
-}
-
-// A tree that was made goes behind the others, its number being the greatest; with it come its snapshot and its group.
-fn add_subvolume(
-    kept: &mut Kept,
-    tree: Tree,
-    snapshot: Generation,
-    group: Group,
-) -> Result<(), NoMemory>
-    requires group { value_at tree.owner kept.old.quota.groups ≡ None }
+// A tree that was made goes behind the others, its number being the greatest; with it comes its snapshot.
+fn add_subvolume(kept: &mut Kept, tree: Tree, snapshot: Generation) -> Result<(), NoMemory>
     ensures trees { OnOk result (kept.new.fs.others.items ≡ kept.old.fs.others.items ++ tree ∷ []) }
     ensures snapshots { OnOk result (kept.new.snapshots ≡ kept.old.snapshots ++ (tree.owner, snapshot) ∷ []) }
-    ensures quota { OnOk result (kept.new.quota ≡ with_group tree.owner group kept.old.quota) }
     ensures rest { kept.new ≡ record kept.old {
       fs = record kept.old.fs { others = kept.new.fs.others };
       snapshots = kept.new.snapshots;
-      quota = kept.new.quota;
     } }
 {
     let sub = tree.owner();
-    let number = GroupId::from_number(sub.value());
     kept.fs.others.push(tree)?;
     kept.snapshots.push((sub, snapshot))?;
-    let place = place_of_group(kept.quota.groups.as_slice(), number);
-    kept.quota.groups.insert(place, (number, group))?;
     Ok(())
+}
+
+// The group of a subvolume that was made, while quota is on.
+fn add_group(kept: &mut Kept, sub: RootId, stamp: Generation) -> Result<(), NoMemory>
+    requires tracked { IfSome kept.old.quota IsTracked }
+    requires free { IfSome kept.old.quota (λ quota. create_fault (hierarchy_of quota.quota) sub ≡ None) }
+    ensures tracked { OnOk result (IfSome kept.new.quota IsTracked) }
+    ensures quota { OnOk result (quota_of kept.new.quota
+        ≡ option_map (with_group sub (new_group stamp)) (quota_of kept.old.quota)) }
+    ensures held { OnOk result (SameHeldIn kept.old kept.new) }
+    ensures rest { kept.new ≡ record kept.old { quota = kept.new.quota } }
+{
+    match &mut kept.quota {
+        None => Ok(()),
+        Some(quota) => {
+            quota.add(sub, stamp)?;
+            Ok(())
+        }
+    }
+}
+
+// The group of a snapshot, with the limits of its source's, a member of some groups, while quota is on.
+fn inherit_group(
+    kept: &mut Kept,
+    source: RootId,
+    copy: RootId,
+    parents: &[GroupId],
+    stamp: Generation,
+) -> Result<(), NoMemory>
+    requires tracked { IfSome kept.old.quota IsTracked }
+    requires free { IfSome kept.old.quota (λ quota. create_fault (hierarchy_of quota.quota) copy ≡ None) }
+    requires level { level_of_group copy ≡ 0 }
+    requires parents { IfSome kept.old.quota (λ quota. AreParents quota.quota parents.now) }
+    ensures tracked { OnOk result (IfSome kept.new.quota IsTracked) }
+    ensures quota { OnOk result (quota_of kept.new.quota
+        ≡ option_map (inherited stamp source copy parents.now) (quota_of kept.old.quota)) }
+    ensures held { OnOk result (SameHeldIn kept.old kept.new) }
+    ensures rest { kept.new ≡ record kept.old { quota = kept.new.quota } }
+{
+    match &mut kept.quota {
+        None => Ok(()),
+        Some(quota) => {
+            quota.inherit(source, copy, parents, stamp)?;
+            Ok(())
+        }
+    }
 }
 
 // The tree of a number is taken from among the others.

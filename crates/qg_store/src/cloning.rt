@@ -10,18 +10,23 @@ ghost use Rattle.qg_blocks.specs.Told.{BreaksNone};
 ghost use Rattle.qg_files.specs.Apart.{AreApart};
 ghost use Rattle.qg_file_items.specs.Pieces.{pieces_met};
 ghost use Rattle.qg_file_edits.specs.Files.{pieces_of};
+ghost use Rattle.qg_machine.specs.Refusals.{over_limit};
+ghost use Rattle.qg_groups.specs.OnOrOff.{path_in};
+ghost use Rattle.qg_groups.specs.Tracked.{quota_of};
 ghost use Rattle.qg_store.specs.Answering.{Answered, is_unchanging};
 ghost use Rattle.qg_store.specs.Editing.{clone_refusal};
 ghost use Rattle.qg_store.specs.Keeping.{IsKept, IsKeptOf, SameButClean};
 ghost use Rattle.qg_store.specs.Ranges.{IsClonable};
 
 use crate::finding::{found_in, inode_in, pieces_in};
-use crate::kept::{Kept, count_pending};
+use crate::kept::Kept;
 use crate::need::no_nodes;
 use crate::ranges::{do_overlap, refusal_of_clone};
+use crate::reserving::{accept, judge};
 use crate::turning::turn_to;
 use qg_disk::Disk;
-use qg_num::{Answer, BlockFault, Ino, Pieces, Refusal, RootId, Steps};
+use qg_groups::Judged;
+use qg_num::{Answer, BlockFault, GroupId, Ino, Pieces, Refusal, RootId, Steps};
 use std::sync::ledger::Ledger;
 
 /// Clones a range of a file, in bytes, into a range of a file of this or another subvolume, or refuses to.
@@ -64,8 +69,26 @@ pub(crate) fn clone<D: Disk, L: Ledger>(
     if let Some(why) = refusal_of_clone(inode.size, off, len, to_off, overlap, kept.pending) {
         return Ok(Answer::Refused(why));
     }
+    let judged = judge(kept, to_sub, u64::from(kept.superblock.nodesize))?;
+    let path = match judged {
+        Judged::Over(group, which) => {
+            return Ok(Answer::Refused(Refusal::Quota { group, which }));
+        }
+        Judged::Path(path) => path,
+    };
     let source = pieces_in(kept, disk, ino, off, off + len, reads)?;
-    clone_pieces(kept, disk, &source, off, len, to_sub, to_ino, to_off, reads)
+    clone_pieces(
+        kept,
+        disk,
+        &source,
+        off,
+        len,
+        to_sub,
+        to_ino,
+        to_off,
+        path.as_slice(),
+        reads,
+    )
 }
 
 // Clones what was read of the source's range, where it finds the slots that it needs.
@@ -78,9 +101,11 @@ fn clone_pieces<D: Disk, L: Ledger>(
     to_sub: RootId,
     to_ino: Ino,
     to_off: u64,
+    path: &[GroupId],
     reads: &mut Steps<L>,
 ) -> Result<Answer, BlockFault>
     requires kept { IsKept kept.old (D.history disk.old) (D.size disk.old) }
+    requires path { path.now ≡ path_in (quota_of kept.old.quota) to_sub }
     requires apart { AreApart source.now }
     requires told { length source.now < 2 ^ 63 }
     requires number { (least_inode ≤ to_ino) × (to_ino < inodes_end) }
@@ -90,6 +115,7 @@ fn clone_pieces<D: Disk, L: Ledger>(
     ensures step { (state : State) (sub ino : ℕ) (from : Subvolume) → IsKeptOf kept.old state (D.history disk.old)
         → value_at sub state.subvolumes ≡ Some from → source.now ≡ pieces_met off (off + len) (pieces_of ino from.files)
         → clone_refusal state sub ino off len to_sub to_ino to_off ≡ None
+        → over_limit state to_sub state.sizes.nodesize ≡ None
         → IfOk result (λ answer. Answered state (Clone sub ino off len to_sub to_ino to_off) answer [] kept.new
         (D.history disk.new)) }
     ensures sound { (state : State) (events : List Event) (sub ino : ℕ) (from : Subvolume)
@@ -121,6 +147,7 @@ fn clone_pieces<D: Disk, L: Ledger>(
         found,
         reads,
     )?;
-    count_pending(kept);
+    let amount = u64::from(kept.superblock.nodesize);
+    accept(kept, path, amount)?;
     Ok(Answer::Done)
 }

@@ -1,5 +1,5 @@
 // What is pending is committed.
-ghost use Rattle.std.specs.Prelude.{◌≡◌, ◌⊎◌, ◌+◌, ◌≤◌, ◌^◌, ℕ, All, List, None, Option, Some, IfOk, IfErr, IsTrue, OnErr, OnOk};
+ghost use Rattle.std.specs.Prelude.{◌≡◌, ◌⊎◌, ◌+◌, ◌≤◌, ◌^◌, ℕ, All, List, None, Option, Some, [], IfOk, IfErr, IfSome, IsTrue, OnErr, OnOk};
 ghost use Rattle.std.specs.Option.{option_map};
 ghost use Rattle.qg_device.specs.Cause.{HasCause};
 ghost use Rattle.qg_device.specs.History.{Event};
@@ -17,6 +17,7 @@ ghost use Rattle.qg_fs_tree.specs.Standing.{CanTurn, IsSubvolume, Stands};
 ghost use Rattle.qg_standing.specs.Committing.{StandsStill, WritesTree};
 ghost use Rattle.qg_tree_commit.specs.Holds.{AreForgotten, with_tree_commit};
 ghost use Rattle.qg_tree_commit.specs.Writing.{fresh_nodes};
+ghost use Rattle.qg_groups.specs.Tracked.{HoldsAll, IsTracked, SameButCounts, quota_of};
 ghost use Rattle.qg_store.specs.Answering.{AnswersOn, is_unchanging};
 ghost use Rattle.qg_store.specs.Committing.{IsLaidBy, KeepsCommit, LaysSoFar};
 ghost use Rattle.qg_store.specs.Editing.{HasLooked};
@@ -28,9 +29,11 @@ use crate::kept::Kept;
 use crate::planning::{Plan, plan_of};
 use qg_blocks::Blocks;
 use qg_disk::Disk;
+use qg_groups::QuotaState;
 use qg_num::{Address, Answer, BlockFault, NoMemory, Refusal, Steps};
 use qg_other_trees::{OtherTrees, Told};
 use qg_standing::committed;
+use qg_state::Quota;
 use std::sync::ledger::Ledger;
 
 /// The greatest committed generation that a commit may meet.
@@ -176,11 +179,37 @@ fn keep_commit<D: Disk>(
         → OnOk result (StandsStill kept.old.fs kept.new.fs (Some events) (D.history disk.now) items names) }
     ensures err { OnErr result (kept.new ≡ kept.old) }
 {
-    let count = trees.extents.nodes.len() + trees.quotas.nodes.len() + trees.roots.nodes.len();
-    let (others, _) = plan.slots.as_slice().split_at(count);
+    let (others, _) = plan.slots.as_slice().split_at(trees.len());
     committed(&mut kept.fs, disk, others)?;
     kept.superblock = trees.superblock;
-    kept.quota = plan.quota;
+    settle_quota(&mut kept.quota, plan.quota);
     kept.pending = 0;
     Ok(())
+}
+
+// What is tracked takes over quota as a commit counted it anew, and nothing is held any more.
+fn settle_quota(tracked: &mut Option<QuotaState>, counted: Option<Quota>)
+    requires tracked { IfSome tracked.old IsTracked }
+    requires counted { SameButCounts (quota_of tracked.old) counted }
+    ensures quota { quota_of tracked.new ≡ counted }
+    ensures settled { IfSome tracked.new (λ now. IsTracked now × HoldsAll now []) }
+{
+    match tracked {
+        None => {}
+        Some(state) => settle_state(state, counted),
+    }
+}
+
+// The same while quota is on.
+fn settle_state(state: &mut QuotaState, counted: Option<Quota>)
+    requires tracked { IsTracked state.old }
+    requires counted { SameButCounts (Some state.old.quota) counted }
+    ensures quota { Some state.new.quota ≡ counted }
+    ensures tracked { IsTracked state.new }
+    ensures none { HoldsAll state.new [] }
+{
+    match counted {
+        None => unreachable!(),
+        Some(quota) => state.settle(quota),
+    }
 }

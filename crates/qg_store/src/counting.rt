@@ -1,24 +1,30 @@
 // The groups with their counters, as a commit is to store them.
-ghost use Rattle.std.specs.Prelude.{◌≡◌, ℕ, List, Some, IfNone, IfOk, IfSome, length, map};
+ghost use Rattle.std.specs.Prelude.{◌≡◌, ℕ, All, List, Option, Some, IfOk, length, map};
 ghost use Rattle.std.specs.List.Sorted.{IsStrictlyIncreasing};
 ghost use Rattle.qg_device.specs.Cause.{HasCause};
 ghost use Rattle.qg_device.specs.History.{Event};
+ghost use Rattle.qg_image.specs.Table.{keys_of};
+ghost use Rattle.qg_state.specs.declared.quota.Quota.{Quota};
+ghost use Rattle.qg_state.specs.Members.{hierarchy_of, level_of_group};
 ghost use Rattle.qg_state.specs.Record.{Record};
 ghost use Rattle.qg_state.specs.State.{State, layout_of};
 ghost use Rattle.qg_blocks.specs.Told.{BreaksNone};
-ghost use Rattle.qg_home.specs.Places.{AreOthers, StandsAt};
-ghost use Rattle.qg_direct.specs.Direct.{AreDirect};
+ghost use Rattle.qg_direct.specs.Direct.{AreGroupCounts};
+ghost use Rattle.qg_direct.specs.Surveyed.{surveyed_of};
 ghost use Rattle.qg_survey.specs.Surveying.{trees_of};
-ghost use Rattle.qg_fs_laws.specs.Keeping.{group_after, quota_after};
+ghost use Rattle.qg_groups.specs.Changing.{groups_in};
+ghost use Rattle.qg_groups.specs.Tracked.{quota_of};
+ghost use Rattle.qg_fs_laws.specs.Keeping.{group_after, quota_after, quota_laid};
 ghost use Rattle.qg_fs_laws.specs.Committing.{IsInOrder};
-ghost use Rattle.qg_store.specs.Keeping.{IsKept, IsKeptWith};
-ghost use Rattle.qg_store.specs.Planning.{HasSurveyed, counters_by, numbers_of, root_of_tree};
+ghost use Rattle.qg_store.specs.Keeping.{IsFitted, IsKept, IsKeptWith};
+ghost use Rattle.qg_store.specs.Planning.{AreInOrder, HasSurveyed, counters_by, root_of_tree};
 
 use crate::kept::Kept;
 use crate::surveying::survey_all;
 use qg_descent::Tree;
-use qg_direct::direct_counts;
+use qg_direct::{Surveyed, group_counts};
 use qg_disk::Disk;
+use qg_groups::QuotaState;
 use qg_num::{
     Address, BlockFault, Counters, Generation, GroupId, NoMemory, RootId, Sequence, Steps,
 };
@@ -27,8 +33,8 @@ use qg_state::{Group, Quota};
 use std::alloc::{AllocError, Global};
 use std::sync::ledger::Ledger;
 
-/// The direct count of each subvolume's group, in the order of their trees, which are those of all subvolumes by number.
-/// The nodes are read once each. Else as [`survey_all`].
+/// The direct count of each group, in the order of the groups; none while quota is off, when nothing is read. The trees
+/// are those of all subvolumes by number, and their nodes are read once each. Else as [`survey_all`].
 pub(crate) fn counts_now<D: Disk, L: Ledger>(
     kept: &mut Kept,
     disk: &mut D,
@@ -36,10 +42,12 @@ pub(crate) fn counts_now<D: Disk, L: Ledger>(
     reads: &mut Steps<L>,
 ) -> Result<Vec<Counters>, BlockFault>
     requires kept { IsKept kept.old (D.history disk.old) (D.size disk.old) }
-    ensures all { IfOk result (λ counts. length counts.items ≡ length trees.now) }
-    ensures direct { (state : State) (names : List Record)
+    requires lowest { All (λ tree. level_of_group tree.owner ≡ 0) trees.now }
+    ensures all { IfOk result (λ counts. length counts.items ≡ length (groups_in (quota_of kept.old.quota))) }
+    ensures direct { (state : State) (names : List Record) (quota : Quota)
         → IsKeptWith kept.old state (D.history disk.old) names → trees.now ≡ trees_of state
-        → IfOk result (λ counts. AreDirect (layout_of state) counts.items) }
+        → quota_of kept.old.quota ≡ Some quota
+        → IfOk result (λ counts. AreGroupCounts (layout_of state) (hierarchy_of quota) counts.items) }
     ensures sound { (state : State) (events : List Event) (names : List Record) → D.history disk.old ≡ Some events
         → IsKeptWith kept.old state (D.history disk.old) names → trees.now ≡ trees_of state → BreaksNone result }
     ensures order { IfOk result (λ counts. IsInOrder kept.new.fs.land.space) }
@@ -48,20 +56,44 @@ pub(crate) fn counts_now<D: Disk, L: Ledger>(
         (D.size disk.new) }
     ensures cause { HasCause BlockFault.Disk (D.faults disk.old) (D.faults disk.new) result }
 {
-    let nodes = survey_all(kept, disk, trees, reads)?;
-    let roots = roots_of(kept.alloc, trees)?;
     // A proof knows that slots and runs are in order once they were counted.
     let _slots = kept.fs.land.space.taken_slots();
     let _bytes = kept.fs.land.space.taken_bytes();
+    if kept.quota.is_none() {
+        return Ok(Vec::new(kept.alloc));
+    }
+    let nodes = survey_all(kept, disk, trees, reads)?;
+    Ok(counts_of(kept, trees, nodes.as_slice())?)
+}
+
+// The direct count of each group, by what was surveyed of all nodes.
+fn counts_of(kept: &Kept, trees: &[Tree], nodes: &[Surveyed]) -> Result<Vec<Counters>, NoMemory>
+    requires fitted { IsFitted kept.now }
+    requires order { AreInOrder kept.now nodes.now }
+    requires lowest { All (λ tree. level_of_group tree.owner ≡ 0) trees.now }
+    ensures all { IfOk result (λ counts. length counts.items ≡ length (groups_in (quota_of kept.now.quota))) }
+    ensures direct { (state : State) (history : Option (List Event)) (bytes : ℕ) (names : List Record) (quota : Quota)
+        → IsKept kept.now history bytes → IsKeptWith kept.now state history names → trees.now ≡ trees_of state
+        → nodes.now ≡ map (λ entry. surveyed_of entry.0 entry.1) state.layout → quota_of kept.now.quota ≡ Some quota
+        → IfOk result (λ counts. AreGroupCounts (layout_of state) (hierarchy_of quota) counts.items) }
+{
+    // A proof knows that references, slots and runs are in order once they were counted.
+    let _ascending = kept.fs.refs.refs().len();
+    let _slots = kept.fs.land.space.taken_slots();
+    let _bytes = kept.fs.land.space.taken_bytes();
+    let Some(state) = &kept.quota else {
+        return Ok(Vec::new(kept.alloc));
+    };
+    let roots = roots_of(kept.alloc, trees)?;
     let runs = kept.fs.land.space.run_list(kept.alloc)?;
-    let counts = direct_counts(
+    group_counts(
         kept.alloc,
         roots.as_slice(),
-        nodes.as_slice(),
+        nodes,
         kept.superblock.nodesize,
         runs.as_slice(),
-    )?;
-    Ok(counts)
+        &state.hierarchy,
+    )
 }
 
 /// The roots of trees, by the numbers of their subvolumes.
@@ -78,43 +110,60 @@ pub(crate) fn roots_of(
     Ok(roots)
 }
 
-/// The groups as a commit of the generation `next` stores them, by the direct counts of the subvolumes that have these
-/// trees: a group of a number that is no subvolume's counts nothing, and the stamp of one whose counters change is that
-/// generation.
+/// Quota as a commit of the generation `next` stores it, by the direct counts of its groups, in their order: the stamp of
+/// a group whose counters change is that generation. None while it is off.
 pub(crate) fn quota_now(
     alloc: Global,
+    quota: &Option<QuotaState>,
+    counts: &[Counters],
+    next: Generation,
+) -> Result<Option<Quota>, NoMemory>
+    requires ascending { IsStrictlyIncreasing (groups_in (quota_of quota.now)) }
+    requires all { length counts.now ≡ length (groups_in (quota_of quota.now)) }
+    ensures { IfOk result (λ now. now
+        ≡ quota_laid next (counters_by (groups_in (quota_of quota.now)) counts.now) (quota_of quota.now)) }
+{
+    match quota {
+        None => Ok(None),
+        Some(state) => {
+            let now = quota_by(alloc, &state.quota, counts, next)?;
+            Ok(Some(now))
+        }
+    }
+}
+
+// The same of quota that is on.
+fn quota_by(
+    alloc: Global,
     quota: &Quota,
-    trees: &[Tree],
     counts: &[Counters],
     next: Generation,
 ) -> Result<Quota, NoMemory>
-    requires ascending { IsStrictlyIncreasing (numbers_of trees.now) }
-    requires all { length counts.now ≡ length trees.now }
-    ensures { IfOk result (λ now. now ≡ quota_after next (counters_by (numbers_of trees.now) counts.now) quota.now) }
+    requires ascending { IsStrictlyIncreasing (keys_of quota.now.groups) }
+    requires all { length counts.now ≡ length quota.now.groups }
+    ensures { IfOk result (λ now. now
+        ≡ quota_after next (counters_by (keys_of quota.now.groups) counts.now) quota.now) }
 {
     Ok(Quota {
-        groups: groups_now(alloc, quota.groups.as_slice(), trees, counts, next)?,
+        groups: groups_now(alloc, quota.groups.as_slice(), counts, next)?,
         pairs: Sequence::from_slice(alloc, quota.pairs.as_slice())?,
     })
 }
 
-// Each group with its counters.
+// Each group with its counters, which stand in the order of the groups.
 fn groups_now(
     alloc: Global,
     groups: &[(GroupId, Group)],
-    trees: &[Tree],
     counts: &[Counters],
     next: Generation,
 ) -> Result<Sequence<(GroupId, Group)>, AllocError>
-    requires ascending { IsStrictlyIncreasing (numbers_of trees.now) }
-    requires all { length counts.now ≡ length trees.now }
-    ensures { IfOk result (λ now. now
-        ≡ map (group_after next (counters_by (numbers_of trees.now) counts.now)) groups.now) }
+    requires ascending { IsStrictlyIncreasing (keys_of groups.now) }
+    requires all { length counts.now ≡ length groups.now }
+    ensures { IfOk result (λ now. now ≡ map (group_after next (counters_by (keys_of groups.now) counts.now)) groups.now) }
 {
     let mut now = Sequence::new(alloc);
-    for entry in groups {
-        let counters = counters_in(trees, counts, entry.0);
-        now.push((entry.0, group_now(&entry.1, counters, next)))?;
+    for (i, entry) in groups.iter().enumerate() {
+        now.push((entry.0, group_now(&entry.1, counts[i], next)))?;
     }
     Ok(now)
 }
@@ -129,27 +178,4 @@ fn group_now(group: &Group, counters: Counters, next: Generation) -> Group
         max_excl: group.max_excl,
         stamp: stamp_after(&group.counters, &counters, group.stamp, next),
     }
-}
-
-// The count of the subvolume of a group's number; nothing where there is none.
-fn counters_in(trees: &[Tree], counts: &[Counters], group: GroupId) -> Counters
-    requires ascending { IsStrictlyIncreasing (numbers_of trees.now) }
-    requires all { length counts.now ≡ length trees.now }
-    ensures { result ≡ counters_by (numbers_of trees.now) counts.now group }
-{
-    match place_of(trees, RootId::new(group.number())) {
-        Some(place) => counts[place],
-        None => Counters { rfer: 0, excl: 0 },
-    }
-}
-
-// The index of the tree of a number. Where the numbers ascend, there is none exactly where none has it.
-fn place_of(trees: &[Tree], number: RootId) -> Option<usize>
-    ensures there { IfSome result (λ place. StandsAt (λ tree. tree.owner) trees.now number place) }
-    ensures absent { IsStrictlyIncreasing (numbers_of trees.now)
-        → IfNone result (AreOthers (λ tree. tree.owner) trees.now number) }
-{
-    trees
-        .binary_search_by_key(&number, |tree| tree.owner())
-        .ok()
 }

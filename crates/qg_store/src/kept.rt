@@ -3,8 +3,8 @@ ghost use Rattle.std.specs.Prelude.{◌≡◌, ◌+◌, ◌<◌};
 ghost use Rattle.qg_extents.specs.Table.{IsTable};
 
 use qg_fs_tree::FsTree;
+use qg_groups::QuotaState;
 use qg_num::{Generation, RootId, Sequence};
-use qg_state::Quota;
 use qg_super::Super;
 use std::alloc::Global;
 
@@ -20,15 +20,15 @@ pub struct Kept {
     pub superblock: Super,
     /// The generation of each subvolume's last snapshot, by the subvolume's number.
     pub snapshots: Sequence<(RootId, Generation)>,
-    /// The quota groups, with the counters of the last commit.
-    pub quota: Quota,
+    /// Quota, with the counters of the last commit and what is held for what is pending; none while it is off.
+    pub quota: Option<QuotaState>,
     /// The trees of the subvolumes, one of them at hand.
     pub fs: FsTree,
     /// How many file commands are pending.
     pub pending: u64,
 }
 
-/// One file command more is pending.
+/// One file command more is pending, which reserves nothing.
 pub(crate) fn count_pending(kept: &mut Kept)
     requires few { kept.old.pending < 65536 }
     ensures rest { kept.new ≡ record kept.old { pending = kept.old.pending + 1 } }

@@ -1,9 +1,11 @@
 // The slots that a command needs.
-ghost use Rattle.std.specs.Prelude.{◌≡◌, ◌+◌, ◌*◌, ◌^◌, ◌≤◌, IfNone, IfOk};
+ghost use Rattle.std.specs.Prelude.{◌≡◌, ◌+◌, ◌*◌, ◌^◌, ◌≤◌, IfNone, IfOk, Some};
 ghost use Rattle.qg_node.specs.NodeText.{IsNodeSize};
 ghost use Rattle.qg_state.specs.Need.{nodes_filled};
 ghost use Rattle.qg_extents.specs.Table.{IsTable};
 ghost use Rattle.qg_space.specs.Holding.{free_slots};
+ghost use Rattle.qg_groups.specs.Tracked.{quota_of};
+ghost use Rattle.qg_other_trees.specs.Trees.{quota_tree_bytes, quota_trees};
 ghost use Rattle.qg_store.specs.Editing.{slots_refusal};
 ghost use Rattle.qg_store.specs.Keeping.{
   commit_need,
@@ -15,19 +17,22 @@ ghost use Rattle.qg_store.specs.Keeping.{
 };
 
 use crate::kept::Kept;
+use qg_groups::QuotaState;
 use qg_items::{QGROUP_INFO_BYTES, QGROUP_LIMIT_BYTES, QGROUP_STATUS_BYTES, ROOT_ITEM_BYTES};
 use qg_node::{HEADER_BYTES, ITEM_HEADER_BYTES};
 use qg_num::{NoMemory, Refusal};
 
-/// What a ROOT_ITEM takes in bytes, the item of the quota tree's status, and the two of a group.
+/// What a ROOT_ITEM takes in bytes, the item of the quota tree's status, and the two of a group and of a relation.
 const ROOT_BYTES: u64 = (ITEM_HEADER_BYTES + ROOT_ITEM_BYTES) as u64;
 
 const STATUS_BYTES: u64 = (ITEM_HEADER_BYTES + QGROUP_STATUS_BYTES) as u64;
 
 const GROUP_BYTES: u64 = (2 * ITEM_HEADER_BYTES + QGROUP_INFO_BYTES + QGROUP_LIMIT_BYTES) as u64;
 
+const RELATION_BYTES: u64 = (2 * ITEM_HEADER_BYTES) as u64;
+
 /// The most bytes of items that memory can tell of, the most pieces or copied nodes that a command can tell of, and the
-/// most subvolumes, or groups, that memory can hold.
+/// most subvolumes, groups, or relations that memory can hold.
 const MOST_BYTES: u64 = 1 << 61;
 
 const MOST_PIECES: u64 = 1 << 48;
@@ -117,7 +122,18 @@ fn root_bytes(kept: &Kept) -> Result<u64, NoMemory>
     if count > MOST_ENTRIES {
         return Err(NoMemory);
     }
-    Ok(ROOT_BYTES * (count as u64 + 2))
+    Ok(ROOT_BYTES * (count as u64 + 1 + quota_trees_of(kept)))
+}
+
+// How many quota trees there are: one, and none while quota is off.
+fn quota_trees_of(kept: &Kept) -> u64
+    ensures value { result ≡ quota_trees (quota_of kept.now.quota) }
+    ensures one { result ≤ 1 }
+{
+    match &kept.quota {
+        None => 0,
+        Some(_state) => 1,
+    }
 }
 
 // What the items of the quota tree take, in bytes.
@@ -125,11 +141,23 @@ fn quota_bytes(kept: &Kept) -> Result<u64, NoMemory>
     ensures value { IfOk result (λ bytes. bytes ≡ quota_weight kept.now) }
     ensures few { IfOk result (λ bytes. bytes ≤ 2 ^ 58) }
 {
-    let count = kept.quota.groups.len();
-    if count > MOST_ENTRIES {
+    match &kept.quota {
+        None => Ok(0),
+        Some(state) => bytes_of_quota(state),
+    }
+}
+
+// What they take while quota is on.
+fn bytes_of_quota(state: &QuotaState) -> Result<u64, NoMemory>
+    ensures value { IfOk result (λ bytes. bytes ≡ quota_tree_bytes (Some state.now.quota)) }
+    ensures few { IfOk result (λ bytes. bytes ≤ 2 ^ 58) }
+{
+    let groups = state.quota.groups.len();
+    let pairs = state.quota.pairs.len();
+    if groups > MOST_ENTRIES || pairs > MOST_ENTRIES {
         return Err(NoMemory);
     }
-    Ok(STATUS_BYTES + GROUP_BYTES * count as u64)
+    Ok(STATUS_BYTES + GROUP_BYTES * groups as u64 + RELATION_BYTES * pairs as u64)
 }
 
 // The nodes that so many bytes fill.

@@ -1,14 +1,17 @@
 // Numbers of subvolumes and groups, and their places in lists.
-ghost use Rattle.std.specs.Prelude.{◌≡◌, ◌≢◌, ◌^◌, ◌<◌, ◌≤◌, ◌==◌, ◌||◌, max, All, IfNone, IfSome, IsTrue, length, nat_le, slice_get, take};
+ghost use Rattle.std.specs.Prelude.{◌≡◌, ◌≢◌, ◌+◌, ◌^◌, ◌<◌, ◌≤◌, ◌==◌, ◌&&◌, ◌||◌, max, All, IfNone, IfSome, IsTrue, is_some, length, nat_le, nat_lt};
 ghost use Rattle.std.specs.List.{HoldsAt, filter, fold};
 ghost use Rattle.qg_image.specs.ItemMeaning.{is_subvolume_number};
 ghost use Rattle.qg_image.specs.Table.{keys_of};
 ghost use Rattle.qg_state.specs.Members.{level_of_group};
-ghost use Rattle.qg_verdict.specs.Verdict.{most_groups, most_subvolumes};
+ghost use Rattle.qg_verdict.specs.Verdict.{most_groups, most_relations, most_subvolumes};
+ghost use Rattle.qg_groups.specs.Changing.{groups_in, pairs_in};
+ghost use Rattle.qg_groups.specs.Tracked.{quota_of};
 ghost use Rattle.qg_store.specs.Keeping.{IsFitted};
 ghost use Rattle.qg_store.specs.Structural.{number_next};
 
 use crate::kept::Kept;
+use qg_groups::QuotaState;
 use qg_num::{Generation, GroupId, RootId};
 use qg_state::Group;
 
@@ -16,6 +19,9 @@ use qg_state::Group;
 const MOST_SUBVOLUMES: usize = 4096;
 
 const MOST_GROUPS: usize = 4096;
+
+/// The most relations.
+const MOST_RELATIONS: usize = 16384;
 
 /// The number that the next subvolume gets: one more than the greatest of 255, the subvolumes' and those of groups of
 /// level 0.
@@ -26,7 +32,7 @@ pub(crate) fn number_next(kept: &Kept) -> u64
     ensures bound { result ≤ 2 ^ 48 }
 {
     let last = last_subvolume(kept.snapshots.as_slice());
-    last_group(kept.quota.groups.as_slice(), last) + 1
+    last_in_quota(&kept.quota, last) + 1
 }
 
 // The greatest of 255 and the numbers of subvolumes.
@@ -41,6 +47,20 @@ fn last_subvolume(snapshots: &[(RootId, Generation)]) -> u64
         last = last.max(sub.value());
     }
     last
+}
+
+// The greatest of a number and those of groups of level 0, of which there are none while quota is off.
+fn last_in_quota(quota: &Option<QuotaState>, from: u64) -> u64
+    requires bound { from < 2 ^ 48 }
+    ensures value { result
+        ≡ fold max from (filter (λ group. level_of_group group == 0) (groups_in (quota_of quota.now))) }
+    ensures least { from ≤ result }
+    ensures bound { result < 2 ^ 48 }
+{
+    match quota {
+        None => from,
+        Some(state) => last_group(state.quota.groups.as_slice(), from),
+    }
 }
 
 // The greatest of a number and those of groups of level 0.
@@ -59,15 +79,31 @@ fn last_group(groups: &[(GroupId, Group)], from: u64) -> u64
     last
 }
 
-/// Whether one subvolume more, of this number and with its group, would pass a limit.
-pub(crate) fn are_too_many(kept: &Kept, number: u64) -> bool
+/// Whether one subvolume more, of this number, with its group while quota is on, and so many relations, would pass a limit.
+pub(crate) fn are_too_many(kept: &Kept, number: u64, relations: usize) -> bool
+    requires fitted { IsFitted kept.now }
     ensures { result
-        ≡ (nat_le most_subvolumes (length kept.now.snapshots) || nat_le most_groups (length kept.now.quota.groups)
-        || nat_le (2 ^ 48) number) }
+        ≡ (nat_le most_subvolumes (length kept.now.snapshots)
+        || (is_some (quota_of kept.now.quota) && nat_le most_groups (length (groups_in (quota_of kept.now.quota))))
+        || nat_lt most_relations (length (pairs_in (quota_of kept.now.quota)) + relations) || nat_le (2 ^ 48) number) }
 {
-    kept.snapshots.len() >= MOST_SUBVOLUMES
-        || kept.quota.groups.len() >= MOST_GROUPS
-        || number >= 1 << 48
+    kept.snapshots.len() >= MOST_SUBVOLUMES || is_full(&kept.quota, relations) || number >= 1 << 48
+}
+
+// Whether one group more, or so many relations, would pass a limit. While quota is off there are no groups.
+fn is_full(quota: &Option<QuotaState>, relations: usize) -> bool
+    requires few { length (pairs_in (quota_of quota.now)) ≤ most_relations }
+    ensures { result
+        ≡ ((is_some (quota_of quota.now) && nat_le most_groups (length (groups_in (quota_of quota.now))))
+        || nat_lt most_relations (length (pairs_in (quota_of quota.now)) + relations)) }
+{
+    match quota {
+        None => relations > MOST_RELATIONS,
+        Some(state) => {
+            state.quota.groups.len() >= MOST_GROUPS
+                || relations > MOST_RELATIONS - state.quota.pairs.len()
+        }
+    }
 }
 
 /// The place of a subvolume; none exactly where there is none.
@@ -82,18 +118,4 @@ pub(crate) fn place_of_snapshot(snapshots: &[(RootId, Generation)], sub: RootId)
         }
     }
     None
-}
-
-/// How many groups stand before one of a number: the first ones, whose numbers are no greater.
-pub(crate) fn place_of_group(groups: &[(GroupId, Group)], number: GroupId) -> usize
-    ensures inside { result ≤ length groups.now }
-    ensures before { All (λ entry. entry.0 ≤ number) (take result groups.now) }
-    ensures behind { IfSome (slice_get groups.now result) (λ entry. number < entry.0) }
-{
-    for i in 0..groups.len() {
-        if groups[i].0 > number {
-            return i;
-        }
-    }
-    groups.len()
 }

@@ -34,17 +34,17 @@ use qg_num::{Address, BlockFault, Generation, RootId, Rule, Sequence, Steps};
 use qg_state::Quota;
 use std::sync::ledger::Ledger;
 
-/// The subvolumes' ROOT_ITEMs by number, and the quota groups, as a commit is to store them; and free slots in which the
-/// root, extent and quota trees may lie: their addresses in bytes.
+/// The subvolumes' ROOT_ITEMs by number, and quota, none while it is off, as a commit is to store them; and free slots in
+/// which the root, extent and quota trees may lie: their addresses in bytes.
 #[derive(Drop)]
 pub(crate) struct Plan {
     pub(crate) roots: Sequence<(RootId, RootItem)>,
-    pub(crate) quota: Quota,
+    pub(crate) quota: Option<Quota>,
     pub(crate) slots: Sequence<Address>,
 }
 
-/// What a commit tells of what is kept, and where it may lie. All nodes that subvolumes reach are read once each, and
-/// nothing else is done.
+/// What a commit tells of what is kept, and where it may lie. While quota is on all nodes that subvolumes reach are read
+/// once each, and nothing else is done.
 ///
 /// `Image` comes only where the trees have the items of no files: as the survey says it; with the rule `Refs` where a
 /// root is not known, or something is of a generation past the one to come; and with the rule `Shape` and the address of
@@ -78,13 +78,7 @@ pub(crate) fn plan_of<D: Disk, L: Ledger>(
     }
     let slots = slots_for(kept)?;
     let generation = kept.fs.tree.next();
-    let quota = quota_now(
-        kept.alloc,
-        &kept.quota,
-        trees.as_slice(),
-        counts.as_slice(),
-        generation,
-    )?;
+    let quota = quota_now(kept.alloc, &kept.quota, counts.as_slice(), generation)?;
     Ok(Plan {
         roots,
         quota,

@@ -1,18 +1,25 @@
 // The stored counters are shown.
-ghost use Rattle.std.specs.Prelude.{◌≡◌, Some, IfOk, map};
-ghost use Rattle.qg_num.specs.declared.answer.Answer.TheVariants.{Shown};
-ghost use Rattle.qg_machine.specs.Step.{row_of, rows_of};
+ghost use Rattle.std.specs.Prelude.{◌≡◌, IfOk, map};
+ghost use Rattle.qg_machine.specs.Step.{row_of};
+ghost use Rattle.qg_groups.specs.Tracked.{quota_of};
+ghost use Rattle.qg_store.specs.Answering.{shown};
 
-use qg_num::{Answer, GroupId, NoMemory, Row, Rows};
-use qg_state::{Group, Quota};
+use qg_groups::QuotaState;
+use qg_num::{Answer, GroupId, NoMemory, Refusal, Row, Rows};
+use qg_state::Group;
 use std::alloc::{AllocError, Global};
 
-/// The stored counters and limits of all groups, ascending by number.
-pub(crate) fn show(alloc: Global, quota: &Quota) -> Result<Answer, NoMemory>
-    ensures { IfOk result (λ answer. answer ≡ Shown (rows_of (Some quota.now))) }
+/// The stored counters and limits of all groups, ascending by number; or that quota is off.
+pub(crate) fn show(alloc: Global, quota: &Option<QuotaState>) -> Result<Answer, NoMemory>
+    ensures { IfOk result (λ answer. answer ≡ shown (quota_of quota.now)) }
 {
-    let rows = rows_of(alloc, quota.groups.as_slice())?;
-    Ok(Answer::Shown(rows))
+    match quota {
+        None => Ok(Answer::Refused(Refusal::NoQuota)),
+        Some(state) => {
+            let rows = rows_of(alloc, state.quota.groups.as_slice())?;
+            Ok(Answer::Shown(rows))
+        }
+    }
 }
 
 // A row for each group.

@@ -8,7 +8,6 @@ ghost use Rattle.qg_num.specs.Fault.{stop_of};
 ghost use Rattle.qg_super.specs.Places.{total_bytes};
 ghost use Rattle.qg_super.specs.SuperText.{sizes_of};
 ghost use Rattle.qg_grammar.specs.ScriptText.{is_in_grammar};
-ghost use Rattle.qg_grammar.specs.Served.{is_served_command};
 ghost use Rattle.qg_state.specs.State.{State};
 ghost use Rattle.qg_verdict.specs.StateOf.{StateOf};
 ghost use Rattle.qg_verdict.specs.Verdict.{verdict};
@@ -23,6 +22,7 @@ ghost use Rattle.qg_store.specs.Stored.{ComesToDisk, IsStoreOf, IsStoreOver, IsU
 
 use crate::cloning::clone;
 use crate::committing::commit;
+use crate::grouping::regroup;
 use crate::kept::Kept;
 use crate::listing::list;
 use crate::opening::kept_of;
@@ -90,7 +90,7 @@ impl Store {
         })
     }
 
-    /// Does a command or refuses it, by one step of the machine (this project's own). Which are served the grammar says.
+    /// Does a command or refuses it, by one step of the machine (this project's own).
     /// A file command that is done edits its subvolume's tree in memory, and stays pending until a commit brings it to
     /// the disk. A structural command commits what is pending, makes its change, and commits that. What is refused or
     /// asked changes nothing, but that nodes were read. After a `Stop` the store does nothing more, and the image is to
@@ -107,7 +107,6 @@ impl Store {
         requires backed { IsStoreOver self.old (D.history disk.old) }
         requires long { total_bytes (sizes_stored self.old) ≤ D.size disk.old }
         requires numbers { IsTrue (is_in_grammar command.now) }
-        requires served { IsTrue (is_served_command command.now) }
 
         // Over a disk that tells what it holds, the answer is the machine's, and the disk was made to hold what the
         // machine commits. Whatever is answered, nothing else was done than calls of a commit that the machine does.
@@ -181,7 +180,6 @@ fn answer<D: Disk, M: Ledger>(
 ) -> Result<Answer, BlockFault>
     requires kept { IsKept kept.old (D.history disk.old) (D.size disk.old) }
     requires numbers { IsTrue (is_in_grammar command.now) }
-    requires served { IsTrue (is_served_command command.now) }
     ensures kept { IfOk result (λ answer. IsKept kept.new (D.history disk.new) (D.size disk.new)) }
     ensures step { (state : State) (events : List Event) → IsKeptOf kept.old state (D.history disk.old)
         → D.history disk.old ≡ Some events
@@ -218,11 +216,17 @@ fn answer<D: Disk, M: Ledger>(
         Command::Unlink { sub, ino } => unlink(kept, disk, *sub, *ino, reads),
         Command::Commit => commit(kept, disk, reads),
         Command::SubCreate => create(kept, disk, reads),
-        Command::Snap { sub, .. } => snap(kept, disk, *sub, reads),
+        Command::Snap { sub, groups } => snap(kept, disk, *sub, groups.as_slice(), reads),
         Command::Delete { sub } => delete(kept, disk, *sub, reads),
         Command::Show => Ok(show(kept.alloc, &kept.quota)?),
         Command::Ls { sub, ino } => list(kept, disk, *sub, *ino, reads),
         Command::Owners { address } => owners(kept, disk, Address::new(*address), reads),
-        _ => unreachable!(),
+        Command::QuotaOn
+        | Command::QuotaOff
+        | Command::GroupCreate { .. }
+        | Command::GroupDestroy { .. }
+        | Command::Assign { .. }
+        | Command::Remove { .. }
+        | Command::Limit { .. } => regroup(kept, disk, command, reads),
     }
 }

@@ -1,11 +1,10 @@
 // Subvolumes that come and go.
-ghost use Rattle.std.specs.Prelude.{◌≡◌, ◌+◌, ◌^◌, ◌≤◌, [], ℕ, IfErr, IfNone, IfOk, IsTrue, List, OnOk, Some};
+ghost use Rattle.std.specs.Prelude.{◌≡◌, ◌+◌, ◌^◌, ◌≤◌, ℕ, IfErr, IfNone, IfOk, IsTrue, List, OnOk, Some, length};
 ghost use Rattle.qg_device.specs.Cause.{HasCause};
 ghost use Rattle.qg_device.specs.History.{Event};
 ghost use Rattle.qg_node.specs.NodeText.{IsNodeSize};
 ghost use Rattle.qg_num.specs.declared.command.Command.TheVariants.{Delete, Snap, SubCreate};
 ghost use Rattle.qg_super.specs.SuperText.{sizes_of};
-ghost use Rattle.qg_state.specs.Stage.{serves_subvolumes};
 ghost use Rattle.qg_state.specs.State.{State};
 ghost use Rattle.qg_machine.specs.Refusals.{nodes_reached};
 ghost use Rattle.qg_blocks.specs.Told.{BreaksNone};
@@ -24,12 +23,13 @@ use crate::need::structural_need;
 use crate::numbering::{are_too_many, number_next};
 use crate::turning::turn_to;
 use qg_disk::Disk;
+use qg_groups::refusal_of_parents;
 use qg_items::tree::TOP_LEVEL;
-use qg_num::{Answer, BlockFault, NoMemory, Refusal, RootId, Steps};
+use qg_num::{Answer, BlockFault, GroupId, NoMemory, Refusal, RootId, Steps};
 use std::sync::ledger::Ledger;
 
 /// The nodes that a structural command may copy besides those that it goes through.
-const COPIES: u64 = 18;
+pub(crate) const COPIES: u64 = 18;
 
 /// The most nodes that memory can tell of.
 const MOST_NODES: u64 = 1 << 48;
@@ -41,7 +41,6 @@ pub(crate) fn create<D: Disk, L: Ledger>(
     reads: &mut Steps<L>,
 ) -> Result<Answer, BlockFault>
     requires kept { IsKept kept.old (D.history disk.old) (D.size disk.old) }
-    requires serves { IsTrue serves_subvolumes }
     ensures kept { IfOk result (λ answer. IsKept kept.new (D.history disk.new) (D.size disk.new)) }
     ensures step { (state : State) (events : List Event) → IsKeptOf kept.old state (D.history disk.old)
         → D.history disk.old ≡ Some events
@@ -60,7 +59,7 @@ pub(crate) fn create<D: Disk, L: Ledger>(
     ensures cause { HasCause BlockFault.Disk (D.faults disk.old) (D.faults disk.new) result }
 {
     let number = number_next(kept);
-    if are_too_many(kept, number) {
+    if are_too_many(kept, number, 0) {
         return Ok(Answer::Refused(Refusal::TooMany));
     }
     if let Some(why) = no_commit(kept, COPIES)? {
@@ -73,28 +72,29 @@ pub(crate) fn create<D: Disk, L: Ledger>(
     Ok(Answer::Sub(sub))
 }
 
-/// Makes a subvolume that begins as another one is, or refuses to. Else as [`create`].
+/// Makes a subvolume that begins as another one is, its group a member of the groups of a list, or refuses to. Else as
+/// [`create`].
 pub(crate) fn snap<D: Disk, L: Ledger>(
     kept: &mut Kept,
     disk: &mut D,
     sub: RootId,
+    parents: &[GroupId],
     reads: &mut Steps<L>,
 ) -> Result<Answer, BlockFault>
     requires kept { IsKept kept.old (D.history disk.old) (D.size disk.old) }
-    requires serves { IsTrue serves_subvolumes }
     ensures kept { IfOk result (λ answer. IsKept kept.new (D.history disk.new) (D.size disk.new)) }
     ensures step { (state : State) (events : List Event) → IsKeptOf kept.old state (D.history disk.old)
         → D.history disk.old ≡ Some events
-        → IfOk result (λ answer. AnswersOn state (Snap sub []) answer kept.new events (D.history disk.new)) }
+        → IfOk result (λ answer. AnswersOn state (Snap sub parents.now) answer kept.new events (D.history disk.new)) }
     ensures so_far { (state : State) (events : List Event) → IsKeptOf kept.old state (D.history disk.old)
         → D.history disk.old ≡ Some events
-        → IsDoneSoFar state (Snap sub []) events (D.history disk.new) }
+        → IsDoneSoFar state (Snap sub parents.now) events (D.history disk.new) }
     ensures sound { (state : State) (events : List Event) → D.history disk.old ≡ Some events
         → IsKeptOf kept.old state (D.history disk.old) → BreaksNone result }
     ensures refused { IfOk result (λ answer. IsTrue (is_unchanging answer) → HasLooked kept.old kept.new
         (D.history disk.old) (D.history disk.new) (D.size disk.old) (D.size disk.new)) }
     ensures err { IfErr result
-        (λ fault. KnowsLast (Snap sub []) kept.old kept.new (D.history disk.old) (D.history disk.new)) }
+        (λ fault. KnowsLast (Snap sub parents.now) kept.old kept.new (D.history disk.old) (D.history disk.new)) }
     ensures sizes { (sizes_of kept.new.superblock ≡ sizes_of kept.old.superblock)
         × (D.size disk.old ≤ D.size disk.new) }
     ensures cause { HasCause BlockFault.Disk (D.faults disk.old) (D.faults disk.new) result }
@@ -102,16 +102,20 @@ pub(crate) fn snap<D: Disk, L: Ledger>(
     if !turn_to(kept, sub) {
         return Ok(Answer::Refused(Refusal::NoSub));
     }
+    if let Some(why) = refusal_of_parents(kept.alloc, &kept.quota, parents)? {
+        return Ok(Answer::Refused(why));
+    }
     let number = number_next(kept);
-    if are_too_many(kept, number) {
+    if are_too_many(kept, number, parents.len()) {
         return Ok(Answer::Refused(Refusal::TooMany));
     }
-    if let Some(why) = no_commit(kept, COPIES)? {
+    let copies = copies_with(parents)?;
+    if let Some(why) = no_commit(kept, copies)? {
         return Ok(Answer::Refused(why));
     }
     let copy = RootId::new(number);
     commit_pending(kept, disk, reads)?;
-    snap_change(kept, disk, sub, copy, reads)?;
+    snap_change(kept, disk, sub, copy, parents, reads)?;
     commit_now(kept, disk, reads)?;
     Ok(Answer::Sub(copy))
 }
@@ -124,7 +128,6 @@ pub(crate) fn delete<D: Disk, L: Ledger>(
     reads: &mut Steps<L>,
 ) -> Result<Answer, BlockFault>
     requires kept { IsKept kept.old (D.history disk.old) (D.size disk.old) }
-    requires serves { IsTrue serves_subvolumes }
     ensures kept { IfOk result (λ answer. IsKept kept.new (D.history disk.new) (D.size disk.new)) }
     ensures step { (state : State) (events : List Event) → IsKeptOf kept.old state (D.history disk.old)
         → D.history disk.old ≡ Some events
@@ -182,8 +185,19 @@ fn copies_of_tree<D: Disk, L: Ledger>(
     Ok(COPIES + nodes)
 }
 
-// Why a structural command that may copy so many nodes is refused at last.
-fn no_commit(kept: &Kept, copies: u64) -> Result<Option<Refusal>, NoMemory>
+// The nodes that may be copied where a snapshot's group goes into so many groups. More than 2^48 are told in no memory.
+fn copies_with(parents: &[GroupId]) -> Result<u64, NoMemory>
+    ensures { IfOk result (λ copies. copies ≡ 18 + length parents.now) }
+{
+    let count = parents.len() as u64;
+    if count > MOST_NODES {
+        return Err(NoMemory);
+    }
+    Ok(COPIES + count)
+}
+
+/// Why a structural command that may copy so many nodes is refused at last.
+pub(crate) fn no_commit(kept: &Kept, copies: u64) -> Result<Option<Refusal>, NoMemory>
     requires size { IsNodeSize kept.now.superblock.nodesize }
     ensures value { IfOk result (λ why. why ≡ commit_refusal kept.now copies) }
     ensures enough { IfOk result (λ why. IfNone why (structural_need_of kept.now copies
@@ -203,8 +217,8 @@ fn no_commit(kept: &Kept, copies: u64) -> Result<Option<Refusal>, NoMemory>
     Ok(None)
 }
 
-// What is pending is committed, where something is. What a structural command needs is there then, but for that commit.
-fn commit_pending<D: Disk, L: Ledger>(
+/// What is pending is committed, where something is. What a structural command needs is there then, but for that commit.
+pub(crate) fn commit_pending<D: Disk, L: Ledger>(
     kept: &mut Kept,
     disk: &mut D,
     reads: &mut Steps<L>,

@@ -12,11 +12,13 @@ ghost use Rattle.qg_store.specs.Answering.{Answered, is_unchanging};
 ghost use Rattle.qg_store.specs.Keeping.{IsKept, IsKeptOf, SameButClean};
 
 use crate::finding::found_in;
-use crate::kept::{Kept, count_pending};
+use crate::kept::Kept;
 use crate::need::no_nodes;
 use crate::ranges::refusal_of_write;
+use crate::reserving::{accept, judge};
 use crate::turning::turn_to;
 use qg_disk::Disk;
+use qg_groups::Judged;
 use qg_num::{Address, Answer, BlockFault, Ino, Refusal, RootId, Steps};
 use qg_super::SECTOR;
 use std::sync::ledger::Ledger;
@@ -50,6 +52,14 @@ pub(crate) fn write<D: Disk, L: Ledger>(
     if let Some(why) = refusal_of_write(off, len, kept.pending) {
         return Ok(Answer::Refused(why));
     }
+    let amount = len + u64::from(kept.superblock.nodesize);
+    let judged = judge(kept, sub, amount)?;
+    let path = match judged {
+        Judged::Over(group, which) => {
+            return Ok(Answer::Refused(Refusal::Quota { group, which }));
+        }
+        Judged::Path(path) => path,
+    };
     let Some(run) = run_for(kept, len) else {
         return Ok(Answer::Refused(Refusal::NoRun));
     };
@@ -68,7 +78,7 @@ pub(crate) fn write<D: Disk, L: Ledger>(
         found,
         reads,
     )?;
-    count_pending(kept);
+    accept(kept, path.as_slice(), amount)?;
     Ok(Answer::Extent(run))
 }
 

@@ -1,6 +1,6 @@
 -- All nodes that a commit writes: it may write them, and a disk holds each once the calls were made.
 use Rattle.std.proofs.Common.{◌≡◌, ℕ, ◌≤◌, true, false, List, [], ◌∷◌, ◌++◌, map, length, get_or, Ok, arith, sym, subst, ◌∙◌, inl, inr}
-use Rattle.std.specs.Prelude.{◌==◌, Contains, IsTrue, Some, All}
+use Rattle.std.specs.Prelude.{◌==◌, Contains, IsTrue, Option, Some, All}
 use Rattle.std.specs.List.{AllByRecursion, IsDistinct}
 use Rattle.std.proofs.lemmas.Bool.Decides.{eqb_tells}
 use Rattle.std.proofs.lemmas.List.{map-append}
@@ -60,7 +60,7 @@ both_distinct (n ∷ front) back first second none =
 
 -- ---- the nodes of a commit
 
-module _ (sizes : Sizes) (generation : ℕ) (roots : List (ℕ × RootItem)) (book : List (ℕ × Kept)) (quota : Quota)
+module _ (sizes : Sizes) (generation : ℕ) (roots : List (ℕ × RootItem)) (book : List (ℕ × Kept)) (quota : Option Quota)
     (slots : List ℕ) (draft : Draft) (trees : OtherTrees)
     (laying : IsLaying sizes generation roots book quota slots draft trees) (writable : AreWritable sizes draft)
     (are_slots : (slot : ℕ) → Contains slots slot → IsTrue (is_slot sizes slot)) where

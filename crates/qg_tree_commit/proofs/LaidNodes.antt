@@ -1,7 +1,7 @@
 -- The nodes of the root, extent and quota trees of a commit: they lie apart in the slots that were given, have a text,
 -- and are read from it.
 use Rattle.std.proofs.Common.{◌≡◌, ℕ, ◌<◌, ◌^◌, List, ◌++◌, map, length, drop, sym, ap, subst, arith, inl, inr}
-use Rattle.std.specs.Prelude.{◌==◌, Contains}
+use Rattle.std.specs.Prelude.{◌==◌, Contains, Option}
 use Rattle.std.specs.List.{IsDistinct}
 use Rattle.std.specs.List.Sorted.{IsPermutation}
 use Rattle.std.proofs.lemmas.List.{append_assoc}
@@ -23,7 +23,8 @@ use Rattle.qg_tree.specs.Row.{address_of}
 use Rattle.qg_tree.proofs.Frame.{IsDistinct-front}
 use Rattle.qg_commit.specs.Calls.{IsReadBack}
 use Rattle.qg_other_trees.specs.declared.laying.OtherTrees.{OtherTrees}
-use Rattle.qg_other_trees.specs.Trees.{AreTrees, nodes_laid}
+use Rattle.qg_other_trees.specs.Trees.{AreTrees, nodes_laid, quota_nodes_laid}
+use Rattle.qg_other_trees.proofs.QuotaTree.{quota_made, quota_placed}
 use Rattle.qg_other_trees.proofs.Slots.{LieFirst, LieFirst-more, LieFirst-placed, contains_map, each_contained, flips}
 
 -- a node has a text, and its numbers fit their fields
@@ -43,7 +44,7 @@ textual_made : (nodesize owner generation : ℕ) (node : Node) → IsMadeFor nod
     → IsTextual nodesize node
 textual_made nodesize owner generation node made = record { formed = made.node_of_format; fits = made.fits }
 
-module _ (sizes : Sizes) (generation : ℕ) (roots : List (ℕ × RootItem)) (book : List (ℕ × Kept)) (quota : Quota)
+module _ (sizes : Sizes) (generation : ℕ) (roots : List (ℕ × RootItem)) (book : List (ℕ × Kept)) (quota : Option Quota)
     (slots : List ℕ) (trees : OtherTrees) (are : AreTrees sizes generation roots book quota slots trees) where
   -- the superblock tells these sizes
   pub laid-sizes : sizes_of trees.superblock ≡ sizes
@@ -52,26 +53,30 @@ module _ (sizes : Sizes) (generation : ℕ) (roots : List (ℕ × RootItem)) (bo
   abbrev behind_extents : List ℕ
   behind_extents = drop (length trees.extents.nodes) slots
 
+  abbrev laid_quotas : List Node
+  laid_quotas = quota_nodes_laid trees.quotas
+
   abbrev behind_quotas : List ℕ
-  behind_quotas = drop (length trees.quotas.nodes) behind_extents
+  behind_quotas = drop (length laid_quotas) behind_extents
 
   -- the nodes in the order in which they lie
   abbrev in_order : List Node
-  in_order = trees.extents.nodes ++ trees.quotas.nodes ++ trees.roots.nodes
+  in_order = trees.extents.nodes ++ laid_quotas ++ trees.roots.nodes
 
   turned : IsPermutation in_order (nodes_laid trees)
   turned =
       subst (λ (nodes : List Node). IsPermutation in_order nodes)
-      (sym (append_assoc trees.roots.nodes trees.extents.nodes trees.quotas.nodes))
-      (IsPermutation-append_comm (trees.extents.nodes ++ trees.quotas.nodes) trees.roots.nodes)
+      (sym (append_assoc trees.roots.nodes trees.extents.nodes laid_quotas))
+      (IsPermutation-append_comm (trees.extents.nodes ++ laid_quotas) trees.roots.nodes)
 
   -- they lie one behind the other
   one_behind : LieFirst in_order slots (drop (length trees.roots.nodes) behind_quotas)
   one_behind =
-      let two = LieFirst-more trees.extents.nodes trees.quotas.nodes slots behind_extents behind_quotas
+      let placed = quota_placed sizes.nodesize generation quota behind_extents trees.quotas are.quota_tree in
+      let two = LieFirst-more trees.extents.nodes laid_quotas slots behind_extents behind_quotas
       (LieFirst-placed trees.extents.nodes slots are.extent_tree.stands.placed)
-      (LieFirst-placed trees.quotas.nodes behind_extents are.quota_tree.stands.placed) in
-      LieFirst-more (trees.extents.nodes ++ trees.quotas.nodes) trees.roots.nodes slots behind_quotas
+      (LieFirst-placed laid_quotas behind_extents placed) in
+      LieFirst-more (trees.extents.nodes ++ laid_quotas) trees.roots.nodes slots behind_quotas
       (drop (length trees.roots.nodes) behind_quotas) two
       (LieFirst-placed trees.roots.nodes behind_quotas are.root_tree.stands.placed)
 
@@ -94,7 +99,7 @@ module _ (sizes : Sizes) (generation : ℕ) (roots : List (ℕ × RootItem)) (bo
 
   pub laid-textual : (node : Node) → Contains (nodes_laid trees) node → IsTextual sizes.nodesize node
   laid-textual node has =
-      elim (Contains-append_cases (trees.roots.nodes ++ trees.extents.nodes) trees.quotas.nodes node has) [
+      elim (Contains-append_cases (trees.roots.nodes ++ trees.extents.nodes) laid_quotas node has) [
         | inl front ↦ elim (Contains-append_cases trees.roots.nodes trees.extents.nodes node front) [
           | inl here ↦
               textual_made sizes.nodesize ROOT_TREE generation node
@@ -107,6 +112,6 @@ module _ (sizes : Sizes) (generation : ℕ) (roots : List (ℕ × RootItem)) (bo
         ]
         | inr here ↦
             textual_made sizes.nodesize QUOTA_TREE generation node
-            (each_contained (IsMadeFor sizes.nodesize QUOTA_TREE generation) trees.quotas.nodes node
-            are.quota_tree.stands.made here)
+            (each_contained (IsMadeFor sizes.nodesize QUOTA_TREE generation) laid_quotas node
+            (quota_made sizes.nodesize generation quota behind_extents trees.quotas are.quota_tree) here)
       ]

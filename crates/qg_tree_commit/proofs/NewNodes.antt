@@ -89,7 +89,7 @@ mapped_keys (entry ∷ layout) each =
     (mapped_keys layout (λ later has. each later (contains_later entry layout later has)))
 
 module _ (fs : FsTree) (history : Option (List Event)) (bytes : ℕ) (items : List Item) (names : List (ℕ × Piece))
-    (roots : List (ℕ × RootItem)) (book : List (ℕ × Kept)) (quota : Quota) (generation : ℕ) (slots : List ℕ)
+    (roots : List (ℕ × RootItem)) (book : List (ℕ × Kept)) (quota : Option Quota) (generation : ℕ) (slots : List ℕ)
     (trees : OtherTrees) (old new : State) (subvolume : IsSubvolume fs history bytes)
     (stands : Stands fs history items names) (table : IsTable fs.refs.refs)
     (laying : IsLaying fs.land.space.sizes generation roots book quota slots fs.land.blocks.draft trees)

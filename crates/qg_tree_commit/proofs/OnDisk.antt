@@ -78,7 +78,7 @@ record CameFrom (fs : FsTree) (trees : OtherTrees) (old : Option (List Event)) (
   told : old ≡ Some events
   is : new ≡ with_tree_commit fs trees events
 
-module _ (fs : FsTree) (roots : List (ℕ × RootItem)) (book : List (ℕ × Kept)) (quota : Quota) (generation : ℕ)
+module _ (fs : FsTree) (roots : List (ℕ × RootItem)) (book : List (ℕ × Kept)) (quota : Option Quota) (generation : ℕ)
     (slots : List ℕ) (trees : OtherTrees)
     (laying : IsLaying fs.land.space.sizes generation roots book quota slots fs.land.blocks.draft trees)
     (drafted : IsDrafted fs.land fs.tree.next) (free : AreFree fs.land.space slots)

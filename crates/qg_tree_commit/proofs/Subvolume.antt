@@ -137,7 +137,7 @@ met-held fs history bytes items names subvolume stands q met clean =
 
 -- so each is read from its text, where the numbers of what is reached fit
 pub fresh-read : (fs : FsTree) (history : Option (List Event)) (bytes : ℕ) (items : List Item)
-    (names : List (ℕ × Piece)) (roots : List (ℕ × RootItem)) (book : List (ℕ × Kept)) (quota : Quota)
+    (names : List (ℕ × Piece)) (roots : List (ℕ × RootItem)) (book : List (ℕ × Kept)) (quota : Option Quota)
     (generation : ℕ) (slots : List ℕ) (trees : OtherTrees)
     → IsSubvolume fs history bytes → Stands fs history items names → IsTable fs.refs.refs → AreFit fs history
     → IsLaying fs.land.space.sizes generation roots book quota slots fs.land.blocks.draft trees

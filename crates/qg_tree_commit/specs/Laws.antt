@@ -32,7 +32,7 @@ FreshAreReached = (fs : FsTree) (history : Option (List Event)) (bytes : ℕ) (i
 -- so where the numbers of what they reach fit their fields, each fresh node is read from its text
 abbrev pub FreshAreReadBack : Type 0
 FreshAreReadBack = (fs : FsTree) (history : Option (List Event)) (bytes : ℕ) (items : List Item)
-    (names : List (ℕ × Piece)) (roots : List (ℕ × RootItem)) (book : List (ℕ × Kept)) (quota : Quota)
+    (names : List (ℕ × Piece)) (roots : List (ℕ × RootItem)) (book : List (ℕ × Kept)) (quota : Option Quota)
     (generation : ℕ) (slots : List ℕ) (trees : OtherTrees)
     → IsSubvolume fs history bytes → Stands fs history items names → IsTable fs.refs.refs → AreFit fs history
     → IsLaying fs.land.space.sizes generation roots book quota slots fs.land.blocks.draft trees
@@ -42,7 +42,7 @@ FreshAreReadBack = (fs : FsTree) (history : Option (List Event)) (bytes : ℕ) (
 -- commit and the nodes of all of them once the calls were made
 abbrev pub CommitIsOnDisk : Type 0
 CommitIsOnDisk = (fs : FsTree) (events : List Event) (bytes : ℕ) (items : List Item) (names : List (ℕ × Piece))
-    (roots : List (ℕ × RootItem)) (book : List (ℕ × Kept)) (quota : Quota) (generation : ℕ) (slots : List ℕ)
+    (roots : List (ℕ × RootItem)) (book : List (ℕ × Kept)) (quota : Option Quota) (generation : ℕ) (slots : List ℕ)
     (trees : OtherTrees)
     → IsSubvolume fs (Some events) bytes → Stands fs (Some events) items names
     → IsLaying fs.land.space.sizes generation roots book quota slots fs.land.blocks.draft trees
@@ -53,7 +53,7 @@ CommitIsOnDisk = (fs : FsTree) (events : List Event) (bytes : ℕ) (items : List
 -- some order
 abbrev pub WrittenAreNew : Type 0
 WrittenAreNew = (fs : FsTree) (history : Option (List Event)) (bytes : ℕ) (items : List Item)
-    (names : List (ℕ × Piece)) (roots : List (ℕ × RootItem)) (book : List (ℕ × Kept)) (quota : Quota)
+    (names : List (ℕ × Piece)) (roots : List (ℕ × RootItem)) (book : List (ℕ × Kept)) (quota : Option Quota)
     (generation : ℕ) (slots : List ℕ) (trees : OtherTrees) (old new : State)
     → IsSubvolume fs history bytes → Stands fs history items names → IsTable fs.refs.refs
     → IsLaying fs.land.space.sizes generation roots book quota slots fs.land.blocks.draft trees
@@ -64,7 +64,7 @@ WrittenAreNew = (fs : FsTree) (history : Option (List Event)) (bytes : ℕ) (ite
 -- after the calls `written` of qg_blocks may be called, where no clean node in memory lies in a slot that was written
 abbrev pub FreshAreFlushed : Type 0
 FreshAreFlushed = (fs : FsTree) (before : Option (List Event)) (bytes : ℕ) (roots : List (ℕ × RootItem)) (book : List (ℕ × Kept))
-    (quota : Quota) (generation : ℕ) (slots : List ℕ) (trees : OtherTrees)
+    (quota : Option Quota) (generation : ℕ) (slots : List ℕ) (trees : OtherTrees)
     → IsSubvolume fs before bytes
     → IsLaying fs.land.space.sizes generation roots book quota slots fs.land.blocks.draft trees
     → AreFree fs.land.space slots → AreForgotten fs.land.blocks slots

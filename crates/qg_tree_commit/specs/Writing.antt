@@ -43,7 +43,8 @@ nodes_written draft trees = fresh_nodes draft ++ nodes_laid trees
 
 -- The three trees of a commit of this generation in an image of these sizes, in the first of the slots, that tell this;
 -- and the addresses of the fresh nodes ascend, each once
-pub record IsLaying (sizes : Sizes) (generation : ℕ) (roots : List (ℕ × RootItem)) (book : List (ℕ × Kept)) (quota : Quota) (slots : List ℕ) (draft : Draft) (trees : OtherTrees) : Type 0 where
+pub record IsLaying (sizes : Sizes) (generation : ℕ) (roots : List (ℕ × RootItem)) (book : List (ℕ × Kept))
+    (quota : Option Quota) (slots : List ℕ) (draft : Draft) (trees : OtherTrees) : Type 0 where
   pub superblock : IsTrue (is_super trees.superblock)
   pub laid : AreTrees sizes generation roots book quota slots trees
   pub ascending : IsStrictlySortedBy nat_cmp (keys_of draft.fresh)

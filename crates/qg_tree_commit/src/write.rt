@@ -54,8 +54,8 @@ fn write_fresh<D: Disk>(
     Ok(())
 }
 
-/// Writes the fresh nodes, which lie at these addresses, and the nodes of three trees, over a buffer of a node's size
-/// in bytes; then the first superblock, then the second, each once what was before is made sure of (this project's
+/// Writes the fresh nodes, which lie at these addresses, and the nodes of three trees, or of two while quota is off, over
+/// a buffer of a node's size in bytes; then the first superblock, then the second, each once what was before is made sure of (this project's
 /// own).
 pub(crate) fn write_all<D: Disk>(
     disk: &mut D,
@@ -83,7 +83,7 @@ pub(crate) fn write_all<D: Disk>(
     write_fresh(disk, blocks, addresses, buffer)?;
     write_nodes(disk, trees.roots.nodes.as_slice(), buffer)?;
     write_nodes(disk, trees.extents.nodes.as_slice(), buffer)?;
-    write_nodes(disk, trees.quotas.nodes.as_slice(), buffer)?;
+    write_nodes(disk, trees.quota_nodes(), buffer)?;
     write_superblocks(disk, &trees.superblock)?;
     Ok(())
 }

@@ -18,7 +18,6 @@ use Rattle.qg_image.specs.declared.part.QuotaPart.{QuotaPart}
 use Rattle.qg_image.specs.declared.part.QuotaPart.TheVariants.{Status, Info, Limits, Relation}
 use Rattle.qg_image.specs.ItemMeaning.{is_subvolume_number}
 use Rattle.qg_image.specs.FilesOf.{file_parts, are_files}
-use Rattle.qg_state.specs.Stage.{serves_subvolumes, serves_groups}
 use Rattle.qg_state.specs.declared.quota.Quota.{Quota}
 use Rattle.qg_state.specs.declared.quota.Group.{Group}
 use Rattle.qg_state.specs.declared.element.Element.{Element}
@@ -65,13 +64,9 @@ places_failure super first second len = first_failure
 
 -- ---- the root tree
 
--- the extent tree and the top-level subvolume are there; as long as not all groups are served the quota tree is there; as long as no
--- other subvolumes are served there is none
+-- the extent tree and the top-level subvolume are there
 unfoldable pub are_roots : List (ℕ × RootItem) → Bool
-are_roots roots =
-    has_key EXTENT_TREE roots && has_key TOP_LEVEL roots
-    && (serves_groups || has_key QUOTA_TREE roots)
-    && (serves_subvolumes || list_all (λ entry. (entry.0 == TOP_LEVEL) || not (is_subvolume_number entry.0)) roots)
+are_roots roots = has_key EXTENT_TREE roots && has_key TOP_LEVEL roots
 
 -- the walk of the root tree, and what it names
 abbrev pub roots_failure : Super → List ℕ → Option Failure
@@ -123,23 +118,11 @@ fits_quota parts (Limits group limit) = has_key group (filter_map info_told part
 fits_quota parts (Relation group other) =
     has_twin parts group other && has_key group (filter_map info_told parts) && not (level_of_group group == level_of_group other)
 
--- the groups that are served as long as not all are: that of the top-level subvolume, and then those of the others
-abbrev pub is_served_number : ℕ → Bool
-is_served_number group = (group == TOP_LEVEL) || (serves_subvolumes && (level_of_group group == 0))
-
--- the items that are served as long as not all groups are: no limit is set, and there are no relations
-abbrev pub is_served_group : QuotaPart → Bool
-is_served_group (Status status) = true
-is_served_group (Info group info) = is_served_number group
-is_served_group (Limits group limit) = is_served_number group && (limit.flags == 0)
-is_served_group (Relation group other) = false
-
 -- the quota items fit each other and the subvolumes
 unfoldable pub is_quota : List ℕ → List QuotaPart → Bool
 is_quota subvolumes parts =
     list_any is_status_part parts && list_all (fits_quota parts) parts
     && list_all (λ sub. has_key sub (filter_map info_told parts)) subvolumes
-    && (serves_groups || list_all is_served_group parts)
 
 abbrev pub is_relation_part : QuotaPart → Bool
 is_relation_part (Status status) = false

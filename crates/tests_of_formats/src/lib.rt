@@ -1,4 +1,4 @@
-//! Tests of disk, source and sink, of numbers, bytes and formats, of words, replies and generated lines: what no clause says, and bytes worked out by hand.
+//! Tests of disk, source and sink, of numbers, bytes and formats, of words, lines, replies and generated lines: what no clause says, and bytes worked out by hand.
 #![tactic(auto)]
 
 #[cfg(test)]
@@ -13,6 +13,8 @@ mod edge;
 mod generator;
 #[cfg(test)]
 mod items;
+#[cfg(test)]
+mod lines;
 #[cfg(test)]
 mod node;
 #[cfg(test)]

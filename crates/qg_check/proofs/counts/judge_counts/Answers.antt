@@ -1,14 +1,20 @@
-use Rattle.std.proofs.Common.{List, length, sym, ap, subst, ◌∙◌}
-use Rattle.qg_num.specs.declared.counters.Counters.{Counters}
-use Rattle.qg_direct.specs.Direct.{AreDirect}
-use Rattle.qg_check.proofs.Counters.{counted_of}
+use Rattle.std.proofs.Common.{Option, ap, subst, ◌∙◌}
+use Rattle.std.specs.Prelude.{IfSome}
+use Rattle.qg_verdict.specs.Verdict.{counts_failure}
+use Rattle.qg_groups.specs.declared.state.QuotaState.{QuotaState}
+use Rattle.qg_groups.specs.Tracked.{quota_of, IsTracked}
+use Rattle.qg_check.proofs.Counters.{counts_none}
+use Rattle.qg_check.proofs.Staging.{fails_same}
 use Rattle.qg_check.proofs.counts.judge_counts.Goals as goal
 
-pub judge_groups-requires-clause-same : goal.judge_groups-requires-clause-same
-judge_groups-requires-clause-same c = ap length c.as_slice.ensures.value ∙ c.in_ok-counters.ensures.all
+pub judge_state-requires-clause-tracked : goal.judge_state-requires-clause-tracked
+judge_state-requires-clause-tracked c = subst (λ (quota : Option QuotaState). IfSome quota IsTracked) c.in-Some.is c.requires.tracked
 
-pub returns-clause-failure : goal.returns-clause-failure
-returns-clause-failure c = λ layout are.
-    let direct = subst (λ (counters : List Counters). AreDirect layout counters) (sym c.as_slice.ensures.value) (c.in_ok-counters.ensures.direct layout are) in
-    c.judge_groups.ensures.failure layout
-    (counted_of layout c.args.roots.now c.args.nodes.now c.args.nodesize c.args.extents.now c.args.quota.now c.as_slice.result.now c.requires.groups are direct)
+pub returns-in-Some-clause-failure : goal.returns-in-Some-clause-failure
+returns-in-Some-clause-failure c = λ layout are.
+    let same = ap (λ (quota : Option QuotaState). counts_failure layout (quota_of quota)) c.in-Some.is in
+    fails_same c.judge_state.result same (c.judge_state.ensures.failure layout are)
+
+pub returns-in-None-clause-failure : goal.returns-in-None-clause-failure
+returns-in-None-clause-failure c = λ layout are.
+    ap (λ (quota : Option QuotaState). counts_failure layout (quota_of quota)) c.in-None.is ∙ counts_none layout

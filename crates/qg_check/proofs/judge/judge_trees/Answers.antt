@@ -1,4 +1,5 @@
-use Rattle.std.proofs.Common.{◌≡◌, ℕ, true, List, map, refl, sym, ap, ◌∙◌, subst}
+use Rattle.std.proofs.Common.{◌≡◌, ℕ, true, List, ◌++◌, map, Option, refl, sym, ap, ◌∙◌, subst}
+use Rattle.std.specs.Prelude.{IfSome}
 use Rattle.std.specs.List.{list_all}
 use Rattle.std.specs.List.Sorted.{IsNonDecreasingBy, IsStrictlyIncreasing}
 use Rattle.std.specs.Option.{option_map}
@@ -16,10 +17,12 @@ use Rattle.qg_extents.specs.Table.{book_of}
 use Rattle.qg_extents.specs.Told.{IsTold, records_failure}
 use Rattle.qg_direct.specs.declared.surveyed.Surveyed.{Surveyed}
 use Rattle.qg_gathered.specs.Gathered.{root_at}
+use Rattle.qg_groups.specs.declared.state.QuotaState.{QuotaState}
+use Rattle.qg_groups.specs.Tracked.{IsTracked}
 use Rattle.qg_check.proofs.Judging.{AreNamedBy, agrees-recorded, all_at_home, book-owed, book-told, extents-read, parts-read}
 use Rattle.qg_check.proofs.Staging.{tells_same, fails_handed}
 use Rattle.qg_check.proofs.StateRead.{kept_read}
-use Rattle.qg_check.proofs.Together.{bytes_small, counts_told, gathered_slices, numbers_up, references_told, roots_unrelated, same_space, space_told}
+use Rattle.qg_check.proofs.Together.{bytes_small, counts_told, gathered_slices, numbers_up, references_told, roots_lowest, same_space, space_told}
 use Rattle.qg_check.proofs.Together.{surveyed_moved, surveyed_slots, together_kept}
 use Rattle.qg_check.proofs.judge.judge_trees.Goals as goal
 
@@ -60,9 +63,9 @@ returns-in_err-surveyed-clause-failure c = λ bytes are.
 
 -- ---- counts
 
-pub judge_counts-requires-clause-roots : goal.judge_counts-requires-clause-roots
-judge_counts-requires-clause-roots c =
-    numbers_up c.args.superblock.generation c.args.read.trees.subvolumes c.as_slice-6.result.now
+pub judge_counts-requires-clause-lowest : goal.judge_counts-requires-clause-lowest
+judge_counts-requires-clause-lowest c =
+    roots_lowest c.args.superblock.generation c.args.read.trees.subvolumes c.as_slice-6.result.now
     (c.as_slice-6.ensures.value ∙ c.in_ok-roots.ensures ∙ ap (map root_at) c.as_slice-2.ensures) c.requires.subvolumes
 
 pub judge_counts-requires-clause-nodes : goal.judge_counts-requires-clause-nodes
@@ -79,10 +82,8 @@ judge_counts-requires-clause-small c =
     let small = bytes_small sizes those extents c.requires.served slots c.in_ok-surveyed.ensures.ascending space in
     rw (c.as_slice-7.ensures.value, c.as_slice-8.ensures) small
 
-pub judge_counts-requires-clause-groups : goal.judge_counts-requires-clause-groups
-judge_counts-requires-clause-groups c =
-    roots_unrelated c.args.superblock.generation c.args.read.trees.subvolumes c.as_slice-6.result.now c.args.read.quotas.quota
-    (c.as_slice-6.ensures.value ∙ c.in_ok-roots.ensures ∙ ap (map root_at) c.as_slice-2.ensures) c.requires.subvolumes c.requires.groups
+pub judge_counts-requires-clause-tracked : goal.judge_counts-requires-clause-tracked
+judge_counts-requires-clause-tracked c = subst (λ (state : Option QuotaState). IfSome state IsTracked) (sym c.parted-apart.ensures.quota) c.requires.tracked
 
 pub returns-in_err-judge_counts-clause-failure : goal.returns-in_err-judge_counts-clause-failure
 returns-in_err-judge_counts-clause-failure c = λ bytes are.
@@ -101,7 +102,7 @@ returns-in_err-judge_counts-clause-failure c = λ bytes are.
     c.as_slice-4.result.now c.as_slice-8.result.now (c.as_slice-6.ensures.value ∙ sym c.as_slice-3.ensures.value) c.as_slice-7.ensures.value
     (c.as_slice-8.ensures ∙ sym c.as_slice-4.ensures) (c.in_ok-surveyed.ensures.surveyed super bytes read.trees.subvolumes roots gathered) in
     fails_handed c.from_residual-in_err-judge_counts.result fault _ c.from_residual-in_err-judge_counts.ensures.1
-    (counts_told super bytes read are served extents named space none fault (c.in_err-judge_counts.ensures.failure layout surveyed))
+    (counts_told super bytes read are served extents named space none c.parted-apart.result.quota c.parted-apart.ensures.quota fault (c.in_err-judge_counts.ensures.failure layout surveyed))
 
 -- ---- the book
 
@@ -124,7 +125,8 @@ returns-in_err-book-clause-failure c = λ bytes are.
     let surveyed = surveyed_moved layout c.as_slice-3.result.now c.as_slice-6.result.now c.in_ok-surveyed.surveyed.items c.as_slice-7.result.now super.nodesize
     c.as_slice-4.result.now c.as_slice-8.result.now (c.as_slice-6.ensures.value ∙ sym c.as_slice-3.ensures.value) c.as_slice-7.ensures.value
     (c.as_slice-8.ensures ∙ sym c.as_slice-4.ensures) (c.in_ok-surveyed.ensures.surveyed super bytes read.trees.subvolumes roots gathered) in
-    let whole = together_kept super bytes read are served extents named space none (c.in_ok-judge_counts.ensures.failure layout surveyed) in
+    let whole = together_kept super bytes read are served extents named space none c.parted-apart.result.quota c.parted-apart.ensures.quota
+    (c.in_ok-judge_counts.ensures.failure layout surveyed) in
     let sound = ap records_failure c.as_slice-9.ensures ∙ book-told super bytes read are served extents named space none c.requires.parts.few in
     fails_handed c.from_residual-in_err-book.result fault _ c.from_residual-in_err-book.ensures.1
     (tells_same fault (whole ∙ sym (ap (option_map (Broken rule.Refs)) sound)) c.in_err-book.ensures.failure)
@@ -146,7 +148,8 @@ returns-clause-failure c = λ bytes are.
     let surveyed = surveyed_moved layout c.as_slice-3.result.now c.as_slice-6.result.now c.in_ok-surveyed.surveyed.items c.as_slice-7.result.now super.nodesize
     c.as_slice-4.result.now c.as_slice-8.result.now (c.as_slice-6.ensures.value ∙ sym c.as_slice-3.ensures.value) c.as_slice-7.ensures.value
     (c.as_slice-8.ensures ∙ sym c.as_slice-4.ensures) (c.in_ok-surveyed.ensures.surveyed super bytes read.trees.subvolumes roots gathered) in
-    together_kept super bytes read are served extents named space none (c.in_ok-judge_counts.ensures.failure layout surveyed)
+    together_kept super bytes read are served extents named space none c.parted-apart.result.quota c.parted-apart.ensures.quota
+    (c.in_ok-judge_counts.ensures.failure layout surveyed)
 
 pub returns-clause-image : goal.returns-clause-image
 returns-clause-image c = λ bytes are.
@@ -166,8 +169,8 @@ returns-clause-image c = λ bytes are.
     kept_read super bytes read _ are (record {
       same = refl;
       roots = refl;
-      quota = refl;
-      others = c.in_ok-others.ensures;
+      quota = c.parted-apart.ensures.quota;
+      others = c.in_ok-others.ensures ∙ ap (λ (list : List ℕ). c.args.read.trees.nodes ++ c.args.read.extents.nodes ++ list) c.parted-apart.ensures.nodes;
       nodes = subst (λ (list : List ℕ). HaveSame list (map (λ node. node.linked.address) read.nodes.nodes.items)) (sym lie) c.in_ok-surveyed.ensures.same;
       ascending = subst IsStrictlyIncreasing (sym lie) c.in_ok-surveyed.ensures.ascending;
       extents = extents-read super bytes read are extents named;
@@ -186,8 +189,8 @@ returns-clause-keeps c =
     let lie = c.in_ok-nodes.ensures ∙ ap (map (λ (node : Surveyed). node.linked.address)) c.as_slice-10.ensures.value in
     record {
       roots = refl;
-      quota = refl;
-      others = c.in_ok-others.ensures;
+      quota = c.parted-apart.ensures.quota;
+      others = c.in_ok-others.ensures ∙ ap (λ (list : List ℕ). c.args.read.trees.nodes ++ c.args.read.extents.nodes ++ list) c.parted-apart.ensures.nodes;
       nodes = subst (λ (list : List ℕ). list_all (is_slot sizes) list ≡ true) (sym lie)
           (list_all-from_AllPass (is_slot sizes) (map (λ (node : Surveyed). node.linked.address) those) slots);
       space = same_space sizes c.sizes-sizes.result extents c.as_slice.result.now c.sizes-sizes.ensures c.as_slice.ensures ∙ c.in_ok-judge_extents.ensures.failure;

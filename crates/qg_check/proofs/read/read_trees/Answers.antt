@@ -1,4 +1,5 @@
 use Rattle.std.proofs.Common.{◌≡◌, ℕ, List, map, sym, ap, subst, ◌∙◌}
+use Rattle.std.specs.Option.{option_map}
 use Rattle.qg_device.specs.History.{content}
 use Rattle.qg_items.specs.declared.root.RootItem.{RootItem}
 use Rattle.qg_super.specs.declared.superblock.Super.{Super}
@@ -6,9 +7,11 @@ use Rattle.qg_image.specs.Table.{keys_of}
 use Rattle.qg_verdict.specs.Failure.{first_failure}
 use Rattle.qg_verdict.specs.ImageState.{roots_in}
 use Rattle.qg_verdict.specs.Verdict.{subvolume_failure, together_failure}
-use Rattle.qg_check.specs.Editable.{AreGroups}
+use Rattle.qg_groups.specs.Tracked.{quota_of}
+use Rattle.qg_check.specs.Editable.{AreGroupsOf}
 use Rattle.qg_check.specs.Trees.{AreFileTrees, AreNamed, AreTrees}
 use Rattle.qg_check.specs.declared.judge.Read.{Read}
+use Rattle.qg_check.specs.declared.trees.QuotaTree.{QuotaTree}
 use Rattle.qg_check.specs.declared.trees.Trees.{Trees}
 use Rattle.qg_check.proofs.Editable.{answer_editable}
 use Rattle.qg_check.proofs.Staging.{tells_first, pass_first, tells_same, fails_handed, fails_same}
@@ -78,9 +81,8 @@ returns-clause-image g c = λ events told are.
       subvolumes = trees;
     })
 
-pub judge_trees-requires-clause-groups : goal.judge_trees-requires-clause-groups
-judge_trees-requires-clause-groups g c =
-    subst (λ (roots : List (ℕ × RootItem)). AreGroups c.args.superblock.generation (keys_of roots) c.in_ok-quotas.quotas.quota) c.as_slice-subvolumes.ensures c.in_ok-quotas.ensures.groups
+pub judge_trees-requires-clause-tracked : goal.judge_trees-requires-clause-tracked
+judge_trees-requires-clause-tracked g c = c.in_ok-quotas.ensures.tracked
 
 pub returns-clause-editable : goal.returns-clause-editable
 returns-clause-editable g c = λ is roots.
@@ -97,5 +99,8 @@ returns-clause-editable g c = λ is roots.
       extents = c.in_ok-extents.ensures.slots;
       parts = c.in_ok-extents.ensures.parts;
       quotas = c.in_ok-quotas.ensures.slots;
-      groups = subst (λ (roots : List (ℕ × RootItem)). AreGroups c.args.superblock.generation (keys_of roots) c.in_ok-quotas.quotas.quota) c.as_slice-subvolumes.ensures c.in_ok-quotas.ensures.groups;
+      groups = subst (λ (roots : List (ℕ × RootItem)). AreGroupsOf c.args.superblock.generation (keys_of roots)
+          (quota_of (option_map (λ (tree : QuotaTree). tree.quota) c.in_ok-quotas.quotas))) c.as_slice-subvolumes.ensures c.in_ok-quotas.ensures.groups;
+      tracked = c.in_ok-quotas.ensures.tracked;
+      none = c.in_ok-quotas.ensures.none;
     })

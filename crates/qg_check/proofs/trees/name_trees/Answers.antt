@@ -14,23 +14,17 @@ none_of (Some x) P impossible = tt
 at : (n m : ℕ) (roots : List (ℕ × RootItem)) (found : Option RootItem) → n ≡ m → found ≡ value_at n roots → value_at m roots ≡ found
 at n m roots found same is = ap (λ (k : ℕ). value_at k roots) (sym same) ∙ sym is
 
-pub returns-in_err-root_of-clause-none : goal.returns-in_err-root_of-clause-none
-returns-in_err-root_of-clause-none c =
+pub returns-in_err-extents-clause-none : goal.returns-in_err-extents-clause-none
+returns-in_err-extents-clause-none c =
     let roots = c.args.roots.now in
     let asked = are_roots_asked roots (sym c.are_roots.ensures ∙ c.if-not-are_roots.false) in
-    none_of c.from_residual.result _ (missing (value_at 2 roots) (at c.new.result 2 roots None c.new.ensures c.in_err-root_of.ensures) asked.extents)
-
-pub returns-in_err-root_of-2-clause-none : goal.returns-in_err-root_of-2-clause-none
-returns-in_err-root_of-2-clause-none c =
-    let roots = c.args.roots.now in
-    let asked = are_roots_asked roots (sym c.are_roots.ensures ∙ c.if-not-are_roots.false) in
-    none_of c.from_residual-in_err-root_of-2.result _ (missing (value_at 8 roots) (at c.new-2.result 8 roots None c.new-2.ensures c.in_err-root_of-2.ensures) asked.quotas)
+    none_of c.from_residual.result _ (missing (value_at 2 roots) (at c.new.result 2 roots None c.new.ensures c.in_err-extents.ensures) asked.extents)
 
 pub returns-clause-some : goal.returns-clause-some
 returns-clause-some c =
     let roots = c.args.roots.now in
     record {
       are = sym c.are_roots.ensures ∙ c.if-not-are_roots.false;
-      extent_tree = at c.new.result 2 roots (Some c.in_ok-root_of.field-0) c.new.ensures c.in_ok-root_of.ensures;
-      quota_tree = at c.new-2.result 8 roots (Some c.in_ok-root_of-2.field-0) c.new-2.ensures c.in_ok-root_of-2.ensures;
+      extent_tree = at c.new.result 2 roots (Some c.in_ok-extents.extents) c.new.ensures c.in_ok-extents.ensures;
+      quota_tree = at c.new-2.result 8 roots c.root_of-quotas.result c.new-2.ensures c.root_of-quotas.ensures;
     }

@@ -1,79 +1,38 @@
-use Rattle.std.proofs.Common.{◌≡◌, List, Some, refl, sym, ap, ◌∙◌, subst}
+use Rattle.std.proofs.Common.{Option, None, sym, ap, ◌∙◌, subst}
 use Rattle.qg_device.specs.History.{content}
-use Rattle.qg_image.specs.declared.part.QuotaPart.{QuotaPart}
-use Rattle.qg_image.specs.ItemMeaning.{quota_part}
-use Rattle.qg_verdict.specs.declared.tree.Tree.TheVariants.{Quotas}
-use Rattle.qg_verdict.specs.ImageState.{quota_parts, quota_told}
-use Rattle.qg_verdict.specs.declared.expected.Expected.{Expected}
-use Rattle.qg_walk.specs.Held.{AreHeld, AreAddressesOf}
-use Rattle.qg_walk.specs.IsWalk.{IsWalk}
-use Rattle.qg_parts.specs.Said.{AreSaid}
-use Rattle.qg_parts.proofs.Keys.{quotas_ascending}
-use Rattle.qg_rules.specs.declared.quota.QuotaFault.{QuotaFault}
-use Rattle.qg_rules.specs.Quota.{quota_rule, IfRule}
-use Rattle.qg_check.proofs.Said.{tree_read, quota_parts_of}
-use Rattle.qg_image.specs.Table.{keys_of}
-use Rattle.qg_check.specs.Editable.{AreGroups}
-use Rattle.qg_check.proofs.Groups.{KeepsRules, groups_fit, quota_rule_kept, quota_rule_told}
-use Rattle.qg_check.proofs.Passing.{quotas_by}
-use Rattle.qg_check.proofs.trees.read_quotas.Given.{Over}
-use Rattle.qg_walk.specs.Fault.{TellsFailure}
-use Rattle.qg_verdict.specs.Walk.{tree_failure}
-use Rattle.qg_check.proofs.Staging.{fails_handed, tells_first}
-use Rattle.qg_super.specs.SuperText.{sizes_of}
-use Rattle.qg_check.proofs.SlotsOf.{slots_of_addresses}
+use Rattle.qg_items.specs.declared.root.RootItem.{RootItem}
+use Rattle.qg_verdict.specs.ImageState.{roots_in}
+use Rattle.qg_verdict.specs.Verdict.{quota_failure}
+use Rattle.qg_check.specs.Trees.{AreNamed, IsQuotaTreeOf}
+use Rattle.qg_check.proofs.Staging.{fails_handed, tells_same}
 use Rattle.qg_check.proofs.trees.read_quotas.Goals as goal
 
--- the rules are kept by what was read, beside these subvolumes
-kept : (g : Over) (c : goal.After-drop-walked g) → KeepsRules (keys_of c.args.subvolumes.now) c.as_slice.result.now
-kept g c = quota_rule_kept (keys_of c.args.subvolumes.now) c.as_slice.result.now c.in-Ok.ensures.sound
+-- ---- there is one
 
-pub returns-in-Ok-clause-failure : goal.returns-in-Ok-clause-failure
-returns-in-Ok-clause-failure g c = λ events extents told named.
+pub returns-in_err-tree-in-Some-clause-failure : goal.returns-in_err-tree-in-Some-clause-failure
+returns-in_err-tree-in-Some-clause-failure g c = λ events extents told named.
     let super = c.args.superblock.now in
-    let root = c.args.root.now in
-    let walk = subst (λ (expected : Expected). IsWalk Quotas quota_part AreAddressesOf c.args.superblock.now (content events) expected c.args.root.now.bytenr c.in_ok-walked.walked.parts c.in_ok-walked.walked.nodes) c.root_told.ensures (c.in_ok-walked.ensures.found events told) in
-    let parts : quota_parts super (content events) ≡ c.as_slice.result.now =
-    quota_parts_of super (content events) root named.quota_tree ∙ tree_read Quotas quota_part super (content events) root _ _ walk ∙ sym c.as_slice.ensures in
-    let rules = kept g c in
-    rw (walk.sound, named.all, parts, rules.quota, rules.few) refl
+    let roots = roots_in super (content events) in
+    let fault = c.in_err-tree-in-Some.field-0.0 in
+    let here = subst (λ (root : Option RootItem). AreNamed roots extents root c.args.subvolumes.now) c.in-Some.is named in
+    let same = ap (quota_failure super (content events) roots) c.in-Some.is in
+    fails_handed c.from_residual.result fault _ c.from_residual.ensures.1
+    (tells_same fault same (c.in_err-tree-in-Some.ensures.failure events extents told here))
 
-pub returns-in-Ok-clause-tree : goal.returns-in-Ok-clause-tree
-returns-in-Ok-clause-tree g c = λ events told.
-    let walk = subst (λ (expected : Expected). IsWalk Quotas quota_part AreAddressesOf c.args.superblock.now (content events) expected c.args.root.now.bytenr c.in_ok-walked.walked.parts c.in_ok-walked.walked.nodes) c.root_told.ensures (c.in_ok-walked.ensures.found events told) in
-    let root = c.args.root.now in
-    let parts = tree_read Quotas quota_part c.args.superblock.now (content events) root _ _ walk in
-    record {
-      said = c.in-Ok.ensures.told ∙ ap quota_told (c.as_slice.ensures ∙ sym parts);
-      placed = walk.kept;
-    }
-
-pub returns-in-Ok-clause-groups : goal.returns-in-Ok-clause-groups
-returns-in-Ok-clause-groups g c =
-    let generation = c.args.superblock.now.generation in
-    let parts = c.as_slice.result.now in
-    let held = subst (λ (parts : List QuotaPart). AreHeld Quotas quota_part c.args.superblock.now.generation parts) (sym c.as_slice.ensures) c.in_ok-walked.ensures.held in
-    let ascending = quotas_ascending parts (subst (λ (parts : List QuotaPart). AreSaid quota_part parts) (sym c.as_slice.ensures) c.in_ok-walked.ensures.ascending) in
-    let numbers = keys_of c.args.subvolumes.now in
-    subst (AreGroups generation numbers) (sym c.in-Ok.ensures.told) (groups_fit generation numbers parts ascending (kept g c) (quotas_by generation parts held))
-
-pub returns-in-Err-Rule-clause-failure : goal.returns-in-Err-Rule-clause-failure
-returns-in-Err-Rule-clause-failure g c = λ events extents told named.
+pub returns-in_ok-tree-in-Some-clause-failure : goal.returns-in_ok-tree-in-Some-clause-failure
+returns-in_ok-tree-in-Some-clause-failure g c = λ events extents told named.
     let super = c.args.superblock.now in
-    let root = c.args.root.now in
-    let numbers = keys_of c.args.subvolumes.now in
-    let walk = subst (λ (expected : Expected). IsWalk Quotas quota_part AreAddressesOf c.args.superblock.now (content events) expected c.args.root.now.bytenr c.in_ok-walked.walked.parts c.in_ok-walked.walked.nodes) c.root_told.ensures (c.in_ok-walked.ensures.found events told) in
-    let parts : quota_parts super (content events) ≡ c.as_slice.result.now =
-    quota_parts_of super (content events) root named.quota_tree ∙ tree_read Quotas quota_part super (content events) root _ _ walk ∙ sym c.as_slice.ensures in
-    let refused : quota_rule (keys_of c.args.subvolumes.now) c.as_slice.result.now ≡ Some c.in-Err-Rule.rule =
-    subst (λ (fault : QuotaFault). IfRule fault (λ rule. quota_rule (keys_of c.args.subvolumes.now) c.as_slice.result.now ≡ Some rule)) c.in-Err-Rule.field-0-is c.in-Err-Rule.ensures.refused in
-    rw (walk.sound, named.all, parts) (quota_rule_told numbers c.as_slice.result.now c.in-Err-Rule.rule root.bytenr refused)
+    let roots = roots_in super (content events) in
+    let here = subst (λ (root : Option RootItem). AreNamed roots extents root c.args.subvolumes.now) c.in-Some.is named in
+    ap (quota_failure super (content events) roots) c.in-Some.is ∙ c.in_ok-tree-in-Some.ensures.failure events extents told here
 
-pub returns-in_err-walked-clause-failure : goal.returns-in_err-walked-clause-failure
-returns-in_err-walked-clause-failure g c = λ events extents told named.
-    let fault = c.in_err-walked.field-0.0 in
-    let walk = subst (λ (expected : Expected). TellsFailure fault (tree_failure Quotas c.args.superblock.now (content events) expected c.args.root.now.bytenr)) c.root_told.ensures (c.in_err-walked.ensures.unsound events told) in
-    fails_handed c.from_residual.result fault _ c.from_residual.ensures.1 (tells_first fault _ _ walk)
+-- ---- quota is off
 
-pub returns-in-Ok-clause-slots : goal.returns-in-Ok-clause-slots
-returns-in-Ok-clause-slots g c = slots_of_addresses (sizes_of c.args.superblock.now) c.in_ok-walked.walked.nodes c.in_ok-walked.ensures.slots
+pub returns-in-None-clause-failure : goal.returns-in-None-clause-failure
+returns-in-None-clause-failure g c = λ events extents told named.
+    let super = c.args.superblock.now in
+    ap (quota_failure super (content events) (roots_in super (content events))) c.in-None.is
+
+pub returns-in-None-clause-tree : goal.returns-in-None-clause-tree
+returns-in-None-clause-tree g c = λ events told.
+    subst (λ (root : Option RootItem). IsQuotaTreeOf c.args.superblock.now (content events) root None) (sym c.in-None.is) tt

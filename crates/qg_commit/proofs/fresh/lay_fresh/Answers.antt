@@ -18,7 +18,7 @@ lay_other_trees-requires c =
     rw (
       c.slots.ensures,
       c.in_ok-book.ensures.exact,
-      c.in_ok-quota.ensures,
+      c.in_ok-group.ensures,
       c.slot.ensures,
       c.slot-2.ensures,
       c.new.ensures,
@@ -44,7 +44,7 @@ returns-clause-trees c =
     rw (
       c.slots.ensures,
       c.in_ok-book.ensures.exact,
-      c.in_ok-quota.ensures,
+      c.in_ok-group.ensures,
       c.slot.ensures,
       c.slot-2.ensures,
       c.new.ensures,

@@ -4,6 +4,7 @@ use Rattle.qg_node.specs.NodeText.{IsNodeSize}
 use Rattle.qg_super.specs.declared.superblock.Super.{Super}
 use Rattle.qg_super.specs.Places.{is_served, slot_at}
 use Rattle.qg_super.proofs.Served.{SizesFit-is_served}
+use Rattle.qg_other_trees.specs.Trees.{quota_nodes_laid}
 use Rattle.qg_commit.specs.Fresh.{fresh_nodes, fresh_super, own_leaf}
 use Rattle.qg_commit.specs.Calls.{with_image}
 use Rattle.qg_commit.proofs.CommitCalls.{first_calls}
@@ -87,7 +88,7 @@ write_nodes-requires-4-clause-nodes g c =
     c.as_mut_slice-buffer.ensures.len ∙ c.in_ok-memory.ensures.len in
     let can = fresh-writable sizes trees served laid.fits laid.trees in
     rw (
-      c.as_slice-3.ensures,
+      c.quota_nodes.ensures,
       c.write_nodes-3.auto.buffer,
       c.write_nodes-2.auto.buffer,
       c.write_nodes.auto.buffer,
@@ -118,13 +119,13 @@ returns-clause-calls g c =
     (history c.write_nodes-2.new.disk) size2 c.as_slice-2.ensures c.in_ok-write_nodes-2.ensures.calls in
     let three = first_calls super _ _ own (history c.write_nodes-2.new.disk) (history c.write_nodes-3.new.disk) size3
     own_is c.in_ok-write_nodes-3.ensures.calls in
-    let four = first_calls super _ _ trees.quotas.nodes (history c.write_nodes-3.new.disk)
-    (history c.write_nodes-4.new.disk) size4 c.as_slice-3.ensures c.in_ok-write_nodes-4.ensures.calls in
-    let commits = four_lists super trees.roots.nodes trees.extents.nodes own trees.quotas.nodes (history c.write_at.new.self)
+    let four = first_calls super _ _ (quota_nodes_laid trees.quotas) (history c.write_nodes-3.new.disk)
+    (history c.write_nodes-4.new.disk) size4 c.quota_nodes.ensures c.in_ok-write_nodes-4.ensures.calls in
+    let commits = four_lists super trees.roots.nodes trees.extents.nodes own (quota_nodes_laid trees.quotas) (history c.write_at.new.self)
     (history c.write_nodes.new.disk) (history c.write_nodes-2.new.disk) (history c.write_nodes-3.new.disk)
     (history c.write_nodes-4.new.disk) (history c.write_superblocks.new.disk) one two three four
     c.in_ok-write_superblocks.ensures.calls in
-    image_calls sizes super (trees.roots.nodes ++ trees.extents.nodes ++ own ++ trees.quotas.nodes) c.total_bytes.result
+    image_calls sizes super (trees.roots.nodes ++ trees.extents.nodes ++ own ++ (quota_nodes_laid trees.quotas)) c.total_bytes.result
     c.in_ok-trees.ensures.superblock c.in_ok-trees.ensures.nodes c.total_bytes.ensures (history c.args.disk.now)
     (history c.cut.new.self) (history c.write_at.new.self) (history c.write_superblocks.new.disk) c.in_ok-cut.ensures.event
     c.in_ok-write_at.ensures.event commits

@@ -1,6 +1,6 @@
 use Rattle.std.proofs.Common.{◌≡◌, length, map}
 use Rattle.std.specs.List.Sorted.{IsStrictlyIncreasing}
-use Rattle.qg_direct.specs.Namers.{AreWithin}
+use Rattle.qg_counted.specs.Groups.{AreWithin}
 use Rattle.qg_direct.proofs.Noting.{NamersFirst}
 use Rattle.qg_direct.proofs.namers.namers_of.Given as goal
 

@@ -1,11 +1,8 @@
 use Rattle.std.proofs.Common.{◌≡◌, ◌∙◌, ◌++◌, ◌∷◌, [], ℕ, Bool, true, false, List, Option, arith, ap, refl, subst, sym}
-use Rattle.std.specs.Prelude.{◌==◌, not}
+use Rattle.std.specs.Prelude.{◌==◌, IfSome, not}
 use Rattle.std.proofs.lemmas.Bool.{eq-eqb, eqb-true, false≢true, not_from_true, true≢false}
 use Rattle.qg_device.specs.History.{Event}
-use Rattle.qg_image.specs.Table.{value_at}
-use Rattle.qg_state.specs.declared.quota.Group.{Group}
 use Rattle.qg_state.specs.State.{State}
-use Rattle.qg_machine.specs.GroupChange.{new_group, with_group}
 use Rattle.qg_extents.specs.Table.{IsTable}
 use Rattle.qg_ground.specs.declared.ground.Ground.{Ground}
 use Rattle.qg_tree_edits.specs.Editing.{IsEditable}
@@ -13,14 +10,17 @@ use Rattle.qg_tree_edits.specs.Rooting.{LeavesBe}
 use Rattle.qg_heavier.specs.Heavier.{BookGetsHeavier, node_bytes}
 use Rattle.qg_tree_refs.specs.declared.tree_refs.TreeRefs.{TreeRefs}
 use Rattle.qg_forest.specs.Standing.{HoldsState}
+use Rattle.qg_groups.specs.declared.state.QuotaState.{QuotaState}
+use Rattle.qg_groups.specs.Tracked.{IsTracked}
 use Rattle.qg_inodes.proofs.PiecesRead.{handed}
 use Rattle.qg_inodes.proofs.Whole.{handed-sound}
 use Rattle.qg_descent.specs.Tree.{Root}
 use Rattle.qg_fs_laws.proofs.Runs.{state-held}
 use Rattle.qg_store.specs.declared.kept.Kept.{Kept}
 use Rattle.qg_store.specs.Keeping.{IsKept, IsKeptOf}
-use Rattle.qg_store.proofs.Added.{group-none, number-good}
+use Rattle.qg_store.proofs.Added.{group-may-come, number-good}
 use Rattle.qg_store.proofs.CreatedKept.{changed-created, kept-created, number-new}
+use Rattle.qg_store.proofs.GroupAdded.{group-created, quota-created, rest-grouped}
 use Rattle.qg_store.proofs.Looked.{is-subvolume}
 use Rattle.qg_store.proofs.Stepped.{tree-kept}
 use Rattle.qg_store.proofs.Trees.{held-for}
@@ -37,7 +37,7 @@ create-requires-clause-editable g c =
     (is-subvolume c.args.kept.now history bytes c.requires.kept).editable
 
 pub create-requires-clause-number : goal.create-requires-clause-number
-create-requires-clause-number g c = number-good c.args.kept.now c.args.sub c.requires.number c.requires.few
+create-requires-clause-number g c = number-good c.args.kept.now 0 c.args.sub c.requires.number c.requires.few
 
 by_false : (b : Bool) → not b ≡ false → b ≡ true
 by_false true is = refl
@@ -52,12 +52,15 @@ create-requires-clause-next g c =
 pub create-requires-clause-slots : goal.create-requires-clause-slots
 create-requires-clause-slots g c = let room = c.requires.room.free in omega (arith, room)
 
-pub add_subvolume-requires : goal.add_subvolume-requires
-add_subvolume-requires g c = record {
-  group = ap (λ (n : ℕ). value_at n c.args.kept.now.quota.groups)
-      (ap (λ (t : Root). t.owner) c.in_ok-tree.ensures.tree.0)
-      ∙ group-none c.args.kept.now c.args.sub c.requires.number c.requires.few;
-}
+-- quota is as it was where the group is added
+pub add_group-requires : goal.add_group-requires
+add_group-requires g c =
+    let same = ap (λ (k : Kept). k.quota) c.in_ok-add_subvolume.ensures.rest in
+    record {
+      tracked = subst (λ (quota : Option QuotaState). IfSome quota IsTracked) (sym same) c.requires.kept.fitted.tracked;
+      free = group-may-come c.args.kept.now 0 c.args.sub c.requires.number c.requires.few
+          c.add_subvolume.new.kept.quota same;
+    }
 
 -- ---- the book's next generation is the trees'
 
@@ -129,17 +132,11 @@ made_snapshots : (old new : Kept) (tree : Root) (snapshot : ℕ) → snapshot �
 made_snapshots old new tree snapshot none is =
     is ∙ (λ i. let table : List (ℕ × ℕ) = old.snapshots ++ (tree.owner, none i) ∷ [] in table)
 
-made_quota : (old new : Kept) (tree : Root) (group : Group) (next : ℕ) → next ≡ old.fs.tree.next
-    → group ≡ new_group next → new.quota ≡ with_group tree.owner group old.quota
-    → new.quota ≡ with_group tree.owner (new_group old.fs.tree.next) old.quota
-made_quota old new tree group next same plain quota =
-    quota
-    ∙ ap (λ (made : Group). with_group tree.owner made old.quota) (plain ∙ ap (λ (n : ℕ). new_group n) same)
-
 pub returns-clause-kept : goal.returns-clause-kept
 returns-clause-kept g c =
     let kept = c.args.kept.now in
-    let new = c.add_subvolume.new.kept in
+    let mid = c.add_subvolume.new.kept in
+    let new = c.add_group.new.kept in
     let history = g.D.Disk.history c.args.disk.now in
     let after = g.D.Disk.history c.create.new.disk in
     let bytes = g.D.Disk.size c.args.disk.now in
@@ -147,20 +144,26 @@ returns-clause-kept g c =
     let next = c.next-next.result in
     let tree = c.in_ok-tree.tree in
     let added = c.in_ok-add_subvolume.ensures in
+    let group = c.in_ok-add_group.ensures in
+    let same = ap (λ (k : Kept). k.quota) added.rest in
     kept-created kept new c.create.new.land c.create.new.book history after bytes left c.args.sub tree c.requires.kept
-    c.requires.serves c.requires.number c.requires.few
+    c.requires.number c.requires.few
     (subst (λ (n : ℕ). LeavesBe kept.fs.land c.create.new.land history after bytes left n) c.next-next.ensures
     c.in_ok-tree.ensures.rests)
-    (made_next tree c.args.sub next kept.fs.tree.next c.next-next.ensures c.in_ok-tree.ensures.tree.0) added.trees
-    (made_snapshots kept new tree c.new.result c.new.ensures added.snapshots)
-    (made_quota kept new tree c.new_group.result next c.next-next.ensures c.new_group.ensures added.quota)
+    (made_next tree c.args.sub next kept.fs.tree.next c.next-next.ensures c.in_ok-tree.ensures.tree.0)
+    (ap (λ (k : Kept). k.fs.others.items) group.rest ∙ added.trees)
+    (made_snapshots kept new tree c.new.result c.new.ensures (ap (λ (k : Kept). k.snapshots) group.rest ∙ added.snapshots))
+    (quota-created kept mid new next same c.next-next.ensures group.tracked group.held c.args.sub group.quota)
+    (group-created kept mid new next same c.next-next.ensures group.tracked group.held c.args.sub group.quota)
     (rest-now kept new c.create.new.land c.create.new.book c.stand_for-2.new.self c.owner-hand.result
-    c.stand_for-2.ensures c.owner-hand.ensures added.rest)
+    c.stand_for-2.ensures c.owner-hand.ensures
+    (rest-grouped kept mid new c.create.new.land c.stand_for-2.new.self group.rest added.rest))
 
 pub returns-clause-changed : goal.returns-clause-changed
 returns-clause-changed g c = λ state keeps none.
     let kept = c.args.kept.now in
-    let new = c.add_subvolume.new.kept in
+    let mid = c.add_subvolume.new.kept in
+    let new = c.add_group.new.kept in
     let history = g.D.Disk.history c.args.disk.now in
     let after = g.D.Disk.history c.create.new.disk in
     let bytes = g.D.Disk.size c.args.disk.now in
@@ -168,19 +171,24 @@ returns-clause-changed g c = λ state keeps none.
     let next = c.next-next.result in
     let tree = c.in_ok-tree.tree in
     let added = c.in_ok-add_subvolume.ensures in
+    let group = c.in_ok-add_group.ensures in
+    let same = ap (λ (k : Kept). k.quota) added.rest in
     let table = subst IsTable c.refs.ensures c.len-ascending.ensures.table in
     let made = c.in_ok-tree.ensures.created state
     (holds-for kept history bytes c.args.sub state c.stand_for.new.self c.requires.kept keeps table c.stand_for.ensures)
     (number-new kept state history c.args.sub c.requires.kept.fitted keeps c.requires.number) in
     changed-created kept new c.create.new.land c.create.new.book history after bytes left c.args.sub tree
-    c.requires.kept c.requires.serves c.requires.number c.requires.few
+    c.requires.kept c.requires.number c.requires.few
     (subst (λ (n : ℕ). LeavesBe kept.fs.land c.create.new.land history after bytes left n) c.next-next.ensures
     c.in_ok-tree.ensures.rests)
-    (made_next tree c.args.sub next kept.fs.tree.next c.next-next.ensures c.in_ok-tree.ensures.tree.0) added.trees
-    (made_snapshots kept new tree c.new.result c.new.ensures added.snapshots)
-    (made_quota kept new tree c.new_group.result next c.next-next.ensures c.new_group.ensures added.quota)
+    (made_next tree c.args.sub next kept.fs.tree.next c.next-next.ensures c.in_ok-tree.ensures.tree.0)
+    (ap (λ (k : Kept). k.fs.others.items) group.rest ∙ added.trees)
+    (made_snapshots kept new tree c.new.result c.new.ensures (ap (λ (k : Kept). k.snapshots) group.rest ∙ added.snapshots))
+    (quota-created kept mid new next same c.next-next.ensures group.tracked group.held c.args.sub group.quota)
+    (group-created kept mid new next same c.next-next.ensures group.tracked group.held c.args.sub group.quota)
     (rest-now kept new c.create.new.land c.create.new.book c.stand_for-2.new.self c.owner-hand.result
-    c.stand_for-2.ensures c.owner-hand.ensures added.rest)
+    c.stand_for-2.ensures c.owner-hand.ensures
+    (rest-grouped kept mid new c.create.new.land c.stand_for-2.new.self group.rest added.rest))
     state made.0 keeps none c.requires.room table
     (subst IsTable (ap (λ (r : TreeRefs). r.refs) c.stand_for-2.ensures)
     (subst IsTable c.refs-2.ensures c.len-ascending_still.ensures.table))

@@ -150,7 +150,7 @@ returns-clause-kept g c =
     let bytes = g.D.Disk.size c.args.disk.now in
     let fits = c.turn_to.ensures.kept history bytes c.requires.kept in
     kept-dropped mid new c.drop_all.new.land c.drop_all.new.book history (g.D.Disk.history c.drop_all.new.disk) bytes
-    (g.D.Disk.size c.drop_all.new.disk) c.args.sub fits c.requires.serves
+    (g.D.Disk.size c.drop_all.new.disk) c.args.sub fits
     (top_at_hand c.args.kept.now mid c.new.result c.turn_to.result history bytes c.requires.kept c.new.ensures
     c.turn_to.ensures.there c.turn_to.ensures.hand) c.requires.other
     (rests_so mid taken c.drop_all.new.land (g.D.Disk.history c.drop_all.new.disk) c.in-Some.tree.next
@@ -192,7 +192,7 @@ returns-clause-changed g c = λ state keeps none count.
     let is = taken_so mid taken history bytes c.args.sub state c.in-Some.tree c.stand_for.new.self fits turned table
     there c.take_tree.ensures.rest owner c.in-Some.ensures.taken.1 c.stand_for.ensures in
     changed-dropped mid new c.drop_all.new.land c.drop_all.new.book history after bytes
-    (g.D.Disk.size c.drop_all.new.disk) c.args.sub fits c.requires.serves
+    (g.D.Disk.size c.drop_all.new.disk) c.args.sub fits
     (top_at_hand kept mid c.new.result c.turn_to.result history bytes c.requires.kept c.new.ensures
     c.turn_to.ensures.there c.turn_to.ensures.hand) c.requires.other
     (rests_so mid taken c.drop_all.new.land after c.in-Some.tree.next c.take_tree.ensures.rest

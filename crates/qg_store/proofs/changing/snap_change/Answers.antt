@@ -1,16 +1,17 @@
-use Rattle.std.proofs.Common.{◌≡◌, ◌+◌, ◌∙◌, ◌++◌, ◌∷◌, [], ℕ, List, Option, arith, ap, refl, subst, sym, true}
+use Rattle.std.proofs.Common.{◌≡◌, ◌+◌, ◌∙◌, ◌++◌, ◌∷◌, [], ℕ, List, Option, arith, ap, length, refl, subst, sym, true}
+use Rattle.std.specs.Prelude.{IfSome}
 use Rattle.qg_device.specs.History.{Event}
 use Rattle.qg_super.specs.Places.{capacity}
-use Rattle.qg_image.specs.Table.{has_key, value_at, with_value}
-use Rattle.qg_state.specs.declared.quota.Group.{Group}
+use Rattle.qg_image.specs.Table.{has_key, with_value}
 use Rattle.qg_state.specs.State.{State, has_subvolume}
-use Rattle.qg_machine.specs.GroupChange.{new_group, with_group}
 use Rattle.qg_machine.specs.Step.{Snapshots}
 use Rattle.qg_extents.specs.Table.{IsTable}
 use Rattle.qg_ground.specs.declared.ground.Ground.{Ground}
 use Rattle.qg_heavier.specs.Heavier.{BookGetsHeavier, node_bytes}
 use Rattle.qg_tree_refs.specs.declared.tree_refs.TreeRefs.{TreeRefs}
 use Rattle.qg_forest.specs.Standing.{HoldsState}
+use Rattle.qg_groups.specs.declared.state.QuotaState.{QuotaState}
+use Rattle.qg_groups.specs.Tracked.{IsTracked}
 use Rattle.qg_inodes.proofs.PiecesRead.{handed}
 use Rattle.qg_inodes.proofs.Whole.{handed-sound}
 use Rattle.qg_descent.specs.Tree.{Root}
@@ -18,8 +19,9 @@ use Rattle.qg_fs_laws.specs.Keeping.{other_names}
 use Rattle.qg_fs_laws.proofs.Runs.{state-held}
 use Rattle.qg_store.specs.declared.kept.Kept.{Kept}
 use Rattle.qg_store.specs.Keeping.{IsFitted, IsKept, IsKeptOf}
-use Rattle.qg_store.proofs.Added.{group-none, number-good}
+use Rattle.qg_store.proofs.Added.{group-may-come, level-lowest, number-good}
 use Rattle.qg_store.proofs.CreatedKept.{number-new}
+use Rattle.qg_store.proofs.GroupAdded.{group-snapped, parents-may-be, quota-snapped, rest-grouped}
 use Rattle.qg_store.proofs.Known.{sub-known}
 use Rattle.qg_store.proofs.Looked.{hand-among, is-subvolume, tree-listed}
 use Rattle.qg_store.proofs.SnappedKept.{changed-snapped, kept-snapped, rest-snapped}
@@ -37,7 +39,8 @@ snapshot-requires-clause-editable g c =
     c.requires.kept).editable
 
 pub snapshot-requires-clause-number : goal.snapshot-requires-clause-number
-snapshot-requires-clause-number g c = number-good c.args.kept.now c.args.copy c.requires.number c.requires.few
+snapshot-requires-clause-number g c =
+    number-good c.args.kept.now (length c.args.parents.now) c.args.copy c.requires.number c.requires.listed.few
 
 pub snapshot-requires-clause-slots : goal.snapshot-requires-clause-slots
 snapshot-requires-clause-slots g c = let room = c.requires.room.free in omega (arith, room)
@@ -54,13 +57,20 @@ mark_snapshot-requires g c = record {
   ascending = c.requires.kept.fitted.subvolumes.ascending;
 }
 
-pub add_subvolume-requires : goal.add_subvolume-requires
-add_subvolume-requires g c = record {
-  group = ap (λ (k : Kept). value_at c.in_ok-tree.tree.owner k.quota.groups) c.mark_snapshot.ensures
-      ∙ ap (λ (n : ℕ). value_at n c.args.kept.now.quota.groups)
-      (ap (λ (t : Root). t.owner) c.in_ok-tree.ensures.tree.0)
-      ∙ group-none c.args.kept.now c.args.copy c.requires.number c.requires.few;
-}
+-- quota is as it was where the group is added
+pub inherit_group-requires : goal.inherit_group-requires
+inherit_group-requires g c =
+    let kept = c.args.kept.now in
+    let parents = c.args.parents.now in
+    let now = c.add_subvolume.new.kept in
+    let same = ap (λ (k : Kept). k.quota) c.in_ok-add_subvolume.ensures.rest
+    ∙ ap (λ (k : Kept). k.quota) c.mark_snapshot.ensures in
+    record {
+      tracked = subst (λ (quota : Option QuotaState). IfSome quota IsTracked) (sym same) c.requires.kept.fitted.tracked;
+      free = group-may-come kept (length parents) c.args.copy c.requires.number c.requires.listed.few now.quota same;
+      level = level-lowest kept (length parents) c.args.copy c.requires.number c.requires.listed.few;
+      parents = parents-may-be kept parents now.quota same c.requires.listed.parents;
+    }
 
 -- ---- what is left
 
@@ -117,38 +127,34 @@ marked_snapshots old mid new land now sub stamp tree is hand dated snapshots =
     snapshots ∙ ap (λ (k : Kept). k.snapshots ++ (tree.owner, stamp) ∷ []) is
     ∙ (λ i. with_value (sym hand i) (dated i) old.snapshots ++ (tree.owner, dated i) ∷ [])
 
-marked_quota : (old mid new : Kept) (land : Ground) (now : TreeRefs) (sub stamp : ℕ) (tree : Root) (group : Group)
-    → mid ≡ record old {
-      fs = record old.fs { land = land; refs = now };
-      snapshots = with_value sub stamp old.snapshots;
-    }
-    → stamp ≡ old.fs.tree.next → group ≡ new_group stamp → new.quota ≡ with_group tree.owner group mid.quota
-    → new.quota ≡ with_group tree.owner (new_group old.fs.tree.next) old.quota
-marked_quota old mid new land now sub stamp tree group is dated plain quota =
-    quota ∙ ap (λ (k : Kept). with_group tree.owner group k.quota) is
-    ∙ ap (λ (made : Group). with_group tree.owner made old.quota) (plain ∙ ap (λ (n : ℕ). new_group n) dated)
-
 pub returns-clause-kept : goal.returns-clause-kept
 returns-clause-kept g c =
     let kept = c.args.kept.now in
     let mid = c.mark_snapshot.new.kept in
-    let new = c.add_subvolume.new.kept in
+    let put = c.add_subvolume.new.kept in
+    let new = c.inherit_group.new.kept in
     let land = c.snapshot.new.land in
     let now = c.stand_for-2.new.self in
     let stamp = c.next-next.result in
     let tree = c.in_ok-tree.tree in
     let added = c.in_ok-add_subvolume.ensures in
+    let group = c.in_ok-inherit_group.ensures in
+    let parents = c.args.parents.now in
+    let same = ap (λ (k : Kept). k.quota) added.rest ∙ ap (λ (k : Kept). k.quota) c.mark_snapshot.ensures in
     kept-snapped kept new land c.snapshot.new.book (g.D.Disk.history c.args.disk.now)
     (g.D.Disk.history c.snapshot.new.disk) (g.D.Disk.size c.args.disk.now) (g.D.Disk.size c.snapshot.new.disk)
-    c.args.sub c.args.copy tree c.requires.kept c.requires.serves c.requires.hand c.requires.number c.requires.few
+    c.args.sub c.args.copy parents tree c.requires.kept c.requires.hand c.requires.number c.requires.listed.few
     c.in_ok-tree.ensures.rests c.in_ok-tree.ensures.tree.0
-    (marked_others kept mid new land now c.args.sub stamp tree c.mark_snapshot.ensures added.trees)
+    (marked_others kept mid new land now c.args.sub stamp tree c.mark_snapshot.ensures
+    (ap (λ (k : Kept). k.fs.others.items) group.rest ∙ added.trees))
     (marked_snapshots kept mid new land now c.args.sub stamp tree c.mark_snapshot.ensures c.requires.hand
-    c.next-next.ensures added.snapshots)
-    (marked_quota kept mid new land now c.args.sub stamp tree c.new_group.result c.mark_snapshot.ensures
-    c.next-next.ensures c.new_group.ensures added.quota)
+    c.next-next.ensures (ap (λ (k : Kept). k.snapshots) group.rest ∙ added.snapshots))
+    (quota-snapped kept put new stamp same c.next-next.ensures group.tracked group.held c.args.sub c.args.copy parents
+    group.quota)
+    (group-snapped kept put new stamp same c.next-next.ensures group.tracked group.held c.args.sub c.args.copy parents
+    group.quota)
     (rest-snapped kept mid new land c.snapshot.new.book now c.args.sub stamp c.stand_for-2.ensures c.requires.hand
-    c.mark_snapshot.ensures added.rest)
+    c.mark_snapshot.ensures (rest-grouped mid put new mid.fs.land mid.fs.refs group.rest added.rest))
 
 pub returns-clause-changed : goal.returns-clause-changed
 returns-clause-changed g c = λ state keeps none.
@@ -157,31 +163,38 @@ returns-clause-changed g c = λ state keeps none.
     let bytes = g.D.Disk.size c.args.disk.now in
     let table = subst IsTable c.refs.ensures c.len-ascending.ensures.table in
     let mid = c.mark_snapshot.new.kept in
-    let new = c.add_subvolume.new.kept in
+    let put = c.add_subvolume.new.kept in
+    let new = c.inherit_group.new.kept in
     let land = c.snapshot.new.land in
     let now = c.stand_for-2.new.self in
     let stamp = c.next-next.result in
     let tree = c.in_ok-tree.tree in
     let added = c.in_ok-add_subvolume.ensures in
-    let made = c.in_ok-tree.ensures.copied state []
+    let group = c.in_ok-inherit_group.ensures in
+    let parents = c.args.parents.now in
+    let same = ap (λ (k : Kept). k.quota) added.rest ∙ ap (λ (k : Kept). k.quota) c.mark_snapshot.ensures in
+    let made = c.in_ok-tree.ensures.copied state parents
     (holds-for kept history bytes c.args.copy state c.stand_for.new.self c.requires.kept keeps table c.stand_for.ensures)
     (source_known kept history state c.requires.kept.fitted keeps)
     (tree-is kept history bytes state (other_names state) c.requires.kept keeps kept.fs.tree (hand-among kept.fs))
     (number-new kept state history c.args.copy c.requires.kept.fitted keeps c.requires.number) in
     changed-snapped kept new land c.snapshot.new.book history (g.D.Disk.history c.snapshot.new.disk) bytes
-    (g.D.Disk.size c.snapshot.new.disk) c.args.sub c.args.copy tree c.requires.kept c.requires.serves c.requires.hand
-    c.requires.number c.requires.few c.in_ok-tree.ensures.rests c.in_ok-tree.ensures.tree.0
-    (marked_others kept mid new land now c.args.sub stamp tree c.mark_snapshot.ensures added.trees)
+    (g.D.Disk.size c.snapshot.new.disk) c.args.sub c.args.copy parents tree c.requires.kept c.requires.hand
+    c.requires.number c.requires.listed.few c.in_ok-tree.ensures.rests c.in_ok-tree.ensures.tree.0
+    (marked_others kept mid new land now c.args.sub stamp tree c.mark_snapshot.ensures
+    (ap (λ (k : Kept). k.fs.others.items) group.rest ∙ added.trees))
     (marked_snapshots kept mid new land now c.args.sub stamp tree c.mark_snapshot.ensures c.requires.hand
-    c.next-next.ensures added.snapshots)
-    (marked_quota kept mid new land now c.args.sub stamp tree c.new_group.result c.mark_snapshot.ensures
-    c.next-next.ensures c.new_group.ensures added.quota)
+    c.next-next.ensures (ap (λ (k : Kept). k.snapshots) group.rest ∙ added.snapshots))
+    (quota-snapped kept put new stamp same c.next-next.ensures group.tracked group.held c.args.sub c.args.copy parents
+    group.quota)
+    (group-snapped kept put new stamp same c.next-next.ensures group.tracked group.held c.args.sub c.args.copy parents
+    group.quota)
     (rest-snapped kept mid new land c.snapshot.new.book now c.args.sub stamp c.stand_for-2.ensures c.requires.hand
-    c.mark_snapshot.ensures added.rest)
+    c.mark_snapshot.ensures (rest-grouped mid put new mid.fs.land mid.fs.refs group.rest added.rest))
     state made.0 keeps none c.requires.room table
     (subst IsTable (ap (λ (r : TreeRefs). r.refs) c.stand_for-2.ensures)
     (subst IsTable c.refs-2.ensures c.len-ascending_still.ensures.table))
-    (subst (λ (n : ℕ). Snapshots state n [] c.args.copy made.0) c.requires.hand made.1) made.2 made.3
+    (subst (λ (n : ℕ). Snapshots state n parents c.args.copy made.0) c.requires.hand made.1) made.2 made.3
     (subst (λ (b : TreeRefs). BookGetsHeavier b c.snapshot.new.book
     (node_bytes + capacity kept.fs.land.space.sizes.nodesize)) c.stand_for.ensures c.in_ok-tree.ensures.heavier)
     c.in_ok-tree.ensures.slots

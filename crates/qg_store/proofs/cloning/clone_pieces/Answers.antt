@@ -1,4 +1,4 @@
-use Rattle.std.proofs.Common.{arith, ◌+◌, ◌*◌, ◌∙◌, ◌≤◌, ℕ, subst, sym}
+use Rattle.std.proofs.Common.{◌+◌, ◌*◌, ◌<◌, ◌∙◌, ◌≤◌, ℕ, subst, sym}
 use Rattle.qg_state.specs.Need.{file_copies}
 use Rattle.qg_space.specs.Holding.{free_slots}
 use Rattle.qg_inodes.proofs.PiecesRead.{handed}
@@ -6,9 +6,11 @@ use Rattle.qg_inodes.proofs.Whole.{handed-sound}
 use Rattle.qg_file_edits.specs.declared.found.Found.{Found}
 use Rattle.qg_file_edits.specs.Files.{pieces_of}
 use Rattle.qg_fs_laws.specs.Keeping.{other_names}
+use Rattle.qg_store.specs.declared.kept.Kept.{Kept}
 use Rattle.qg_store.specs.Keeping.{need_of}
+use Rattle.qg_store.proofs.Accepting.{node-small, path-still, quota-read, quota-turned}
 use Rattle.qg_store.proofs.Cloned.{cloned, lacks-slots, refuses-clone}
-use Rattle.qg_store.proofs.Edited.{if-none, kept-edited}
+use Rattle.qg_store.proofs.Edited.{accepted-is, accepted-reserves, if-none, kept-accepted, kept-changed}
 use Rattle.qg_store.proofs.Leaves.{copies-free}
 use Rattle.qg_store.proofs.Looked.{is-subvolume, keeps-looked, node-size, owner-read}
 use Rattle.qg_store.proofs.Reasons.{other-target}
@@ -31,7 +33,7 @@ returns-then-not-turn_to-clause-kept g c =
     c.turn_to.ensures.kept (g.D.Disk.history c.args.disk.now) (g.D.Disk.size c.args.disk.now) c.requires.kept
 
 pub returns-then-not-turn_to-clause-step : goal.returns-then-not-turn_to-clause-step
-returns-then-not-turn_to-clause-step g c = λ state sub ino from keeps there source passes.
+returns-then-not-turn_to-clause-step g c = λ state sub ino from keeps there source passes limits.
     let history = g.D.Disk.history c.args.disk.now in
     refuses-clone c.turn_to.new.kept state history sub ino c.args.off c.args.len c.args.to_sub c.args.to_ino
     c.args.to_off _
@@ -55,7 +57,7 @@ pub no_nodes-requires : goal.no_nodes-requires
 no_nodes-requires g c = record { size = node-size c.found_in.new.kept c.in_ok-found.ensures.kept.fitted }
 
 pub returns-in-Some-clause-step : goal.returns-in-Some-clause-step
-returns-in-Some-clause-step g c = λ state sub ino from given there source passes.
+returns-in-Some-clause-step g c = λ state sub ino from given there source passes limits.
     let kept = c.turn_to.new.kept in
     let mid = c.found_in.new.kept in
     let before = g.D.Disk.history c.args.disk.now in
@@ -69,6 +71,7 @@ returns-in-Some-clause-step g c = λ state sub ino from given there source passe
     lacks-slots mid state between left sub ino c.args.off c.args.len c.args.to_sub c.args.to_ino c.args.to_off
     (c.len.result + c.len-2.result) from c.in_ok-found.ensures.kept still c.in_ok-why.ensures.table there
     (sym (c.turn_to.ensures.hand c.if-not-turn_to.false) ∙ owner-read kept mid before between bytes left looked) passes
+    limits
     (met-both c.args.off (c.args.off + c.args.len) c.args.to_off (c.args.to_off + c.args.len)
     (pieces_of ino from.files) (pieces_of c.args.to_ino keeps.files) c.args.source.now c.in_ok-found.found.met
     c.len.result c.len-2.result source finds.met c.len.ensures c.len-2.ensures)
@@ -112,15 +115,40 @@ returns-in_err-clone_into-clause-sound g c = λ state events sub ino from told g
     still.keeps.holds tree.among tree.files source finds
     (subst (λ (n : ℕ). 10 * file_copies mid.fs.tree.height n ≤ free_slots mid.fs.land.space) touched enough))
 
+-- ---- what it reserves is held
+
+pub accept-requires : goal.accept-requires
+accept-requires g c =
+    let kept = c.turn_to.new.kept in
+    let mid = c.found_in.new.kept in
+    let before = g.D.Disk.history c.args.disk.now in
+    let between = g.D.Disk.history c.found_in.new.disk in
+    let bytes = g.D.Disk.size c.args.disk.now in
+    let left = g.D.Disk.size c.found_in.new.disk in
+    let looked = c.in_ok-found.ensures.looked in
+    let own = c.in_ok-clone_into.ensures.own in
+    record {
+      fitted = (kept-changed mid c.clone_into.new.fs between (g.D.Disk.history c.clone_into.new.disk) left
+          (g.D.Disk.size c.clone_into.new.disk) c.in_ok-found.ensures.kept c.in_ok-clone_into.ensures.leaves own).fitted;
+      few = subst (λ (k : Kept). k.pending < 65536) (sym looked.same)
+          (subst (λ (k : Kept). k.pending < 65536) (sym c.turn_to.ensures.same.rest) c.requires.few);
+      small = node-small mid c.in_ok-found.ensures.kept.fitted c.from-amount.result c.from-amount.ensures;
+      path = path-still c.args.kept.now.quota mid.quota c.args.to_sub c.clone_into.new.fs.tree.owner c.args.path.now
+          c.requires.path
+          (quota-read kept mid before between bytes left looked ∙ quota-turned c.args.kept.now kept c.turn_to.ensures.same)
+          (own.owner ∙ sym (owner-read kept mid before between bytes left looked)
+          ∙ c.turn_to.ensures.hand c.if-not-turn_to.false);
+    }
+
 pub returns-clause-kept : goal.returns-clause-kept
 returns-clause-kept g c =
-    kept-edited c.found_in.new.kept c.clone_into.new.fs c.count_pending.new.kept
-    (g.D.Disk.history c.found_in.new.disk) (g.D.Disk.history c.clone_into.new.disk)
+    kept-accepted c.found_in.new.kept c.clone_into.new.fs c.accept.new.kept c.accept.ensures.rest
+    c.in_ok-accept.ensures.pending (g.D.Disk.history c.found_in.new.disk) (g.D.Disk.history c.clone_into.new.disk)
     (g.D.Disk.size c.found_in.new.disk) (g.D.Disk.size c.clone_into.new.disk) c.in_ok-found.ensures.kept
-    c.in_ok-clone_into.ensures.leaves c.in_ok-clone_into.ensures.own c.count_pending.ensures.rest
+    c.in_ok-clone_into.ensures.leaves c.in_ok-clone_into.ensures.own c.in_ok-accept.ensures.fitted
 
 pub returns-clause-step : goal.returns-clause-step
-returns-clause-step g c = λ state sub ino from given there source passes.
+returns-clause-step g c = λ state sub ino from given there source passes limits.
     let kept = c.turn_to.new.kept in
     let mid = c.found_in.new.kept in
     let before = g.D.Disk.history c.args.disk.now in
@@ -133,15 +161,20 @@ returns-clause-step g c = λ state sub ino from given there source passes.
     let finds = c.in_ok-found.ensures.found keeps.files keeps.keeps.holds in
     let pieces : ℕ = c.len.result + c.len-2.result in
     let tree = source-tree mid between left state (other_names state) c.in_ok-found.ensures.kept still sub from there in
+    let fs = c.clone_into.new.fs in
+    let new = c.accept.new.kept in
     cloned mid state between left sub ino c.args.off c.args.len c.args.to_sub c.args.to_ino c.args.to_off pieces from
     c.in_ok-found.ensures.kept still c.in_ok-why.ensures.table there
     (sym (c.turn_to.ensures.hand c.if-not-turn_to.false) ∙ owner-read kept mid before between bytes left looked) passes
+    limits
     (met-both c.args.off (c.args.off + c.args.len) c.args.to_off (c.args.to_off + c.args.len)
     (pieces_of ino from.files) (pieces_of c.args.to_ino keeps.files) c.args.source.now c.in_ok-found.found.met
     c.len.result c.len-2.result source finds.met c.len.ensures c.len-2.ensures)
-    c.clone_into.new.fs c.count_pending.new.kept (g.D.Disk.history c.clone_into.new.disk)
-    (g.D.Disk.size c.clone_into.new.disk) c.count_pending.ensures.rest c.count_pending.ensures.table
-    (sym c.in_default.is ∙ c.in_ok-why.ensures.value)
+    fs new (g.D.Disk.history c.clone_into.new.disk) (g.D.Disk.size c.clone_into.new.disk) c.from-amount.result
+    (accepted-is mid fs new c.accept.ensures.rest c.in_ok-accept.ensures.pending) c.from-amount.ensures
+    (accepted-reserves mid fs new c.from-amount.result c.in_ok-clone_into.ensures.own.owner c.accept.ensures.same
+    c.in_ok-accept.ensures.holds)
+    c.accept.ensures.table (sym c.in_default.is ∙ c.in_ok-why.ensures.value)
     (if-none c.in_ok-why.field-0 (need_of mid pieces ≤ free_slots mid.fs.land.space) c.in_default.is
     c.in_ok-why.ensures.enough)
     c.in_ok-clone_into.ensures.leaves

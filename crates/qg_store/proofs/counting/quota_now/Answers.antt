@@ -1,13 +1,21 @@
-use Rattle.std.proofs.Common.{ℕ, List, map, ap, ◌∙◌}
-use Rattle.qg_state.specs.declared.quota.Group.{Group}
-use Rattle.qg_fs_laws.specs.Keeping.{group_after}
-use Rattle.qg_store.specs.Planning.{counters_by, numbers_of}
+use Rattle.std.proofs.Common.{length}
+use Rattle.qg_store.proofs.OnOff.{ascend-on, laid-off, laid-on, many-on}
 use Rattle.qg_store.proofs.counting.quota_now.Goals as goal
 
-pub returns : goal.returns
-returns c =
-    let groups = c.in_ok-groups_now.ensures
-    ∙ ap (λ (entries : List (ℕ × Group)). map (group_after c.args.next (counters_by (numbers_of c.args.trees.now)
-    c.args.counts.now)) entries) c.as_slice.ensures in
-    let pairs = c.in_ok-from_slice.ensures ∙ c.as_slice-2.ensures in
-    λ i. record { groups = groups i; pairs = pairs i }
+pub returns-in-None : goal.returns-in-None
+returns-in-None c = laid-off c.args.next c.args.counts.now c.args.quota.now c.in-None.is
+
+-- ---- it is on
+
+pub quota_by-requires-clause-ascending : goal.quota_by-requires-clause-ascending
+quota_by-requires-clause-ascending c =
+    ascend-on c.args.quota.now c.in-Some.state c.in-Some.is c.requires.ascending
+
+pub quota_by-requires-clause-all : goal.quota_by-requires-clause-all
+quota_by-requires-clause-all c =
+    many-on c.args.quota.now c.in-Some.state (length c.args.counts.now) c.in-Some.is c.requires.all
+
+pub returns-in_ok-now-in-Some : goal.returns-in_ok-now-in-Some
+returns-in_ok-now-in-Some c =
+    laid-on c.args.next c.args.counts.now c.args.quota.now c.in-Some.state c.in_ok-now-in-Some.now c.in-Some.is
+    c.in_ok-now-in-Some.ensures

@@ -1,28 +1,38 @@
-use Rattle.std.proofs.Common.{ℕ, ◌≤◌, List, length, sym, ap, subst, ◌∙◌}
+use Rattle.std.proofs.Common.{◌≡◌, ℕ, ◌≤◌, List, Option, length, sym, ap, subst, ◌∙◌}
 use Rattle.std.specs.Prelude.{All}
 use Rattle.std.specs.List.{Contains}
-use Rattle.std.specs.List.Sorted.{IsStrictlyIncreasing}
 use Rattle.qg_num.specs.declared.counters.Counters.{Counters}
 use Rattle.qg_items.specs.declared.root.RootItem.{RootItem}
 use Rattle.qg_image.specs.Table.{keys_of}
+use Rattle.qg_state.specs.declared.quota.Quota.{Quota}
+use Rattle.qg_state.specs.Members.{level_of_group}
 use Rattle.qg_refs.specs.declared.kept.Kept.{Kept as Reference}
 use Rattle.qg_extents.specs.Table.{IsTable}
 use Rattle.qg_space.specs.Holding.{free_slots}
 use Rattle.qg_descent.specs.Tree.{Root}
-use Rattle.qg_fs_laws.specs.Keeping.{quota_after}
+use Rattle.qg_groups.specs.Changing.{groups_in}
+use Rattle.qg_groups.specs.Tracked.{quota_of}
 use Rattle.qg_inodes.proofs.PiecesRead.{handed}
 use Rattle.qg_inodes.proofs.Whole.{handed-sound}
 use Rattle.qg_store.specs.declared.kept.Kept.{Kept}
 use Rattle.qg_store.specs.Keeping.{commit_need}
-use Rattle.qg_store.specs.Planning.{AreRootsBy, counters_by, numbers_of}
-use Rattle.qg_store.proofs.ByNumber.{numbers-ascend, tree-back, trees-are}
+use Rattle.qg_store.specs.Planning.{AreRootsBy, numbers_of}
+use Rattle.qg_store.proofs.ByNumber.{tree-back, trees-are}
 use Rattle.qg_store.proofs.Cleaned.{nothing-surveyed, surveyed-keeps}
+use Rattle.qg_store.proofs.Counters.{quota-still}
+use Rattle.qg_store.proofs.GroupCounts.{trees-low}
 use Rattle.qg_store.proofs.KnownBook.{later-known}
+use Rattle.qg_store.proofs.OnOff.{groups-ascend, laid_by}
 use Rattle.qg_store.proofs.PlanNow.{lockstep, plan-so, plan-told, trees-moved}
 use Rattle.qg_store.proofs.RootsNow.{root-known}
 use Rattle.qg_store.proofs.planning.plan_of.Goals as goal
 
 -- ---- what is asked
+
+pub counts_now-requires-clause-lowest : goal.counts_now-requires-clause-lowest
+counts_now-requires-clause-lowest g c =
+    subst (λ (trees : List Root). All (λ tree. level_of_group tree.owner ≡ 0) trees) (sym c.as_slice.ensures.value)
+    (trees-low c.args.kept.now c.requires.kept.fitted c.in_ok-trees.trees.items c.in_ok-trees.ensures.moved)
 
 pub roots_now-requires : goal.roots_now-requires
 roots_now-requires g c =
@@ -40,14 +50,17 @@ slots_for-requires g c = record { fitted = c.in_ok-counts.ensures.kept.fitted }
 
 pub quota_now-requires-clause-ascending : goal.quota_now-requires-clause-ascending
 quota_now-requires-clause-ascending g c =
-    subst (λ (trees : List Root). IsStrictlyIncreasing (numbers_of trees)) (sym c.as_slice-4.ensures.value)
-    (numbers-ascend c.args.kept.now c.requires.kept.fitted c.in_ok-trees.trees.items c.in_ok-trees.ensures.moved
-    c.in_ok-trees.ensures.ascending)
+    let kept = c.counts_now.new.kept in
+    groups-ascend kept.fs.tree.next (keys_of kept.snapshots) (quota_of kept.quota)
+    c.in_ok-counts.ensures.kept.fitted.groups
 
 pub quota_now-requires-clause-all : goal.quota_now-requires-clause-all
 quota_now-requires-clause-all g c =
-    ap (λ (counts : List Counters). length counts) c.as_slice-5.ensures.value ∙ c.in_ok-counts.ensures.all
-    ∙ ap (λ (trees : List Root). length trees) (c.as_slice.ensures.value ∙ sym c.as_slice-4.ensures.value)
+    ap (λ (counts : List Counters). length counts) c.as_slice-4.ensures.value ∙ c.in_ok-counts.ensures.all
+    ∙ ap (λ (quota : Option Quota). length (groups_in quota))
+    (sym (quota-still c.args.kept.now c.counts_now.new.kept (g.D.Disk.history c.args.disk.now)
+    (g.D.Disk.history c.counts_now.new.disk) (g.D.Disk.size c.args.disk.now) (g.D.Disk.size c.counts_now.new.disk)
+    c.in_ok-counts.ensures.looked))
 
 -- ---- what is planned
 
@@ -68,9 +81,7 @@ returns-clause-plan g c =
           (subst (λ (table : List (ℕ × ℕ)). AreRootsBy c.counts_now.new.kept c.as_slice-2.result.now table
           c.in_ok-roots.roots) c.as_slice-3.ensures c.in_ok-roots.ensures.roots);
       quota = c.in_ok-quota.ensures
-          ∙ (λ i. quota_after (c.next-generation.ensures i)
-          (counters_by (numbers_of (c.as_slice-4.ensures.value i)) (c.as_slice-5.ensures.value i))
-          c.counts_now.new.kept.quota);
+          ∙ (λ i. laid_by (c.next-generation.ensures i) (c.as_slice-4.ensures.value i) c.counts_now.new.kept.quota);
       order = c.in_ok-counts.ensures.order;
       earlier = subst (λ (book : List (ℕ × Reference)). All (λ entry. entry.1.what.generation
           ≤ c.counts_now.new.kept.fs.tree.next) book) c.refs-2.ensures
@@ -99,9 +110,7 @@ returns-clause-told g c = λ state names keeps.
           (subst (λ (table : List (ℕ × ℕ)). AreRootsBy c.counts_now.new.kept c.as_slice-2.result.now table
           c.in_ok-roots.roots) c.as_slice-3.ensures c.in_ok-roots.ensures.roots);
       quota = c.in_ok-quota.ensures
-          ∙ (λ i. quota_after (c.next-generation.ensures i)
-          (counters_by (numbers_of (c.as_slice-4.ensures.value i)) (c.as_slice-5.ensures.value i))
-          c.counts_now.new.kept.quota);
+          ∙ (λ i. laid_by (c.next-generation.ensures i) (c.as_slice-4.ensures.value i) c.counts_now.new.kept.quota);
       order = c.in_ok-counts.ensures.order;
       earlier = subst (λ (book : List (ℕ × Reference)). All (λ entry. entry.1.what.generation
           ≤ c.counts_now.new.kept.fs.tree.next) book) c.refs-2.ensures
@@ -112,7 +121,7 @@ returns-clause-told g c = λ state names keeps.
       enough = c.in_ok-slots.ensures.enough;
       most = c.in_ok-slots.ensures.most;
     }) state names keeps
-    (λ are. c.in_ok-counts.ensures.direct state names keeps (c.as_slice.ensures.value ∙ are))
+    (λ quota are on. c.in_ok-counts.ensures.direct state names quota keeps (c.as_slice.ensures.value ∙ are) on)
 
 -- ---- what can't be
 

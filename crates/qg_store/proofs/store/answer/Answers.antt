@@ -4,12 +4,11 @@ use Rattle.qg_num.specs.declared.command.Command.{Command}
 use Rattle.qg_num.specs.declared.command.Command.TheVariants.{Clone, Delete, Ls, Owners, Show, Snap, SubCreate}
 use Rattle.qg_num.specs.declared.command.Command.TheVariants.{Truncate, Unlink, Write}
 use Rattle.qg_grammar.specs.ScriptText.{is_in_grammar}
-use Rattle.qg_grammar.specs.Served.{is_served_command}
 use Rattle.qg_store.specs.declared.kept.Kept.{Kept}
 use Rattle.qg_store.specs.Answering.{Answered, AnswersOn, IsDoneSoFar}
 use Rattle.qg_store.proofs.OnDisk.{each-given, last-always, last-given, last-same, on-disk, so-far-commit}
 use Rattle.qg_store.proofs.OnDisk.{still-commit, still-structural, unchanged-looked}
-use Rattle.qg_store.proofs.Served.{inode_told, serves-create, serves-delete, serves-snap, snap-alone, target_told}
+use Rattle.qg_store.proofs.Served.{inode_told, target_told}
 use Rattle.qg_store.proofs.Shown.{does_show}
 use Rattle.qg_store.proofs.store.answer.Goals as goal
 
@@ -170,10 +169,6 @@ returns-in-Commit-clause-err g c =
 
 -- ---- structural commands
 
-pub create-requires-clause-serves : goal.create-requires-clause-serves
-create-requires-clause-serves g c =
-    serves-create (subst (λ (command : Command). is_served_command command ≡ true) c.in-SubCreate.is c.requires.served)
-
 pub returns-in-SubCreate-clause-step : goal.returns-in-SubCreate-clause-step
 returns-in-SubCreate-clause-step g c = λ state events keeps told.
     subst (λ (command : Command). IfOk c.create.result (λ answer. AnswersOn state command answer c.create.new.kept events
@@ -196,26 +191,19 @@ returns-in-SubCreate-clause-err g c =
     last-given c.args.command.now SubCreate c.args.kept.now c.create.new.kept _ _ c.create.result c.in-SubCreate.is
     c.create.ensures.err
 
-pub snap-requires-clause-serves : goal.snap-requires-clause-serves
-snap-requires-clause-serves g c =
-    serves-snap c.in-Snap.sub c.in-Snap.groups
-    (subst (λ (command : Command). is_served_command command ≡ true) c.in-Snap.is c.requires.served)
-
 pub returns-in-Snap-clause-step : goal.returns-in-Snap-clause-step
 returns-in-Snap-clause-step g c = λ state events keeps told.
     let at = c.in-Snap in
-    let none = snap-alone at.sub at.groups
-    (subst (λ (command : Command). is_served_command command ≡ true) at.is c.requires.served) in
-    let is : c.args.command.now ≡ Snap at.sub [] = at.is ∙ ap (λ (groups : List ℕ). Snap at.sub groups) none in
+    let is : c.args.command.now ≡ Snap at.sub c.as_slice.result.now =
+    at.is ∙ ap (λ (groups : List ℕ). Snap at.sub groups) (sym c.as_slice.ensures) in
     subst (λ (command : Command). IfOk c.snap.result (λ answer. AnswersOn state command answer c.snap.new.kept events
     (g.D.Disk.history c.snap.new.disk))) (sym is) (c.snap.ensures.step state events keeps told)
 
 pub returns-in-Snap-clause-so_far : goal.returns-in-Snap-clause-so_far
 returns-in-Snap-clause-so_far g c = λ state events keeps told.
     let at = c.in-Snap in
-    let none = snap-alone at.sub at.groups
-    (subst (λ (command : Command). is_served_command command ≡ true) at.is c.requires.served) in
-    let is : c.args.command.now ≡ Snap at.sub [] = at.is ∙ ap (λ (groups : List ℕ). Snap at.sub groups) none in
+    let is : c.args.command.now ≡ Snap at.sub c.as_slice.result.now =
+    at.is ∙ ap (λ (groups : List ℕ). Snap at.sub groups) (sym c.as_slice.ensures) in
     subst (λ (command : Command). IsDoneSoFar state command events (g.D.Disk.history c.snap.new.disk)) (sym is)
     (c.snap.ensures.so_far state events keeps told)
 
@@ -230,16 +218,10 @@ returns-in-Snap-clause-still g c =
 pub returns-in-Snap-clause-err : goal.returns-in-Snap-clause-err
 returns-in-Snap-clause-err g c =
     let at = c.in-Snap in
-    let none = snap-alone at.sub at.groups
-    (subst (λ (command : Command). is_served_command command ≡ true) at.is c.requires.served) in
-    let is : c.args.command.now ≡ Snap at.sub [] = at.is ∙ ap (λ (groups : List ℕ). Snap at.sub groups) none in
-    last-given c.args.command.now (Snap at.sub []) c.args.kept.now c.snap.new.kept _ _ c.snap.result is
+    let is : c.args.command.now ≡ Snap at.sub c.as_slice.result.now =
+    at.is ∙ ap (λ (groups : List ℕ). Snap at.sub groups) (sym c.as_slice.ensures) in
+    last-given c.args.command.now (Snap at.sub c.as_slice.result.now) c.args.kept.now c.snap.new.kept _ _ c.snap.result is
     c.snap.ensures.err
-
-pub delete-requires-clause-serves : goal.delete-requires-clause-serves
-delete-requires-clause-serves g c =
-    serves-delete c.in-Delete.sub
-    (subst (λ (command : Command). is_served_command command ≡ true) c.in-Delete.is c.requires.served)
 
 pub returns-in-Delete-clause-step : goal.returns-in-Delete-clause-step
 returns-in-Delete-clause-step g c = λ state events keeps told.

@@ -20,6 +20,9 @@ use Rattle.qg_store.proofs.structural.create.Goals as goal
 pub number_next-number-requires : goal.number_next-number-requires
 number_next-number-requires g c = record { fitted = c.requires.kept.fitted }
 
+pub are_too_many-requires : goal.are_too_many-requires
+are_too_many-requires g c = record { fitted = c.requires.kept.fitted }
+
 pub no_commit-requires : goal.no_commit-requires
 no_commit-requires g c = record { size = node-size c.args.kept.now c.requires.kept.fitted }
 
@@ -32,7 +35,7 @@ returns-then-are_too_many-clause-step g c = λ state events keeps told.
     on-disk state SubCreate (Refused why.TooMany) kept events history told
     (does_nothing kept state history SubCreate why.TooMany keeps
     (create-early kept state history c.requires.kept.fitted keeps
-    (too-many-by kept c.number_next-number.result c.are_too_many.result true c.number_next-number.ensures.value
+    (too-many-by kept 0 c.number_next-number.result c.are_too_many.result true c.number_next-number.ensures.value
     c.are_too_many.ensures c.if-are_too_many.true)))
 
 pub returns-then-are_too_many-clause-so_far : goal.returns-then-are_too_many-clause-so_far
@@ -46,7 +49,7 @@ pub returns-in-Some-clause-step : goal.returns-in-Some-clause-step
 returns-in-Some-clause-step g c = λ state events keeps told.
     let kept = c.args.kept.now in
     let history = g.D.Disk.history c.args.disk.now in
-    let few = too-many-by kept c.number_next-number.result c.are_too_many.result false
+    let few = too-many-by kept 0 c.number_next-number.result c.are_too_many.result false
     c.number_next-number.ensures.value c.are_too_many.ensures c.if-are_too_many.false in
     on-disk state SubCreate (Refused c.in-Some.why) kept events history told
     (does_nothing kept state history SubCreate c.in-Some.why keeps
@@ -74,7 +77,7 @@ returns-in_err-commit_pending-clause-so_far g c = λ state events keeps told.
     so-far-first state SubCreate events (g.D.Disk.history c.commit_pending.new.disk)
     (g.D.Disk.history c.commit_pending.new.disk) refl
     (create-late c.args.kept.now state (g.D.Disk.history c.args.disk.now) (g.D.Disk.size c.args.disk.now) c.requires.kept
-    keeps c.in_ok-why.ensures.table (too-many-by c.args.kept.now c.number_next-number.result c.are_too_many.result false
+    keeps c.in_ok-why.ensures.table (too-many-by c.args.kept.now 0 c.number_next-number.result c.are_too_many.result false
     c.number_next-number.ensures.value c.are_too_many.ensures c.if-are_too_many.false) ∙ sym c.in_ok-why.ensures.value
     ∙ c.in_default.is) refl
     (c.in_err-commit_pending.ensures.so_far state events keeps told)
@@ -100,10 +103,9 @@ create_change-requires g c =
     let settled = c.in_ok-commit_pending.ensures.settled in
     record {
       kept = c.in_ok-commit_pending.ensures.kept;
-      serves = c.requires.serves;
       number = c.new-sub.ensures ∙ c.number_next-number.ensures.value ∙ sym (number-same kept mid settled);
-      few = too-many-same kept mid settled
-          ∙ too-many-by kept c.number_next-number.result c.are_too_many.result false
+      few = too-many-same kept mid settled 0
+          ∙ too-many-by kept 0 c.number_next-number.result c.are_too_many.result false
           c.number_next-number.ensures.value c.are_too_many.ensures c.if-are_too_many.false;
       room = c.in_ok-commit_pending.ensures.room 18
           (if-none c.in_ok-why.field-0 (structural_need_of kept 18 ≤ free_slots kept.fs.land.space) c.in_default.is
@@ -115,7 +117,7 @@ returns-in_err-create_change-clause-so_far g c = λ state events keeps told.
     so-far-first state SubCreate events (g.D.Disk.history c.commit_pending.new.disk)
     (g.D.Disk.history c.create_change.new.disk) refl
     (create-late c.args.kept.now state (g.D.Disk.history c.args.disk.now) (g.D.Disk.size c.args.disk.now) c.requires.kept
-    keeps c.in_ok-why.ensures.table (too-many-by c.args.kept.now c.number_next-number.result c.are_too_many.result false
+    keeps c.in_ok-why.ensures.table (too-many-by c.args.kept.now 0 c.number_next-number.result c.are_too_many.result false
     c.number_next-number.ensures.value c.are_too_many.ensures c.if-are_too_many.false) ∙ sym c.in_ok-why.ensures.value
     ∙ c.in_default.is)
     c.in_err-create_change.ensures.apart.0
@@ -162,7 +164,7 @@ returns-in_err-commit_now-clause-so_far g c = λ state events keeps told.
     (held-created first.before change.changed (Sub c.new-sub.result) change.changes)
     (g.D.Disk.history c.commit_now.new.disk) refl
     (create-late c.args.kept.now state (g.D.Disk.history c.args.disk.now) (g.D.Disk.size c.args.disk.now) c.requires.kept
-    keeps c.in_ok-why.ensures.table (too-many-by c.args.kept.now c.number_next-number.result c.are_too_many.result false
+    keeps c.in_ok-why.ensures.table (too-many-by c.args.kept.now 0 c.number_next-number.result c.are_too_many.result false
     c.number_next-number.ensures.value c.are_too_many.ensures c.if-are_too_many.false) ∙ sym c.in_ok-why.ensures.value
     ∙ c.in_default.is)
     (c.in_ok-commit_pending.ensures.so_far state events keeps told)
@@ -210,7 +212,7 @@ returns-clause-step g c = λ state events keeps told.
     c.in_ok-commit_pending.ensures.settled.pending in
     let second = c.in_ok-commit_now.ensures.commits change.changed first.between (other_names first.before) change.keeps
     change.room (c.in_ok-create_change.ensures.apart.0 ∙ first.told) in
-    let few = too-many-by kept c.number_next-number.result c.are_too_many.result false
+    let few = too-many-by kept 0 c.number_next-number.result c.are_too_many.result false
     c.number_next-number.ensures.value c.are_too_many.ensures c.if-are_too_many.false in
     does-structural state SubCreate (Sub c.new-sub.result) c.commit_pending.new.kept c.create_change.new.kept
     c.commit_now.new.kept events between after first change c.in_ok-create_change.ensures.apart.0
@@ -232,7 +234,7 @@ returns-clause-so_far g c = λ state events keeps told.
     (held-created first.before change.changed (Sub c.new-sub.result) change.changes)
     (g.D.Disk.history c.commit_now.new.disk) refl
     (create-late c.args.kept.now state (g.D.Disk.history c.args.disk.now) (g.D.Disk.size c.args.disk.now) c.requires.kept
-    keeps c.in_ok-why.ensures.table (too-many-by c.args.kept.now c.number_next-number.result c.are_too_many.result false
+    keeps c.in_ok-why.ensures.table (too-many-by c.args.kept.now 0 c.number_next-number.result c.are_too_many.result false
     c.number_next-number.ensures.value c.are_too_many.ensures c.if-are_too_many.false) ∙ sym c.in_ok-why.ensures.value
     ∙ c.in_default.is)
     (c.in_ok-commit_pending.ensures.so_far state events keeps told)

@@ -181,7 +181,6 @@ delete_change-requires g c =
     let settled = c.in_ok-commit_pending.ensures.settled in
     record {
       kept = c.in_ok-commit_pending.ensures.kept;
-      serves = c.requires.serves;
       there = ap (λ (table : List (ℕ × ℕ)). has_key c.args.sub table)
           (settled.snapshots ∙ ap (λ (k : Kept). k.snapshots) c.in_ok-copies.ensures.looked.same
           ∙ ap (λ (k : Kept). k.snapshots) c.turn_to.ensures.same.rest)

@@ -1,4 +1,4 @@
-use Rattle.std.proofs.Common.{◌∙◌, ◌≤◌, [], ap, inl, refl, sym, true, false}
+use Rattle.std.proofs.Common.{◌∙◌, ◌+◌, ◌≤◌, ℕ, ap, inl, length, refl, subst, sym, true, false}
 use Rattle.qg_num.specs.declared.answer.Answer.TheVariants.{Refused, Sub}
 use Rattle.qg_num.specs.declared.command.Command.TheVariants.{Snap}
 use Rattle.qg_num.specs.declared.refusal.Refusal.TheVariants as why
@@ -8,11 +8,13 @@ use Rattle.qg_inodes.proofs.Whole.{handed-sound}
 use Rattle.qg_fs_laws.specs.Keeping.{other_names}
 use Rattle.qg_store.specs.declared.kept.Kept.{Kept}
 use Rattle.qg_store.specs.Keeping.{structural_need_of}
+use Rattle.qg_store.specs.Structural.{commit_refusal}
 use Rattle.qg_store.proofs.Cloned.{target-listed}
 use Rattle.qg_store.proofs.Edited.{if-none}
 use Rattle.qg_store.proofs.Looked.{node-size}
 use Rattle.qg_store.proofs.OnDisk.{last-any, on-disk}
-use Rattle.qg_store.proofs.Reasoned.{number-same, snap-early, snap-late, snap-no-sub, too-many-by, too-many-same}
+use Rattle.qg_store.proofs.Reasoned.{number-same, snap-early, snap-late, snap-listed, snap-no-sub, snap-same}
+use Rattle.qg_store.proofs.Reasoned.{too-many-by, too-many-same}
 use Rattle.qg_store.proofs.Stepped.{does_nothing}
 use Rattle.qg_store.proofs.Structured.{does-structural, early-second, held-snapped, last-settled, made-first}
 use Rattle.qg_store.proofs.Structured.{made-second, so-far-first, so-far-second}
@@ -32,9 +34,9 @@ returns-then-not-turn_to-clause-step g c = λ state events given told.
     let history = g.D.Disk.history c.args.disk.now in
     let keeps = c.turn_to.ensures.keeps state history (g.D.Disk.size c.args.disk.now) (other_names state)
     c.requires.kept given in
-    on-disk state (Snap c.args.sub []) (Refused why.NoSub) c.turn_to.new.kept events history told
-    (does_nothing c.turn_to.new.kept state history (Snap c.args.sub []) why.NoSub keeps
-    (snap-no-sub c.args.kept.now state history c.requires.kept.fitted given c.args.sub
+    on-disk state (Snap c.args.sub c.args.parents.now) (Refused why.NoSub) c.turn_to.new.kept events history told
+    (does_nothing c.turn_to.new.kept state history (Snap c.args.sub c.args.parents.now) why.NoSub keeps
+    (snap-no-sub c.args.kept.now state history c.requires.kept.fitted given c.args.sub c.args.parents.now
     (sym c.turn_to.ensures.there ∙ c.if-not-turn_to.true)))
 
 pub returns-then-not-turn_to-clause-so_far : goal.returns-then-not-turn_to-clause-so_far
@@ -44,11 +46,57 @@ pub returns-then-not-turn_to-clause-refused : goal.returns-then-not-turn_to-clau
 returns-then-not-turn_to-clause-refused g c = λ is.
     record { same = c.turn_to.ensures.same; history = refl; size = refl }
 
+-- ---- it can't be put into these groups
+
+pub refusal_of_parents-requires : goal.refusal_of_parents-requires
+refusal_of_parents-requires g c =
+    (c.turn_to.ensures.kept (g.D.Disk.history c.args.disk.now) (g.D.Disk.size c.args.disk.now)
+    c.requires.kept).fitted.tracked
+
+pub returns-in_err-why-clause-so_far : goal.returns-in_err-why-clause-so_far
+returns-in_err-why-clause-so_far g c = λ state events given told. inl told
+
+pub returns-in-Some-clause-kept : goal.returns-in-Some-clause-kept
+returns-in-Some-clause-kept g c =
+    c.turn_to.ensures.kept (g.D.Disk.history c.args.disk.now) (g.D.Disk.size c.args.disk.now) c.requires.kept
+
+pub returns-in-Some-clause-step : goal.returns-in-Some-clause-step
+returns-in-Some-clause-step g c = λ state events given told.
+    let keeps = c.turn_to.ensures.keeps state (g.D.Disk.history c.args.disk.now) (g.D.Disk.size c.args.disk.now)
+    (other_names state) c.requires.kept given in
+    let kept = c.turn_to.new.kept in
+    let history = g.D.Disk.history c.args.disk.now in
+    on-disk state (Snap c.args.sub c.args.parents.now) (Refused c.in-Some.why) kept events history told
+    (does_nothing kept state history (Snap c.args.sub c.args.parents.now) c.in-Some.why keeps
+    (snap-listed kept state history (c.turn_to.ensures.kept history (g.D.Disk.size c.args.disk.now)
+    c.requires.kept).fitted keeps c.args.sub c.args.parents.now c.in-Some.why
+    (target-listed c.args.kept.now kept state history history given keeps c.args.sub
+    (sym c.turn_to.ensures.there ∙ c.if-not-turn_to.false))
+    (sym c.in_ok-why.ensures ∙ c.in-Some.is)))
+
+pub returns-in-Some-clause-so_far : goal.returns-in-Some-clause-so_far
+returns-in-Some-clause-so_far g c = λ state events given told. inl told
+
+pub returns-in-Some-clause-refused : goal.returns-in-Some-clause-refused
+returns-in-Some-clause-refused g c = λ is.
+    record { same = c.turn_to.ensures.same; history = refl; size = refl }
+
+-- ---- the number that it gets
+
 pub number_next-number-requires : goal.number_next-number-requires
 number_next-number-requires g c = record {
   fitted = (c.turn_to.ensures.kept (g.D.Disk.history c.args.disk.now)
       (g.D.Disk.size c.args.disk.now) c.requires.kept).fitted;
 }
+
+pub are_too_many-requires : goal.are_too_many-requires
+are_too_many-requires g c = record {
+  fitted = (c.turn_to.ensures.kept (g.D.Disk.history c.args.disk.now)
+      (g.D.Disk.size c.args.disk.now) c.requires.kept).fitted;
+}
+
+pub returns-in_err-copies-clause-so_far : goal.returns-in_err-copies-clause-so_far
+returns-in_err-copies-clause-so_far g c = λ state events given told. inl told
 
 pub no_commit-requires : goal.no_commit-requires
 no_commit-requires g c = record {
@@ -64,14 +112,15 @@ returns-then-are_too_many-clause-step g c = λ state events given told.
     (other_names state) c.requires.kept given in
     let kept = c.turn_to.new.kept in
     let history = g.D.Disk.history c.args.disk.now in
-    on-disk state (Snap c.args.sub []) (Refused why.TooMany) kept events history told
-    (does_nothing kept state history (Snap c.args.sub []) why.TooMany keeps
+    on-disk state (Snap c.args.sub c.args.parents.now) (Refused why.TooMany) kept events history told
+    (does_nothing kept state history (Snap c.args.sub c.args.parents.now) why.TooMany keeps
     (snap-early kept state history (c.turn_to.ensures.kept (g.D.Disk.history c.args.disk.now) (g.D.Disk.size
-    c.args.disk.now) c.requires.kept).fitted keeps c.args.sub
+    c.args.disk.now) c.requires.kept).fitted keeps c.args.sub c.args.parents.now
     (target-listed c.args.kept.now kept state (g.D.Disk.history c.args.disk.now) (g.D.Disk.history c.args.disk.now)
     given
     keeps c.args.sub (sym c.turn_to.ensures.there ∙ c.if-not-turn_to.false))
-    (too-many-by kept c.number_next-number.result c.are_too_many.result true c.number_next-number.ensures.value
+    (sym c.in_ok-why.ensures ∙ c.in_default.is)
+    (too-many-by kept (length c.args.parents.now) c.number_next-number.result c.are_too_many.result true c.number_next-number.ensures.value
     c.are_too_many.ensures c.if-are_too_many.true)))
 
 pub returns-then-are_too_many-clause-so_far : goal.returns-then-are_too_many-clause-so_far
@@ -81,64 +130,69 @@ pub returns-then-are_too_many-clause-refused : goal.returns-then-are_too_many-cl
 returns-then-are_too_many-clause-refused g c = λ is.
     record { same = c.turn_to.ensures.same; history = refl; size = refl }
 
-pub returns-in-Some-clause-step : goal.returns-in-Some-clause-step
-returns-in-Some-clause-step g c = λ state events given told.
+pub returns-in-Some-2-clause-step : goal.returns-in-Some-2-clause-step
+returns-in-Some-2-clause-step g c = λ state events given told.
     let keeps = c.turn_to.ensures.keeps state (g.D.Disk.history c.args.disk.now) (g.D.Disk.size c.args.disk.now)
     (other_names state) c.requires.kept given in
     let kept = c.turn_to.new.kept in
     let history = g.D.Disk.history c.args.disk.now in
-    let few = too-many-by kept c.number_next-number.result c.are_too_many.result false
+    let few = too-many-by kept (length c.args.parents.now) c.number_next-number.result c.are_too_many.result false
     c.number_next-number.ensures.value c.are_too_many.ensures c.if-are_too_many.false in
-    on-disk state (Snap c.args.sub []) (Refused c.in-Some.why) kept events history told
-    (does_nothing kept state history (Snap c.args.sub []) c.in-Some.why keeps
+    on-disk state (Snap c.args.sub c.args.parents.now) (Refused c.in-Some-2.why) kept events history told
+    (does_nothing kept state history (Snap c.args.sub c.args.parents.now) c.in-Some-2.why keeps
     (snap-late kept state history (g.D.Disk.size c.args.disk.now)
     (c.turn_to.ensures.kept (g.D.Disk.history c.args.disk.now) (g.D.Disk.size c.args.disk.now) c.requires.kept) keeps
-    c.in_ok-why.ensures.table c.args.sub
+    c.in_ok-why-2.ensures.table c.args.sub c.args.parents.now
     (target-listed c.args.kept.now kept state (g.D.Disk.history c.args.disk.now) (g.D.Disk.history c.args.disk.now)
     given
-    keeps c.args.sub (sym c.turn_to.ensures.there ∙ c.if-not-turn_to.false)) few
-    ∙ sym c.in_ok-why.ensures.value ∙ c.in-Some.is))
+    keeps c.args.sub (sym c.turn_to.ensures.there ∙ c.if-not-turn_to.false))
+    (sym c.in_ok-why.ensures ∙ c.in_default.is) few
+    ∙ ap (commit_refusal c.turn_to.new.kept) (sym c.in_ok-copies.ensures)
+    ∙ sym c.in_ok-why-2.ensures.value ∙ c.in-Some-2.is))
 
-pub returns-in-Some-clause-so_far : goal.returns-in-Some-clause-so_far
-returns-in-Some-clause-so_far g c = λ state events given told. inl told
+pub returns-in-Some-2-clause-so_far : goal.returns-in-Some-2-clause-so_far
+returns-in-Some-2-clause-so_far g c = λ state events given told. inl told
 
-pub returns-in-Some-clause-refused : goal.returns-in-Some-clause-refused
-returns-in-Some-clause-refused g c = λ is.
+pub returns-in-Some-2-clause-refused : goal.returns-in-Some-2-clause-refused
+returns-in-Some-2-clause-refused g c = λ is.
     record { same = c.turn_to.ensures.same; history = refl; size = refl }
 
-pub returns-in_err-why-clause-so_far : goal.returns-in_err-why-clause-so_far
-returns-in_err-why-clause-so_far g c = λ state events given told. inl told
+pub returns-in_err-why-2-clause-so_far : goal.returns-in_err-why-2-clause-so_far
+returns-in_err-why-2-clause-so_far g c = λ state events given told. inl told
 
 -- ---- what is pending is committed
 
 pub commit_pending-requires : goal.commit_pending-requires
 commit_pending-requires g c = record {
   kept = c.turn_to.ensures.kept (g.D.Disk.history c.args.disk.now) (g.D.Disk.size c.args.disk.now) c.requires.kept;
-  early = if-none c.in_ok-why.field-0 _ c.in_default.is c.in_ok-why.ensures.early;
+  early = if-none c.in_ok-why-2.field-0 _ c.in_default-2.is c.in_ok-why-2.ensures.early;
 }
 
 pub returns-then-are_too_many-clause-kept : goal.returns-then-are_too_many-clause-kept
 returns-then-are_too_many-clause-kept g c =
     c.turn_to.ensures.kept (g.D.Disk.history c.args.disk.now) (g.D.Disk.size c.args.disk.now) c.requires.kept
 
-pub returns-in-Some-clause-kept : goal.returns-in-Some-clause-kept
-returns-in-Some-clause-kept g c =
+pub returns-in-Some-2-clause-kept : goal.returns-in-Some-2-clause-kept
+returns-in-Some-2-clause-kept g c =
     c.turn_to.ensures.kept (g.D.Disk.history c.args.disk.now) (g.D.Disk.size c.args.disk.now) c.requires.kept
 
 pub returns-in_err-commit_pending-clause-so_far : goal.returns-in_err-commit_pending-clause-so_far
 returns-in_err-commit_pending-clause-so_far g c = λ state events given told.
     let keeps = c.turn_to.ensures.keeps state (g.D.Disk.history c.args.disk.now) (g.D.Disk.size c.args.disk.now)
     (other_names state) c.requires.kept given in
-    so-far-first state (Snap c.args.sub []) events (g.D.Disk.history c.commit_pending.new.disk)
+    so-far-first state (Snap c.args.sub c.args.parents.now) events (g.D.Disk.history c.commit_pending.new.disk)
     (g.D.Disk.history c.commit_pending.new.disk) refl
     (snap-late c.turn_to.new.kept state (g.D.Disk.history c.args.disk.now) (g.D.Disk.size c.args.disk.now)
     (c.turn_to.ensures.kept (g.D.Disk.history c.args.disk.now) (g.D.Disk.size c.args.disk.now) c.requires.kept) keeps
-    c.in_ok-why.ensures.table c.args.sub
+    c.in_ok-why-2.ensures.table c.args.sub c.args.parents.now
     (target-listed c.args.kept.now c.turn_to.new.kept state (g.D.Disk.history c.args.disk.now)
     (g.D.Disk.history c.args.disk.now) given keeps c.args.sub
-    (sym c.turn_to.ensures.there ∙ c.if-not-turn_to.false)) (too-many-by c.turn_to.new.kept c.number_next-number.result
+    (sym c.turn_to.ensures.there ∙ c.if-not-turn_to.false))
+    (sym c.in_ok-why.ensures ∙ c.in_default.is)
+    (too-many-by c.turn_to.new.kept (length c.args.parents.now) c.number_next-number.result
     c.are_too_many.result false c.number_next-number.ensures.value c.are_too_many.ensures c.if-are_too_many.false)
-    ∙ sym c.in_ok-why.ensures.value ∙ c.in_default.is) refl
+    ∙ ap (commit_refusal c.turn_to.new.kept) (sym c.in_ok-copies.ensures)
+    ∙ sym c.in_ok-why-2.ensures.value ∙ c.in_default-2.is) refl
     (c.in_err-commit_pending.ensures.so_far state events keeps told)
 
 pub returns-in_err-commit_pending-clause-sound : goal.returns-in_err-commit_pending-clause-sound
@@ -151,7 +205,7 @@ returns-in_err-commit_pending-clause-sound g c = λ state events told given.
 
 pub returns-in_err-commit_pending-clause-err : goal.returns-in_err-commit_pending-clause-err
 returns-in_err-commit_pending-clause-err g c =
-    last-any (Snap c.args.sub []) c.args.kept.now c.commit_pending.new.kept (g.D.Disk.history c.args.disk.now)
+    last-any (Snap c.args.sub c.args.parents.now) c.args.kept.now c.commit_pending.new.kept (g.D.Disk.history c.args.disk.now)
     (g.D.Disk.history c.commit_pending.new.disk) c.from_residual-in_err-commit_pending.result
     (inl (c.in_err-commit_pending.ensures.err ∙ c.turn_to.ensures.superblock))
 
@@ -162,33 +216,41 @@ snap_change-requires g c =
     let kept = c.turn_to.new.kept in
     let mid = c.commit_pending.new.kept in
     let settled = c.in_ok-commit_pending.ensures.settled in
+    let parents = c.args.parents.now in
     record {
       kept = c.in_ok-commit_pending.ensures.kept;
-      serves = c.requires.serves;
       hand = settled.owner ∙ c.turn_to.ensures.hand c.if-not-turn_to.false;
       number = c.new-copy.ensures ∙ c.number_next-number.ensures.value ∙ sym (number-same kept mid settled);
-      few = too-many-same kept mid settled
-          ∙ too-many-by kept c.number_next-number.result c.are_too_many.result false
-          c.number_next-number.ensures.value c.are_too_many.ensures c.if-are_too_many.false;
-      room = c.in_ok-commit_pending.ensures.room 18
-          (if-none c.in_ok-why.field-0 (structural_need_of kept 18 ≤ free_slots kept.fs.land.space) c.in_default.is
-          c.in_ok-why.ensures.enough);
+      listed = record {
+        few = too-many-same kept mid settled (length parents)
+            ∙ too-many-by kept (length parents) c.number_next-number.result c.are_too_many.result false
+            c.number_next-number.ensures.value c.are_too_many.ensures c.if-are_too_many.false;
+        parents = snap-same kept mid settled parents ∙ sym c.in_ok-why.ensures ∙ c.in_default.is;
+      };
+      room = c.in_ok-commit_pending.ensures.room (18 + length parents)
+          (subst (λ (n : ℕ). structural_need_of kept n ≤ free_slots kept.fs.land.space) c.in_ok-copies.ensures
+          (if-none c.in_ok-why-2.field-0
+          (structural_need_of kept c.in_ok-copies.copies ≤ free_slots kept.fs.land.space) c.in_default-2.is
+          c.in_ok-why-2.ensures.enough));
     }
 
 pub returns-in_err-snap_change-clause-so_far : goal.returns-in_err-snap_change-clause-so_far
 returns-in_err-snap_change-clause-so_far g c = λ state events given told.
     let keeps = c.turn_to.ensures.keeps state (g.D.Disk.history c.args.disk.now) (g.D.Disk.size c.args.disk.now)
     (other_names state) c.requires.kept given in
-    so-far-first state (Snap c.args.sub []) events (g.D.Disk.history c.commit_pending.new.disk)
+    so-far-first state (Snap c.args.sub c.args.parents.now) events (g.D.Disk.history c.commit_pending.new.disk)
     (g.D.Disk.history c.snap_change.new.disk) refl
     (snap-late c.turn_to.new.kept state (g.D.Disk.history c.args.disk.now) (g.D.Disk.size c.args.disk.now)
     (c.turn_to.ensures.kept (g.D.Disk.history c.args.disk.now) (g.D.Disk.size c.args.disk.now) c.requires.kept) keeps
-    c.in_ok-why.ensures.table c.args.sub
+    c.in_ok-why-2.ensures.table c.args.sub c.args.parents.now
     (target-listed c.args.kept.now c.turn_to.new.kept state (g.D.Disk.history c.args.disk.now)
     (g.D.Disk.history c.args.disk.now) given keeps c.args.sub
-    (sym c.turn_to.ensures.there ∙ c.if-not-turn_to.false)) (too-many-by c.turn_to.new.kept c.number_next-number.result
+    (sym c.turn_to.ensures.there ∙ c.if-not-turn_to.false))
+    (sym c.in_ok-why.ensures ∙ c.in_default.is)
+    (too-many-by c.turn_to.new.kept (length c.args.parents.now) c.number_next-number.result
     c.are_too_many.result false c.number_next-number.ensures.value c.are_too_many.ensures c.if-are_too_many.false)
-    ∙ sym c.in_ok-why.ensures.value ∙ c.in_default.is)
+    ∙ ap (commit_refusal c.turn_to.new.kept) (sym c.in_ok-copies.ensures)
+    ∙ sym c.in_ok-why-2.ensures.value ∙ c.in_default-2.is)
     c.in_err-snap_change.ensures.apart.0
     (c.in_ok-commit_pending.ensures.so_far state events keeps told)
 
@@ -206,8 +268,8 @@ returns-in_err-snap_change-clause-err g c =
     let kept = c.args.kept.now in
     let before = g.D.Disk.history c.args.disk.now in
     let after = g.D.Disk.history c.snap_change.new.disk in
-    last-any (Snap c.args.sub []) kept c.snap_change.new.kept before after c.from_residual-in_err-snap_change.result
-    (last-settled (Snap c.args.sub []) kept c.turn_to.new.kept c.commit_pending.new.kept c.snap_change.new.kept before
+    last-any (Snap c.args.sub c.args.parents.now) kept c.snap_change.new.kept before after c.from_residual-in_err-snap_change.result
+    (last-settled (Snap c.args.sub c.args.parents.now) kept c.turn_to.new.kept c.commit_pending.new.kept c.snap_change.new.kept before
     after refl c.turn_to.ensures.superblock (ap (λ (k : Kept). k.pending) c.turn_to.ensures.same.rest)
     c.in_ok-commit_pending.ensures.settled c.in_err-snap_change.ensures.superblock (λ state events given told.
     let keeps = c.turn_to.ensures.keeps state before (g.D.Disk.size c.args.disk.now) (other_names state)
@@ -222,7 +284,7 @@ commit_now-requires g c = record {
   kept = c.in_ok-snap_change.ensures.kept;
   early = early-second c.turn_to.new.kept c.commit_pending.new.kept c.snap_change.new.kept
       c.in_ok-commit_pending.ensures.settled c.in_ok-snap_change.ensures.superblock
-      (if-none c.in_ok-why.field-0 _ c.in_default.is c.in_ok-why.ensures.early);
+      (if-none c.in_ok-why-2.field-0 _ c.in_default-2.is c.in_ok-why-2.ensures.early);
 }
 
 pub returns-in_err-commit_now-clause-so_far : goal.returns-in_err-commit_now-clause-so_far
@@ -234,18 +296,21 @@ returns-in_err-commit_now-clause-so_far g c = λ state events given told.
     let first = c.in_ok-commit_pending.ensures.committed state events keeps told in
     let change = c.in_ok-snap_change.ensures.changed first.before first.keeps
     c.in_ok-commit_pending.ensures.settled.pending in
-    so-far-second state (Snap c.args.sub []) (Sub c.new-copy.result) c.commit_pending.new.kept c.snap_change.new.kept
+    so-far-second state (Snap c.args.sub c.args.parents.now) (Sub c.new-copy.result) c.commit_pending.new.kept c.snap_change.new.kept
     c.commit_now.new.kept events between after first change c.in_ok-snap_change.ensures.apart.0
-    (held-snapped first.before change.changed c.args.sub (Sub c.new-copy.result) change.changes)
+    (held-snapped first.before change.changed c.args.sub c.args.parents.now (Sub c.new-copy.result) change.changes)
     (g.D.Disk.history c.commit_now.new.disk) refl
     (snap-late c.turn_to.new.kept state (g.D.Disk.history c.args.disk.now) (g.D.Disk.size c.args.disk.now)
     (c.turn_to.ensures.kept (g.D.Disk.history c.args.disk.now) (g.D.Disk.size c.args.disk.now) c.requires.kept) keeps
-    c.in_ok-why.ensures.table c.args.sub
+    c.in_ok-why-2.ensures.table c.args.sub c.args.parents.now
     (target-listed c.args.kept.now c.turn_to.new.kept state (g.D.Disk.history c.args.disk.now)
     (g.D.Disk.history c.args.disk.now) given keeps c.args.sub
-    (sym c.turn_to.ensures.there ∙ c.if-not-turn_to.false)) (too-many-by c.turn_to.new.kept c.number_next-number.result
+    (sym c.turn_to.ensures.there ∙ c.if-not-turn_to.false))
+    (sym c.in_ok-why.ensures ∙ c.in_default.is)
+    (too-many-by c.turn_to.new.kept (length c.args.parents.now) c.number_next-number.result
     c.are_too_many.result false c.number_next-number.ensures.value c.are_too_many.ensures c.if-are_too_many.false)
-    ∙ sym c.in_ok-why.ensures.value ∙ c.in_default.is)
+    ∙ ap (commit_refusal c.turn_to.new.kept) (sym c.in_ok-copies.ensures)
+    ∙ sym c.in_ok-why-2.ensures.value ∙ c.in_default-2.is)
     (c.in_ok-commit_pending.ensures.so_far state events keeps told)
     (c.in_err-commit_now.ensures.so_far change.changed first.between (other_names first.before) change.keeps change.room
     (c.in_ok-snap_change.ensures.apart.0 ∙ first.told))
@@ -269,8 +334,8 @@ returns-in_err-commit_now-clause-err g c =
     let between = g.D.Disk.history c.commit_pending.new.disk in
     let after = g.D.Disk.history c.snap_change.new.disk in
     let last = g.D.Disk.history c.commit_now.new.disk in
-    last-any (Snap c.args.sub []) kept c.commit_now.new.kept before last c.from_residual-in_err-commit_now.result
-    (last-settled (Snap c.args.sub []) kept c.turn_to.new.kept c.commit_pending.new.kept c.commit_now.new.kept before
+    last-any (Snap c.args.sub c.args.parents.now) kept c.commit_now.new.kept before last c.from_residual-in_err-commit_now.result
+    (last-settled (Snap c.args.sub c.args.parents.now) kept c.turn_to.new.kept c.commit_pending.new.kept c.commit_now.new.kept before
     last refl c.turn_to.ensures.superblock (ap (λ (k : Kept). k.pending) c.turn_to.ensures.same.rest)
     c.in_ok-commit_pending.ensures.settled
     (c.in_err-commit_now.ensures.err ∙ c.in_ok-snap_change.ensures.superblock) (λ state events given told.
@@ -279,9 +344,9 @@ returns-in_err-commit_now-clause-err g c =
     let first = c.in_ok-commit_pending.ensures.committed state events keeps told in
     let change = c.in_ok-snap_change.ensures.changed first.before first.keeps
     c.in_ok-commit_pending.ensures.settled.pending in
-    made-second state (Snap c.args.sub []) (Sub c.new-copy.result) c.commit_pending.new.kept c.snap_change.new.kept
+    made-second state (Snap c.args.sub c.args.parents.now) (Sub c.new-copy.result) c.commit_pending.new.kept c.snap_change.new.kept
     c.commit_now.new.kept events between after first change c.in_ok-snap_change.ensures.apart.0
-    (held-snapped first.before change.changed c.args.sub (Sub c.new-copy.result) change.changes) last
+    (held-snapped first.before change.changed c.args.sub c.args.parents.now (Sub c.new-copy.result) change.changes) last
     (c.in_err-commit_now.ensures.so_far change.changed first.between (other_names first.before) change.keeps change.room
     (c.in_ok-snap_change.ensures.apart.0 ∙ first.told))))
 
@@ -298,19 +363,21 @@ returns-clause-step g c = λ state events given told.
     c.in_ok-commit_pending.ensures.settled.pending in
     let second = c.in_ok-commit_now.ensures.commits change.changed first.between (other_names first.before) change.keeps
     change.room (c.in_ok-snap_change.ensures.apart.0 ∙ first.told) in
-    let few = too-many-by kept c.number_next-number.result c.are_too_many.result false
+    let few = too-many-by kept (length c.args.parents.now) c.number_next-number.result c.are_too_many.result false
     c.number_next-number.ensures.value c.are_too_many.ensures c.if-are_too_many.false in
-    does-structural state (Snap c.args.sub []) (Sub c.new-copy.result) c.commit_pending.new.kept c.snap_change.new.kept
+    does-structural state (Snap c.args.sub c.args.parents.now) (Sub c.new-copy.result) c.commit_pending.new.kept c.snap_change.new.kept
     c.commit_now.new.kept events between after first change c.in_ok-snap_change.ensures.apart.0
-    (held-snapped first.before change.changed c.args.sub (Sub c.new-copy.result) change.changes)
+    (held-snapped first.before change.changed c.args.sub c.args.parents.now (Sub c.new-copy.result) change.changes)
     (g.D.Disk.history c.commit_now.new.disk) second
     (snap-late kept state before (g.D.Disk.size c.args.disk.now)
     (c.turn_to.ensures.kept (g.D.Disk.history c.args.disk.now) (g.D.Disk.size c.args.disk.now) c.requires.kept) keeps
-    c.in_ok-why.ensures.table c.args.sub
+    c.in_ok-why-2.ensures.table c.args.sub c.args.parents.now
     (target-listed c.args.kept.now kept state (g.D.Disk.history c.args.disk.now) (g.D.Disk.history c.args.disk.now)
     given
-    keeps c.args.sub (sym c.turn_to.ensures.there ∙ c.if-not-turn_to.false)) few
-    ∙ sym c.in_ok-why.ensures.value ∙ c.in_default.is)
+    keeps c.args.sub (sym c.turn_to.ensures.there ∙ c.if-not-turn_to.false))
+    (sym c.in_ok-why.ensures ∙ c.in_default.is) few
+    ∙ ap (commit_refusal c.turn_to.new.kept) (sym c.in_ok-copies.ensures)
+    ∙ sym c.in_ok-why-2.ensures.value ∙ c.in_default-2.is)
     (λ does. does)
 
 pub returns-clause-so_far : goal.returns-clause-so_far
@@ -322,18 +389,21 @@ returns-clause-so_far g c = λ state events given told.
     let first = c.in_ok-commit_pending.ensures.committed state events keeps told in
     let change = c.in_ok-snap_change.ensures.changed first.before first.keeps
     c.in_ok-commit_pending.ensures.settled.pending in
-    so-far-second state (Snap c.args.sub []) (Sub c.new-copy.result) c.commit_pending.new.kept c.snap_change.new.kept
+    so-far-second state (Snap c.args.sub c.args.parents.now) (Sub c.new-copy.result) c.commit_pending.new.kept c.snap_change.new.kept
     c.commit_now.new.kept events between after first change c.in_ok-snap_change.ensures.apart.0
-    (held-snapped first.before change.changed c.args.sub (Sub c.new-copy.result) change.changes)
+    (held-snapped first.before change.changed c.args.sub c.args.parents.now (Sub c.new-copy.result) change.changes)
     (g.D.Disk.history c.commit_now.new.disk) refl
     (snap-late c.turn_to.new.kept state (g.D.Disk.history c.args.disk.now) (g.D.Disk.size c.args.disk.now)
     (c.turn_to.ensures.kept (g.D.Disk.history c.args.disk.now) (g.D.Disk.size c.args.disk.now) c.requires.kept) keeps
-    c.in_ok-why.ensures.table c.args.sub
+    c.in_ok-why-2.ensures.table c.args.sub c.args.parents.now
     (target-listed c.args.kept.now c.turn_to.new.kept state (g.D.Disk.history c.args.disk.now)
     (g.D.Disk.history c.args.disk.now) given keeps c.args.sub
-    (sym c.turn_to.ensures.there ∙ c.if-not-turn_to.false)) (too-many-by c.turn_to.new.kept c.number_next-number.result
+    (sym c.turn_to.ensures.there ∙ c.if-not-turn_to.false))
+    (sym c.in_ok-why.ensures ∙ c.in_default.is)
+    (too-many-by c.turn_to.new.kept (length c.args.parents.now) c.number_next-number.result
     c.are_too_many.result false c.number_next-number.ensures.value c.are_too_many.ensures c.if-are_too_many.false)
-    ∙ sym c.in_ok-why.ensures.value ∙ c.in_default.is)
+    ∙ ap (commit_refusal c.turn_to.new.kept) (sym c.in_ok-copies.ensures)
+    ∙ sym c.in_ok-why-2.ensures.value ∙ c.in_default-2.is)
     (c.in_ok-commit_pending.ensures.so_far state events keeps told)
     (c.in_ok-commit_now.ensures.so_far change.changed first.between (other_names first.before) change.keeps change.room
     (c.in_ok-snap_change.ensures.apart.0 ∙ first.told))

@@ -1,7 +1,10 @@
-use Rattle.std.proofs.Common.{◌≡◌, ◌+◌, ◌*◌, ◌∙◌, ◌≤◌, ℕ, List, ap, length, subst, sym, true}
+use Rattle.std.proofs.Common.{◌≡◌, ◌+◌, ◌*◌, ◌<◌, ◌∙◌, ◌≤◌, ℕ, List, ap, arith, length, subst, sym, true}
 use Rattle.qg_num.specs.declared.piece.Piece.{Piece}
+use Rattle.qg_num.specs.declared.refusal.Refusal.TheVariants as why
 use Rattle.qg_state.specs.Need.{file_copies}
 use Rattle.qg_machine.specs.FileChange.{pieces_meeting}
+use Rattle.qg_groups.specs.OnOrOff.{path_in, refusal_in}
+use Rattle.qg_groups.specs.Tracked.{quota_of}
 use Rattle.qg_space.specs.Holding.{free_slots, is_free_run}
 use Rattle.qg_inodes.proofs.PiecesRead.{handed}
 use Rattle.qg_inodes.proofs.Whole.{handed-sound}
@@ -9,14 +12,15 @@ use Rattle.qg_file_edits.specs.declared.found.Found.{Found}
 use Rattle.qg_file_edits.specs.Files.{pieces_of}
 use Rattle.qg_fs_laws.specs.Keeping.{other_names}
 use Rattle.qg_store.specs.declared.kept.Kept.{Kept}
-use Rattle.qg_store.specs.Keeping.{need_of}
-use Rattle.qg_store.proofs.Edited.{if-none, kept-edited}
+use Rattle.qg_store.specs.Keeping.{most_reserved, need_of}
+use Rattle.qg_store.proofs.Accepting.{judged-range, listed-still, nodesize-read, path-still, path-told, quota-read, range-small}
+use Rattle.qg_store.proofs.Edited.{accepted-is, accepted-reserves, if-none, kept-accepted, kept-changed}
 use Rattle.qg_store.proofs.Leaves.{copies-free}
 use Rattle.qg_store.proofs.Looked.{holds-looked, is-subvolume, keeps-looked, node-size, owner-read}
 use Rattle.qg_store.proofs.Reasons.{other-range, range-told}
 use Rattle.qg_store.proofs.Touched.{met-many}
 use Rattle.qg_store.proofs.Turned.{same-read}
-use Rattle.qg_store.proofs.Written.{lacks-run, lacks-slots, refuses-range, written}
+use Rattle.qg_store.proofs.Written.{lacks-run, lacks-slots, refuses-limit, refuses-range, written}
 use Rattle.qg_store.proofs.writing.write.Goals as goal
 
 pub turn_to-requires : goal.turn_to-requires
@@ -61,6 +65,47 @@ returns-in-Some-clause-step g c = λ state given.
 pub returns-in-Some-clause-unchanged : goal.returns-in-Some-clause-unchanged
 returns-in-Some-clause-unchanged g c = λ is. c.turn_to.ensures.same
 
+-- ---- what it reserves is judged
+
+pub overflow_add-amount : goal.overflow_add-amount
+overflow_add-amount g c =
+    let fits = c.turn_to.ensures.kept (g.D.Disk.history c.args.disk.now) (g.D.Disk.size c.args.disk.now) c.requires.kept in
+    let small : c.args.len + c.from.result ≤ most_reserved =
+    range-small c.turn_to.new.kept fits.fitted c.args.len (c.args.len + c.from.result)
+    (ap (λ (n : ℕ). c.args.len + n) c.from.ensures) c.in_default.ensures.writable.short in
+    omega (arith, small)
+
+pub judge-requires : goal.judge-requires
+judge-requires g c = record {
+  fitted =
+      (c.turn_to.ensures.kept (g.D.Disk.history c.args.disk.now) (g.D.Disk.size c.args.disk.now) c.requires.kept).fitted;
+  there = listed-still c.args.kept.now c.turn_to.new.kept c.turn_to.ensures.same c.args.sub
+      (sym c.turn_to.ensures.there ∙ c.if-not-turn_to.false);
+}
+
+pub returns-in-Over-clause-kept : goal.returns-in-Over-clause-kept
+returns-in-Over-clause-kept g c =
+    c.turn_to.ensures.kept (g.D.Disk.history c.args.disk.now) (g.D.Disk.size c.args.disk.now) c.requires.kept
+
+pub returns-in-Over-clause-step : goal.returns-in-Over-clause-step
+returns-in-Over-clause-step g c = λ state given.
+    let history = g.D.Disk.history c.args.disk.now in
+    let bytes = g.D.Disk.size c.args.disk.now in
+    let fits = c.turn_to.ensures.kept history bytes c.requires.kept in
+    let keeps = c.turn_to.ensures.keeps state history bytes (other_names state) c.requires.kept given in
+    refuses-limit c.turn_to.new.kept state history c.args.sub c.args.ino c.args.off c.args.len
+    (why.Quota c.in-Over.group c.in-Over.which) keeps
+    (c.in_default.ensures.value
+    ∙ sym (range-told c.turn_to.new.kept state history keeps c.args.sub c.args.off c.args.len
+    (c.turn_to.ensures.hand c.if-not-turn_to.false)))
+    (judged-range c.turn_to.new.kept state history keeps fits.fitted c.args.sub (c.args.len + c.from.result)
+    c.in_ok-judged.judged (c.in_ok-judged.ensures.value state (other_names state) history keeps) c.args.len
+    (ap (λ (n : ℕ). c.args.len + n) c.from.ensures)
+    ∙ ap refusal_in c.in-Over.is)
+
+pub returns-in-Over-clause-unchanged : goal.returns-in-Over-clause-unchanged
+returns-in-Over-clause-unchanged g c = λ is. c.turn_to.ensures.same
+
 -- ---- no run is free
 
 pub run_for-requires : goal.run_for-requires
@@ -76,10 +121,14 @@ returns-in_default-run_for-clause-step g c = λ state given.
     let bytes = g.D.Disk.size c.args.disk.now in
     let fits = c.turn_to.ensures.kept history bytes c.requires.kept in
     let keeps = c.turn_to.ensures.keeps state history bytes (other_names state) c.requires.kept given in
-    lacks-run c.turn_to.new.kept state history c.args.sub c.args.ino c.args.off c.args.len fits.fitted keeps
+    lacks-run c.turn_to.new.kept state history c.args.sub c.args.ino c.args.off c.args.len keeps
     (c.in_default.ensures.value
     ∙ sym (range-told c.turn_to.new.kept state history keeps c.args.sub c.args.off c.args.len
     (c.turn_to.ensures.hand c.if-not-turn_to.false)))
+    (judged-range c.turn_to.new.kept state history keeps fits.fitted c.args.sub (c.args.len + c.from.result)
+    c.in_ok-judged.judged (c.in_ok-judged.ensures.value state (other_names state) history keeps) c.args.len
+    (ap (λ (n : ℕ). c.args.len + n) c.from.ensures)
+    ∙ ap refusal_in c.in-Path.is)
     (c.in_default-run_for.ensures.run state history bytes fits keeps)
 
 pub returns-in_default-run_for-clause-unchanged : goal.returns-in_default-run_for-clause-unchanged
@@ -91,7 +140,8 @@ pub returns-in_err-found-clause-sound : goal.returns-in_err-found-clause-sound
 returns-in_err-found-clause-sound g c = λ state events told given.
     let keeps = c.turn_to.ensures.keeps state (g.D.Disk.history c.args.disk.now) (g.D.Disk.size c.args.disk.now)
     (other_names state) c.requires.kept given in
-    handed-sound Found c.from_residual.result _ (handed c.from_residual.result _ c.from_residual.ensures.1)
+    handed-sound Found c.from_residual-in_err-found.result _
+    (handed c.from_residual-in_err-found.result _ c.from_residual-in_err-found.ensures.1)
     (c.in_err-found.ensures.sound keeps.files keeps.keeps.holds)
 
 pub no_nodes-requires : goal.no_nodes-requires
@@ -107,6 +157,7 @@ returns-in-Some-2-clause-step g c = λ state given.
     let between = g.D.Disk.history c.found_in.new.disk in
     let bytes = g.D.Disk.size c.found_in.new.disk in
     let finds = c.in_ok-found.ensures.found keeps.files keeps.keeps.holds in
+    let fits = c.turn_to.ensures.kept before (g.D.Disk.size c.args.disk.now) c.requires.kept in
     lacks-slots mid state between bytes c.args.sub c.args.ino c.args.off c.args.len c.in-Some-run_for.run' c.len.result
     c.in_ok-found.ensures.kept
     (keeps-looked kept mid before between (g.D.Disk.size c.args.disk.now) bytes state (other_names state) c.in_ok-found.ensures.looked keeps)
@@ -116,8 +167,11 @@ returns-in-Some-2-clause-step g c = λ state given.
     (c.in_default.ensures.value
     ∙ sym (range-told c.turn_to.new.kept state before keeps c.args.sub c.args.off c.args.len
     (c.turn_to.ensures.hand c.if-not-turn_to.false)))
-    (c.in-Some-run_for.ensures.run state before (g.D.Disk.size c.args.disk.now)
-    (c.turn_to.ensures.kept before (g.D.Disk.size c.args.disk.now) c.requires.kept) keeps)
+    (judged-range c.turn_to.new.kept state before keeps fits.fitted c.args.sub (c.args.len + c.from.result)
+    c.in_ok-judged.judged (c.in_ok-judged.ensures.value state (other_names state) before keeps) c.args.len
+    (ap (λ (n : ℕ). c.args.len + n) c.from.ensures)
+    ∙ ap refusal_in c.in-Path.is)
+    (c.in-Some-run_for.ensures.run state before (g.D.Disk.size c.args.disk.now) fits keeps)
     (c.len.ensures ∙ ap (λ (pieces : List Piece). length pieces) finds.met
     ∙ met-many c.args.off (c.args.off + c.args.len) (pieces_of c.args.ino keeps.files))
     c.in-Some-2.why (sym c.in-Some-2.is ∙ c.in_ok-why.ensures.value)
@@ -153,11 +207,40 @@ returns-in_err-write-clause-sound g c = λ state events told given.
     (holds-looked kept mid _ _ _ _ keeps.files looked keeps.keeps.holds) finds
     (subst (λ (n : ℕ). 10 * file_copies mid.fs.tree.height n ≤ free_slots mid.fs.land.space) touched enough))
 
+-- ---- it is held
+
+pub accept-requires : goal.accept-requires
+accept-requires g c =
+    let kept = c.turn_to.new.kept in
+    let mid = c.found_in.new.kept in
+    let before = g.D.Disk.history c.args.disk.now in
+    let between = g.D.Disk.history c.found_in.new.disk in
+    let bytes = g.D.Disk.size c.args.disk.now in
+    let left = g.D.Disk.size c.found_in.new.disk in
+    let looked = c.in_ok-found.ensures.looked in
+    let own = c.in_ok-write.ensures.own in
+    record {
+      fitted = (kept-changed mid c.write.new.fs between (g.D.Disk.history c.write.new.disk) left
+          (g.D.Disk.size c.write.new.disk) c.in_ok-found.ensures.kept c.in_ok-write.ensures.leaves own).fitted;
+      few = subst (λ (k : Kept). k.pending < 65536) (sym looked.same) c.in_default.ensures.few;
+      small = range-small kept (c.turn_to.ensures.kept before bytes c.requires.kept).fitted c.args.len
+          (c.args.len + c.from.result) (ap (λ (n : ℕ). c.args.len + n) c.from.ensures)
+          c.in_default.ensures.writable.short;
+      path = path-still kept.quota mid.quota c.args.sub c.write.new.fs.tree.owner c.as_slice.result.now
+          (c.as_slice.ensures
+          ∙ path-told c.in_ok-judged.judged c.in-Path.path (path_in (quota_of kept.quota) c.args.sub) c.in-Path.is
+          c.in_ok-judged.ensures.path)
+          (quota-read kept mid before between bytes left looked)
+          (own.owner ∙ sym (owner-read kept mid before between bytes left looked)
+          ∙ c.turn_to.ensures.hand c.if-not-turn_to.false);
+    }
+
 pub returns-clause-kept : goal.returns-clause-kept
 returns-clause-kept g c =
-    kept-edited c.found_in.new.kept c.write.new.fs c.count_pending.new.kept (g.D.Disk.history c.found_in.new.disk)
-    (g.D.Disk.history c.write.new.disk) (g.D.Disk.size c.found_in.new.disk) (g.D.Disk.size c.write.new.disk)
-    c.in_ok-found.ensures.kept c.in_ok-write.ensures.leaves c.in_ok-write.ensures.own c.count_pending.ensures.rest
+    kept-accepted c.found_in.new.kept c.write.new.fs c.accept.new.kept c.accept.ensures.rest
+    c.in_ok-accept.ensures.pending (g.D.Disk.history c.found_in.new.disk) (g.D.Disk.history c.write.new.disk)
+    (g.D.Disk.size c.found_in.new.disk) (g.D.Disk.size c.write.new.disk) c.in_ok-found.ensures.kept
+    c.in_ok-write.ensures.leaves c.in_ok-write.ensures.own c.in_ok-accept.ensures.fitted
 
 pub returns-clause-step : goal.returns-clause-step
 returns-clause-step g c = λ state given.
@@ -171,6 +254,10 @@ returns-clause-step g c = λ state given.
     let looked = c.in_ok-found.ensures.looked in
     let finds = c.in_ok-found.ensures.found keeps.files keeps.keeps.holds in
     let still = keeps-looked kept mid before between (g.D.Disk.size c.args.disk.now) bytes state (other_names state) looked keeps in
+    let fits = c.turn_to.ensures.kept before (g.D.Disk.size c.args.disk.now) c.requires.kept in
+    let fs = c.write.new.fs in
+    let new = c.accept.new.kept in
+    let reserved : ℕ = c.args.len + c.from.result in
     written mid state between bytes c.args.sub c.args.ino c.args.off c.args.len c.in-Some-run_for.run' c.len.result
     c.in_ok-found.ensures.kept still c.in_ok-why.ensures.table (sym (c.turn_to.ensures.hand c.if-not-turn_to.false)
     ∙ owner-read c.turn_to.new.kept mid before between (g.D.Disk.size c.args.disk.now) bytes
@@ -178,12 +265,20 @@ returns-clause-step g c = λ state given.
     (c.in_default.ensures.value
     ∙ sym (range-told c.turn_to.new.kept state before keeps c.args.sub c.args.off c.args.len
     (c.turn_to.ensures.hand c.if-not-turn_to.false)))
-    (c.in-Some-run_for.ensures.run state before (g.D.Disk.size c.args.disk.now)
-    (c.turn_to.ensures.kept before (g.D.Disk.size c.args.disk.now) c.requires.kept) keeps)
+    (judged-range c.turn_to.new.kept state before keeps fits.fitted c.args.sub (c.args.len + c.from.result)
+    c.in_ok-judged.judged (c.in_ok-judged.ensures.value state (other_names state) before keeps) c.args.len
+    (ap (λ (n : ℕ). c.args.len + n) c.from.ensures)
+    ∙ ap refusal_in c.in-Path.is)
+    (c.in-Some-run_for.ensures.run state before (g.D.Disk.size c.args.disk.now) fits keeps)
     (c.len.ensures ∙ ap (λ (pieces : List Piece). length pieces) finds.met
     ∙ met-many c.args.off (c.args.off + c.args.len) (pieces_of c.args.ino keeps.files))
-    c.write.new.fs c.count_pending.new.kept (g.D.Disk.history c.write.new.disk) (g.D.Disk.size c.write.new.disk)
-    c.count_pending.ensures.rest c.count_pending.ensures.table (sym c.in_default-2.is ∙ c.in_ok-why.ensures.value)
+    fs new (g.D.Disk.history c.write.new.disk) (g.D.Disk.size c.write.new.disk) reserved
+    (accepted-is mid fs new c.accept.ensures.rest c.in_ok-accept.ensures.pending)
+    (ap (λ (n : ℕ). c.args.len + n)
+    (c.from.ensures ∙ sym (nodesize-read kept mid before between (g.D.Disk.size c.args.disk.now) bytes looked)))
+    (accepted-reserves mid fs new reserved c.in_ok-write.ensures.own.owner c.accept.ensures.same
+    c.in_ok-accept.ensures.holds)
+    c.accept.ensures.table (sym c.in_default-2.is ∙ c.in_ok-why.ensures.value)
     (if-none c.in_ok-why.field-0 (need_of mid c.len.result ≤ free_slots mid.fs.land.space) c.in_default-2.is
     c.in_ok-why.ensures.enough)
     c.in_ok-write.ensures.leaves (c.in_ok-write.ensures.written keeps.files still.keeps.holds finds)

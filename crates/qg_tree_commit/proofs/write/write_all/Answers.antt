@@ -1,5 +1,6 @@
 use Rattle.std.proofs.Common.{◌++◌, length, refl, ◌∙◌}
 use Rattle.qg_commit.proofs.CommitCalls.{first_calls, two_calls}
+use Rattle.qg_other_trees.specs.Trees.{quota_nodes_laid}
 use Rattle.qg_tree_commit.specs.Writing.{fresh_nodes}
 use Rattle.qg_tree_commit.proofs.Calls.{all-calls, comes-extents, comes-fresh, comes-quotas, comes-roots, comes-superblocks, parts-writable}
 use Rattle.qg_tree_commit.proofs.write.write_all.Goals as goal
@@ -13,7 +14,7 @@ write_fresh-requires-clause-nodes g c =
     let fresh = fresh_nodes c.args.blocks.now.draft in
     let roots = c.args.trees.now.roots.nodes in
     let extents = c.args.trees.now.extents.nodes in
-    let quotas = c.args.trees.now.quotas.nodes in
+    let quotas = quota_nodes_laid c.args.trees.now.quotas in
     let parts = parts-writable super fresh roots extents quotas (length c.args.buffer.now) c.requires.nodes in
     parts.first
 
@@ -24,7 +25,7 @@ write_nodes-requires-clause-nodes g c =
     let fresh = fresh_nodes c.args.blocks.now.draft in
     let roots = c.args.trees.now.roots.nodes in
     let extents = c.args.trees.now.extents.nodes in
-    let quotas = c.args.trees.now.quotas.nodes in
+    let quotas = quota_nodes_laid c.args.trees.now.quotas in
     let parts = parts-writable super fresh roots extents quotas (length c.args.buffer.now) c.requires.nodes in
     rw (c.as_slice.ensures, c.write_fresh.auto.buffer) parts.second
 
@@ -35,7 +36,7 @@ write_nodes-requires-2-clause-nodes g c =
     let fresh = fresh_nodes c.args.blocks.now.draft in
     let roots = c.args.trees.now.roots.nodes in
     let extents = c.args.trees.now.extents.nodes in
-    let quotas = c.args.trees.now.quotas.nodes in
+    let quotas = quota_nodes_laid c.args.trees.now.quotas in
     let parts = parts-writable super fresh roots extents quotas (length c.args.buffer.now) c.requires.nodes in
     rw (c.as_slice-2.ensures, c.write_nodes.auto.buffer, c.write_fresh.auto.buffer) parts.third
 
@@ -46,9 +47,9 @@ write_nodes-requires-3-clause-nodes g c =
     let fresh = fresh_nodes c.args.blocks.now.draft in
     let roots = c.args.trees.now.roots.nodes in
     let extents = c.args.trees.now.extents.nodes in
-    let quotas = c.args.trees.now.quotas.nodes in
+    let quotas = quota_nodes_laid c.args.trees.now.quotas in
     let parts = parts-writable super fresh roots extents quotas (length c.args.buffer.now) c.requires.nodes in
-    rw (c.as_slice-3.ensures, c.write_nodes-2.auto.buffer, c.write_nodes.auto.buffer, c.write_fresh.auto.buffer)
+    rw (c.quota_nodes.ensures, c.write_nodes-2.auto.buffer, c.write_nodes.auto.buffer, c.write_fresh.auto.buffer)
     parts.fourth
 
 -- ---- how far the calls came
@@ -60,7 +61,7 @@ returns-in_err-write_fresh-clause-front g c =
     let fresh = fresh_nodes c.args.blocks.now.draft in
     let roots = c.args.trees.now.roots.nodes in
     let extents = c.args.trees.now.extents.nodes in
-    let quotas = c.args.trees.now.quotas.nodes in
+    let quotas = quota_nodes_laid c.args.trees.now.quotas in
     let old = history c.args.disk.now in
     comes-fresh super fresh roots extents quotas old (length c.args.buffer.now) (history c.write_fresh.new.disk)
     c.requires.size c.write_fresh.ensures.front
@@ -72,7 +73,7 @@ returns-in_err-write_nodes-clause-front g c =
     let fresh = fresh_nodes c.args.blocks.now.draft in
     let roots = c.args.trees.now.roots.nodes in
     let extents = c.args.trees.now.extents.nodes in
-    let quotas = c.args.trees.now.quotas.nodes in
+    let quotas = quota_nodes_laid c.args.trees.now.quotas in
     let old = history c.args.disk.now in
     let one = history c.write_fresh.new.disk in
     let first = first_calls super (length c.args.buffer.now) fresh fresh old one c.requires.size refl
@@ -88,7 +89,7 @@ returns-in_err-write_nodes-2-clause-front g c =
     let fresh = fresh_nodes c.args.blocks.now.draft in
     let roots = c.args.trees.now.roots.nodes in
     let extents = c.args.trees.now.extents.nodes in
-    let quotas = c.args.trees.now.quotas.nodes in
+    let quotas = quota_nodes_laid c.args.trees.now.quotas in
     let old = history c.args.disk.now in
     let one = history c.write_fresh.new.disk in
     let first = first_calls super (length c.args.buffer.now) fresh fresh old one c.requires.size refl
@@ -108,7 +109,7 @@ returns-in_err-write_nodes-3-clause-front g c =
     let fresh = fresh_nodes c.args.blocks.now.draft in
     let roots = c.args.trees.now.roots.nodes in
     let extents = c.args.trees.now.extents.nodes in
-    let quotas = c.args.trees.now.quotas.nodes in
+    let quotas = quota_nodes_laid c.args.trees.now.quotas in
     let old = history c.args.disk.now in
     let one = history c.write_fresh.new.disk in
     let first = first_calls super (length c.args.buffer.now) fresh fresh old one c.requires.size refl
@@ -125,7 +126,7 @@ returns-in_err-write_nodes-3-clause-front g c =
     let size3 = c.write_nodes-2.auto.buffer ∙ size2 in
     comes-quotas super fresh roots extents quotas old one first two second three third
     (length c.write_nodes-2.new.buffer)
-    c.as_slice-3.result.now (history c.write_nodes-3.new.disk) size3 c.as_slice-3.ensures c.write_nodes-3.ensures.front
+    c.quota_nodes.result.now (history c.write_nodes-3.new.disk) size3 c.quota_nodes.ensures c.write_nodes-3.ensures.front
 
 pub returns-in_err-write_superblocks-clause-front : goal.returns-in_err-write_superblocks-clause-front
 returns-in_err-write_superblocks-clause-front g c =
@@ -134,7 +135,7 @@ returns-in_err-write_superblocks-clause-front g c =
     let fresh = fresh_nodes c.args.blocks.now.draft in
     let roots = c.args.trees.now.roots.nodes in
     let extents = c.args.trees.now.extents.nodes in
-    let quotas = c.args.trees.now.quotas.nodes in
+    let quotas = quota_nodes_laid c.args.trees.now.quotas in
     let old = history c.args.disk.now in
     let one = history c.write_fresh.new.disk in
     let first = first_calls super (length c.args.buffer.now) fresh fresh old one c.requires.size refl
@@ -150,8 +151,8 @@ returns-in_err-write_superblocks-clause-front g c =
     three size2 c.as_slice-2.ensures second c.in_ok-write_nodes-2.ensures.calls in
     let size3 = c.write_nodes-2.auto.buffer ∙ size2 in
     let four = history c.write_nodes-3.new.disk in
-    let fourth = two_calls super (length c.write_nodes-2.new.buffer) (fresh ++ roots ++ extents) c.as_slice-3.result.now
-    quotas old three four size3 c.as_slice-3.ensures third c.in_ok-write_nodes-3.ensures.calls in
+    let fourth = two_calls super (length c.write_nodes-2.new.buffer) (fresh ++ roots ++ extents) c.quota_nodes.result.now
+    quotas old three four size3 c.quota_nodes.ensures third c.in_ok-write_nodes-3.ensures.calls in
     comes-superblocks super fresh roots extents quotas old one first two second three third four fourth
     (history c.write_superblocks.new.disk) c.write_superblocks.ensures.front
 
@@ -162,7 +163,7 @@ returns-clause-front g c =
     let fresh = fresh_nodes c.args.blocks.now.draft in
     let roots = c.args.trees.now.roots.nodes in
     let extents = c.args.trees.now.extents.nodes in
-    let quotas = c.args.trees.now.quotas.nodes in
+    let quotas = quota_nodes_laid c.args.trees.now.quotas in
     let old = history c.args.disk.now in
     let one = history c.write_fresh.new.disk in
     let first = first_calls super (length c.args.buffer.now) fresh fresh old one c.requires.size refl
@@ -178,8 +179,8 @@ returns-clause-front g c =
     three size2 c.as_slice-2.ensures second c.in_ok-write_nodes-2.ensures.calls in
     let size3 = c.write_nodes-2.auto.buffer ∙ size2 in
     let four = history c.write_nodes-3.new.disk in
-    let fourth = two_calls super (length c.write_nodes-2.new.buffer) (fresh ++ roots ++ extents) c.as_slice-3.result.now
-    quotas old three four size3 c.as_slice-3.ensures third c.in_ok-write_nodes-3.ensures.calls in
+    let fourth = two_calls super (length c.write_nodes-2.new.buffer) (fresh ++ roots ++ extents) c.quota_nodes.result.now
+    quotas old three four size3 c.quota_nodes.ensures third c.in_ok-write_nodes-3.ensures.calls in
     comes-superblocks super fresh roots extents quotas old one first two second three third four fourth
     (history c.write_superblocks.new.disk) c.write_superblocks.ensures.front
 
@@ -190,7 +191,7 @@ returns-clause-calls g c =
     let fresh = fresh_nodes c.args.blocks.now.draft in
     let roots = c.args.trees.now.roots.nodes in
     let extents = c.args.trees.now.extents.nodes in
-    let quotas = c.args.trees.now.quotas.nodes in
+    let quotas = quota_nodes_laid c.args.trees.now.quotas in
     let old = history c.args.disk.now in
     let one = history c.write_fresh.new.disk in
     let first = first_calls super (length c.args.buffer.now) fresh fresh old one c.requires.size refl
@@ -206,7 +207,7 @@ returns-clause-calls g c =
     three size2 c.as_slice-2.ensures second c.in_ok-write_nodes-2.ensures.calls in
     let size3 = c.write_nodes-2.auto.buffer ∙ size2 in
     let four = history c.write_nodes-3.new.disk in
-    let fourth = two_calls super (length c.write_nodes-2.new.buffer) (fresh ++ roots ++ extents) c.as_slice-3.result.now
-    quotas old three four size3 c.as_slice-3.ensures third c.in_ok-write_nodes-3.ensures.calls in
+    let fourth = two_calls super (length c.write_nodes-2.new.buffer) (fresh ++ roots ++ extents) c.quota_nodes.result.now
+    quotas old three four size3 c.quota_nodes.ensures third c.in_ok-write_nodes-3.ensures.calls in
     all-calls super fresh roots extents quotas old one first two second three third four fourth
     (history c.write_superblocks.new.disk) c.in_ok-write_superblocks.ensures.calls

@@ -1,0 +1,12 @@
+pub mod Tables
+pub mod Limits
+pub mod Agreed
+pub mod Pairs
+pub mod Paths
+pub mod Refused
+pub mod Reserved
+pub mod Recounted
+pub mod Snapped
+pub mod Fitted
+pub mod Sample
+pub mod RefusedByEach

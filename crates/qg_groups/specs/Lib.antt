@@ -1,0 +1,4 @@
+pub mod Tracked
+pub mod Changing
+pub mod Judging
+pub mod OnOrOff

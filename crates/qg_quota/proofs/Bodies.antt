@@ -1,0 +1,37 @@
+-- The texts of bodies are bytes.
+use Rattle.std.proofs.Common.{ℕ, ◌<◌, ◌^◌, List, [], lit<}
+use Rattle.qg_bytes.proofs.AreBytes.{AreBytes, append, of_zeros, of_u64}
+use Rattle.qg_node.specs.Fits.{ItemFits}
+use Rattle.qg_items.specs.declared.quota.QgroupStatus.{QgroupStatus}
+use Rattle.qg_items.specs.declared.quota.QgroupInfo.{QgroupInfo}
+use Rattle.qg_items.specs.declared.quota.QgroupLimit.{QgroupLimit}
+use Rattle.qg_items.specs.ItemText.{status_text, info_text, limit_text}
+use Rattle.qg_quota.specs.Written.{item_under}
+
+-- ---- each body
+
+pub status_text-AreBytes : (status : QgroupStatus) → AreBytes (status_text status)
+unfolding status_text
+status_text-AreBytes status = append (append (append (of_u64 1) (of_u64 status.generation)) (of_u64 status.flags)) (of_u64 status.cursor)
+
+pub info_text-AreBytes : (info : QgroupInfo) → AreBytes (info_text info)
+unfolding info_text
+info_text-AreBytes info =
+    let rfer = append (append (of_u64 info.generation) (of_u64 info.rfer)) (of_u64 info.rfer_cmpr) in
+    append (append rfer (of_u64 info.excl)) (of_u64 info.excl_cmpr)
+
+pub limit_text-AreBytes : (limit : QgroupLimit) → AreBytes (limit_text limit)
+unfolding limit_text
+limit_text-AreBytes limit = append (append (append (of_u64 limit.flags) (of_u64 limit.max_rfer)) (of_u64 limit.max_excl)) (of_zeros 16)
+
+pub nothing-AreBytes : AreBytes []
+nothing-AreBytes = record { are = λ i. lit< tt }
+
+-- ---- an item
+
+-- an item with such a body fits
+pub item-fits : (objectid kind offset : ℕ) (body : List ℕ) → objectid < 2 ^ 64 → kind < 256 → offset < 2 ^ 64
+    → AreBytes body
+    → ItemFits (item_under objectid kind offset body)
+item-fits objectid kind offset body object_fits kind_fits offset_fits are =
+    record { key = record { objectid = object_fits; kind = kind_fits; offset = offset_fits }; body = are.are }

@@ -1,0 +1,14 @@
+pub mod Bodies
+pub mod Rising
+pub mod BothWays
+pub mod Items
+pub mod Search
+pub mod ToldBack
+pub mod Lists
+pub mod Said
+pub mod Same
+pub mod Whole
+pub mod ReadBack
+pub mod WrittenBack
+pub mod Taken
+pub mod RuleOrder

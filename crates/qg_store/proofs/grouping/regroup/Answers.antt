@@ -1,0 +1,260 @@
+use Rattle.std.proofs.Common.{◌∙◌, ◌≤◌, ℕ, None, Some, ap, inl, refl, subst, sym}
+use Rattle.qg_num.specs.declared.answer.Answer.TheVariants.{Done, Refused}
+use Rattle.qg_space.specs.Holding.{free_slots}
+use Rattle.qg_groups.specs.Tracked.{quota_of}
+use Rattle.qg_inodes.proofs.PiecesRead.{handed}
+use Rattle.qg_inodes.proofs.Whole.{handed-sound}
+use Rattle.qg_fs_laws.specs.Keeping.{other_names}
+use Rattle.qg_store.specs.Keeping.{structural_need_of}
+use Rattle.qg_store.specs.Structural.{HasRoom, commit_refusal, group_copies}
+use Rattle.qg_store.proofs.Edited.{if-none}
+use Rattle.qg_store.proofs.Looked.{node-size}
+use Rattle.qg_store.proofs.OnDisk.{last-any, on-disk}
+use Rattle.qg_store.proofs.Reasoned.{copies-same, group-early, group-late, group-same}
+use Rattle.qg_store.proofs.Regrouped.{asked-so, comes-group, does-group, kept-regrouped, structural-group}
+use Rattle.qg_store.proofs.Regrouped.{superblock-regrouped}
+use Rattle.qg_store.proofs.Stepped.{does_nothing}
+use Rattle.qg_store.proofs.Structured.{does-structural, early-second, held-regrouped, last-settled, made-first}
+use Rattle.qg_store.proofs.Structured.{made-second, so-far-first, so-far-second}
+use Rattle.qg_store.proofs.Turned.{looked-refl}
+use Rattle.qg_store.proofs.grouping.regroup.Goals as goal
+
+pub refusal_of-requires : goal.refusal_of-requires
+refusal_of-requires g c = c.requires.kept.fitted.tracked
+
+pub copies_of-copies-requires : goal.copies_of-copies-requires
+copies_of-copies-requires g c = record { fitted = c.requires.kept.fitted }
+
+pub no_commit-requires : goal.no_commit-requires
+no_commit-requires g c = record { size = node-size c.args.kept.now c.requires.kept.fitted }
+
+-- ---- it is refused
+
+pub returns-in-Some-clause-step : goal.returns-in-Some-clause-step
+returns-in-Some-clause-step g c = λ state events keeps told.
+    let kept = c.args.kept.now in
+    let history = g.D.Disk.history c.args.disk.now in
+    on-disk state c.args.command.now (Refused c.in-Some.why) kept events history told
+    (does_nothing kept state history c.args.command.now c.in-Some.why keeps
+    (group-early kept state history c.requires.kept.fitted keeps c.args.command.now c.in-Some.why c.requires.group
+    (asked-so kept (quota_of kept.quota) c.as_slice.result.now c.args.command.now c.refusal_of.result
+    (Some c.in-Some.why) c.as_slice.ensures c.refusal_of.ensures c.in-Some.is)))
+
+pub returns-in-Some-clause-so_far : goal.returns-in-Some-clause-so_far
+returns-in-Some-clause-so_far g c = λ state events keeps told. inl told
+
+pub returns-in-Some-clause-refused : goal.returns-in-Some-clause-refused
+returns-in-Some-clause-refused g c = λ is.
+    looked-refl c.args.kept.now (g.D.Disk.history c.args.disk.now) (g.D.Disk.size c.args.disk.now)
+
+pub returns-in-Some-2-clause-step : goal.returns-in-Some-2-clause-step
+returns-in-Some-2-clause-step g c = λ state events keeps told.
+    let kept = c.args.kept.now in
+    let history = g.D.Disk.history c.args.disk.now in
+    on-disk state c.args.command.now (Refused c.in-Some-2.why) kept events history told
+    (does_nothing kept state history c.args.command.now c.in-Some-2.why keeps
+    (group-late kept state history (g.D.Disk.size c.args.disk.now) c.requires.kept keeps c.in_ok-why.ensures.table
+    c.args.command.now c.requires.group
+    (asked-so kept (quota_of kept.quota) c.as_slice.result.now c.args.command.now c.refusal_of.result None
+    c.as_slice.ensures c.refusal_of.ensures c.in_default.is)
+    ∙ ap (commit_refusal kept) (sym c.copies_of-copies.ensures) ∙ sym c.in_ok-why.ensures.value ∙ c.in-Some-2.is))
+
+pub returns-in-Some-2-clause-so_far : goal.returns-in-Some-2-clause-so_far
+returns-in-Some-2-clause-so_far g c = λ state events keeps told. inl told
+
+pub returns-in-Some-2-clause-refused : goal.returns-in-Some-2-clause-refused
+returns-in-Some-2-clause-refused g c = λ is.
+    looked-refl c.args.kept.now (g.D.Disk.history c.args.disk.now) (g.D.Disk.size c.args.disk.now)
+
+pub returns-in_err-why-clause-so_far : goal.returns-in_err-why-clause-so_far
+returns-in_err-why-clause-so_far g c = λ state events keeps told. inl told
+
+-- ---- what is pending is committed
+
+pub commit_pending-requires-clause-early : goal.commit_pending-requires-clause-early
+commit_pending-requires-clause-early g c =
+    if-none c.in_ok-why.field-0 _ c.in_default-2.is c.in_ok-why.ensures.early
+
+pub returns-in_err-commit_pending-clause-so_far : goal.returns-in_err-commit_pending-clause-so_far
+returns-in_err-commit_pending-clause-so_far g c = λ state events keeps told.
+    so-far-first state c.args.command.now events (g.D.Disk.history c.commit_pending.new.disk)
+    (g.D.Disk.history c.commit_pending.new.disk) (comes-group c.args.command.now c.requires.group)
+    (group-late c.args.kept.now state (g.D.Disk.history c.args.disk.now) (g.D.Disk.size c.args.disk.now) c.requires.kept keeps
+    c.in_ok-why.ensures.table c.args.command.now c.requires.group
+    (asked-so c.args.kept.now (quota_of c.args.kept.now.quota) c.as_slice.result.now c.args.command.now
+    c.refusal_of.result None c.as_slice.ensures c.refusal_of.ensures c.in_default.is)
+    ∙ ap (commit_refusal c.args.kept.now) (sym c.copies_of-copies.ensures) ∙ sym c.in_ok-why.ensures.value
+    ∙ c.in_default-2.is) refl
+    (c.in_err-commit_pending.ensures.so_far state events keeps told)
+
+pub returns-in_err-commit_pending-clause-sound : goal.returns-in_err-commit_pending-clause-sound
+returns-in_err-commit_pending-clause-sound g c = λ state events told keeps.
+    handed-sound (Unit {0}) c.from_residual-in_err-commit_pending.result _
+    (handed c.from_residual-in_err-commit_pending.result _ c.from_residual-in_err-commit_pending.ensures.1)
+    (c.in_err-commit_pending.ensures.sound state events told keeps)
+
+pub returns-in_err-commit_pending-clause-err : goal.returns-in_err-commit_pending-clause-err
+returns-in_err-commit_pending-clause-err g c =
+    last-any c.args.command.now c.args.kept.now c.commit_pending.new.kept (g.D.Disk.history c.args.disk.now)
+    (g.D.Disk.history c.commit_pending.new.disk) c.from_residual-in_err-commit_pending.result
+    (inl c.in_err-commit_pending.ensures.err)
+
+-- ---- the change
+
+pub change_groups-requires : goal.change_groups-requires
+change_groups-requires g c =
+    let kept = c.args.kept.now in
+    let mid = c.commit_pending.new.kept in
+    let given = c.args.command.now in
+    let settled = c.in_ok-commit_pending.ensures.settled in
+    record {
+      fitted = c.in_ok-commit_pending.ensures.kept.fitted;
+      group = c.requires.group;
+      free = group-same kept mid settled given
+          ∙ asked-so kept (quota_of kept.quota) c.as_slice.result.now given c.refusal_of.result None c.as_slice.ensures
+          c.refusal_of.ensures c.in_default.is;
+      room = subst (λ (n : ℕ). HasRoom mid n) (sym (copies-same kept mid settled given))
+          (c.in_ok-commit_pending.ensures.room (group_copies kept given)
+          (subst (λ (n : ℕ). structural_need_of kept n ≤ free_slots kept.fs.land.space) c.copies_of-copies.ensures
+          (if-none c.in_ok-why.field-0
+          (structural_need_of kept c.copies_of-copies.result ≤ free_slots kept.fs.land.space) c.in_default-2.is
+          c.in_ok-why.ensures.enough)));
+    }
+
+pub returns-in_err-change_groups-clause-so_far : goal.returns-in_err-change_groups-clause-so_far
+returns-in_err-change_groups-clause-so_far g c = λ state events keeps told.
+    so-far-first state c.args.command.now events (g.D.Disk.history c.commit_pending.new.disk)
+    (g.D.Disk.history c.commit_pending.new.disk) (comes-group c.args.command.now c.requires.group)
+    (group-late c.args.kept.now state (g.D.Disk.history c.args.disk.now) (g.D.Disk.size c.args.disk.now) c.requires.kept keeps
+    c.in_ok-why.ensures.table c.args.command.now c.requires.group
+    (asked-so c.args.kept.now (quota_of c.args.kept.now.quota) c.as_slice.result.now c.args.command.now
+    c.refusal_of.result None c.as_slice.ensures c.refusal_of.ensures c.in_default.is)
+    ∙ ap (commit_refusal c.args.kept.now) (sym c.copies_of-copies.ensures) ∙ sym c.in_ok-why.ensures.value
+    ∙ c.in_default-2.is) refl
+    (c.in_ok-commit_pending.ensures.so_far state events keeps told)
+
+pub returns-in_err-change_groups-clause-err : goal.returns-in_err-change_groups-clause-err
+returns-in_err-change_groups-clause-err g c =
+    let kept = c.args.kept.now in
+    let mid = c.commit_pending.new.kept in
+    let new = c.change_groups.new.kept in
+    let before = g.D.Disk.history c.args.disk.now in
+    let after = g.D.Disk.history c.commit_pending.new.disk in
+    last-any c.args.command.now kept new before after c.from_residual-in_err-change_groups.result
+    (last-settled c.args.command.now kept kept mid new before after
+    (structural-group c.args.command.now c.requires.group) refl refl c.in_ok-commit_pending.ensures.settled
+    (superblock-regrouped mid new c.in_err-change_groups.ensures.rest)
+    (λ state events keeps told. inl (made-first state mid events after after
+    (c.in_ok-commit_pending.ensures.committed state events keeps told) refl)))
+
+-- ---- it is committed
+
+pub commit_now-requires : goal.commit_now-requires
+commit_now-requires g c =
+    let mid = c.commit_pending.new.kept in
+    let new = c.change_groups.new.kept in
+    record {
+      kept = kept-regrouped mid new (g.D.Disk.history c.commit_pending.new.disk)
+          (g.D.Disk.size c.commit_pending.new.disk) c.in_ok-commit_pending.ensures.kept
+          c.in_ok-change_groups.ensures.rest c.in_ok-change_groups.ensures.fitted;
+      early = early-second c.args.kept.now mid new c.in_ok-commit_pending.ensures.settled
+          (superblock-regrouped mid new c.in_ok-change_groups.ensures.rest)
+          (if-none c.in_ok-why.field-0 _ c.in_default-2.is c.in_ok-why.ensures.early);
+    }
+
+pub returns-in_err-commit_now-clause-so_far : goal.returns-in_err-commit_now-clause-so_far
+returns-in_err-commit_now-clause-so_far g c = λ state events keeps told.
+    let given = c.args.command.now in
+    let between = g.D.Disk.history c.commit_pending.new.disk in
+    let first = c.in_ok-commit_pending.ensures.committed state events keeps told in
+    let change = c.in_ok-change_groups.ensures.changed first.before between first.keeps
+    c.in_ok-commit_pending.ensures.settled.pending in
+    so-far-second state given Done c.commit_pending.new.kept c.change_groups.new.kept
+    c.commit_now.new.kept events between between first change refl
+    (held-regrouped first.before change.changed given Done c.requires.group change.changes)
+    (g.D.Disk.history c.commit_now.new.disk) (comes-group given c.requires.group)
+    (group-late c.args.kept.now state (g.D.Disk.history c.args.disk.now) (g.D.Disk.size c.args.disk.now) c.requires.kept keeps
+    c.in_ok-why.ensures.table c.args.command.now c.requires.group
+    (asked-so c.args.kept.now (quota_of c.args.kept.now.quota) c.as_slice.result.now c.args.command.now
+    c.refusal_of.result None c.as_slice.ensures c.refusal_of.ensures c.in_default.is)
+    ∙ ap (commit_refusal c.args.kept.now) (sym c.copies_of-copies.ensures) ∙ sym c.in_ok-why.ensures.value
+    ∙ c.in_default-2.is)
+    (c.in_ok-commit_pending.ensures.so_far state events keeps told)
+    (c.in_err-commit_now.ensures.so_far change.changed first.between (other_names first.before) change.keeps change.room
+    first.told)
+
+pub returns-in_err-commit_now-clause-sound : goal.returns-in_err-commit_now-clause-sound
+returns-in_err-commit_now-clause-sound g c = λ state events told keeps.
+    let between = g.D.Disk.history c.commit_pending.new.disk in
+    let first = c.in_ok-commit_pending.ensures.committed state events keeps told in
+    let change = c.in_ok-change_groups.ensures.changed first.before between first.keeps
+    c.in_ok-commit_pending.ensures.settled.pending in
+    handed-sound (Unit {0}) c.from_residual-in_err-commit_now.result _
+    (handed c.from_residual-in_err-commit_now.result _ c.from_residual-in_err-commit_now.ensures.1)
+    (c.in_err-commit_now.ensures.sound change.changed first.between (other_names first.before) change.keeps change.room
+    first.told)
+
+pub returns-in_err-commit_now-clause-err : goal.returns-in_err-commit_now-clause-err
+returns-in_err-commit_now-clause-err g c =
+    let kept = c.args.kept.now in
+    let given = c.args.command.now in
+    let mid = c.commit_pending.new.kept in
+    let new = c.change_groups.new.kept in
+    let before = g.D.Disk.history c.args.disk.now in
+    let between = g.D.Disk.history c.commit_pending.new.disk in
+    let last = g.D.Disk.history c.commit_now.new.disk in
+    last-any given kept c.commit_now.new.kept before last c.from_residual-in_err-commit_now.result
+    (last-settled given kept kept mid c.commit_now.new.kept before last (structural-group given c.requires.group) refl
+    refl c.in_ok-commit_pending.ensures.settled
+    (c.in_err-commit_now.ensures.err ∙ superblock-regrouped mid new c.in_ok-change_groups.ensures.rest)
+    (λ state events keeps told.
+    let first = c.in_ok-commit_pending.ensures.committed state events keeps told in
+    let change = c.in_ok-change_groups.ensures.changed first.before between first.keeps
+    c.in_ok-commit_pending.ensures.settled.pending in
+    made-second state given Done mid new c.commit_now.new.kept events between between first change refl
+    (held-regrouped first.before change.changed given Done c.requires.group change.changes) last
+    (c.in_err-commit_now.ensures.so_far change.changed first.between (other_names first.before) change.keeps change.room
+    first.told)))
+
+pub returns-clause-step : goal.returns-clause-step
+returns-clause-step g c = λ state events keeps told.
+    let given = c.args.command.now in
+    let mid = c.commit_pending.new.kept in
+    let new = c.change_groups.new.kept in
+    let between = g.D.Disk.history c.commit_pending.new.disk in
+    let first = c.in_ok-commit_pending.ensures.committed state events keeps told in
+    let change = c.in_ok-change_groups.ensures.changed first.before between first.keeps
+    c.in_ok-commit_pending.ensures.settled.pending in
+    let second = c.in_ok-commit_now.ensures.commits change.changed first.between (other_names first.before) change.keeps
+    change.room first.told in
+    does-structural state given Done mid new c.commit_now.new.kept events between between first change refl
+    (held-regrouped first.before change.changed given Done c.requires.group change.changes)
+    (g.D.Disk.history c.commit_now.new.disk) second
+    (group-late c.args.kept.now state (g.D.Disk.history c.args.disk.now) (g.D.Disk.size c.args.disk.now) c.requires.kept keeps
+    c.in_ok-why.ensures.table c.args.command.now c.requires.group
+    (asked-so c.args.kept.now (quota_of c.args.kept.now.quota) c.as_slice.result.now c.args.command.now
+    c.refusal_of.result None c.as_slice.ensures c.refusal_of.ensures c.in_default.is)
+    ∙ ap (commit_refusal c.args.kept.now) (sym c.copies_of-copies.ensures) ∙ sym c.in_ok-why.ensures.value
+    ∙ c.in_default-2.is)
+    (λ does. does-group state given Done _ _ c.requires.group does)
+
+pub returns-clause-so_far : goal.returns-clause-so_far
+returns-clause-so_far g c = λ state events keeps told.
+    let given = c.args.command.now in
+    let between = g.D.Disk.history c.commit_pending.new.disk in
+    let first = c.in_ok-commit_pending.ensures.committed state events keeps told in
+    let change = c.in_ok-change_groups.ensures.changed first.before between first.keeps
+    c.in_ok-commit_pending.ensures.settled.pending in
+    so-far-second state given Done c.commit_pending.new.kept c.change_groups.new.kept
+    c.commit_now.new.kept events between between first change refl
+    (held-regrouped first.before change.changed given Done c.requires.group change.changes)
+    (g.D.Disk.history c.commit_now.new.disk) (comes-group given c.requires.group)
+    (group-late c.args.kept.now state (g.D.Disk.history c.args.disk.now) (g.D.Disk.size c.args.disk.now) c.requires.kept keeps
+    c.in_ok-why.ensures.table c.args.command.now c.requires.group
+    (asked-so c.args.kept.now (quota_of c.args.kept.now.quota) c.as_slice.result.now c.args.command.now
+    c.refusal_of.result None c.as_slice.ensures c.refusal_of.ensures c.in_default.is)
+    ∙ ap (commit_refusal c.args.kept.now) (sym c.copies_of-copies.ensures) ∙ sym c.in_ok-why.ensures.value
+    ∙ c.in_default-2.is)
+    (c.in_ok-commit_pending.ensures.so_far state events keeps told)
+    (c.in_ok-commit_now.ensures.so_far change.changed first.between (other_names first.before) change.keeps change.room
+    first.told)
