@@ -208,6 +208,29 @@ pub fn piece_item(ino: u64, piece: &Piece) -> Part {
     item(ino, 108, piece.position, bytes)
 }
 
+/// The item that says that quota is on, as of a generation.
+pub fn status_item(generation: u64) -> Part {
+    item(0, 240, 0, body(32, &[(0, 1), (8, generation), (16, 1)]))
+}
+
+/// A group's counters, which a generation changed last: referenced bytes and exclusive ones.
+pub fn counter_item(group: u64, changed: u64, [rfer, excl]: [u64; 2]) -> Part {
+    let numbers = [(0, changed), (8, rfer), (16, rfer), (24, excl), (32, excl)];
+    item(0, 242, group, body(40, &numbers))
+}
+
+/// A group's limits, on referenced bytes and on exclusive ones.
+pub fn limit_item(group: u64, [rfer, excl]: [Option<u64>; 2]) -> Part {
+    let flags = u64::from(rfer.is_some()) + 2 * u64::from(excl.is_some());
+    let numbers = [(0, flags), (8, rfer.unwrap_or(0)), (16, excl.unwrap_or(0))];
+    item(0, 244, group, body(40, &numbers))
+}
+
+/// One of the two items of a relation between groups.
+pub fn relation_item(one: u64, other: u64) -> Part {
+    item(one, 246, other, Vec::new())
+}
+
 fn u64_at(bytes: &[u8], at: usize) -> u64 {
     u64::from_le_bytes(bytes[at..at + 8].try_into().unwrap())
 }
@@ -285,16 +308,9 @@ fn superblock(place: u64, root: u64, generation: u64, sizes: Sizes) -> Vec<u8> {
     bytes
 }
 
-/// What a commit wrote.
-pub struct Commit {
-    /// How many nodes there are.
-    pub nodes: usize,
-    /// What the subvolume's nodes and extents take, in bytes.
-    pub counted: u64,
-}
-
-/// Writes a commit of these items of files, whose extents take so many bytes, into these slots: nodes, a sync, and the two superblocks with
-/// a sync each.
+/// Writes a commit of these items of files, whose extents take so many bytes, into these slots: nodes, a sync, and the
+/// two superblocks with a sync each. It gives how many nodes there are. `quota` gives the quota tree's items, by what
+/// the subvolume takes in bytes, and none where quota is off.
 pub fn commit(
     file: &File,
     sizes: Sizes,
@@ -302,7 +318,8 @@ pub fn commit(
     slots: &[u64],
     items: &[Part],
     extent_bytes: u64,
-) -> io::Result<Commit> {
+    quota: impl FnOnce(u64) -> Vec<Part>,
+) -> io::Result<usize> {
     let mut nodes = Nodes {
         generation,
         slots,
@@ -312,15 +329,12 @@ pub fn commit(
     let counted = (NODE * nodes.written.len()) as u64 + extent_bytes;
     let records = records(&nodes, items);
     let extents = nodes.put_tree(2, 0, &records);
-    let counts = [(0, generation), (8, counted), (16, counted), (24, counted), (32, counted)];
-    let quota_items = [
-        item(0, 240, 0, body(32, &[(0, 1), (8, generation), (16, 1)])),
-        item(0, 242, 5, body(40, &counts)),
-        item(0, 244, 5, body(40, &[])),
-    ];
-    let quotas = nodes.put_tree(8, 0, &quota_items);
-    let roots = [(2, extents), (5, files), (8, quotas)];
-    let roots = roots.map(|(tree, root)| root_item(tree, root, generation));
+    let mut roots = vec![(2, extents), (5, files)];
+    let quota_items = quota(counted);
+    if !quota_items.is_empty() {
+        roots.push((8, nodes.put_tree(8, 0, &quota_items)));
+    }
+    let roots: Vec<Part> = roots.into_iter().map(|(tree, root)| root_item(tree, root, generation)).collect();
     let root = nodes.put_tree(1, 0, &roots);
     for (address, node) in &nodes.written {
         file.write_all_at(node, *address)?;
@@ -330,8 +344,5 @@ pub fn commit(
         file.write_all_at(&superblock(place, root.address, generation, sizes), place)?;
         file.sync_all()?;
     }
-    Ok(Commit {
-        nodes: nodes.written.len(),
-        counted,
-    })
+    Ok(nodes.written.len())
 }

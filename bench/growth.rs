@@ -7,7 +7,7 @@
 //! among them, and in the last line those by the clock. A line has for each number and each half the microseconds in all and the nanoseconds of each piece, and
 //! the ratio; and for each half how many times as long a piece takes at the last number as at the first.
 use draws::{Draws, shuffled};
-use runs::{Run, make};
+use runs::{Run, compare, make};
 use std::fs;
 use std::io;
 
@@ -147,28 +147,6 @@ fn shown() -> String {
     files.chain(["show\n".to_string()]).collect()
 }
 
-/// Runs both halves on the mixed script, and each over the image that the other left.
-fn compare(program: &str, plain: &str) -> io::Result<()> {
-    fs::write("mixed.txt", mixed())?;
-    fs::write("shown.txt", shown())?;
-    for image in ["own.img", "plain.img"] {
-        make(program, image, FEW_SECTORS)?;
-    }
-    let own = Run::of(program, "own.img", "mixed.txt")?.replies;
-    let other = Run::of(plain, "plain.img", "mixed.txt")?.replies;
-    assert!(own == other, "the answers to mixed.txt differ");
-    let shown = Run::of(program, "plain.img", "shown.txt")?.replies;
-    assert!(!shown.starts_with(b"broken") && !shown.starts_with(b"differs"), "plain.img is not sound");
-    for (half, image) in [(program, "own.img"), (plain, "own.img"), (plain, "plain.img")] {
-        assert!(Run::of(half, image, "shown.txt")?.replies == shown, "the answers to shown.txt differ");
-    }
-    for name in ["own.img", "plain.img", "mixed.txt", "shown.txt"] {
-        fs::remove_file(name)?;
-    }
-    println!("answers agree");
-    Ok(())
-}
-
 /// The path of an image of so many pieces.
 fn image(form: &str, pieces: u64) -> String {
     match form {
@@ -261,7 +239,7 @@ fn main() -> io::Result<()> {
         panic!("growth ROUNDS PROGRAM PLAIN PIECES ..");
     };
     let number = |word: &String| word.parse::<u64>().expect("a number");
-    compare(program, plain)?;
+    compare(program, plain, FEW_SECTORS, &mixed(), &shown())?;
     let columns = sizes
         .iter()
         .map(|pieces| column(number(rounds), program, plain, number(pieces)))

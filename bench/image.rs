@@ -6,7 +6,7 @@
 //! the ordered one, but for the checksum of its last leaf of files.
 use draws::shuffled;
 use format::{DATA_BEGIN, EXTENT_RECORD, INODE, NODE, NODE_RECORD, OTHER_ITEMS, PIECE, Part, Piece, ROOM, SECTOR, Sizes};
-use format::{commit, inode_item, piece_item, slot_at};
+use format::{commit, counter_item, inode_item, limit_item, piece_item, slot_at, status_item};
 use std::fs::{File, OpenOptions};
 use std::io;
 use std::os::unix::fs::FileExt;
@@ -101,7 +101,11 @@ fn main() -> io::Result<()> {
         .open(path)?;
     file.set_len(DATA_BEGIN + SECTOR * SIZES.sectors)?;
     let slots: Vec<u64> = (0..SIZES.slots).map(slot_at).collect();
-    let nodes = commit(&file, SIZES, GENERATION, &slots, &items, SECTOR * pieces)?.nodes;
+    let quota = |counted| {
+        let counters = counter_item(5, GENERATION, [counted; 2]);
+        vec![status_item(GENERATION), counters, limit_item(5, [None; 2])]
+    };
+    let nodes = commit(&file, SIZES, GENERATION, &slots, &items, SECTOR * pieces, quota)?;
     if form == "broken" {
         break_last_leaf(&file)?;
     }

@@ -1,12 +1,16 @@
 //! Runs a script over an image, in plain Rust: `plain IMAGE run <SCRIPT`. Build it by `rustc -O`.
 //!
-//! It is the baseline of `bench/run` and `bench/growth`, and answers as the program does the lines `write`, `clone`, `truncate`, `unlink`,
-//! `commit`, `show` and `ls`. It keeps the pieces of each file in a map by position, takes the free run with the least address, and builds
-//! all trees anew at each commit, the extent tree's records among them. Of an image's rules it looks at checksums alone, and it asks for no
-//! slots, so that no script may come to `no nodes`. Lines must be in the grammar.
-use format::{Commit, DATA_BEGIN, Piece, SECTOR, Sizes};
+//! It is the baseline of `bench/run`, `bench/growth` and `bench/groups`, and answers as the program does the lines
+//! `write`, `clone`, `truncate`, `unlink`, `commit`, `show` and `ls` on subvolume 5, and those that change groups,
+//! relations, limits and quota. It keeps the pieces of each file in a map by position, and groups in one by number,
+//! takes the free run with the least address, looks up at each reservation what lies above the subvolume's group, and
+//! builds all trees anew at each commit, the extent tree's records among them. Of an image's rules it looks at
+//! checksums alone, and it asks for no slots, so that no script may come to `no nodes`. Lines must be in the grammar,
+//! and the image must have no other subvolume.
+use format::{DATA_BEGIN, NODE, Piece, SECTOR, Sizes};
 use format::{commit, inode_item, piece_item, slot_at};
 use pieces::{meeting, rests, within};
+use quota::{Change, Quota};
 use reading::{Content, Stop, read_image};
 use std::collections::{BTreeMap, BTreeSet};
 use std::fmt::Write as _;
@@ -17,12 +21,19 @@ use std::process::ExitCode;
 
 mod format;
 mod pieces;
+mod quota;
 mod reading;
 
 /// The largest size of a file and the longest extent, in bytes, and the most file commands that may be pending.
 const LARGEST_SIZE: u64 = 1 << 40;
 const LONGEST_EXTENT: u64 = 134217728;
 const MOST_PENDING: u64 = 65536;
+
+/// The greatest generation that a commit may follow.
+const LAST_GENERATION: u64 = 1 << 63;
+
+/// What a clone reserves, and a write beside its length.
+const NODE_BYTES: u64 = NODE as u64;
 
 /// The reply to a command that was done, or to one that was refused.
 type Reply = Result<String, String>;
@@ -31,8 +42,7 @@ struct Store {
     file: File,
     sizes: Sizes,
     generation: u64,
-    /// The bytes that the subvolume took at the last commit.
-    counted: u64,
+    quota: Quota,
     files: BTreeMap<u64, Content>,
     /// How many pieces name an extent, by its address, and its length.
     named: BTreeMap<u64, (u64, u64)>,
@@ -86,7 +96,7 @@ impl Store {
             file,
             sizes: image.sizes,
             generation: image.generation,
-            counted: image.counted,
+            quota: image.quota,
             files: image.files,
             named,
             free: free_runs(image.sizes.sectors, &held),
@@ -186,6 +196,7 @@ impl Store {
         refuse(!are_whole(&[off], len), "no align")?;
         refuse(len > LONGEST_EXTENT || is_far(off, len), "no far")?;
         refuse(self.pending >= MOST_PENDING, "no many")?;
+        let groups = self.quota.room(len + NODE_BYTES)?;
         let run = self.first_run(len).ok_or("no run")?;
         let piece = Piece {
             position: off,
@@ -198,6 +209,7 @@ impl Store {
         let size = self.size_or_none(ino).max(off + len);
         self.edit(ino, off..off + len, &[piece], size);
         self.take(run, len);
+        self.quota.hold(&groups, len + NODE_BYTES);
         Ok(format!("ok extent {run}"))
     }
 
@@ -208,12 +220,14 @@ impl Store {
         refuse(off + len > source.size, "no source")?;
         refuse(ino == to_ino && off.abs_diff(to_off) < len, "no overlap")?;
         refuse(self.pending >= MOST_PENDING, "no many")?;
+        let groups = self.quota.room(NODE_BYTES)?;
         let mut taken = within(&source.pieces, &(off..off + len));
         for piece in &mut taken {
             piece.position = piece.position - off + to_off;
         }
         let size = self.size_or_none(to_ino).max(to_off + len);
         self.edit(to_ino, to_off..to_off + len, &taken, size);
+        self.quota.hold(&groups, NODE_BYTES);
         Ok("ok".to_string())
     }
 
@@ -259,8 +273,11 @@ impl Store {
             .collect();
         let extent_bytes = self.named.values().map(|(_, len)| len).sum();
         self.generation += 1;
-        let Commit { nodes, counted } = commit(&self.file, self.sizes, self.generation, &free, &items, extent_bytes)?;
-        self.counted = counted;
+        let (quota, generation) = (&mut self.quota, self.generation);
+        let nodes = commit(&self.file, self.sizes, generation, &free, &items, extent_bytes, |bytes| {
+            quota.count(bytes, generation);
+            quota.items(generation)
+        })?;
         self.slots = free[..nodes].iter().copied().collect();
         for (extent, len) in std::mem::take(&mut self.held) {
             if !self.named.contains_key(&extent) {
@@ -272,9 +289,31 @@ impl Store {
         Ok(())
     }
 
+    /// Refuses a command that would commit, where no generation is left for that.
+    fn refuse_last_generation(&self) -> Result<(), String> {
+        refuse(self.generation > LAST_GENERATION, "no generation")
+    }
+
+    /// Changes groups, behind what is pending, and commits both.
+    fn change(&mut self, change: Change) -> io::Result<Reply> {
+        let checked = self.quota.check(change).and_then(|()| self.refuse_last_generation());
+        if let Err(reply) = checked {
+            return Ok(Err(reply));
+        }
+        if self.pending > 0 {
+            self.commit()?;
+        }
+        self.quota.make(change, self.generation + 1);
+        self.commit()?;
+        Ok(Ok("ok".to_string()))
+    }
+
     /// The reply to a line.
     fn answer(&mut self, line: &str) -> io::Result<Reply> {
         let words: Vec<&str> = line.split(' ').collect();
+        if let Some(change) = Change::of(&words) {
+            return self.change(change);
+        }
         let number = |at: usize| words[at].parse::<u64>().expect("a number");
         let subs: &[usize] = match words[0] {
             "clone" => &[1, 5],
@@ -285,6 +324,9 @@ impl Store {
             return Ok(Err("no sub".to_string()));
         }
         if words[0] == "commit" && self.pending > 0 {
+            if let Err(reply) = self.refuse_last_generation() {
+                return Ok(Err(reply));
+            }
             self.commit()?;
         }
         Ok(match words[0] {
@@ -293,7 +335,7 @@ impl Store {
             "truncate" => self.truncate(number(2), number(3)),
             "unlink" => self.unlink(number(2)),
             "commit" => Ok(format!("ok commit {}", self.generation)),
-            "show" => Ok(format!("0/5 {} {} none none\nok", self.counted, self.counted)),
+            "show" => self.quota.shown(),
             "ls" => self.ls(number(2)),
             _ => panic!("{line}: not served"),
         })

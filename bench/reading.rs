@@ -1,5 +1,6 @@
 //! What an image of one subvolume says, in plain Rust. Of all rules it looks at checksums alone. It shares no code with the program.
 use crate::format::{NODE, PLACES, Piece, Sizes, has_checksum};
+use crate::quota::{Quota, level};
 use std::collections::{BTreeMap, BTreeSet};
 use std::fs::File;
 use std::io;
@@ -17,8 +18,7 @@ pub struct Content {
 pub struct Image {
     pub sizes: Sizes,
     pub generation: u64,
-    /// The bytes that the top-level subvolume's group has.
-    pub counted: u64,
+    pub quota: Quota,
     /// By inode.
     pub files: BTreeMap<u64, Content>,
     /// Where its nodes lie.
@@ -136,6 +136,28 @@ fn put_file_item(files: &mut BTreeMap<u64, Content>, item: Item) {
     }
 }
 
+fn put_quota_item(quota: &mut Quota, item: Item) {
+    let (one, other) = (item.objectid, item.offset);
+    let number = |at| u64_at(item.body, at);
+    match item.kind {
+        240 => quota.on = true,
+        242 => {
+            let group = quota.groups.entry(other).or_default();
+            group.changed = number(0);
+            group.counts = [number(8), number(24)];
+        }
+        244 => {
+            let limit = |flag, at| (number(0) & flag != 0).then(|| number(at));
+            quota.groups.entry(other).or_default().limits = [limit(1, 8), limit(2, 16)];
+        }
+        // Each relation has two items; in one the member comes first.
+        _ if level(one) < level(other) => {
+            quota.groups.entry(one).or_default().parents.insert(other);
+        }
+        _ => {}
+    }
+}
+
 /// Reads an image.
 pub fn read_image(file: &File) -> Result<Image, Stop> {
     file.sync_all()?;
@@ -147,18 +169,16 @@ pub fn read_image(file: &File) -> Result<Image, Stop> {
         roots.insert(item.objectid, u64_at(item.body, 176));
     })?;
     walk.items(roots[&2], &mut |_| {})?;
-    let mut counted = 0;
-    walk.items(roots[&8], &mut |item| {
-        if item.kind == 242 {
-            counted = u64_at(item.body, 8);
-        }
-    })?;
+    let mut quota = Quota::default();
+    if let Some(root) = roots.get(&8) {
+        walk.items(*root, &mut |item| put_quota_item(&mut quota, item))?;
+    }
     let mut files = BTreeMap::new();
     walk.items(roots[&5], &mut |item| put_file_item(&mut files, item))?;
     Ok(Image {
         sizes: chosen.sizes,
         generation: chosen.generation,
-        counted,
+        quota,
         files,
         slots: walk.slots,
     })

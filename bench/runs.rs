@@ -49,6 +49,38 @@ impl Run {
     }
 }
 
+/// What the program and plain Rust answer, which must be the same.
+pub fn agreed(what: &str, [own, plain]: [Run; 2]) -> String {
+    let [own, plain] = [own, plain].map(|run| String::from_utf8(run.replies).expect("replies are text"));
+    if own != plain {
+        let same = own.lines().zip(plain.lines()).take_while(|(one, other)| one == other).count();
+        let [one, other] = [&own, &plain].map(|replies| replies.lines().nth(same).unwrap_or("nothing"));
+        panic!("{what}: answers differ in line {}: the program's is '{one}', plain Rust's '{other}'", same + 1);
+    }
+    own
+}
+
+/// Runs both halves on a script, and each over the image that the other left, on one that shows all that it holds.
+/// Their replies must be the same.
+pub fn compare(program: &str, plain: &str, sectors: &str, script: &str, shown: &str) -> io::Result<()> {
+    fs::write("mixed.txt", script)?;
+    fs::write("shown.txt", shown)?;
+    for image in ["own.img", "plain.img"] {
+        make(program, image, sectors)?;
+    }
+    agreed("mixed.txt", [Run::of(program, "own.img", "mixed.txt")?, Run::of(plain, "plain.img", "mixed.txt")?]);
+    let shown = Run::of(program, "plain.img", "shown.txt")?.replies;
+    assert!(!shown.starts_with(b"broken") && !shown.starts_with(b"differs"), "plain.img is not sound");
+    for (half, image) in [(program, "own.img"), (plain, "own.img"), (plain, "plain.img")] {
+        assert!(Run::of(half, image, "shown.txt")?.replies == shown, "the answers to shown.txt differ");
+    }
+    for name in ["own.img", "plain.img", "mixed.txt", "shown.txt"] {
+        fs::remove_file(name)?;
+    }
+    println!("answers agree");
+    Ok(())
+}
+
 /// Waits until a child has ended, but lets it wait for its parent, since the kernel forgets its time with it.
 fn busy_until_its_end(child: &Child) -> io::Result<u64> {
     let folder = format!("/proc/{}", child.id());
