@@ -2,7 +2,7 @@
 ghost use Rattle.std.specs.Prelude.{◌≡◌, map, true};
 ghost use Rattle.std.specs.List.Sorted.{IsNonDecreasingBy, IsStrictlyIncreasing};
 ghost use Rattle.qg_image.specs.Table.{keys_of};
-ghost use Rattle.qg_state.specs.Owed.{part_address};
+ghost use Rattle.qg_image.specs.Owed.{part_address};
 
 use qg_home::Linked;
 use qg_image::ExtentPart;

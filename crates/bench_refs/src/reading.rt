@@ -1,6 +1,6 @@
 // A book that is read from items, and a digest of items. `bench/refs.rs` does the same.
 ghost use Rattle.std.specs.Prelude.{◌≡◌, true};
-ghost use Rattle.qg_state.specs.Owed.{part_address};
+ghost use Rattle.qg_image.specs.Owed.{part_address};
 ghost use Rattle.qg_extents.specs.Told.{AreInOrder};
 
 use qg_extents::Extents;

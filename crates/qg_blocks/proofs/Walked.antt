@@ -15,10 +15,10 @@ use Rattle.qg_super.specs.Places.{is_served, is_slot, total_bytes}
 use Rattle.qg_super.specs.SuperText.{sizes_of}
 use Rattle.qg_super.proofs.Served.{SizesFit-is_served}
 use Rattle.qg_super.proofs.Slots.{slot_ends}
-use Rattle.qg_verdict.specs.declared.failure.Failure.{Failure}
-use Rattle.qg_verdict.specs.declared.failure.Failure.TheVariants.{Broken}
-use Rattle.qg_verdict.specs.Walk.{in_slot, node_found, read_there}
-use Rattle.qg_verdict.specs.ItemsUnder.{nodes_of}
+use Rattle.qg_image.specs.declared.failure.Failure.{Failure}
+use Rattle.qg_image.specs.declared.failure.Failure.TheVariants.{Broken}
+use Rattle.qg_image.specs.Walk.{in_slot, node_found, read_there}
+use Rattle.qg_image.specs.ItemsUnder.{nodes_of}
 use Rattle.qg_blocks.specs.Held.{Draft, slots_of}
 use Rattle.qg_blocks.specs.Standing.{has_slot, ruled, standing}
 use Rattle.qg_blocks.specs.Told.{fresh_at, told, told_or}

@@ -5,7 +5,7 @@ ghost use Rattle.qg_device.specs.History.{Event, content};
 ghost use Rattle.qg_num.specs.declared.fault.BlockFault.TheVariants.{Disk as DiskFailed};
 ghost use Rattle.qg_node.specs.NodeText.{IsNodeSize};
 ghost use Rattle.qg_super.specs.Places.{is_served};
-ghost use Rattle.qg_verdict.specs.Failure.{rule_of};
+ghost use Rattle.qg_image.specs.Failure.{rule_of};
 ghost use Rattle.qg_blocks.specs.Standing.{has_slot, standing};
 ghost use Rattle.qg_blocks.specs.Told.{Finds, IsNodeAt};
 

@@ -1,4 +1,5 @@
 // What a file of cases says.
+use qg_disk::Tear;
 use std::alloc::Global;
 
 /// A number that a line names, or the one that the part is run for (this project's own).
@@ -62,6 +63,19 @@ pub struct Run {
     pub wanted: Wanted,
 }
 
+/// The crashes behind each call of the last run, and what is wanted of the images that they leave (this project's own).
+#[derive(Debug, Drop)]
+pub struct Crashes {
+    /// What they do to all that no sync had made sure of.
+    pub tears: Vec<Tear>,
+    /// Whether there are also those that lose one change since the last sync, and no other.
+    pub losses: bool,
+    /// The bytes of the source of the run over each image.
+    pub input: Vec<u8>,
+    /// The bytes that such a run puts: first over the image as it was before, then over that of each commit.
+    pub states: Vec<Vec<u8>>,
+}
+
 /// One thing that is done, or wanted between runs (this project's own). Places and lengths are in bytes.
 #[derive(Debug, Drop)]
 pub enum Step {
@@ -81,6 +95,12 @@ pub enum Step {
     Bytes { at: u64, bytes: Vec<u8> },
     /// A length of the disk is wanted.
     Length { len: u64 },
+    /// The disk becomes what a crash behind a call of the last run leaves of it.
+    Crash { call: Number, tear: Tear },
+    /// So it does, where one change since the last sync is lost, and no other.
+    Loss { call: Number, change: Number },
+    /// All crashes of the last run are judged.
+    Crashes(Crashes),
 }
 
 /// Steps over one disk, one after the other (this project's own).
@@ -136,6 +156,18 @@ impl Run {
             input: Vec::new(alloc),
             plan: Plan::new(alloc),
             wanted: Wanted::new(alloc),
+        }
+    }
+}
+
+impl Crashes {
+    /// No crash, and no state.
+    pub(crate) fn new(alloc: Global) -> Crashes {
+        Crashes {
+            tears: Vec::new(alloc),
+            losses: false,
+            input: Vec::new(alloc),
+            states: Vec::new(alloc),
         }
     }
 }

@@ -39,6 +39,15 @@ pub enum Complaint {
     /// There is no run to which it belongs.
     #[error("no run stands before it")]
     NoRun,
+    /// A word for what a crash does is wanted.
+    #[error("old, new or a decimal number is wanted here")]
+    Tear,
+    /// There are no crashes to which it belongs.
+    #[error("no crashes stand before it")]
+    NoCrashes,
+    /// There is no state to which it belongs.
+    #[error("no state stands before it")]
+    NoState,
     /// It stands behind a step.
     #[error("it stands only before a part's first step")]
     Late,

@@ -1,6 +1,8 @@
 // The parts of a file are run and judged.
 use crate::change::{bytes_at, cut, extend, make_checksum, set};
-use crate::run::judge_run;
+use crate::crash::{crashed, crashed_without};
+use crate::crashes::judge_crashes;
+use crate::run::{call_number, judge_run};
 use crate::{Case, NoMemory, Part, Program, Report, Step};
 use qg_disk::{Disk, MemDisk};
 use std::alloc::Global;
@@ -37,6 +39,22 @@ impl Cases {
     }
 }
 
+// The disk of a part.
+#[derive(Drop)]
+struct Judged {
+    disk: MemDisk,
+    // How many calls it had answered when the last run over it began.
+    before: u64,
+}
+
+impl Judged {
+    // A disk over which no run has begun.
+    fn new(disk: MemDisk) -> Judged {
+        let before = disk.calls().len() as u64;
+        Judged { disk, before }
+    }
+}
+
 // Tells what could not be done.
 fn done(is_done: bool, report: &mut Report) -> Result<(), NoMemory> {
     if !is_done {
@@ -68,32 +86,73 @@ fn judge_bytes(
     Ok(())
 }
 
+// The length of the disk, against the one wanted.
+fn judge_length(
+    alloc: Global,
+    disk: &MemDisk,
+    len: u64,
+    report: &mut Report,
+) -> Result<(), NoMemory> {
+    let wanted = len.to_string(alloc)?;
+    let came = disk.len().to_string(alloc)?;
+    report.compare(alloc, "length", wanted.as_str(), came.as_str())?;
+    Ok(())
+}
+
+// Goes on with what a crash left, where there is such a crash.
+fn go_on(left: Option<MemDisk>, judged: &mut Judged, report: &mut Report) -> Result<(), NoMemory> {
+    match left {
+        Some(disk) => {
+            *judged = Judged::new(disk);
+            Ok(())
+        }
+        None => done(false, report),
+    }
+}
+
 // Does a step, and judges what came of it.
 fn judge_step<P: Program>(
     alloc: Global,
     program: &P,
     step: &Step,
     each: u64,
-    disk: &mut MemDisk,
+    judged: &mut Judged,
     report: &mut Report,
 ) -> Result<(), NoMemory> {
     match step {
         Step::Empty => {
-            *disk = MemDisk::new(alloc);
+            *judged = Judged::new(MemDisk::new(alloc));
             Ok(())
         }
-        Step::Run(run) => judge_run(alloc, program, run, each, disk, report),
-        Step::Set { at, bytes } => done(set(disk, *at, bytes), report),
-        Step::Checksum { at, len } => done(make_checksum(alloc, disk, *at, *len)?, report),
-        Step::Cut { len } => done(cut(disk, *len), report),
-        Step::Extend { len } => done(extend(disk, *len), report),
-        Step::Bytes { at, bytes } => judge_bytes(alloc, disk, *at, bytes, report),
-        Step::Length { len } => {
-            let wanted = len.to_string(alloc)?;
-            let came = disk.len().to_string(alloc)?;
-            report.compare(alloc, "length", wanted.as_str(), came.as_str())?;
-            Ok(())
+        Step::Run(run) => {
+            let before = judged.disk.calls().len() as u64;
+            judged.before = before;
+            judge_run(alloc, program, run, each, &mut judged.disk, report)
         }
+        Step::Crash { call, tear } => {
+            let count = call_number(*call, each, judged.before);
+            let left = crashed(alloc, &judged.disk, count, *tear)?;
+            go_on(left, judged, report)
+        }
+        Step::Loss { call, change } => {
+            let count = call_number(*call, each, judged.before);
+            let lost = call_number(*change, each, 0);
+            let left = crashed_without(alloc, &judged.disk, count, lost)?;
+            go_on(left, judged, report)
+        }
+        Step::Crashes(crashes) => {
+            let before = judged.before;
+            judge_crashes(alloc, program, crashes, &judged.disk, before, report)
+        }
+        Step::Set { at, bytes } => done(set(&mut judged.disk, *at, bytes), report),
+        Step::Checksum { at, len } => {
+            let is_done = make_checksum(alloc, &mut judged.disk, *at, *len)?;
+            done(is_done, report)
+        }
+        Step::Cut { len } => done(cut(&mut judged.disk, *len), report),
+        Step::Extend { len } => done(extend(&mut judged.disk, *len), report),
+        Step::Bytes { at, bytes } => judge_bytes(alloc, &mut judged.disk, *at, bytes, report),
+        Step::Length { len } => judge_length(alloc, &judged.disk, *len, report),
     }
 }
 
@@ -103,12 +162,12 @@ fn judge_steps<P: Program>(
     program: &P,
     part: &Part,
     each: u64,
-    disk: &mut MemDisk,
+    judged: &mut Judged,
     report: &mut Report,
 ) -> Result<(), NoMemory> {
     for (line, step) in part.steps.iter() {
         report.at(*line);
-        judge_step(alloc, program, step, each, disk, report)?;
+        judge_step(alloc, program, step, each, judged, report)?;
     }
     Ok(())
 }
@@ -151,13 +210,13 @@ fn judge_part<P: Program>(
     if part.steps.is_empty() {
         report.tell("a part has no step")?;
     }
-    let mut disk = MemDisk::new(alloc);
+    let mut judged = Judged::new(MemDisk::new(alloc));
     let earlier = earlier_parts(alloc, cases, part, report)?;
     for before in earlier.iter().rev() {
         let mut unread = Report::new(alloc);
-        judge_steps(alloc, program, before, each, &mut disk, &mut unread)?;
+        judge_steps(alloc, program, before, each, &mut judged, &mut unread)?;
     }
-    judge_steps(alloc, program, part, each, &mut disk, report)?;
+    judge_steps(alloc, program, part, each, &mut judged, report)?;
     report.end();
     Ok(())
 }

@@ -7,6 +7,8 @@
 mod calls;
 mod case;
 mod change;
+mod crash;
+mod crashes;
 mod fault;
 mod files;
 mod flip;
@@ -20,7 +22,7 @@ mod run;
 mod steps;
 mod text;
 
-pub use case::{Case, Flip, Number, Part, Plan, Run, Step, Wanted};
+pub use case::{Case, Crashes, Flip, Number, Part, Plan, Run, Step, Wanted};
 pub use fault::{CaseFault, Complaint, NoMemory};
 pub use files::{case_names, case_text};
 pub use judge::{Cases, judge_case};

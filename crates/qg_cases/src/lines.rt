@@ -1,7 +1,7 @@
 // What the lines of a run add to it.
 use crate::numbers::{choice_of, choices_of, number_of, small_number_of};
 use crate::text::{escaped_of, first_word, hex_of, line_of};
-use crate::{Complaint, Flip, Run};
+use crate::{Complaint, Crashes, Flip, Run};
 use std::alloc::Global;
 
 /// The bytes that a line of input or of output stands for: `<` and `>` a line, `<<` and `>>` bytes without a newline.
@@ -13,7 +13,15 @@ pub(crate) fn piece_of(alloc: Global, mark: &str, text: &str) -> Result<Vec<u8>,
     }
 }
 
-/// Adds a line of input or of output so many times.
+// Adds bytes so many times.
+fn add_times(bytes: &mut Vec<u8>, piece: &[u8], times: u64) -> Result<(), Complaint> {
+    for _ in 0..times {
+        bytes.extend_from_slice(piece)?;
+    }
+    Ok(())
+}
+
+/// Adds a line of input or of output to a run, so many times.
 pub(crate) fn add_piece(
     alloc: Global,
     run: &mut Run,
@@ -22,15 +30,29 @@ pub(crate) fn add_piece(
     times: u64,
 ) -> Result<(), Complaint> {
     let piece = piece_of(alloc, mark, text)?;
-    let bytes = if mark.starts_with('<') {
-        &mut run.input
+    if mark.starts_with('<') {
+        add_times(&mut run.input, &piece, times)
     } else {
-        &mut run.wanted.put
-    };
-    for _ in 0..times {
-        bytes.extend_from_slice(&piece)?;
+        add_times(&mut run.wanted.put, &piece, times)
     }
-    Ok(())
+}
+
+/// Adds a line of input to crashes, or one of output to the last of their states, so many times.
+pub(crate) fn add_piece_of_crashes(
+    alloc: Global,
+    crashes: &mut Crashes,
+    mark: &str,
+    text: &str,
+    times: u64,
+) -> Result<(), Complaint> {
+    let piece = piece_of(alloc, mark, text)?;
+    if mark.starts_with('<') {
+        return add_times(&mut crashes.input, &piece, times);
+    }
+    match crashes.states.last_mut() {
+        Some(state) => add_times(state, &piece, times),
+        None => Err(Complaint::NoState),
+    }
 }
 
 /// Adds a call of the disk that is wanted, or the first time that none is.

@@ -1,5 +1,5 @@
 // The lines of a part.
-use crate::lines::{add_piece, add_to_run};
+use crate::lines::{add_piece, add_piece_of_crashes, add_to_run};
 use crate::numbers::{number_of, two_numbers_of};
 use crate::steps::step_of;
 use crate::text::{first_word, line_of, without_comment, words_of};
@@ -23,8 +23,24 @@ impl Part {
         text: &str,
         times: u64,
     ) -> Result<(), Complaint> {
-        let run = self.last_run()?;
-        add_piece(alloc, run, mark, text, times)
+        match self.steps.last_mut() {
+            Some((_, Step::Run(run))) => add_piece(alloc, run, mark, text, times),
+            Some((_, Step::Crashes(crashes))) => {
+                add_piece_of_crashes(alloc, crashes, mark, text, times)
+            }
+            _ => Err(Complaint::NoRun),
+        }
+    }
+
+    // Adds a state of which the lines that follow are wanted.
+    fn add_state(&mut self, alloc: Global) -> Result<(), Complaint> {
+        match self.steps.last_mut() {
+            Some((_, Step::Crashes(crashes))) => {
+                crashes.states.push(Vec::new(alloc))?;
+                Ok(())
+            }
+            _ => Err(Complaint::NoCrashes),
+        }
     }
 
     // Adds a line so many times.
@@ -77,6 +93,7 @@ impl Part {
                 self.add_step(number, Step::Run(run))?;
             }
             "no-words" => self.add_step(number, Step::Run(Run::new(alloc, Vec::new(alloc))))?,
+            "state" => self.add_state(alloc)?,
             "fail" | "stop" | "flip" | "status" | "calls" | "@" => {
                 let run = self.last_run()?;
                 add_to_run(alloc, run, word, text)?;

@@ -22,8 +22,8 @@ pub trait Program {
     ) -> u8;
 }
 
-// The number of a call, where `made` were made before.
-fn call_number(number: Number, each: u64, made: u64) -> u64 {
+/// The number of a call, where `made` were made before.
+pub(crate) fn call_number(number: Number, each: u64, made: u64) -> u64 {
     match number {
         Number::Given(number) => made.saturating_add(number),
         Number::Each => made.saturating_add(each),
@@ -60,15 +60,14 @@ fn clear_plan(alloc: Global, disk: &mut MemDisk) {
     disk.stop_after(u64::MAX);
 }
 
-// What was put, against what was wanted: the first line that differs is told.
-fn judge_put(
+/// The first line in which what was put differs from what was wanted, in words.
+pub(crate) fn difference(
     alloc: Global,
     wanted: &[u8],
     came: &[u8],
-    report: &mut Report,
-) -> Result<(), NoMemory> {
+) -> Result<Option<String>, NoMemory> {
     if wanted == came {
-        return Ok(());
+        return Ok(None);
     }
     let mut rest = came.split(|byte| *byte == b'\n');
     let mut number = 0u64;
@@ -76,28 +75,38 @@ fn judge_put(
         number = number.saturating_add(1);
         let other = rest.next();
         if other != Some(line) {
-            return tell_line(alloc, number, line, other, report);
+            return Ok(Some(line_text(alloc, number, line, other)?));
         }
     }
-    report.tell("more was put than is wanted")?;
-    Ok(())
+    Ok(Some(String::from_str(alloc, "more was put than is wanted")?))
 }
 
-// Tells a line that differs.
-fn tell_line(
+// A line that differs, in words.
+fn line_text(
     alloc: Global,
     number: u64,
     wanted: &[u8],
     came: Option<&[u8]>,
-    report: &mut Report,
-) -> Result<(), NoMemory> {
+) -> Result<String, NoMemory> {
     let wanted = str::from_utf8(wanted).unwrap_or(NO_TEXT);
     let came = match came {
         Some(line) => str::from_utf8(line).unwrap_or(NO_TEXT),
         None => "its end",
     };
     let text = format!(in alloc; "line {number} of the output: wanted {wanted}, came {came}")?;
-    report.tell(text.as_str())?;
+    Ok(text)
+}
+
+// What was put, against what was wanted: the first line that differs is told.
+fn judge_put(
+    alloc: Global,
+    wanted: &[u8],
+    came: &[u8],
+    report: &mut Report,
+) -> Result<(), NoMemory> {
+    if let Some(text) = difference(alloc, wanted, came)? {
+        report.tell(text.as_str())?;
+    }
     Ok(())
 }
 

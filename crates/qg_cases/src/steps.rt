@@ -1,7 +1,8 @@
 // The steps that are no runs.
-use crate::numbers::{number_of, two_numbers_of};
+use crate::numbers::{choice_of, number_of, two_numbers_of};
 use crate::text::{first_word, hex_of};
-use crate::{Complaint, Step};
+use crate::{Complaint, Crashes, Step};
+use qg_disk::Tear;
 use std::alloc::Global;
 
 // A place and the bytes there.
@@ -29,6 +30,49 @@ fn zeros(alloc: Global, count: u64) -> Result<Vec<u8>, Complaint> {
         bytes.push(0)?;
     }
     Ok(bytes)
+}
+
+// What a crash does to a change: nothing, all of it, or a write's first bytes.
+fn tear_of(text: &str) -> Result<Tear, Complaint> {
+    match text {
+        "old" => Ok(Tear::Old),
+        "new" => Ok(Tear::New),
+        _ => {
+            let count = text.parse::<u64>().map_err(|_| Complaint::Tear)?;
+            Ok(Tear::Split(count as usize))
+        }
+    }
+}
+
+// Crashes that do what the words say, each of them in its turn.
+fn crashes_of(alloc: Global, text: &str) -> Result<Crashes, Complaint> {
+    let mut crashes = Crashes::new(alloc);
+    for word in text.split(' ') {
+        if word == "lost" {
+            crashes.losses = true;
+        } else {
+            let tear = tear_of(word)?;
+            crashes.tears.push(tear)?;
+        }
+    }
+    Ok(crashes)
+}
+
+// The step of a line that is of crashes.
+fn crash_step_of(alloc: Global, word: &str, text: &str) -> Result<Step, Complaint> {
+    let (first, rest) = first_word(text);
+    match word {
+        "crash" => Ok(Step::Crash {
+            call: choice_of(first)?,
+            tear: tear_of(rest)?,
+        }),
+        "lose" => Ok(Step::Loss {
+            call: choice_of(first)?,
+            change: choice_of(rest)?,
+        }),
+        "crashes" => Ok(Step::Crashes(crashes_of(alloc, text)?)),
+        _ => Err(Complaint::Word),
+    }
 }
 
 /// The step of a line.
@@ -64,6 +108,6 @@ pub(crate) fn step_of(alloc: Global, word: &str, text: &str) -> Result<Step, Com
         "length" => Ok(Step::Length {
             len: number_of(text)?,
         }),
-        _ => Err(Complaint::Word),
+        _ => crash_step_of(alloc, word, text),
     }
 }

@@ -5,7 +5,7 @@ use Rattle.std.specs.List.{Contains, filter, find, count_by}
 use Rattle.std.specs.Option.{option_and_then}
 use Rattle.std.proofs.lemmas.Bool.{and_parts, cases_Bool, cond-true, cond-false, eqb-true, true≢false}
 use Rattle.std.proofs.lemmas.List.Elements.{Contains-append_left, Contains-append_right}
-use Rattle.qg_state.specs.Record.{same_reference}
+use Rattle.qg_image.specs.Record.{same_reference}
 use Rattle.qg_items.specs.declared.extent.Reference.{Reference}
 use Rattle.qg_node.specs.declared.node.Header.{Header}
 use Rattle.qg_node.specs.Nodes.{header_of}
@@ -13,10 +13,10 @@ use Rattle.qg_image.specs.Table.{keys_of, number_set, value_at}
 use Rattle.qg_image.specs.declared.part.ExtentPart.{ExtentPart}
 use Rattle.qg_image.specs.declared.part.ExtentPart.TheVariants.{DataRecord, NodeRecord, Referenced}
 use Rattle.qg_image.specs.ItemMeaning.{some_passes}
-use Rattle.qg_state.specs.declared.element.Element.{Element}
-use Rattle.qg_state.specs.Owed.{Agrees, agrees_at, disagreement, recorded_addresses, layout_extents, owed_to, is_nothing, is_record, is_record_of, is_recorded_once, node_flags, part_address, what_at, What, Data, Block, owed_count}
-use Rattle.qg_state.specs.State.{Layout, Placed}
-use Rattle.qg_state.proofs.Contained.{contains_cases, contains_here, none_contained}
+use Rattle.qg_image.specs.declared.element.Element.{Element}
+use Rattle.qg_image.specs.Owed.{Agrees, agrees_at, disagreement, recorded_addresses, layout_extents, owed_to, is_nothing, is_record, is_record_of, is_recorded_once, node_flags, part_address, what_at, What, Data, Block, owed_count}
+use Rattle.qg_image.specs.State.{Layout, Placed}
+use Rattle.qg_image.proofs.Contained.{contains_cases, contains_here, none_contained}
 use Rattle.qg_reach.proofs.Members.{contains_map}
 use Rattle.qg_refs.specs.Book.{Book, full_in, what_in}
 use Rattle.qg_owed.proofs.Filters.{kept_contains}

@@ -7,14 +7,14 @@ use Rattle.std.proofs.lemmas.Option.{slice_get-get_or, slice_get-map}
 use Rattle.qg_num.specs.declared.counters.Counters.{Counters}
 use Rattle.qg_num.specs.declared.counters.Which.TheVariants.{Rfer, Excl}
 use Rattle.qg_image.specs.Table.{keys_of}
-use Rattle.qg_state.specs.declared.quota.Group.{Group}
-use Rattle.qg_state.specs.declared.quota.Quota.{Quota}
-use Rattle.qg_state.specs.State.{Layout}
-use Rattle.qg_state.specs.Members.{Hierarchy, hierarchy_of}
-use Rattle.qg_state.specs.Counts.{direct_count}
-use Rattle.qg_verdict.specs.declared.failure.Failure.{Failure}
-use Rattle.qg_verdict.specs.Failure.{first_failure}
-use Rattle.qg_verdict.specs.Verdict.{counted, counts_failure, group_failure}
+use Rattle.qg_image.specs.declared.quota.Group.{Group}
+use Rattle.qg_image.specs.declared.quota.Quota.{Quota}
+use Rattle.qg_image.specs.State.{Layout}
+use Rattle.qg_image.specs.Members.{Hierarchy, hierarchy_of}
+use Rattle.qg_image.specs.Counts.{direct_count}
+use Rattle.qg_image.specs.declared.failure.Failure.{Failure}
+use Rattle.qg_image.specs.Failure.{first_failure}
+use Rattle.qg_image.specs.Verdict.{counted, counts_failure, group_failure}
 use Rattle.qg_home.proofs.Listed.{at_one, at_read}
 use Rattle.qg_direct.specs.Direct.{AreGroupCounts}
 use Rattle.qg_groups.specs.declared.state.QuotaState.{QuotaState}

@@ -1,13 +1,12 @@
 -- An image of the trees that were read may be edited, whatever the disk tells.
 use Rattle.std.proofs.Common.{◌≡◌, ℕ, Bool, true, List, [], ◌++◌, refl, sym, subst}
-use Rattle.std.specs.Prelude.{Err, IfOk, IfSome, None, Ok, Option, Result, Some}
+use Rattle.std.specs.Prelude.{IfSome, None, Option, Some}
 use Rattle.std.specs.List.{list_all}
 use Rattle.std.specs.Option.{option_map}
 use Rattle.std.proofs.lemmas.List.Folds.{list_all-append}
 use Rattle.qg_super.specs.declared.superblock.Super.{Super}
 use Rattle.qg_super.specs.Places.{is_slot}
-use Rattle.qg_super.specs.SuperText.{is_super, sizes_of}
-use Rattle.qg_walk.specs.declared.fault.OpenFault.{OpenFault}
+use Rattle.qg_super.specs.SuperText.{sizes_of}
 use Rattle.qg_groups.specs.declared.state.QuotaState.{QuotaState}
 use Rattle.qg_groups.specs.Tracked.{quota_of, HoldsAll, IsTracked}
 use Rattle.qg_check.specs.declared.image.Image.{Image}
@@ -17,20 +16,9 @@ use Rattle.qg_check.specs.IsImage.{IsEditable, Keeps}
 use Rattle.qg_items.specs.declared.root.RootItem.{RootItem}
 use Rattle.qg_image.specs.Table.{keys_of}
 use Rattle.qg_check.specs.Editable.{AreGroupsOf, AreSubvolumes}
-use Rattle.qg_check.specs.Trees.{quota_nodes_read, AreFitParts}
+use Rattle.qg_check.specs.Trees.{quota_nodes_read}
+use Rattle.qg_check.specs.Whole.{IsFit}
 use Rattle.qg_check.proofs.Recorded.{known_by}
-
--- what was read is fit, tree by tree
-pub record IsFit (super : Super) (read : Read) : Type 0 where
-  pub superblock : is_super super ≡ true
-  pub subvolumes : AreSubvolumes super.generation read.trees.subvolumes
-  pub roots : list_all (is_slot (sizes_of super)) read.trees.nodes ≡ true
-  pub extents : list_all (is_slot (sizes_of super)) read.extents.nodes ≡ true
-  pub parts : AreFitParts super.generation read.extents.parts
-  pub quotas : list_all (is_slot (sizes_of super)) (quota_nodes_read read.quotas) ≡ true
-  pub groups : AreGroupsOf super.generation (keys_of read.trees.subvolumes) (quota_of (option_map (λ (tree : QuotaTree). tree.quota) read.quotas))
-  pub tracked : IfSome (option_map (λ (tree : QuotaTree). tree.quota) read.quotas) IsTracked
-  pub none : IfSome (option_map (λ (tree : QuotaTree). tree.quota) read.quotas) (λ state. HoldsAll state [])
 
 pass_three : (test : ℕ → Bool) (a b c : List ℕ) → list_all test a ≡ true → list_all test b ≡ true → list_all test c ≡ true → list_all test (a ++ b ++ c) ≡ true
 pass_three test a b c first second third = rw (list_all-append, list_all-append, first, second, third) refl
@@ -58,15 +46,9 @@ kept_editable read image keeps fit =
       known = known_by super.generation super.nodesize read.extents.parts image.book fit.parts.by keeps.book keeps.table;
     }
 
-read_editable : (super : Super) (read : Read) (image : Image) → image.superblock ≡ super → Keeps super read image → IsFit super read → IsEditable image
+pub read_editable : (super : Super) (read : Read) (image : Image) → image.superblock ≡ super → Keeps super read image → IsFit super read → IsEditable image
 read_editable super read image same keeps fit =
     kept_editable read image (subst (λ (s : Super). Keeps s read image) (sym same) keeps) (subst (λ (s : Super). IsFit s read) (sym same) fit)
-
--- so is the answer, where it is an image
-pub answer_editable : (super : Super) (read : Read) (answer : Result Image OpenFault) → IfOk answer (λ image. image.superblock ≡ super) → IfOk answer (λ image. Keeps super read image)
-    → IsFit super read → IfOk answer (λ image. IsEditable image)
-answer_editable super read (Ok image) same keeps fit = read_editable super read image same keeps fit
-answer_editable super read (Err fault) same keeps fit = tt
 
 -- whichever place of the superblock is stale
 pub stale_editable : (image : Image) (stale : Option ℕ) → IsEditable image → IsEditable (record image { stale = stale })

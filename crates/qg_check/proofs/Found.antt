@@ -25,12 +25,12 @@ use Rattle.qg_super.specs.Places.{is_slot}
 use Rattle.qg_super.specs.SuperText.{sizes_of}
 use Rattle.qg_image.specs.Below.{inner_pointers, items_below, joined, leaf_items, nodes_below}
 use Rattle.qg_image.specs.ItemMeaning.{when}
-use Rattle.qg_state.proofs.Contained.{none_contained, contains_here, contains_cases}
-use Rattle.qg_verdict.specs.declared.failure.Failure.{Failure}
-use Rattle.qg_verdict.specs.declared.tree.Tree.{Tree}
-use Rattle.qg_verdict.specs.declared.expected.Expected.{Expected}
-use Rattle.qg_verdict.specs.Walk.{in_slot, node_found}
-use Rattle.qg_verdict.specs.ItemsUnder.{is_way, items_under, nodes_of, nodes_under}
+use Rattle.qg_image.proofs.Contained.{none_contained, contains_here, contains_cases}
+use Rattle.qg_image.specs.declared.failure.Failure.{Failure}
+use Rattle.qg_image.specs.declared.tree.Tree.{Tree}
+use Rattle.qg_image.specs.declared.expected.Expected.{Expected}
+use Rattle.qg_image.specs.Walk.{in_slot, node_found}
+use Rattle.qg_image.specs.ItemsUnder.{is_way, items_under, nodes_of, nodes_under}
 use Rattle.qg_reach.proofs.Reached.{address_of, FindsEach, LieWhereFound}
 
 -- ---- where a node lies

@@ -14,14 +14,14 @@ use Rattle.qg_image.specs.Table.{has_key, keys_of, value_at}
 use Rattle.qg_image.specs.declared.part.QuotaPart.{QuotaPart}
 use Rattle.qg_image.specs.declared.part.QuotaPart.TheVariants.{Status, Info, Limits, Relation}
 use Rattle.qg_image.specs.ItemMeaning.{is_subvolume_number, quota_part_stamps}
-use Rattle.qg_state.specs.declared.quota.Group.{Group}
-use Rattle.qg_state.specs.declared.quota.Quota.{Quota}
-use Rattle.qg_state.specs.Members.{hierarchy_of, level_of_group}
-use Rattle.qg_verdict.specs.ImageState.{group_told, info_told, limit_told, pair_told, quota_told}
-use Rattle.qg_verdict.specs.Verdict.{are_few, fits_quota, is_group_number, is_plain, is_quota, is_relation_part, is_status_part}
-use Rattle.qg_verdict.specs.Walk.{are_by, tells_generation}
-use Rattle.qg_verdict.specs.declared.failure.Failure.TheVariants.{Broken}
-use Rattle.qg_verdict.specs.Failure.{first_failure, unless}
+use Rattle.qg_image.specs.declared.quota.Group.{Group}
+use Rattle.qg_image.specs.declared.quota.Quota.{Quota}
+use Rattle.qg_image.specs.Members.{hierarchy_of, level_of_group}
+use Rattle.qg_image.specs.ImageState.{group_told, info_told, limit_told, pair_told, quota_told}
+use Rattle.qg_image.specs.Verdict.{are_few, fits_quota, is_group_number, is_plain, is_quota, is_relation_part, is_status_part}
+use Rattle.qg_image.specs.Walk.{are_by, tells_generation}
+use Rattle.qg_image.specs.declared.failure.Failure.TheVariants.{Broken}
+use Rattle.qg_image.specs.Failure.{first_failure, unless}
 use Rattle.qg_parts.specs.Keys.{quota_key}
 use Rattle.qg_hier.specs.Groups.{IsSound}
 use Rattle.qg_quota.specs.Quota.{quota_rule}

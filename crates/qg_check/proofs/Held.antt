@@ -6,8 +6,8 @@ use Rattle.qg_node.specs.declared.item.Item.{Item}
 use Rattle.qg_image.specs.declared.file.File.{File}
 use Rattle.qg_image.specs.declared.part.FilePart.{FilePart}
 use Rattle.qg_image.specs.FilesOf.{file_parts, are_files, files_in, files_of}
-use Rattle.qg_verdict.specs.declared.tree.Tree.TheVariants.{Files}
-use Rattle.qg_verdict.specs.Walk.{is_item_of}
+use Rattle.qg_image.specs.declared.tree.Tree.TheVariants.{Files}
+use Rattle.qg_image.specs.Walk.{is_item_of}
 
 -- the items fit each other, and these are their files
 pub record FilesRead (parts : List FilePart) (files : List (ℕ × File)) : Type 0 where

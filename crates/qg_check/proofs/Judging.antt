@@ -11,16 +11,16 @@ use Rattle.qg_super.specs.Places.{is_served}
 use Rattle.qg_super.specs.SuperText.{sizes_of}
 use Rattle.qg_image.specs.Table.{value_at}
 use Rattle.qg_image.specs.declared.part.ExtentPart.{ExtentPart}
-use Rattle.qg_state.specs.declared.element.Element.{Element}
-use Rattle.qg_state.specs.Owed.{Agrees, disagreement, homeless, layout_extents, what_at, Data}
-use Rattle.qg_state.specs.Reach.{extent_of, is_among, pieces_of}
-use Rattle.qg_state.specs.Space.{present_extents}
-use Rattle.qg_state.specs.State.{Layout, Placed, layout_of}
-use Rattle.qg_state.proofs.Contained.{contains_cases, none_contained}
-use Rattle.qg_verdict.specs.declared.failure.Failure.TheVariants.{Broken}
-use Rattle.qg_verdict.specs.Failure.{first_failure}
-use Rattle.qg_verdict.specs.ImageState.{extent_parts, state_in}
-use Rattle.qg_verdict.specs.Verdict.{extent_set, references_failure, space_failure}
+use Rattle.qg_image.specs.declared.element.Element.{Element}
+use Rattle.qg_image.specs.Owed.{Agrees, disagreement, homeless, layout_extents, what_at, Data}
+use Rattle.qg_image.specs.Reach.{extent_of, is_among, pieces_of}
+use Rattle.qg_image.specs.Space.{present_extents}
+use Rattle.qg_image.specs.State.{Layout, Placed, layout_of}
+use Rattle.qg_image.proofs.Contained.{contains_cases, none_contained}
+use Rattle.qg_image.specs.declared.failure.Failure.TheVariants.{Broken}
+use Rattle.qg_image.specs.Failure.{first_failure}
+use Rattle.qg_image.specs.ImageState.{extent_parts, state_in}
+use Rattle.qg_image.specs.Verdict.{extent_set, references_failure, space_failure}
 use Rattle.qg_reach.specs.Sets.{HaveSame}
 use Rattle.qg_reach.proofs.ExtentSets.{extent_set_of_same, extent_set_same}
 use Rattle.qg_reach.proofs.Distinct.{apart_same}

@@ -22,3 +22,4 @@ pub mod Agreed
 pub mod Owing
 pub mod Judging
 pub mod Together
+pub mod Reported

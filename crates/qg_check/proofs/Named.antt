@@ -5,8 +5,8 @@ use Rattle.std.proofs.lemmas.Bool.{and_parts, eqb-true}
 use Rattle.qg_items.specs.declared.root.RootItem.{RootItem}
 use Rattle.qg_image.specs.Table.{has_key, value_at}
 use Rattle.qg_image.specs.ItemMeaning.{is_subvolume_number}
-use Rattle.qg_verdict.specs.ImageState.{subvolume_roots}
-use Rattle.qg_verdict.specs.Verdict.{are_roots}
+use Rattle.qg_image.specs.ImageState.{subvolume_roots}
+use Rattle.qg_image.specs.Verdict.{are_roots}
 
 -- what `root` asks of the roots
 pub record AreAsked (roots : List (ℕ × RootItem)) : Type 0 where

@@ -21,15 +21,15 @@ use Rattle.qg_image.specs.declared.part.ExtentPart.{ExtentPart}
 use Rattle.qg_image.specs.declared.part.FilePart.{FilePart}
 use Rattle.qg_image.specs.declared.part.FilePart.TheVariants.{Inode, PieceOf}
 use Rattle.qg_image.specs.ItemMeaning.{file_part}
-use Rattle.qg_state.specs.declared.element.Element.{Element}
-use Rattle.qg_state.specs.Owed.{Owing, layout_extents, owed, owed_by_node, owed_by_part, owed_to, owed_to_child, reference_offset, is_nothing, what_at, Nothing, Data, Block}
-use Rattle.qg_state.specs.Reach.{extent_of, piece_of_part, pieces_of}
-use Rattle.qg_state.specs.State.{Layout, Placed, layout_of}
-use Rattle.qg_state.proofs.Contained.{contains_cases, contains_here, none_contained}
-use Rattle.qg_verdict.specs.declared.tree.Tree.TheVariants.{Files}
-use Rattle.qg_verdict.specs.ItemsUnder.{is_way, nodes_of}
-use Rattle.qg_verdict.specs.ImageState.{extent_parts, level_in, nodes_of_root, placed, state_in}
-use Rattle.qg_verdict.specs.Walk.{node_found, root_told}
+use Rattle.qg_image.specs.declared.element.Element.{Element}
+use Rattle.qg_image.specs.Owed.{Owing, layout_extents, owed, owed_by_node, owed_by_part, owed_to, owed_to_child, reference_offset, is_nothing, what_at, Nothing, Data, Block}
+use Rattle.qg_image.specs.Reach.{extent_of, piece_of_part, pieces_of}
+use Rattle.qg_image.specs.State.{Layout, Placed, layout_of}
+use Rattle.qg_image.proofs.Contained.{contains_cases, contains_here, none_contained}
+use Rattle.qg_image.specs.declared.tree.Tree.TheVariants.{Files}
+use Rattle.qg_image.specs.ItemsUnder.{is_way, nodes_of}
+use Rattle.qg_image.specs.ImageState.{extent_parts, level_in, nodes_of_root, placed, state_in}
+use Rattle.qg_image.specs.Walk.{node_found, root_told}
 use Rattle.qg_image.specs.Below.{nodes_below}
 use Rattle.qg_image.specs.ItemMeaning.{when}
 use Rattle.qg_reach.proofs.Members.{contains_flat_map, contains_map, one_flat_mapped, one_mapped}

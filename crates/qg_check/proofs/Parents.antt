@@ -10,7 +10,7 @@ use Rattle.qg_node.specs.declared.node.Node.{Node}
 use Rattle.qg_node.specs.declared.node.Node.TheVariants.{Leaf, Inner}
 use Rattle.qg_node.specs.Nodes.{own_pointers}
 use Rattle.qg_image.specs.Below.{inner_pointers, joined, leaf_items, nodes_below}
-use Rattle.qg_state.proofs.Contained.{contains_cases, contains_here, contains_later, none_contained}
+use Rattle.qg_image.proofs.Contained.{contains_cases, contains_here, contains_later, none_contained}
 
 -- a pointer of one of some nodes leads to a node
 pub record HasParent (found : ℕ → Option Node) (nodes : List Node) (node : Node) : Type 0 where

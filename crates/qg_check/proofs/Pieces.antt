@@ -19,10 +19,10 @@ use Rattle.qg_image.specs.declared.part.FilePart.TheVariants.{Inode, PieceOf}
 use Rattle.qg_image.specs.FilesOf.{are_files, file_in, files_in, inodes_in, is_inode, is_owned, piece_in}
 use Rattle.qg_image.specs.ItemMeaning.{file_part}
 use Rattle.qg_image.specs.Table.{has_key, value_at}
-use Rattle.qg_state.specs.declared.element.Element.{Element}
-use Rattle.qg_state.specs.Reach.{extent_of, piece_of_part, pieces_of}
-use Rattle.qg_state.proofs.Contained.{none_contained, contains_here, contains_later, contains_cases}
-use Rattle.qg_verdict.specs.Verdict.{extent_set}
+use Rattle.qg_image.specs.declared.element.Element.{Element}
+use Rattle.qg_image.specs.Reach.{extent_of, piece_of_part, pieces_of}
+use Rattle.qg_image.proofs.Contained.{none_contained, contains_here, contains_later, contains_cases}
+use Rattle.qg_image.specs.Verdict.{extent_set}
 use Rattle.qg_reach.specs.Sets.{HaveSame}
 use Rattle.qg_reach.proofs.Members.{contains_map, one_mapped, contains_flat_map, one_flat_mapped, same_on}
 use Rattle.qg_reach.proofs.ExtentSets.{extent_set_same}

@@ -16,9 +16,9 @@ use Rattle.qg_image.specs.declared.part.ExtentPart.{ExtentPart}
 use Rattle.qg_image.specs.declared.part.ExtentPart.TheVariants.{DataRecord, NodeRecord, Referenced}
 use Rattle.qg_image.specs.ItemMeaning.{when, ◌orelse◌, extent_part, extent_part_stamps}
 use Rattle.qg_parts.specs.Said.{AreSaid}
-use Rattle.qg_state.specs.Owed.{is_record, part_address}
-use Rattle.qg_state.proofs.Contained.{contains_here}
-use Rattle.qg_verdict.specs.Walk.{are_by}
+use Rattle.qg_image.specs.Owed.{is_record, part_address}
+use Rattle.qg_image.proofs.Contained.{contains_here}
+use Rattle.qg_image.specs.Walk.{are_by}
 use Rattle.qg_refs.specs.declared.kept.Kept.{Kept}
 use Rattle.qg_refs.specs.declared.kept.What.{What}
 use Rattle.qg_refs.specs.Book.{what_in}

@@ -19,10 +19,10 @@ use Rattle.std.proofs.lemmas.Option.{same_Some}
 use Rattle.qg_image.specs.Table.{has_key}
 use Rattle.qg_image.specs.declared.part.QuotaPart.{QuotaPart}
 use Rattle.qg_image.specs.declared.part.QuotaPart.TheVariants.{Status, Info, Limits, Relation}
-use Rattle.qg_state.specs.Members.{level_of_group}
-use Rattle.qg_state.proofs.Contained.{contains_here, contains_later}
-use Rattle.qg_verdict.specs.ImageState.{info_told, pair_told}
-use Rattle.qg_verdict.specs.Verdict.{are_few, fits_quota, has_twin, is_relation_part}
+use Rattle.qg_image.specs.Members.{level_of_group}
+use Rattle.qg_image.proofs.Contained.{contains_here, contains_later}
+use Rattle.qg_image.specs.ImageState.{info_told, pair_told}
+use Rattle.qg_image.specs.Verdict.{are_few, fits_quota, has_twin, is_relation_part}
 use Rattle.qg_hier.specs.Groups.{pair_cmp}
 use Rattle.qg_hier.proofs.Sets.{pair_order}
 use Rattle.qg_check.proofs.Pieces.{contains_given, one_given}

@@ -8,10 +8,10 @@ use Rattle.qg_items.specs.declared.root.RootItem.{RootItem}
 use Rattle.qg_super.specs.declared.superblock.Super.{Super}
 use Rattle.qg_image.specs.ItemMeaning.{root_part, quota_part}
 use Rattle.qg_image.specs.Table.{value_at}
-use Rattle.qg_verdict.specs.declared.tree.Tree.{Tree}
-use Rattle.qg_verdict.specs.declared.tree.Tree.TheVariants.{Roots, Quotas}
-use Rattle.qg_verdict.specs.Walk.{root_expected, root_told}
-use Rattle.qg_verdict.specs.ImageState.{roots_in, tree_items, items_of_root, quota_parts}
+use Rattle.qg_image.specs.declared.tree.Tree.{Tree}
+use Rattle.qg_image.specs.declared.tree.Tree.TheVariants.{Roots, Quotas}
+use Rattle.qg_image.specs.Walk.{root_expected, root_told}
+use Rattle.qg_image.specs.ImageState.{roots_in, tree_items, items_of_root, quota_parts}
 use Rattle.qg_walk.specs.IsWalk.{IsWalk}
 
 -- the parts are what is said, and nothing was left out

@@ -7,7 +7,7 @@ use Rattle.std.proofs.lemmas.List.Folds.{list_all-map}
 use Rattle.std.proofs.lemmas.List.Elements.{Contains-get_or}
 use Rattle.qg_super.specs.declared.sizes.Sizes.{Sizes}
 use Rattle.qg_super.specs.Places.{is_slot}
-use Rattle.qg_state.proofs.Contained.{none_contained, contains_cases}
+use Rattle.qg_image.proofs.Contained.{none_contained, contains_cases}
 use Rattle.qg_reach.specs.Sets.{HaveSame}
 use Rattle.qg_walk.specs.Held.{AreAddressesOf, AreInSlots}
 use Rattle.qg_gathered.specs.declared.nodes.NodesRead.{NodesRead}

@@ -7,13 +7,13 @@ use Rattle.qg_node.specs.declared.node.Node.{Node}
 use Rattle.qg_node.specs.Nodes.{header_of}
 use Rattle.qg_items.specs.declared.root.RootItem.{RootItem}
 use Rattle.qg_super.specs.declared.superblock.Super.{Super}
-use Rattle.qg_state.specs.declared.quota.Quota.{Quota}
-use Rattle.qg_state.specs.State.{layout_of}
-use Rattle.qg_state.specs.Owed.{Agrees, homeless}
-use Rattle.qg_state.specs.Space.{present_extents}
-use Rattle.qg_verdict.specs.declared.tree.Tree.TheVariants.{Extents, Quotas, Files}
-use Rattle.qg_verdict.specs.ImageState.{state_in, quota_in, quota_parts, quota_root, other_nodes, extent_parts, nodes_of_root, of_tree, root_nodes, addresses_of}
-use Rattle.qg_verdict.specs.Verdict.{extent_set}
+use Rattle.qg_image.specs.declared.quota.Quota.{Quota}
+use Rattle.qg_image.specs.State.{layout_of}
+use Rattle.qg_image.specs.Owed.{Agrees, homeless}
+use Rattle.qg_image.specs.Space.{present_extents}
+use Rattle.qg_image.specs.declared.tree.Tree.TheVariants.{Extents, Quotas, Files}
+use Rattle.qg_image.specs.ImageState.{state_in, quota_in, quota_parts, quota_root, other_nodes, extent_parts, nodes_of_root, of_tree, root_nodes, addresses_of}
+use Rattle.qg_image.specs.Verdict.{extent_set}
 use Rattle.qg_extents.specs.Table.{book_of}
 use Rattle.qg_extents.specs.Told.{IsTold}
 use Rattle.qg_reach.specs.Sets.{HaveSame}
@@ -53,7 +53,7 @@ quota_placed super image None (Some tree) is = absurd is
 quota_placed super image (Some root) None is = absurd is
 quota_placed super image (Some root) (Some tree) is = is.placed
 
-three : {a a' b b' c c' : List ℕ} → a ≡ a' → b ≡ b' → c ≡ c' → a ++ b ++ c ≡ a' ++ b' ++ c'
+pub three : {a a' b b' c c' : List ℕ} → a ≡ a' → b ≡ b' → c ≡ c' → a ++ b ++ c ≡ a' ++ b' ++ c'
 three first second third = λ k. first k ++ second k ++ third k
 
 pub others_read : (super : Super) (image : List ℕ) (read : Read) → AreRead super image read

@@ -18,18 +18,18 @@ use Rattle.qg_image.specs.declared.part.FilePart.{FilePart}
 use Rattle.qg_image.specs.FilesOf.{are_files, file_parts, files_in, files_of}
 use Rattle.qg_image.specs.ItemMeaning.{file_part, when}
 use Rattle.qg_parts.specs.Held.{file_said}
-use Rattle.qg_state.specs.declared.element.Element.{Element}
-use Rattle.qg_state.specs.Reach.{extent_of, pieces_of}
-use Rattle.qg_state.specs.Space.{present_extents}
-use Rattle.qg_state.specs.State.{Subvolume}
-use Rattle.qg_state.proofs.Contained.{contains_cases, contains_here, contains_later, none_contained}
-use Rattle.qg_verdict.specs.declared.failure.Failure.{Failure}
-use Rattle.qg_verdict.specs.declared.tree.Tree.TheVariants.{Files}
-use Rattle.qg_verdict.specs.Failure.{first_failure, unless}
-use Rattle.qg_verdict.specs.ItemsUnder.{is_way, items_under, nodes_of}
-use Rattle.qg_verdict.specs.ImageState.{items_of_root, level_in, nodes_of_root, roots_in, state_in, subvolume_in, subvolume_roots, subvolumes_in, tree_items}
-use Rattle.qg_verdict.specs.Verdict.{subvolume_failure}
-use Rattle.qg_verdict.specs.Walk.{is_item_of, node_found, root_told, tree_failure}
+use Rattle.qg_image.specs.declared.element.Element.{Element}
+use Rattle.qg_image.specs.Reach.{extent_of, pieces_of}
+use Rattle.qg_image.specs.Space.{present_extents}
+use Rattle.qg_image.specs.State.{Subvolume}
+use Rattle.qg_image.proofs.Contained.{contains_cases, contains_here, contains_later, none_contained}
+use Rattle.qg_image.specs.declared.failure.Failure.{Failure}
+use Rattle.qg_image.specs.declared.tree.Tree.TheVariants.{Files}
+use Rattle.qg_image.specs.Failure.{first_failure, unless}
+use Rattle.qg_image.specs.ItemsUnder.{is_way, items_under, nodes_of}
+use Rattle.qg_image.specs.ImageState.{items_of_root, level_in, nodes_of_root, roots_in, state_in, subvolume_in, subvolume_roots, subvolumes_in, tree_items}
+use Rattle.qg_image.specs.Verdict.{subvolume_failure}
+use Rattle.qg_image.specs.Walk.{is_item_of, node_found, root_told, tree_failure}
 use Rattle.qg_walk.proofs.Failures.{kept-none, neither}
 use Rattle.qg_reach.specs.Sets.{HaveSame}
 use Rattle.qg_reach.proofs.Members.{contains_flat_map, one_flat_mapped}

@@ -5,7 +5,7 @@ use Rattle.std.proofs.lemmas.List.{length-take}
 use Rattle.qg_device.specs.History.{range}
 use Rattle.qg_super.specs.SuperText.{super_read}
 use Rattle.qg_super.proofs.SuperTexts.{super_read-no_length}
-use Rattle.qg_verdict.specs.ImageState.{super_in}
+use Rattle.qg_image.specs.ImageState.{super_in}
 
 -- a range of an image, said by its end or by its length
 pub slice_range-range : (image : List ℕ) (place n : ℕ) → slice_range image place (place + n) ≡ range place n image

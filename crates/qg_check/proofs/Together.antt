@@ -1,5 +1,5 @@
 -- The failures of what the trees of an image say together, where its extents keep their rule.
-use Rattle.std.proofs.Common.{◌≡◌, ℕ, ◌+◌, ◌*◌, ◌^◌, ◌<◌, true, List, [], ◌∷◌, map, length, get_or, Option, None, refl, sym, ap, ◌∙◌, subst, arith}
+use Rattle.std.proofs.Common.{◌≡◌, ℕ, ◌+◌, ◌*◌, ◌^◌, ◌<◌, true, List, [], ◌∷◌, map, length, get_or, Option, None, Some, refl, sym, ap, ◌∙◌, subst, arith}
 use Rattle.std.specs.Prelude.{All, IsTrue}
 use Rattle.std.specs.List.Sorted.{IsStrictlyIncreasing}
 use Rattle.std.specs.Option.{option_map}
@@ -14,13 +14,15 @@ use Rattle.qg_super.specs.SuperText.{sizes_of}
 use Rattle.qg_super.proofs.Served.{SizesFit-is_served}
 use Rattle.qg_image.specs.Table.{keys_of}
 use Rattle.qg_image.specs.declared.part.ExtentPart.{ExtentPart}
-use Rattle.qg_state.specs.declared.element.Element.{Element}
-use Rattle.qg_state.specs.State.{Layout, layout_of}
-use Rattle.qg_state.specs.Members.{level_of_group}
-use Rattle.qg_state.specs.Counts.{bytes_of}
-use Rattle.qg_state.specs.Space.{present_extents}
-use Rattle.qg_verdict.specs.ImageState.{state_in}
-use Rattle.qg_verdict.specs.Verdict.{counts_failure, extent_set, references_failure, space_failure, together_failure}
+use Rattle.qg_image.specs.declared.element.Element.{Element}
+use Rattle.qg_image.specs.State.{Layout, layout_of}
+use Rattle.qg_image.specs.Members.{level_of_group}
+use Rattle.qg_image.specs.Counts.{bytes_of}
+use Rattle.qg_image.specs.Space.{present_extents}
+use Rattle.qg_image.specs.declared.failure.Failure.{Failure}
+use Rattle.qg_image.specs.Failure.{first_failure}
+use Rattle.qg_image.specs.ImageState.{state_in}
+use Rattle.qg_image.specs.Verdict.{counts_failure, extent_set, references_failure, space_failure, together_failure}
 use Rattle.qg_walk.specs.declared.fault.OpenFault.{OpenFault}
 use Rattle.qg_walk.specs.Fault.{TellsFailure}
 use Rattle.qg_walk.specs.Held.{AreInSlots}
@@ -71,6 +73,19 @@ surveyed_moved layout roots roots' those those' nodesize extents extents' r t e 
 
 pub same_space : (sizes sizes' : Sizes) (a b : List Element) → sizes' ≡ sizes → b ≡ a → space_failure sizes a ≡ space_failure sizes' b
 same_space sizes sizes' a b h k = rw (h, k) refl
+
+-- ---- where all three are kept
+
+second_none : (a b c : Option Failure) → first_failure (a ∷ b ∷ c ∷ []) ≡ None → b ≡ None
+second_none a None c none = refl
+second_none None (Some failure) c none = absurd cc
+second_none (Some other) (Some failure) c none = absurd cc
+
+pub references_kept : (super : Super) (bytes : List ℕ) → together_failure super bytes ≡ None
+    → references_failure super bytes (layout_of (state_in super bytes)) ≡ None
+references_kept super bytes none =
+    second_none (space_failure (sizes_of super) (extent_set (present_extents (state_in super bytes))))
+    (references_failure super bytes (layout_of (state_in super bytes))) (counts_failure (layout_of (state_in super bytes)) (state_in super bytes).quota) none
 
 -- ---- over any disk
 

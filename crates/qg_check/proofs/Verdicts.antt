@@ -6,12 +6,12 @@ use Rattle.qg_items.specs.declared.root.RootItem.{RootItem}
 use Rattle.qg_super.specs.declared.superblock.Super.{Super}
 use Rattle.qg_super.specs.Places.{first_place, second_place}
 use Rattle.qg_image.specs.Table.{value_at}
-use Rattle.qg_verdict.specs.declared.failure.Failure.{Failure}
-use Rattle.qg_verdict.specs.declared.failure.Failure.TheVariants.{Broken}
-use Rattle.qg_verdict.specs.declared.tree.Tree.TheVariants.{Extents}
-use Rattle.qg_verdict.specs.Failure.{first_failure}
-use Rattle.qg_verdict.specs.ImageState.{super_in, super_of, roots_in, subvolume_roots}
-use Rattle.qg_verdict.specs.Verdict.{verdict, image_failure, root_failure, quota_failure, subvolume_failure, places_failure, roots_failure, together_failure}
+use Rattle.qg_image.specs.declared.failure.Failure.{Failure}
+use Rattle.qg_image.specs.declared.failure.Failure.TheVariants.{Broken}
+use Rattle.qg_image.specs.declared.tree.Tree.TheVariants.{Extents}
+use Rattle.qg_image.specs.Failure.{first_failure}
+use Rattle.qg_image.specs.ImageState.{super_in, super_of, roots_in, subvolume_roots}
+use Rattle.qg_image.specs.Verdict.{verdict, image_failure, root_failure, quota_failure, subvolume_failure, places_failure, roots_failure, together_failure}
 use Rattle.qg_check.specs.declared.trees.Trees.{Trees}
 use Rattle.qg_check.specs.Stages.{trees_failure}
 use Rattle.qg_check.specs.Trees.{AreTrees}

@@ -5,9 +5,9 @@ use Rattle.qg_items.specs.declared.root.RootItem.{RootItem}
 use Rattle.qg_items.specs.declared.tree.TheConstants.{TOP_LEVEL}
 use Rattle.qg_image.specs.ItemMeaning.{is_subvolume_number}
 use Rattle.qg_image.specs.Table.{has_key, keys_of}
-use Rattle.qg_state.specs.declared.quota.Quota.{Quota}
-use Rattle.qg_state.specs.Members.{hierarchy_of}
-use Rattle.qg_verdict.specs.Verdict.{is_group_number, most_groups, most_relations, most_subvolumes}
+use Rattle.qg_image.specs.declared.quota.Quota.{Quota}
+use Rattle.qg_image.specs.Members.{hierarchy_of}
+use Rattle.qg_image.specs.Verdict.{is_group_number, most_groups, most_relations, most_subvolumes}
 use Rattle.qg_hier.specs.Groups.{IsSound}
 use Rattle.qg_contents.specs.Writable.{IsRootBy}
 

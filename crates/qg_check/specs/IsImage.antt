@@ -14,13 +14,13 @@ use Rattle.qg_super.specs.SuperText.{is_super, sizes_of}
 use Rattle.qg_image.specs.declared.file.File.{File}
 use Rattle.qg_image.specs.FilesOf.{files_of}
 use Rattle.qg_image.specs.Table.{keys_of, value_at}
-use Rattle.qg_state.specs.declared.element.Element.{Element}
-use Rattle.qg_state.specs.Owed.{Agrees, homeless, is_nothing, layout_extents, owed_count, what_at}
-use Rattle.qg_state.specs.State.{Layout, Placed, layout_of}
-use Rattle.qg_state.specs.Space.{present_extents}
-use Rattle.qg_verdict.specs.declared.tree.Tree.TheVariants.{Files}
-use Rattle.qg_verdict.specs.ImageState.{extent_parts, items_of_root, other_nodes, nodes_of_root, quota_in, roots_in, state_in, subvolume_roots, super_in, super_of, addresses_of}
-use Rattle.qg_verdict.specs.Verdict.{IsSound, extent_set, space_failure}
+use Rattle.qg_image.specs.declared.element.Element.{Element}
+use Rattle.qg_image.specs.Owed.{Agrees, homeless, is_nothing, layout_extents, owed_count, what_at}
+use Rattle.qg_image.specs.State.{Layout, Placed, layout_of}
+use Rattle.qg_image.specs.Space.{present_extents}
+use Rattle.qg_image.specs.declared.tree.Tree.TheVariants.{Files}
+use Rattle.qg_image.specs.ImageState.{extent_parts, items_of_root, other_nodes, nodes_of_root, quota_in, roots_in, state_in, subvolume_roots, super_in, super_of, addresses_of}
+use Rattle.qg_image.specs.Verdict.{IsSound, extent_set, space_failure}
 use Rattle.qg_reach.specs.Sets.{HaveSame}
 use Rattle.qg_refs.specs.declared.kept.What.{What}
 use Rattle.qg_refs.specs.Book.{AgreesWithOwed, Book, full_in, what_in}

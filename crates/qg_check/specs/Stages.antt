@@ -3,12 +3,12 @@ use Rattle.std.specs.Prelude.{ℕ, List, [], ◌∷◌, map, Option, IsTrue}
 use Rattle.qg_items.specs.declared.root.RootItem.{RootItem}
 use Rattle.qg_super.specs.declared.superblock.Super.{Super}
 use Rattle.qg_super.specs.SuperText.{is_super}
-use Rattle.qg_verdict.specs.declared.failure.Failure.{Failure}
-use Rattle.qg_verdict.specs.declared.tree.Tree.TheVariants.{Extents}
-use Rattle.qg_verdict.specs.Failure.{first_failure}
-use Rattle.qg_verdict.specs.Walk.{root_told, tree_failure}
-use Rattle.qg_verdict.specs.ImageState.{roots_in}
-use Rattle.qg_verdict.specs.Verdict.{quota_failure, subvolume_failure, together_failure}
+use Rattle.qg_image.specs.declared.failure.Failure.{Failure}
+use Rattle.qg_image.specs.declared.tree.Tree.TheVariants.{Extents}
+use Rattle.qg_image.specs.Failure.{first_failure}
+use Rattle.qg_image.specs.Walk.{root_told, tree_failure}
+use Rattle.qg_image.specs.ImageState.{roots_in}
+use Rattle.qg_image.specs.Verdict.{quota_failure, subvolume_failure, together_failure}
 use Rattle.qg_check.specs.declared.trees.Trees.{Trees}
 
 -- the extent tree

@@ -8,12 +8,12 @@ use Rattle.qg_super.specs.declared.superblock.Super.{Super}
 use Rattle.qg_image.specs.Table.{value_at}
 use Rattle.qg_image.specs.ItemMeaning.{extent_part, extent_part_stamps, quota_part}
 use Rattle.qg_image.specs.declared.part.ExtentPart.{ExtentPart}
-use Rattle.qg_state.specs.Owed.{part_address}
-use Rattle.qg_verdict.specs.declared.tree.Tree.TheVariants.{Extents, Quotas}
-use Rattle.qg_verdict.specs.Failure.{first_failure}
-use Rattle.qg_verdict.specs.ImageState.{addresses_of, root_nodes, roots_in, subvolume_roots, items_of_root, nodes_of_root, quota_told}
-use Rattle.qg_verdict.specs.Walk.{are_by}
-use Rattle.qg_verdict.specs.Verdict.{are_roots, most_subvolumes, subvolume_failure}
+use Rattle.qg_image.specs.Owed.{part_address}
+use Rattle.qg_image.specs.declared.tree.Tree.TheVariants.{Extents, Quotas}
+use Rattle.qg_image.specs.Failure.{first_failure}
+use Rattle.qg_image.specs.ImageState.{addresses_of, root_nodes, roots_in, subvolume_roots, items_of_root, nodes_of_root, quota_told}
+use Rattle.qg_image.specs.Walk.{are_by}
+use Rattle.qg_image.specs.Verdict.{are_roots, most_subvolumes, subvolume_failure}
 use Rattle.qg_extents.specs.Laws.{AreFew}
 use Rattle.qg_gathered.specs.declared.nodes.NodesRead.{NodesRead}
 use Rattle.qg_gathered.specs.Found.{AreFound}
@@ -48,7 +48,7 @@ pub record IsExtentTree (super : Super) (image : List ℕ) (root : RootItem) (tr
   pub said : tree.parts ≡ filter_map extent_part (items_of_root Extents super image root)
   pub placed : tree.nodes ≡ addresses_of (nodes_of_root Extents super image root)
 
--- the quota tree says this, and nothing is held for a reservation
+-- the quota tree says this, and its nodes are these
 pub record IsQuotaTree (super : Super) (image : List ℕ) (root : RootItem) (tree : QuotaTree) : Type 0 where
   pub said : tree.quota.quota ≡ quota_told (filter_map quota_part (items_of_root Quotas super image root))
   pub placed : tree.nodes ≡ addresses_of (nodes_of_root Quotas super image root)

@@ -1,17 +1,18 @@
 // What the trees of an image say together.
-ghost use Rattle.std.specs.Prelude.{◌≡◌, ◌++◌, List, ℕ, map, IfOk, IfSome, IsErrOf, IsTrue};
+ghost use Rattle.std.specs.Prelude.{◌≡◌, ◌++◌, List, ℕ, map, None, IfOk, IfErr, IfSome, IsErrOf, IsTrue};
 ghost use Rattle.std.specs.Option.{option_map};
 ghost use Rattle.qg_super.specs.Places.{is_served};
 ghost use Rattle.qg_super.specs.SuperText.{sizes_of};
-ghost use Rattle.qg_walk.specs.Fault.{FailsAs};
+ghost use Rattle.qg_walk.specs.Fault.{failure_of, FailsAs};
 ghost use Rattle.qg_walk.specs.Held.{AreInSlots};
-ghost use Rattle.qg_verdict.specs.Verdict.{together_failure};
+ghost use Rattle.qg_image.specs.Verdict.{together_failure};
 ghost use Rattle.qg_gathered.specs.Gathered.{root_at};
 ghost use Rattle.qg_gathered.specs.Told.{AreOfNodes};
 ghost use Rattle.qg_groups.specs.Tracked.{IsTracked};
 ghost use Rattle.qg_check.specs.Editable.{AreSubvolumes};
 ghost use Rattle.qg_check.specs.Trees.{quota_nodes_read, AreFitParts, AreRead};
 ghost use Rattle.qg_check.specs.IsImage.{StandsFor, Keeps};
+ghost use Rattle.qg_check.specs.Judged.{IsJudgedOf};
 
 use crate::Image;
 use crate::counts::{judge_counts, judge_extents};
@@ -20,7 +21,7 @@ use crate::trees::{ExtentTree, QuotaTree, Trees};
 use qg_direct::Surveyed;
 use qg_gathered::NodesRead;
 use qg_groups::QuotaState;
-use qg_image::RootPart;
+use qg_image::{Element, RootPart};
 use qg_num::{Address, NoMemory, RootId, Sequence};
 use qg_super::Super;
 use qg_walk::OpenFault;
@@ -37,6 +38,18 @@ pub struct Read {
     pub nodes: NodesRead,
 }
 
+/// What was judged of the trees of an image, and keeps all rules.
+#[derive(Drop)]
+pub struct JudgedTrees {
+    pub trees: Trees,
+    pub extents: ExtentTree,
+    pub quotas: QuotaRead,
+    /// The data extents that files name, ascending.
+    pub runs: Sequence<Element>,
+    /// What was surveyed of the nodes of all subvolumes, ascending by address.
+    pub nodes: Vec<Surveyed>,
+}
+
 /// Judges where extents lie, what is recorded and what groups count, and keeps what the image stands for.
 pub(crate) fn judge_trees(alloc: Global, superblock: Super, read: Read) -> Result<Image, OpenFault>
     requires served { IsTrue (is_served (sizes_of superblock)) }
@@ -50,12 +63,77 @@ pub(crate) fn judge_trees(alloc: Global, superblock: Super, read: Read) -> Resul
     ensures keeps { IfOk result (λ image. Keeps superblock read image) }
     ensures no_disk { IsErrOf result OpenFault.Disk → ⊥ }
 {
+    let judged = judge(alloc, &superblock, read)?;
+    keep(alloc, superblock, judged)
+}
+
+/// Judges where extents lie, what is recorded and what groups count.
+pub(crate) fn judge(alloc: Global, superblock: &Super, read: Read) -> Result<JudgedTrees, OpenFault>
+    requires served { IsTrue (is_served (sizes_of superblock.now)) }
+    requires slots { AreInSlots (sizes_of superblock.now) AreOfNodes read.nodes }
+    requires parts { AreFitParts superblock.now.generation read.extents.parts }
+    requires subvolumes { AreSubvolumes superblock.now.generation read.trees.subvolumes }
+    requires tracked { IfSome (option_map (λ tree. tree.quota) read.quotas) IsTracked }
+    ensures failure { (bytes : List ℕ) → AreRead superblock.now bytes read
+        → FailsAs result (together_failure superblock.now bytes) }
+    ensures judged { IfOk result (λ judged. IsJudgedOf superblock.now read judged) }
+    ensures no_disk { IsErrOf result OpenFault.Disk → ⊥ }
+{
     let Read {
         trees,
         extents: recorded,
         quotas,
         nodes: reached,
     } = read;
+    let apart = parted(alloc, quotas);
+    let sizes = superblock.sizes();
+    let extents = reached.extents(alloc)?;
+    judge_extents(&sizes, extents.as_slice())?;
+    let roots = roots_of(alloc, trees.subvolumes.as_slice())?;
+    let surveyed = judge_recorded(
+        alloc,
+        reached,
+        roots.as_slice(),
+        extents.as_slice(),
+        recorded.parts.as_slice(),
+    )?;
+    judge_counts(
+        alloc,
+        roots.as_slice(),
+        surveyed.as_slice(),
+        superblock.nodesize,
+        extents.as_slice(),
+        &apart.quota,
+    )?;
+    Ok(JudgedTrees {
+        trees,
+        extents: recorded,
+        quotas: apart,
+        runs: extents,
+        nodes: surveyed,
+    })
+}
+
+// Keeps what an image stands for whose trees were judged.
+fn keep(alloc: Global, superblock: Super, judged: JudgedTrees) -> Result<Image, OpenFault>
+    requires served { IsTrue (is_served (sizes_of superblock)) }
+    requires parts { AreFitParts superblock.generation judged.extents.parts }
+    ensures sound { (bytes : List ℕ) (read : Read) → AreRead superblock bytes read → IsJudgedOf superblock read judged
+        → together_failure superblock bytes ≡ None → IfErr result (λ fault. failure_of fault ≡ None) }
+    ensures image { (bytes : List ℕ) (read : Read) → AreRead superblock bytes read → IsJudgedOf superblock read judged
+        → together_failure superblock bytes ≡ None → IfOk result (λ image. StandsFor superblock bytes image) }
+    ensures superblock { IfOk result (λ image. image.superblock ≡ superblock) }
+    ensures keeps { (read : Read) → IsJudgedOf superblock read judged
+        → AreInSlots (sizes_of superblock) AreOfNodes read.nodes → IfOk result (λ image. Keeps superblock read image) }
+    ensures no_disk { IsErrOf result OpenFault.Disk → ⊥ }
+{
+    let JudgedTrees {
+        trees,
+        extents: recorded,
+        quotas,
+        runs,
+        nodes: surveyed,
+    } = judged;
     let Trees {
         subvolumes,
         nodes: root_nodes,
@@ -65,31 +143,11 @@ pub(crate) fn judge_trees(alloc: Global, superblock: Super, read: Read) -> Resul
         parts,
         nodes: extent_nodes,
     } = recorded;
-    let apart = parted(alloc, quotas);
     let QuotaRead {
         quota,
         nodes: quota_nodes,
-    } = apart;
+    } = quotas;
     let others = joined(root_nodes, extent_nodes, quota_nodes)?;
-    let sizes = superblock.sizes();
-    let extents = reached.extents(alloc)?;
-    judge_extents(&sizes, extents.as_slice())?;
-    let roots = roots_of(alloc, subvolumes.as_slice())?;
-    let surveyed = judge_recorded(
-        alloc,
-        reached,
-        roots.as_slice(),
-        extents.as_slice(),
-        parts.as_slice(),
-    )?;
-    judge_counts(
-        alloc,
-        roots.as_slice(),
-        surveyed.as_slice(),
-        superblock.nodesize,
-        extents.as_slice(),
-        &quota,
-    )?;
     let book = read_book(alloc, superblock.nodesize, parts.as_slice())?;
     let nodes = addresses_of(alloc, surveyed.as_slice())?;
     Ok(Image {
@@ -99,7 +157,7 @@ pub(crate) fn judge_trees(alloc: Global, superblock: Super, read: Read) -> Resul
         quota,
         others,
         nodes,
-        extents,
+        extents: runs,
         book,
     })
 }
@@ -126,11 +184,11 @@ fn addresses_of(alloc: Global, nodes: &[Surveyed]) -> Result<Sequence<Address>, 
     Ok(addresses)
 }
 
-// Quota, and where the nodes of its tree lie.
+/// Quota, and where the nodes of its tree lie.
 #[derive(Drop)]
-struct QuotaRead {
-    quota: Option<QuotaState>,
-    nodes: Sequence<Address>,
+pub struct QuotaRead {
+    pub quota: Option<QuotaState>,
+    pub nodes: Sequence<Address>,
 }
 
 // What a quota tree says, and where its nodes lie. While quota is off there are none.

@@ -7,7 +7,9 @@ mod judge;
 mod places;
 mod read;
 mod references;
+mod report;
 mod trees;
 
 pub use image::Image;
 pub use read::read_image;
+pub use report::{CheckFault, Report, count_image};

@@ -4,8 +4,8 @@ ghost use Rattle.qg_device.specs.Cause.{HasCause};
 ghost use Rattle.qg_device.specs.History.{Event, content};
 ghost use Rattle.qg_super.specs.Places.{first_place, is_served, second_place};
 ghost use Rattle.qg_super.specs.SuperText.{choose, sizes_of};
-ghost use Rattle.qg_verdict.specs.ImageState.{super_in};
-ghost use Rattle.qg_verdict.specs.Verdict.{are_mirrored};
+ghost use Rattle.qg_image.specs.ImageState.{super_in};
+ghost use Rattle.qg_image.specs.Verdict.{are_mirrored};
 ghost use Rattle.qg_check.specs.Stages.{FieldsFit};
 ghost use Rattle.qg_check.specs.Stale.{stale_place};
 

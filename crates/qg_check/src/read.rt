@@ -1,16 +1,17 @@
 // An image is read from its superblocks down.
-ghost use Rattle.std.specs.Prelude.{◌≡◌, ◌⊎◌, ◌≤◌, List, Some, IfOk, IfSome, OnOk, IsErrOf, IsTrue};
+ghost use Rattle.std.specs.Prelude.{◌≡◌, ◌⊎◌, ◌≤◌, List, Some, IfOk, IfErr, IfSome, OnOk, IsErrOf, IsTrue};
 ghost use Rattle.std.specs.List.{list_all};
 ghost use Rattle.qg_device.specs.Cause.{HasCause};
 ghost use Rattle.qg_device.specs.History.{Event, content};
 ghost use Rattle.qg_super.specs.Places.{is_served, is_slot, total_bytes};
 ghost use Rattle.qg_super.specs.SuperText.{is_super, sizes_of};
-ghost use Rattle.qg_verdict.specs.Verdict.{verdict, places_failure};
-ghost use Rattle.qg_walk.specs.Fault.{FailsAs};
+ghost use Rattle.qg_image.specs.Verdict.{verdict, places_failure, together_failure};
+ghost use Rattle.qg_walk.specs.Fault.{FailsAs, TellsFailure};
 ghost use Rattle.qg_check.specs.Stages.{trees_failure};
 ghost use Rattle.qg_check.specs.Editable.{AreSubvolumes};
-ghost use Rattle.qg_check.specs.Trees.{AreTrees};
-ghost use Rattle.qg_check.specs.IsImage.{IsEditable, IsImage, StandsFor};
+ghost use Rattle.qg_check.specs.Trees.{AreRead, AreTrees};
+ghost use Rattle.qg_check.specs.IsImage.{IsEditable, IsImage};
+ghost use Rattle.qg_check.specs.Whole.{IsFit, IsWhole};
 
 use crate::Image;
 use crate::judge::{Read, judge_trees};
@@ -23,6 +24,17 @@ use qg_shared_walk::read_subvolumes;
 use qg_super::{FIRST_PLACE, SECOND_PLACE, Super};
 use qg_walk::OpenFault;
 use std::alloc::Global;
+
+/// What was read of an image whose superblocks and trees keep their rules, each by itself.
+#[derive(Drop)]
+pub struct Whole {
+    /// The superblock that counts.
+    pub superblock: Super,
+    /// The superblock place that does not hold it, 65536 or 67108864, if there is one.
+    pub stale: Option<u64>,
+    /// What the trees say.
+    pub read: Read,
+}
 
 /// Reads an image: what it stands for where it is sound, else the first rule that it breaks, or the first stored counter that is not the
 /// direct count (this project's own). It writes nothing.
@@ -38,6 +50,30 @@ pub fn read_image<D: Disk>(alloc: Global, disk: &mut D) -> Result<Image, OpenFau
     ensures size { D.size disk.new ≡ D.size disk.old }
     ensures cause { HasCause OpenFault.Disk (D.faults disk.old) (D.faults disk.new) result }
 {
+    let whole = read_whole(alloc, disk)?;
+    let Whole {
+        superblock,
+        stale,
+        read,
+    } = whole;
+    let mut image = judge_trees(alloc, superblock, read)?;
+    image.stale = stale;
+    Ok(image)
+}
+
+/// Reads an image whole, and judges its superblocks and its trees, each by itself. It writes nothing.
+pub(crate) fn read_whole<D: Disk>(alloc: Global, disk: &mut D) -> Result<Whole, OpenFault>
+    ensures failure { (events : List Event) → D.history disk.old ≡ Some events
+        → IfErr result (λ fault. TellsFailure fault (verdict (content events))) }
+    ensures whole { (events : List Event) → D.history disk.old ≡ Some events
+        → IfOk result (λ whole. IsWhole (content events) whole) }
+    ensures fit { IfOk result (λ whole. IsFit whole.superblock whole.read) }
+    ensures place { IfOk result (λ whole. IfSome whole.stale (λ place. (place ≡ FIRST_PLACE) ⊎ (place ≡ SECOND_PLACE))) }
+    ensures inside { IfOk result (λ whole. total_bytes (sizes_of whole.superblock) ≤ D.size disk.new) }
+    ensures history { D.history disk.new ≡ D.history disk.old }
+    ensures size { D.size disk.new ≡ D.size disk.old }
+    ensures cause { HasCause OpenFault.Disk (D.faults disk.old) (D.faults disk.new) result }
+{
     let places = read_places(disk)?;
     let Some(superblock) = places.chosen() else {
         return Err(OpenFault::Broken {
@@ -47,9 +83,13 @@ pub fn read_image<D: Disk>(alloc: Global, disk: &mut D) -> Result<Image, OpenFau
     };
     judge_places(disk.len(), &places, &superblock)?;
     let trees = read_roots(alloc, disk, &superblock)?;
-    let mut image = read_trees(alloc, disk, superblock, trees)?;
-    image.stale = places.stale();
-    Ok(image)
+    let read = read_parts(alloc, disk, &superblock, trees)?;
+    let other = places.stale();
+    Ok(Whole {
+        superblock,
+        stale: other,
+        read,
+    })
 }
 
 // Judges an image's length and its two superblocks.
@@ -74,45 +114,44 @@ fn judge_places(len: u64, places: &Places, superblock: &Super) -> Result<(), Ope
     Ok(())
 }
 
-// Reads the trees that the root tree names, and judges what they say together.
-fn read_trees<D: Disk>(
+// Reads the trees that the root tree names, and judges each.
+fn read_parts<D: Disk>(
     alloc: Global,
     disk: &mut D,
-    superblock: Super,
+    superblock: &Super,
     trees: Trees,
-) -> Result<Image, OpenFault>
-    requires served { IsTrue (is_served (sizes_of superblock)) }
-    requires inside { total_bytes (sizes_of superblock) ≤ D.size disk.old }
-    requires subvolumes { AreSubvolumes superblock.generation trees.subvolumes }
-    ensures failure { (events : List Event) → D.history disk.old ≡ Some events → AreTrees superblock (content events) trees
-        → FailsAs result (trees_failure superblock (content events) trees) }
-    ensures image { (events : List Event) → D.history disk.old ≡ Some events → AreTrees superblock (content events) trees
-        → IfOk result (λ image. StandsFor superblock (content events) image) }
-    ensures superblock { IfOk result (λ image. image.superblock ≡ superblock) }
-    ensures editable { IsTrue (is_super superblock) → IsTrue (list_all (is_slot (sizes_of superblock)) trees.nodes)
-        → IfOk result (λ image. IsEditable image) }
+) -> Result<Read, OpenFault>
+    requires served { IsTrue (is_served (sizes_of superblock.now)) }
+    requires inside { total_bytes (sizes_of superblock.now) ≤ D.size disk.old }
+    requires subvolumes { AreSubvolumes superblock.now.generation trees.subvolumes }
+    ensures failure { (events : List Event) → D.history disk.old ≡ Some events
+        → AreTrees superblock.now (content events) trees
+        → IfErr result (λ fault. TellsFailure fault (trees_failure superblock.now (content events) trees)) }
+    ensures read { (events : List Event) → D.history disk.old ≡ Some events
+        → AreTrees superblock.now (content events) trees
+        → IfOk result (λ read. AreRead superblock.now (content events) read
+        × (trees_failure superblock.now (content events) trees ≡ together_failure superblock.now (content events))) }
+    ensures fit { IsTrue (is_super superblock.now)
+        → IsTrue (list_all (is_slot (sizes_of superblock.now)) trees.nodes)
+        → IfOk result (λ read. IsFit superblock.now read) }
     ensures history { D.history disk.new ≡ D.history disk.old }
     ensures size { D.size disk.new ≡ D.size disk.old }
     ensures cause { HasCause OpenFault.Disk (D.faults disk.old) (D.faults disk.new) result }
 {
-    let extents = read_extents(alloc, disk, &superblock, &trees.extents)?;
+    let extents = read_extents(alloc, disk, superblock, &trees.extents)?;
     let subvolumes = trees.subvolumes.as_slice();
-    let quotas = read_quotas(alloc, disk, &superblock, &trees.quotas, subvolumes)?;
+    let quotas = read_quotas(alloc, disk, superblock, &trees.quotas, subvolumes)?;
     let nodes = read_subvolumes::<NodesRead, D>(
         alloc,
         disk,
-        &superblock,
+        superblock,
         subvolumes,
         NodesRead::new(alloc),
     )?;
-    judge_trees(
-        alloc,
-        superblock,
-        Read {
-            trees,
-            extents,
-            quotas,
-            nodes,
-        },
-    )
+    Ok(Read {
+        trees,
+        extents,
+        quotas,
+        nodes,
+    })
 }

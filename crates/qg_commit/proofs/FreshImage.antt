@@ -19,10 +19,10 @@ use Rattle.qg_super.specs.declared.superblock.Super.{Super}
 use Rattle.qg_super.specs.Places.{is_served, is_slot, slot_at, sector, total_bytes}
 use Rattle.qg_super.specs.SuperText.{is_super}
 use Rattle.qg_super.proofs.Served.{SizesFit-is_served}
-use Rattle.qg_state.specs.State.{State}
-use Rattle.qg_state.proofs.Contained.{contains_cases, contains_here, none_contained}
-use Rattle.qg_verdict.specs.Walk.{node_found}
-use Rattle.qg_verdict.specs.IsFresh.{fresh_leaf, fresh_state}
+use Rattle.qg_image.specs.State.{State}
+use Rattle.qg_image.proofs.Contained.{contains_cases, contains_here, none_contained}
+use Rattle.qg_image.specs.Walk.{node_found}
+use Rattle.qg_image.specs.IsFresh.{fresh_leaf, fresh_state}
 use Rattle.qg_tree.specs.Build.{IsMadeFor}
 use Rattle.qg_extents.specs.Fresh.{fresh_table}
 use Rattle.qg_extents.specs.Table.{IsTable}
@@ -38,7 +38,6 @@ use Rattle.qg_commit.specs.Mkfs.{HoldsFreshImage, IsFreshImage}
 use Rattle.qg_commit.proofs.FreshState.{before, counts, home, leaf_fits, leaf_format, runs, space, told, whole}
 use Rattle.qg_commit.proofs.FreshTrees.{extents_leaf, first_slots-IsDistinct, fresh_slots-IsDistinct, low_slot-is_slot, quotas_laid, roots_leaf, superblock_is}
 use Rattle.qg_commit.proofs.Placed.{placed-AreCommittable}
-use Rattle.qg_commit.proofs.Slots.{node_size_bounds}
 use Rattle.qg_commit.proofs.Written.{AreCommittable, with_commit-HasCommit}
 
 -- ---- lists
@@ -149,7 +148,7 @@ module _ (sizes : Sizes) (trees : OtherTrees) (served : is_served sizes ≡ true
       (sayable.0.format, (sayable.1.0.format, (sayable.1.1.0.format, (sayable.1.1.1.0.format, tt))))
 
   low : sizes.nodesize < 2 ^ 32
-  low = let bounds = node_size_bounds sizes.nodesize size in omega (arith, bounds.1)
+  low = omega (arith, (SizesFit-is_served sizes served).nodesize)
 
   back : (node : Node) → Sayable node → IsReadBack sizes.nodesize node
   back node can = text_again sizes.nodesize node low can.fits can.format

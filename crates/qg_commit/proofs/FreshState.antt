@@ -18,23 +18,23 @@ use Rattle.qg_image.specs.FilesOf.{are_files, files_of}
 use Rattle.qg_image.specs.IsShaped.{is_shaped}
 use Rattle.qg_image.specs.ItemMeaning.{is_subvolume_number}
 use Rattle.qg_image.specs.Table.{value_at}
-use Rattle.qg_state.specs.declared.element.Element.{Element}
-use Rattle.qg_state.specs.Counts.{exclusive, is_reached_outside, reach_of_group, referenced}
-use Rattle.qg_state.specs.Members.{is_below, leads, members}
-use Rattle.qg_state.specs.Owed.{homeless, is_nothing, layout_extents, owed_count, what_at}
-use Rattle.qg_state.specs.Reach.{is_reached, level_of, pieces_of, reach, reach_of_root}
-use Rattle.qg_state.specs.Space.{present_extents}
-use Rattle.qg_state.specs.State.{Placed, State, Subvolume, layout_of, node_at}
-use Rattle.qg_state.proofs.Contained.{none_contained}
-use Rattle.qg_verdict.specs.declared.failure.Failure.{Failure}
-use Rattle.qg_verdict.specs.declared.tree.Tree.TheVariants.{Files}
-use Rattle.qg_verdict.specs.IsFresh.{fresh_leaf}
-use Rattle.qg_verdict.specs.ItemsUnder.{is_way, items_under}
-use Rattle.qg_verdict.specs.Verdict.{counts_failure, extent_set, space_failure}
-use Rattle.qg_verdict.specs.Walk.{deepest, node_failure, root_expected, walk_failure, way_failure}
+use Rattle.qg_image.specs.declared.element.Element.{Element}
+use Rattle.qg_image.specs.Counts.{exclusive, is_reached_outside, reach_of_group, referenced}
+use Rattle.qg_image.specs.Members.{is_below, leads, members}
+use Rattle.qg_image.specs.Owed.{homeless, is_nothing, layout_extents, owed_count, what_at}
+use Rattle.qg_image.specs.Reach.{is_reached, level_of, pieces_of, reach, reach_of_root}
+use Rattle.qg_image.specs.Space.{present_extents}
+use Rattle.qg_image.specs.State.{Placed, State, Subvolume, layout_of, node_at}
+use Rattle.qg_image.proofs.Contained.{none_contained}
+use Rattle.qg_image.specs.declared.failure.Failure.{Failure}
+use Rattle.qg_image.specs.declared.tree.Tree.TheVariants.{Files}
+use Rattle.qg_image.specs.IsFresh.{fresh_leaf}
+use Rattle.qg_image.specs.ItemsUnder.{is_way, items_under}
+use Rattle.qg_image.specs.Verdict.{counts_failure, extent_set, space_failure}
+use Rattle.qg_image.specs.Walk.{deepest, node_failure, root_expected, walk_failure, way_failure}
 use Rattle.qg_machine.specs.Layout.{IsTreeOf, IsWhole, found_in, super_to_come}
-use Rattle.qg_state.specs.declared.quota.Quota.{Quota}
-use Rattle.qg_verdict.specs.OtherTrees.{subvolume_items}
+use Rattle.qg_image.specs.declared.quota.Quota.{Quota}
+use Rattle.qg_image.specs.OtherTrees.{subvolume_items}
 use Rattle.qg_refs.specs.declared.kept.Kept.{Kept}
 use Rattle.qg_refs.specs.Book.{full_in, what_in}
 use Rattle.qg_extents.specs.Fresh.{fresh_root as kept_root, fresh_table}
@@ -47,7 +47,6 @@ use Rattle.qg_other_trees.specs.Telling.{IsKnownExtent, IsKnownNode, IsStateOf}
 use Rattle.qg_other_trees.proofs.Owing.{owes_begins}
 use Rattle.qg_commit.specs.Fresh.{fresh_quota, fresh_roots, own_leaf}
 use Rattle.qg_commit.proofs.FreshTrees.{low_slot-is_slot}
-use Rattle.qg_commit.proofs.Slots.{node_size_bounds}
 
 -- ---- a walk that finds one empty leaf
 
@@ -104,7 +103,7 @@ module _ (sizes : Sizes) (served : is_served sizes ≡ true) where
   there = rw here refl
 
   bounds : (4096 ≤ sizes.nodesize) × (sizes.nodesize ≤ 16384)
-  bounds = node_size_bounds sizes.nodesize (SizesFit-is_served sizes served).node_size
+  bounds = let fit = SizesFit-is_served sizes served in (fit.least, fit.nodesize)
 
   -- ---- its layout is whole
 

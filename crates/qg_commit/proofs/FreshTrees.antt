@@ -18,8 +18,8 @@ use Rattle.qg_super.specs.declared.sizes.Sizes.{Sizes}
 use Rattle.qg_super.specs.Places.{capacity, is_served, is_slot, slot_at}
 use Rattle.qg_super.proofs.Served.{SizesFit-is_served}
 use Rattle.qg_super.proofs.Slots.{is_slot-slot_at}
-use Rattle.qg_state.specs.Need.{nodes_filled}
-use Rattle.qg_verdict.specs.IsFresh.{fresh_leaf}
+use Rattle.qg_image.specs.Need.{nodes_filled}
+use Rattle.qg_image.specs.IsFresh.{fresh_leaf}
 use Rattle.qg_contents.specs.Written.{items_of_roots}
 use Rattle.qg_tree.specs.Build.{IsBuilt}
 use Rattle.qg_tree.specs.declared.building.Built.{Built}
@@ -32,7 +32,6 @@ use Rattle.qg_other_trees.proofs.Enough.{filled_quota, filled_roots}
 use Rattle.qg_other_trees.proofs.One.{one_named, one_told}
 use Rattle.qg_other_trees.proofs.QuotaTree.{HasQuotaTree, quota_there, root_if}
 use Rattle.qg_commit.specs.Fresh.{AreFreshTrees, extent_items, fresh_counters, fresh_nodes, fresh_quota, fresh_root, fresh_roots, fresh_slots, fresh_super, own_leaf, quota_items, root_items}
-use Rattle.qg_commit.proofs.Slots.{node_size_bounds}
 
 -- ---- the slots
 
@@ -64,7 +63,7 @@ slots-IsDistinct sizes [] some differ = tt
 slots-IsDistinct sizes (k ∷ ks) some differ = (differ_from sizes k ks some differ.0, slots-IsDistinct sizes ks some differ.1)
 
 pub some_bytes : (sizes : Sizes) → is_served sizes ≡ true → 1 ≤ sizes.nodesize
-some_bytes sizes served = omega (arith, (node_size_bounds sizes.nodesize (SizesFit-is_served sizes served).node_size).0)
+some_bytes sizes served = omega (arith, (SizesFit-is_served sizes served).least)
 
 pub fresh_slots-IsDistinct : (sizes : Sizes) → is_served sizes ≡ true → IsDistinct (λ a b. a == b) (fresh_slots sizes)
 fresh_slots-IsDistinct sizes served = slots-IsDistinct sizes slot_numbers (some_bytes sizes served) (IsDistinct-from_count nat_eq_equiv slot_numbers refl)
@@ -140,7 +139,7 @@ fresh_groups nodesize = one_told 1 (fresh_counters nodesize) 1 (omega arith)
 
 module _ (sizes : Sizes) (trees : OtherTrees) (served : is_served sizes ≡ true) (are : AreFreshTrees sizes trees) where
   wide : 3995 ≤ capacity sizes.nodesize
-  wide = omega (arith, (node_size_bounds sizes.nodesize (SizesFit-is_served sizes served).node_size).0)
+  wide = omega (arith, (SizesFit-is_served sizes served).least)
 
   abbrev BuiltOf : ℕ → List Item → List ℕ → Built → Type 0
   BuiltOf owner items slots built = IsBuilt sizes.nodesize owner 1 items slots built.nodes built.root built.level

@@ -1,4 +1,3 @@
-pub mod Slots
 pub mod Ranges
 pub mod Written
 pub mod Moments
@@ -11,3 +10,5 @@ pub mod FreshState
 pub mod FreshImage
 pub mod MakingCalls
 pub mod Touched
+pub mod CallEvents
+pub mod OpeningCalls

@@ -11,7 +11,7 @@ use Rattle.qg_super.specs.Places.{is_slot}
 use Rattle.qg_super.specs.SuperText.{is_super, sizes_of}
 use Rattle.qg_super.proofs.Served.{SizesFit, SizesFit-is_served, SuperFits-is_super}
 use Rattle.qg_commit.specs.Calls.{IsWritable}
-use Rattle.qg_commit.proofs.Slots.{is_slot-IsBetween}
+use Rattle.qg_crashes.proofs.Between.{is_slot-IsBetween}
 use Rattle.qg_commit.proofs.Written.{address_of, AreCommittable}
 
 -- ---- lists

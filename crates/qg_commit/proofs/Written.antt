@@ -17,11 +17,11 @@ use Rattle.qg_super.specs.Places.{first_place, second_place, slots_begin, sector
 use Rattle.qg_super.specs.SuperText.{super_text, super_read, is_super, sizes_of}
 use Rattle.qg_super.proofs.SuperTexts.{length-super_text, super_read-super_text}
 use Rattle.qg_super.proofs.Served.{SizesFit, SizesFit-is_served, SuperFits-is_super}
-use Rattle.qg_verdict.specs.Walk.{node_found}
-use Rattle.qg_verdict.specs.ImageState.{super_in}
+use Rattle.qg_image.specs.Walk.{node_found}
+use Rattle.qg_image.specs.ImageState.{super_in}
 use Rattle.qg_commit.specs.Calls.{IsReadBack, IsWritable, with_nodes, with_commit}
 use Rattle.qg_other_trees.specs.Holds.{HasCommit}
-use Rattle.qg_commit.proofs.Slots.{is_slot-IsBetween, slots-apart}
+use Rattle.qg_crashes.proofs.Between.{is_slot-IsBetween, slots-apart}
 use Rattle.qg_commit.proofs.Ranges.{HasRange, written-HasRange, kept-HasRange, range-slice_range}
 
 -- where a node lies, in bytes

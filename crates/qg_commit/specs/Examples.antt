@@ -7,7 +7,7 @@ use Rattle.qg_items.specs.ItemText.{extent_text}
 use Rattle.qg_super.specs.declared.sizes.Sizes.{Sizes}
 use Rattle.qg_super.specs.Places.{first_place, second_place, sector, slot_at, total_bytes}
 use Rattle.qg_super.specs.SuperText.{super_text}
-use Rattle.qg_verdict.specs.IsFresh.{fresh_leaf}
+use Rattle.qg_image.specs.IsFresh.{fresh_leaf}
 use Rattle.qg_extents.specs.Examples.{eight, four}
 use Rattle.qg_commit.specs.Calls.{with_image}
 use Rattle.qg_commit.specs.Fresh.{extent_items, fresh_nodes, fresh_super, quota_items, root_items}

@@ -4,4 +4,5 @@ pub mod Mkfs
 pub mod Fault
 pub mod Opening
 pub mod Opened
+pub mod CallEvents
 pub mod Examples

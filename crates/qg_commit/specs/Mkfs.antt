@@ -2,9 +2,9 @@
 use Rattle.std.specs.Prelude.{◌≡◌, ℕ, List, Option, Some}
 use Rattle.qg_device.specs.History.{Event, content}
 use Rattle.qg_super.specs.declared.sizes.Sizes.{Sizes}
-use Rattle.qg_state.specs.State.{State}
-use Rattle.qg_verdict.specs.StateOf.{StateOf}
-use Rattle.qg_verdict.specs.IsFresh.{IsFresh}
+use Rattle.qg_image.specs.State.{State}
+use Rattle.qg_image.specs.StateOf.{StateOf}
+use Rattle.qg_image.specs.IsFresh.{IsFresh}
 
 -- the image is sound, and its state is fresh for the sizes
 pub record IsFreshImage (sizes : Sizes) (image : List ℕ) : Type 0 where

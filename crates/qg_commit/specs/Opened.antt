@@ -1,10 +1,17 @@
 -- What opening an image does to the disk (this project's own).
-use Rattle.std.specs.Prelude.{◌≡◌, ◌⊎◌, ℕ, List, ◌∷◌, Option, Some}
+use Rattle.std.specs.Prelude.{◌≡◌, ◌⊎◌, ℕ, List, [], ◌∷◌, length, Option, Some, Result, IfOk, IfSome}
 use Rattle.qg_device.specs.History.{Event, Synced, content}
+use Rattle.qg_device.specs.Crash.{Leaves}
+use Rattle.qg_device.specs.CrashSince.{LeavesSince}
 use Rattle.qg_super.specs.declared.superblock.Super.{Super}
 use Rattle.qg_super.specs.Places.{first_place, second_place}
-use Rattle.qg_verdict.specs.ImageState.{super_in, super_of}
-use Rattle.qg_verdict.specs.Verdict.{IsSound}
+use Rattle.qg_image.specs.State.{State}
+use Rattle.qg_image.specs.ImageState.{super_in, super_of}
+use Rattle.qg_image.specs.StateOf.{StateOf}
+use Rattle.qg_image.specs.Verdict.{IsSound}
+use Rattle.qg_walk.specs.declared.fault.OpenFault.{OpenFault}
+use Rattle.qg_crashes.specs.Committing.{begin_of}
+use Rattle.qg_crashes.specs.Outcomes.{Rests, Survives}
 use Rattle.qg_check.specs.Stale.{stale_place}
 use Rattle.qg_commit.specs.Opening.{IsLookedAt, IsWriting, with_repair}
 
@@ -30,3 +37,11 @@ pub record IsRepairing (events : List Event) (history : Option (List Event)) : T
 -- what opening has done to the disk, whatever it answers: at most a sync, and of a sound image the repair, or a part of it
 abbrev pub IsOpening : List Event → Option (List Event) → Type 0
 IsOpening events history = IsLookedAt events history ⊎ IsRepairing events history
+
+-- Opening outlives crashes. Whatever one leaves since opening's first sync stands for the state that the disk stood for, where no torn superblock
+-- matches its checksum by chance; before that sync it leaves what it could as the call began; and once the image was opened, the disk rests at that
+-- state, with both places alike
+pub record OutlivesCrashes {A : Type 0} (events : List Event) (history : Option (List Event)) (result : Result A OpenFault) : Type 0 where
+  pub crashes : (after : List Event) (state : State) → history ≡ Some after → StateOf (content events) state → Survives (begin_of events) state [] after
+  pub early : (after : List Event) (image : List ℕ) → history ≡ Some after → LeavesSince (length events) after image (length events) → Leaves events image
+  pub rests : (state : State) → StateOf (content events) state → IfOk result (λ opened. IfSome history (Rests state))

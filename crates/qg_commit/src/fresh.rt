@@ -8,12 +8,12 @@ ghost use Rattle.qg_other_trees.specs.Trees.{quota_nodes_laid};
 ghost use Rattle.qg_commit.specs.Fresh.{AreFreshTrees, fresh_nodes, fresh_quota, fresh_slots, fresh_super, own_leaf};
 
 use qg_extents::fresh_records;
+use qg_image::{Group, Quota};
 use qg_items::RootItem;
 use qg_items::tree::TOP_LEVEL;
 use qg_node::{Header, Items, Node};
 use qg_num::{Address, Counters, Generation, GroupId, NoMemory, RootId, Sequence};
 use qg_other_trees::{OtherTrees, Told, lay_other_trees};
-use qg_state::{Group, Quota};
 use qg_super::{SLOTS_BEGIN, Sizes};
 use std::alloc::Global;
 

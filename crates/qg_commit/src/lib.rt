@@ -5,8 +5,6 @@ mod fault;
 mod fresh;
 mod making;
 mod opening;
-#[cfg(test)]
-mod tests;
 mod write;
 
 pub use fault::MkfsFault;

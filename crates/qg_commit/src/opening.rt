@@ -4,10 +4,10 @@ ghost use Rattle.qg_device.specs.Cause.{HasCause};
 ghost use Rattle.qg_device.specs.History.{Event, Synced, content};
 ghost use Rattle.qg_super.specs.Places.{total_bytes};
 ghost use Rattle.qg_super.specs.SuperText.{is_super, sizes_of};
-ghost use Rattle.qg_verdict.specs.Verdict.{verdict};
+ghost use Rattle.qg_image.specs.Verdict.{verdict};
 ghost use Rattle.qg_walk.specs.Fault.{TellsFailure};
 ghost use Rattle.qg_check.specs.IsImage.{IsEditable, IsImage};
-ghost use Rattle.qg_commit.specs.Opened.{IsOpening};
+ghost use Rattle.qg_commit.specs.Opened.{IsOpening, OutlivesCrashes};
 ghost use Rattle.qg_commit.specs.Opening.{IsUntouched, IsWriting, with_repair};
 
 use qg_check::{Image, read_image};
@@ -20,7 +20,7 @@ use std::alloc::Global;
 /// counter that is not the direct count (this project's own).
 ///
 /// Of a sound image the superblock place that does not hold the superblock that counts is written again; nothing else
-/// is written.
+/// is written. Whatever a crash leaves since then, the image may be opened again.
 pub fn open<D: Disk>(alloc: Global, disk: &mut D) -> Result<Image, OpenFault>
     // Over a disk that tells what it holds.
     ensures image { (events : List Event) → D.history disk.old ≡ Some events
@@ -32,6 +32,8 @@ pub fn open<D: Disk>(alloc: Global, disk: &mut D) -> Result<Image, OpenFault>
     ensures unwritten { (events : List Event) → D.history disk.old ≡ Some events
         → IfErr result (λ fault. IsUntouched fault (D.history disk.new) (Synced ∷ events)) }
     ensures touches { (events : List Event) → D.history disk.old ≡ Some events → IsOpening events (D.history disk.new) }
+    ensures crashes { (events : List Event) → D.history disk.old ≡ Some events
+        → OutlivesCrashes events (D.history disk.new) result }
 
     // Over any disk.
     ensures fits { IfOk result (λ image. IsTrue (is_super image.superblock)) }

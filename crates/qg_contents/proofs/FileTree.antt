@@ -22,9 +22,9 @@ use Rattle.qg_rules.specs.Files.{is_file_of}
 use Rattle.qg_rules.proofs.Pieces.{file_small}
 use Rattle.qg_rules.proofs.Standing.{StartsOther}
 use Rattle.qg_rules.proofs.Reading.{IsNext, IsReading, IsReading-none, IsReading-more, IsReading-all, file_told-judged}
-use Rattle.qg_state.specs.Need.{file_bytes}
-use Rattle.qg_verdict.specs.Walk.{is_item_of}
-use Rattle.qg_verdict.specs.declared.tree.Tree.TheVariants.{Files}
+use Rattle.qg_image.specs.Need.{file_bytes}
+use Rattle.qg_image.specs.Walk.{is_item_of}
+use Rattle.qg_image.specs.declared.tree.Tree.TheVariants.{Files}
 use Rattle.qg_rules.specs.Writable.{AreWritableFiles, IsWritableFile, IsFileBy}
 use Rattle.qg_contents.specs.Written.{inode_of, extent_data_of, item_of_inode, item_of_piece, items_of_file}
 use Rattle.qg_contents.proofs.Bodies.{item-fits, inode_text-AreBytes, extent_data_text-AreBytes}

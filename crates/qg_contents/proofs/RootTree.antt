@@ -19,8 +19,8 @@ use Rattle.qg_image.specs.Table.{with_value}
 use Rattle.qg_num.specs.Key.{key_cmp}
 use Rattle.std.specs.Ordering.{is_lt}
 use Rattle.qg_parts.specs.Keys.{key_with}
-use Rattle.qg_verdict.specs.declared.tree.Tree.TheVariants.{Roots}
-use Rattle.qg_verdict.specs.Walk.{is_item_of}
+use Rattle.qg_image.specs.declared.tree.Tree.TheVariants.{Roots}
+use Rattle.qg_image.specs.Walk.{is_item_of}
 use Rattle.qg_contents.specs.Writable.{AreWritableRoots, IsRootBy, IsWritableRoot}
 use Rattle.qg_contents.specs.Written.{item_of_named, items_of_roots, quota_roots, roots_beside, roots_named, with_quotas}
 use Rattle.qg_contents.proofs.Bodies.{item-fits, root_text-AreBytes}

@@ -4,9 +4,9 @@ ghost use Rattle.std.specs.List.{flat_map, list_all, sum_by};
 ghost use Rattle.qg_node.specs.Fits.{ItemFits};
 ghost use Rattle.qg_node.specs.Nodes.{is_ascending, items_bytes};
 ghost use Rattle.qg_image.specs.FilesOf.{files_of, pieces_bytes};
-ghost use Rattle.qg_state.specs.Need.{file_bytes};
-ghost use Rattle.qg_verdict.specs.Walk.{is_item_of};
-ghost use Rattle.qg_verdict.specs.declared.tree.Tree.TheVariants.{Files};
+ghost use Rattle.qg_image.specs.Need.{file_bytes};
+ghost use Rattle.qg_image.specs.Walk.{is_item_of};
+ghost use Rattle.qg_image.specs.declared.tree.Tree.TheVariants.{Files};
 ghost use Rattle.qg_rules.specs.Writable.{AreWritableFiles, IsFileBy};
 ghost use Rattle.qg_contents.specs.Written.{item_of_inode, item_of_piece, items_of_file};
 

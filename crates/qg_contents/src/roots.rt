@@ -5,8 +5,8 @@ ghost use Rattle.qg_node.specs.Fits.{ItemFits};
 ghost use Rattle.qg_node.specs.Nodes.{is_ascending, items_bytes};
 ghost use Rattle.qg_items.specs.Laws.{RootFits};
 ghost use Rattle.qg_image.specs.ItemMeaning.{root_part, is_subvolume_number};
-ghost use Rattle.qg_verdict.specs.Walk.{is_item_of};
-ghost use Rattle.qg_verdict.specs.declared.tree.Tree.TheVariants.{Roots};
+ghost use Rattle.qg_image.specs.Walk.{is_item_of};
+ghost use Rattle.qg_image.specs.declared.tree.Tree.TheVariants.{Roots};
 ghost use Rattle.qg_contents.specs.Writable.{AreWritableRoots, IsRootBy, IsWritableRoot};
 ghost use Rattle.qg_contents.specs.Written.{item_of_named, item_of_root, items_of_roots, quota_roots, roots_named, roots_beside};
 

@@ -3,9 +3,9 @@ use Rattle.std.proofs.Common.{◌≡◌, ℕ, Bool, true, false, List, [], ◌�
 use Rattle.std.specs.Prelude.{◌==◌, ◌||◌}
 use Rattle.std.specs.List.{Contains, filter}
 use Rattle.std.proofs.lemmas.Bool.{eqb-true, eq-eqb, or_cases, or_left, or_right, cases_Bool, cond-true, cond-false}
-use Rattle.qg_state.specs.declared.element.Element.{Element}
-use Rattle.qg_state.specs.Reach.{is_among, distinct}
-use Rattle.qg_state.proofs.Contained.{none_contained, contains_here, contains_later, contains_cases}
+use Rattle.qg_image.specs.declared.element.Element.{Element}
+use Rattle.qg_image.specs.Reach.{is_among, distinct}
+use Rattle.qg_image.proofs.Contained.{none_contained, contains_here, contains_later, contains_cases}
 
 -- ---- what begins at an address
 

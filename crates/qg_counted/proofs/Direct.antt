@@ -7,12 +7,12 @@ use Rattle.std.proofs.lemmas.Bool.Decides.{eqb_tells}
 use Rattle.std.proofs.lemmas.List.{get_or-map}
 use Rattle.std.proofs.lemmas.Option.{get_or_from_slice_get}
 use Rattle.qg_image.specs.Table.{keys_of, value_at}
-use Rattle.qg_state.specs.declared.element.Element.{Element}
-use Rattle.qg_state.specs.State.{Layout}
-use Rattle.qg_state.specs.Reach.{reach, reach_of, reaches}
-use Rattle.qg_state.specs.Members.{Hierarchy, members, is_member}
-use Rattle.qg_state.specs.Counts.{bytes_of, reach_of_group, referenced, exclusive, is_reached_outside, direct_count}
-use Rattle.qg_state.proofs.Contained.{none_contained}
+use Rattle.qg_image.specs.declared.element.Element.{Element}
+use Rattle.qg_image.specs.State.{Layout}
+use Rattle.qg_image.specs.Reach.{reach, reach_of, reaches}
+use Rattle.qg_image.specs.Members.{Hierarchy, members, is_member}
+use Rattle.qg_image.specs.Counts.{bytes_of, reach_of_group, referenced, exclusive, is_reached_outside, direct_count}
+use Rattle.qg_image.proofs.Contained.{none_contained}
 use Rattle.qg_reach.specs.Sets.{HaveSame}
 use Rattle.qg_reach.proofs.Distinct.{apart_same, bytes_of_distinct}
 use Rattle.qg_reach.proofs.Members.{contains_flat_map, contains_map, one_flat_mapped, one_mapped}

@@ -5,10 +5,10 @@ use Rattle.std.specs.List.{Contains, filter, list_any}
 use Rattle.std.proofs.lemmas.Bool.{cond-true, cond-false, eq-eqb, eqb-true, or_cases, or_left, or_right, true≢false}
 use Rattle.std.proofs.lemmas.List.Sums.{sum_by-cons}
 use Rattle.std.proofs.lemmas.Option.{same_Some}
-use Rattle.qg_state.specs.declared.element.Element.{Element}
-use Rattle.qg_state.specs.State.{Layout}
-use Rattle.qg_state.specs.Counts.{bytes_of}
-use Rattle.qg_state.proofs.Contained.{contains_cases, contains_here, contains_later, none_contained}
+use Rattle.qg_image.specs.declared.element.Element.{Element}
+use Rattle.qg_image.specs.State.{Layout}
+use Rattle.qg_image.specs.Counts.{bytes_of}
+use Rattle.qg_image.proofs.Contained.{contains_cases, contains_here, contains_later, none_contained}
 use Rattle.qg_counted.specs.declared.counting.Portion.{Portion}
 use Rattle.qg_counted.specs.Portions.{bytes_where, given}
 use Rattle.qg_counted.specs.Telling.{ArePortionsOf, IsPortionOf}

@@ -2,10 +2,10 @@
 use Rattle.std.specs.Prelude.{◌≡◌, ℕ, List, length, slice_index_or}
 use Rattle.std.specs.List.Sorted.{IsStrictlyIncreasing}
 use Rattle.qg_image.specs.Table.{keys_of}
-use Rattle.qg_state.specs.declared.element.Element.{Element}
-use Rattle.qg_state.specs.Counts.{direct_count}
-use Rattle.qg_state.specs.Members.{Hierarchy, is_member}
-use Rattle.qg_state.specs.State.{Layout}
+use Rattle.qg_image.specs.declared.element.Element.{Element}
+use Rattle.qg_image.specs.Counts.{direct_count}
+use Rattle.qg_image.specs.Members.{Hierarchy, is_member}
+use Rattle.qg_image.specs.State.{Layout}
 use Rattle.qg_counted.specs.declared.counting.Portion.{Portion}
 use Rattle.qg_counted.specs.Counted.{AreAllReached}
 use Rattle.qg_counted.specs.Telling.{ArePortionsOf}

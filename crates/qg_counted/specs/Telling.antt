@@ -1,8 +1,8 @@
 -- Portions that tell what begins in a layout: of each element its bytes, and the set of the subvolumes that reach it (this project's own).
 use Rattle.std.specs.Prelude.{◌≡◌, ⊤, ℕ, List, [], ◌∷◌, Some, slice_get}
-use Rattle.qg_state.specs.declared.element.Element.{Element}
-use Rattle.qg_state.specs.State.{Layout}
-use Rattle.qg_state.specs.Reach.{reaches}
+use Rattle.qg_image.specs.declared.element.Element.{Element}
+use Rattle.qg_image.specs.State.{Layout}
+use Rattle.qg_image.specs.Reach.{reaches}
 use Rattle.qg_counted.specs.declared.counting.Portion.{Portion}
 use Rattle.qg_counted.specs.Portions.{is_in}
 

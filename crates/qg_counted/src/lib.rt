@@ -8,6 +8,3 @@ mod laws;
 pub use counting::Portion;
 pub use groups::group_counters;
 pub use laws::groups_are_direct;
-
-#[cfg(test)]
-mod tests;

@@ -5,9 +5,9 @@ use Rattle.qg_items.specs.declared.extent.Reference.TheVariants.{KeyedBlock, Sha
 use Rattle.qg_items.specs.ItemText.{inode_text, extent_data_text}
 use Rattle.qg_items.specs.ItemReading.{inode_read, extent_data_read}
 use Rattle.qg_image.specs.ItemMeaning.{file_part}
-use Rattle.qg_state.specs.State.{Placed}
-use Rattle.qg_state.specs.Owed.{Owing, owed_by_node}
-use Rattle.qg_state.specs.ExamplesOfReferences.{leaf_of, inner_of, pointer, first_file}
+use Rattle.qg_image.specs.State.{Placed}
+use Rattle.qg_image.specs.Owed.{Owing, owed_by_node}
+use Rattle.qg_image.specs.ExamplesOfReferences.{leaf_of, inner_of, pointer, first_file}
 use Rattle.qg_cow.specs.declared.cases.Edits.TheVariants.{ShareOld, AddKeyed, TurnKeyed, TakeOver}
 use Rattle.qg_cow.specs.declared.cases.Leaving.TheVariants.{Goes, TurnsFull, Stays}
 use Rattle.qg_cow.specs.Copying.{copy_case, children_gain, children_lose, copy_gains, copy_losses, old_after, owed_after}

@@ -16,7 +16,7 @@ use Rattle.qg_node.specs.declared.item.Item.{Item}
 use Rattle.qg_image.specs.IsShaped.{same_key}
 use Rattle.qg_shape.proofs.Ascending.{same_itself}
 use Rattle.qg_walk.specs.Added.{is_from, is_to}
-use Rattle.qg_verdict.specs.Walk.{ends_before}
+use Rattle.qg_image.specs.Walk.{ends_before}
 use Rattle.qg_walk.proofs.KeyRanges.{ends_before-each, is_from-later, less_trans, less_upto, list_all-weaker, not_less_behind, not_less_itself, same_key-true}
 use Rattle.qg_descent.specs.Reading.{body_at, is_upto, is_within, items_within, rest_within}
 use Rattle.qg_descent.specs.Way.{Follow, Gathers, IsFurther, IsPartFor, next_within}

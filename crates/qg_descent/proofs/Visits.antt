@@ -19,12 +19,12 @@ use Rattle.qg_node.specs.NodeText.{IsNode}
 use Rattle.qg_super.specs.declared.sizes.Sizes.{Sizes}
 use Rattle.qg_super.specs.declared.superblock.Super.{Super}
 use Rattle.qg_image.specs.IsShaped.{is_shaped}
-use Rattle.qg_verdict.specs.declared.expected.Expected.{Expected}
-use Rattle.qg_verdict.specs.declared.failure.Failure.{Failure}
-use Rattle.qg_verdict.specs.declared.failure.Failure.TheVariants.{Broken, Differs}
-use Rattle.qg_verdict.specs.declared.tree.Tree.{Tree}
-use Rattle.qg_verdict.specs.Failure.{first_failure, unless}
-use Rattle.qg_verdict.specs.Walk.{is_generation, is_owner, is_told, shape_failure, way_failure}
+use Rattle.qg_image.specs.declared.expected.Expected.{Expected}
+use Rattle.qg_image.specs.declared.failure.Failure.{Failure}
+use Rattle.qg_image.specs.declared.failure.Failure.TheVariants.{Broken, Differs}
+use Rattle.qg_image.specs.declared.tree.Tree.{Tree}
+use Rattle.qg_image.specs.Failure.{first_failure, unless}
+use Rattle.qg_image.specs.Walk.{is_generation, is_owner, is_told, shape_failure, way_failure}
 use Rattle.qg_walk.specs.Standing.{form_failure}
 use Rattle.qg_walk.proofs.Failures.{IsFormed-form}
 use Rattle.qg_blocks.specs.Held.{Draft, Held}

@@ -9,6 +9,3 @@ mod way;
 
 pub use tree::Tree;
 pub use way::Way;
-
-#[cfg(test)]
-mod tests;

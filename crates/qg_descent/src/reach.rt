@@ -13,9 +13,9 @@ use crate::Tree;
 use crate::way::{Way, next_way};
 use qg_blocks::Blocks;
 use qg_disk::Disk;
+use qg_image::Failure;
 use qg_num::{BlockFault, Key, Steps};
 use qg_parts::TreePart;
-use qg_verdict::Failure;
 use qg_walk::form_failure;
 use std::sync::ledger::Ledger;
 

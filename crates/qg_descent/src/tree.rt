@@ -1,13 +1,13 @@
 // A tree.
 ghost use Rattle.std.specs.Prelude.{◌≡◌, ◌+◌, ◌-◌, ◌<◌, ◌^◌, None, Some};
-ghost use Rattle.qg_verdict.specs.Walk.{root_expected};
+ghost use Rattle.qg_image.specs.Walk.{root_expected};
 ghost use Rattle.qg_descent.specs.Tree.{super_of};
 
 use crate::way::Way;
 use qg_blocks::Blocks;
+use qg_image::Expected;
 use qg_num::{Address, Generation, RootId};
 use qg_super::Super;
-use qg_verdict::Expected;
 use std::marker::Model;
 
 /// A tree over nodes by address (on-disk format, "B-tree"): where its root lies, and its height, which is the root's level.

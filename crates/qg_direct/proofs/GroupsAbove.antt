@@ -16,8 +16,8 @@ use Rattle.std.proofs.lemmas.List.Kept.{AllPairs-from_increasing}
 use Rattle.std.proofs.lemmas.List.Sorted.{searched}
 use Rattle.std.proofs.lemmas.Map.Keys.{IsStrictlyIncreasing-from_sorted, sorted_from_strictly_increasing}
 use Rattle.std.proofs.lemmas.Option.{get_or_from_slice_get, none-some, slice_get-get_or, slice_get_within}
-use Rattle.qg_state.specs.Members.{Hierarchy, is_below, is_member, level_of_group, members}
-use Rattle.qg_state.proofs.Contained.{none_contained}
+use Rattle.qg_image.specs.Members.{Hierarchy, is_below, is_member, level_of_group, members}
+use Rattle.qg_image.proofs.Contained.{none_contained}
 use Rattle.qg_home.proofs.Listed.{at_along, at_one}
 use Rattle.qg_reached.specs.Above.{list_at}
 use Rattle.qg_counted.specs.Groups.{AreWithin}

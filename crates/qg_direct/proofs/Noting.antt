@@ -8,7 +8,7 @@ use Rattle.std.specs.Ordering.{nat_cmp}
 use Rattle.std.proofs.lemmas.Cmp.{ranked}
 use Rattle.std.proofs.lemmas.Bool.{cases_eq}
 use Rattle.std.proofs.lemmas.Option.{slice_get_within, slice_get_cases}
-use Rattle.qg_state.specs.declared.element.Element.{Element}
+use Rattle.qg_image.specs.declared.element.Element.{Element}
 use Rattle.qg_home.specs.Places.{StandsAt, AreOthers}
 use Rattle.qg_home.proofs.Listed.{All-at, at_along, at_one, front_more_cases, in_front_more}
 use Rattle.qg_home.proofs.Ascending.{one_place}

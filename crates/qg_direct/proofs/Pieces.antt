@@ -13,7 +13,7 @@ use Rattle.qg_items.specs.ItemReading.{inode_read, extent_data_read}
 use Rattle.qg_node.specs.declared.item.Item.{Item}
 use Rattle.qg_image.specs.declared.part.FilePart.TheVariants.{Inode, PieceOf}
 use Rattle.qg_image.specs.ItemMeaning.{when, is_keyed, piece_told, file_part, ◌orelse◌}
-use Rattle.qg_state.specs.Reach.{piece_of_part}
+use Rattle.qg_image.specs.Reach.{piece_of_part}
 
 -- ---- one item
 

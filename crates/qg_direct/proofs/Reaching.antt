@@ -8,11 +8,11 @@ use Rattle.std.proofs.lemmas.List.Elements.{Contains-append_left, Contains-appen
 use Rattle.qg_node.specs.declared.pointer.Pointer.{Pointer}
 use Rattle.qg_node.specs.Nodes.{own_pointers}
 use Rattle.qg_image.specs.Table.{value_at, keys_of}
-use Rattle.qg_state.specs.declared.element.Element.{Element}
-use Rattle.qg_state.specs.State.{Layout, Placed, node_at}
-use Rattle.qg_state.specs.Reach.{extent_of, pieces_of, own_elements, pointers_at, reach_under, level_of, reach_of_root}
-use Rattle.qg_state.specs.Reach.{reach_of, reach}
-use Rattle.qg_state.proofs.Contained.{none_contained}
+use Rattle.qg_image.specs.declared.element.Element.{Element}
+use Rattle.qg_image.specs.State.{Layout, Placed, node_at}
+use Rattle.qg_image.specs.Reach.{extent_of, pieces_of, own_elements, pointers_at, reach_under, level_of, reach_of_root}
+use Rattle.qg_image.specs.Reach.{reach_of, reach}
+use Rattle.qg_image.proofs.Contained.{none_contained}
 use Rattle.qg_reach.proofs.Members.{contains_map, one_mapped, contains_flat_map, one_flat_mapped}
 use Rattle.qg_home.specs.declared.linked.Linked.{Linked}
 use Rattle.qg_home.specs.Linked.{linked_of, AreLinksOf}

@@ -15,12 +15,12 @@ use Rattle.std.proofs.lemmas.Option.{same_Some, none-some, slice_get_within}
 use Rattle.qg_num.specs.declared.counters.Counters.{Counters}
 use Rattle.qg_num.specs.declared.piece.Piece.{Piece}
 use Rattle.qg_image.specs.Table.{keys_of, value_at}
-use Rattle.qg_state.specs.declared.element.Element.{Element}
-use Rattle.qg_state.specs.State.{Layout, Placed, node_at}
-use Rattle.qg_state.specs.Reach.{extent_of, is_among, own_elements, pieces_of, reach, reaches}
-use Rattle.qg_state.specs.Members.{Hierarchy, is_member}
-use Rattle.qg_state.specs.Owed.{layout_extents}
-use Rattle.qg_state.proofs.Contained.{contains_cases, contains_here, contains_later, none_contained}
+use Rattle.qg_image.specs.declared.element.Element.{Element}
+use Rattle.qg_image.specs.State.{Layout, Placed, node_at}
+use Rattle.qg_image.specs.Reach.{extent_of, is_among, own_elements, pieces_of, reach, reaches}
+use Rattle.qg_image.specs.Members.{Hierarchy, is_member}
+use Rattle.qg_image.specs.Owed.{layout_extents}
+use Rattle.qg_image.proofs.Contained.{contains_cases, contains_here, contains_later, none_contained}
 use Rattle.qg_reach.proofs.Distinct.{AreApart, apart_first, apart_none, apart_with, begin_alike}
 use Rattle.qg_reach.proofs.Members.{contains_flat_map, contains_map, one_mapped}
 use Rattle.qg_home.specs.declared.linked.Linked.{Linked}

@@ -8,8 +8,8 @@ use Rattle.std.proofs.lemmas.List.{append_assoc, get_or-map, length-map, map-app
 use Rattle.std.proofs.lemmas.List.Elements.{All-append}
 use Rattle.std.proofs.lemmas.List.Sums.{sum_by-cons}
 use Rattle.std.proofs.lemmas.Option.{slice_get-get_or}
-use Rattle.qg_state.specs.declared.element.Element.{Element}
-use Rattle.qg_state.specs.Counts.{bytes_of}
+use Rattle.qg_image.specs.declared.element.Element.{Element}
+use Rattle.qg_image.specs.Counts.{bytes_of}
 use Rattle.qg_home.specs.declared.linked.Linked.{Linked}
 use Rattle.qg_counted.specs.declared.counting.Portion.{Portion}
 use Rattle.qg_counted.specs.Groups.{AreWithin}

@@ -2,7 +2,7 @@
 -- quota groups"; the form is this project's own).
 use Rattle.std.specs.Prelude.{◌≡◌, ◌<◌, ℕ, Bool, true, List, Some, length, slice_get}
 use Rattle.std.specs.List.Sorted.{IsStrictlyIncreasing}
-use Rattle.qg_state.specs.Members.{Hierarchy, is_member}
+use Rattle.qg_image.specs.Members.{Hierarchy, is_member}
 use Rattle.qg_reached.specs.Above.{list_at}
 use Rattle.qg_hier.specs.Groups.{has_number}
 

@@ -1,7 +1,7 @@
 -- Which nodes name each extent: for each extent a list of indices (this project's own). Addresses are in bytes.
 use Rattle.std.specs.Prelude.{◌≡◌, ◌↔◌, ◌⊎◌, ℕ, List, Some, slice_get}
 use Rattle.std.specs.List.{Contains}
-use Rattle.qg_state.specs.declared.element.Element.{Element}
+use Rattle.qg_image.specs.declared.element.Element.{Element}
 use Rattle.qg_reached.specs.Above.{list_at}
 use Rattle.qg_direct.specs.declared.surveyed.Surveyed.{Surveyed}
 

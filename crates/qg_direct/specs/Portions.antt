@@ -1,7 +1,7 @@
 -- The bytes of extents and nodes, and the sets of those who reach them (this project's own).
 use Rattle.std.specs.Prelude.{◌≡◌, ◌<◌, ◌↔◌, ℕ, List, length, map, Some, slice_get}
 use Rattle.std.specs.List.{Contains}
-use Rattle.qg_state.specs.declared.element.Element.{Element}
+use Rattle.qg_image.specs.declared.element.Element.{Element}
 use Rattle.qg_home.specs.declared.linked.Linked.{Linked}
 use Rattle.qg_reached.specs.Above.{list_at}
 use Rattle.qg_reached.specs.Roots.{IsReachedFrom}

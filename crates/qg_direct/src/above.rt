@@ -2,7 +2,7 @@
 ghost use Rattle.std.specs.Prelude.{◌≡◌, false, Some, IfOk, MatchOption, slice_get};
 ghost use Rattle.std.specs.List.{All};
 ghost use Rattle.std.specs.List.Sorted.{IsStrictlyIncreasing};
-ghost use Rattle.qg_state.specs.Members.{is_member, level_of_group};
+ghost use Rattle.qg_image.specs.Members.{is_member, level_of_group};
 ghost use Rattle.qg_hier.specs.Groups.{has_number};
 ghost use Rattle.qg_direct.specs.Above.{AreMemberships, ArePlaces};
 

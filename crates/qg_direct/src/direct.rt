@@ -2,9 +2,9 @@
 ghost use Rattle.std.specs.Prelude.{◌≡◌, ◌+◌, ◌*◌, ◌^◌, ◌<◌, map, length, IfOk};
 ghost use Rattle.std.specs.List.{All};
 ghost use Rattle.std.specs.List.Sorted.{IsStrictlyIncreasing};
-ghost use Rattle.qg_state.specs.State.{Layout};
-ghost use Rattle.qg_state.specs.Counts.{bytes_of};
-ghost use Rattle.qg_state.specs.Members.{level_of_group};
+ghost use Rattle.qg_image.specs.State.{Layout};
+ghost use Rattle.qg_image.specs.Counts.{bytes_of};
+ghost use Rattle.qg_image.specs.Members.{level_of_group};
 ghost use Rattle.qg_direct.specs.Surveyed.{AreSurveyed};
 ghost use Rattle.qg_direct.specs.Direct.{AreGroupCounts};
 
@@ -15,8 +15,8 @@ use crate::namers::namers_of;
 use crate::portions::{extent_portions, push_nodes};
 use qg_counted::group_counters;
 use qg_hier::Hierarchy;
+use qg_image::Element;
 use qg_num::{Address, Counters, NoMemory, RootId};
-use qg_state::Element;
 use std::alloc::Global;
 
 /// The direct count of each group, in the order of the groups: the bytes of what its members reach, and of what no other

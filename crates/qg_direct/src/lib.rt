@@ -11,6 +11,3 @@ mod surveyed;
 pub use direct::group_counts;
 pub use links::reached_of;
 pub use surveyed::{Surveyed, surveyed_of};
-
-#[cfg(test)]
-mod tests;

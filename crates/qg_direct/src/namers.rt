@@ -7,8 +7,8 @@ ghost use Rattle.qg_counted.specs.Groups.{AreWithin};
 ghost use Rattle.qg_direct.specs.Namers.{AreNamers, HasAtMost, HasNoted};
 
 use crate::Surveyed;
+use qg_image::Element;
 use qg_num::{Address, Sequence};
-use qg_state::Element;
 use std::alloc::{AllocError, Global};
 
 /// For each extent the indices of the nodes that name it. What is named and isn't among the extents is passed by.

@@ -7,9 +7,9 @@ ghost use Rattle.qg_counted.specs.Groups.{AreWithin};
 ghost use Rattle.qg_direct.specs.Portions.{AreOfNamers, node_portions};
 
 use qg_counted::Portion;
+use qg_image::Element;
 use qg_num::{NoMemory, Sequence};
 use qg_reached::{Reached, SetId};
-use qg_state::Element;
 use std::alloc::{AllocError, Global};
 
 /// The portions of extents: each is reached by those who reach a node that names it.

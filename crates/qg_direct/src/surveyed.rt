@@ -5,7 +5,7 @@ ghost use Rattle.std.specs.Option.{option_and_then};
 ghost use Rattle.qg_items.specs.ItemReading.{extent_data_read};
 ghost use Rattle.qg_node.specs.Nodes.{header_of};
 ghost use Rattle.qg_image.specs.ItemMeaning.{file_part, piece_told};
-ghost use Rattle.qg_state.specs.Reach.{piece_of_part, pieces_of};
+ghost use Rattle.qg_image.specs.Reach.{piece_of_part, pieces_of};
 ghost use Rattle.qg_direct.specs.Surveyed.{surveyed_of};
 
 use qg_home::{Linked, linked_of};

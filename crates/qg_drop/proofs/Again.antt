@@ -6,9 +6,9 @@ use Rattle.std.proofs.lemmas.Bool.{cases_Bool, cond-false, cond-true, eq-eqb}
 use Rattle.qg_device.specs.History.{Event}
 use Rattle.qg_super.specs.Places.{is_slot}
 use Rattle.qg_image.specs.Table.{has_key, value_at}
-use Rattle.qg_state.specs.Owed.{layout_extents}
-use Rattle.qg_state.specs.Reach.{is_reached}
-use Rattle.qg_state.specs.State.{Layout, Placed, State, layout_of}
+use Rattle.qg_image.specs.Owed.{layout_extents}
+use Rattle.qg_image.specs.Reach.{is_reached}
+use Rattle.qg_image.specs.State.{Layout, Placed, State, layout_of}
 use Rattle.qg_machine.specs.Layout.{is_full_after}
 use Rattle.qg_machine.specs.Step.{without_subvolume}
 use Rattle.qg_blocks.specs.Held.{Draft}

@@ -5,9 +5,9 @@ use Rattle.std.specs.List.{filter}
 use Rattle.std.proofs.lemmas.Bool.{cases_Bool, cond-false, cond-true, eq-eqb, eqb-true, false≢true, or_cases, or_left, or_right}
 use Rattle.std.proofs.lemmas.List.Folds.{list_any-append}
 use Rattle.qg_image.specs.Table.{has_key}
-use Rattle.qg_state.specs.declared.element.Element.{Element}
-use Rattle.qg_state.specs.Reach.{distinct, is_among}
-use Rattle.qg_state.specs.State.{Placed}
+use Rattle.qg_image.specs.declared.element.Element.{Element}
+use Rattle.qg_image.specs.Reach.{distinct, is_among}
+use Rattle.qg_image.specs.State.{Placed}
 
 module _ (layout : List (ℕ × Placed)) where
   -- how many nodes of the layout some elements are

@@ -6,10 +6,10 @@ use Rattle.std.proofs.lemmas.List.Sums.{sum_by-cons}
 use Rattle.qg_device.specs.History.{Event}
 use Rattle.qg_items.specs.declared.extent.Reference.TheVariants.{KeyedBlock}
 use Rattle.qg_image.specs.Table.{has_key, value_at}
-use Rattle.qg_state.specs.declared.element.Element.{Element}
-use Rattle.qg_state.specs.Reach.{distinct, level_of, reach_under}
-use Rattle.qg_state.specs.State.{State, Subvolume, has_subvolume, layout_of, next_generation, node_at}
-use Rattle.qg_verdict.specs.Walk.{root_expected}
+use Rattle.qg_image.specs.declared.element.Element.{Element}
+use Rattle.qg_image.specs.Reach.{distinct, level_of, reach_under}
+use Rattle.qg_image.specs.State.{State, Subvolume, has_subvolume, layout_of, next_generation, node_at}
+use Rattle.qg_image.specs.Walk.{root_expected}
 use Rattle.qg_machine.specs.Refusals.{nodes_reached}
 use Rattle.qg_machine.specs.Step.{deleted}
 use Rattle.qg_cow.specs.Children.{way_to}

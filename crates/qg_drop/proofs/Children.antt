@@ -12,14 +12,14 @@ use Rattle.qg_node.specs.declared.pointer.Pointer.{Pointer}
 use Rattle.qg_node.specs.Nodes.{header_of, is_ascending, own_pointers}
 use Rattle.qg_super.specs.declared.superblock.Super.{Super}
 use Rattle.qg_image.specs.Table.{has_key, value_at}
-use Rattle.qg_state.specs.declared.element.Element.{Element}
-use Rattle.qg_state.specs.Reach.{own_elements, pointers_at, reach_under}
-use Rattle.qg_state.specs.State.{Placed, State, node_at}
-use Rattle.qg_verdict.specs.declared.expected.Expected.{Expected}
-use Rattle.qg_verdict.specs.declared.failure.Failure.{Failure}
-use Rattle.qg_verdict.specs.declared.tree.Tree.TheVariants.{Files}
-use Rattle.qg_verdict.specs.Among.{found_there}
-use Rattle.qg_verdict.specs.Walk.{found_failure, node_failure, pointers_failure, walk_failure}
+use Rattle.qg_image.specs.declared.element.Element.{Element}
+use Rattle.qg_image.specs.Reach.{own_elements, pointers_at, reach_under}
+use Rattle.qg_image.specs.State.{Placed, State, node_at}
+use Rattle.qg_image.specs.declared.expected.Expected.{Expected}
+use Rattle.qg_image.specs.declared.failure.Failure.{Failure}
+use Rattle.qg_image.specs.declared.tree.Tree.TheVariants.{Files}
+use Rattle.qg_image.specs.Among.{found_there}
+use Rattle.qg_image.specs.Walk.{found_failure, node_failure, pointers_failure, walk_failure}
 use Rattle.qg_machine.specs.Layout.{found_in, super_to_come}
 use Rattle.qg_refs.specs.Book.{Book, full_in}
 use Rattle.qg_walk.specs.Standing.{expected_below}

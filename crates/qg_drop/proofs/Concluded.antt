@@ -6,9 +6,9 @@ use Rattle.std.proofs.lemmas.Bool.{cases_Bool, cond-false, cond-true, eqb-false,
 use Rattle.qg_device.specs.History.{Event}
 use Rattle.qg_node.specs.declared.node.Node.{Node}
 use Rattle.qg_image.specs.Table.{value_at}
-use Rattle.qg_state.specs.declared.element.Element.{Element}
-use Rattle.qg_state.specs.Owed.{owed_by_node}
-use Rattle.qg_state.specs.State.{Placed, State}
+use Rattle.qg_image.specs.declared.element.Element.{Element}
+use Rattle.qg_image.specs.Owed.{owed_by_node}
+use Rattle.qg_image.specs.State.{Placed, State}
 use Rattle.qg_cow.specs.declared.cases.Leaving.TheVariants.{Goes, TurnsFull, Stays}
 use Rattle.qg_cow.specs.Children.{owner_of}
 use Rattle.qg_cow.specs.Left.{case_of, leaving_gains, leaving_losses}

@@ -12,9 +12,9 @@ use Rattle.qg_node.specs.declared.node.Node.{Node}
 use Rattle.qg_node.specs.declared.node.Node.TheVariants.{Inner}
 use Rattle.qg_node.specs.declared.pointer.Pointer.{Pointer}
 use Rattle.qg_image.specs.Table.{has_key}
-use Rattle.qg_state.specs.declared.element.Element.{Element}
-use Rattle.qg_state.specs.Reach.{extent_of, is_among, own_elements, pieces_of, pointers_at, reach_under}
-use Rattle.qg_state.specs.State.{State, node_at}
+use Rattle.qg_image.specs.declared.element.Element.{Element}
+use Rattle.qg_image.specs.Reach.{extent_of, is_among, own_elements, pieces_of, pointers_at, reach_under}
+use Rattle.qg_image.specs.State.{State, node_at}
 use Rattle.qg_refs.specs.Book.{Book, full_in}
 use Rattle.qg_walk.specs.Standing.{expected_below}
 use Rattle.qg_drop.specs.declared.child.Child.{Child}

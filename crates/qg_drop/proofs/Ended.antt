@@ -20,17 +20,17 @@ use Rattle.qg_image.specs.Below.{items_below}
 use Rattle.qg_image.specs.FilesOf.{files_of}
 use Rattle.qg_image.specs.ItemMeaning.{when}
 use Rattle.qg_image.specs.Table.{keys_of, value_at, without_key}
-use Rattle.qg_state.specs.declared.element.Element.{Element}
-use Rattle.qg_state.specs.Owed.{homeless, layout_extents}
-use Rattle.qg_state.specs.Reach.{is_among, is_reached, level_of, reach, reach_of, reach_of_root, reach_under, reaches}
-use Rattle.qg_state.specs.Space.{present_extents}
-use Rattle.qg_state.specs.State.{Placed, State, Subvolume, layout_of, next_generation, node_at}
-use Rattle.qg_state.proofs.Contained.{contains_here, contains_later}
-use Rattle.qg_verdict.specs.declared.failure.Failure.{Failure}
-use Rattle.qg_verdict.specs.declared.tree.Tree.TheVariants.{Files}
-use Rattle.qg_verdict.specs.Among.{found_there}
-use Rattle.qg_verdict.specs.ItemsUnder.{is_way, items_under, nodes_of}
-use Rattle.qg_verdict.specs.Walk.{deepest, node_failure, root_expected, walk_failure, way_failure}
+use Rattle.qg_image.specs.declared.element.Element.{Element}
+use Rattle.qg_image.specs.Owed.{homeless, layout_extents}
+use Rattle.qg_image.specs.Reach.{is_among, is_reached, level_of, reach, reach_of, reach_of_root, reach_under, reaches}
+use Rattle.qg_image.specs.Space.{present_extents}
+use Rattle.qg_image.specs.State.{Placed, State, Subvolume, layout_of, next_generation, node_at}
+use Rattle.qg_image.proofs.Contained.{contains_here, contains_later}
+use Rattle.qg_image.specs.declared.failure.Failure.{Failure}
+use Rattle.qg_image.specs.declared.tree.Tree.TheVariants.{Files}
+use Rattle.qg_image.specs.Among.{found_there}
+use Rattle.qg_image.specs.ItemsUnder.{is_way, items_under, nodes_of}
+use Rattle.qg_image.specs.Walk.{deepest, node_failure, root_expected, walk_failure, way_failure}
 use Rattle.qg_machine.specs.Layout.{IsReached, IsTreeOf, IsWhole, found_in, is_full_after, super_to_come}
 use Rattle.qg_machine.specs.Step.{deleted, without_subvolume}
 use Rattle.qg_blocks.specs.Told.{fresh_at, told}

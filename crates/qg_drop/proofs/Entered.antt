@@ -14,12 +14,12 @@ use Rattle.qg_node.specs.Nodes.{header_of}
 use Rattle.qg_super.specs.declared.sizes.Sizes.{Sizes}
 use Rattle.qg_super.specs.Places.{is_run, is_slot}
 use Rattle.qg_image.specs.Table.{has_key, value_at, without_key}
-use Rattle.qg_state.specs.declared.element.Element.{Element}
-use Rattle.qg_state.specs.Owed.{Owing, layout_extents}
-use Rattle.qg_state.specs.Reach.{extent_of, is_among, is_reached, level_of, own_elements, pieces_of, reach, reach_of, reach_of_root, reach_under, reaches}
-use Rattle.qg_state.specs.Space.{present_extents}
-use Rattle.qg_state.specs.State.{Placed, State, Subvolume, layout_of, next_generation, node_at}
-use Rattle.qg_state.proofs.Contained.{contains_here, contains_later}
+use Rattle.qg_image.specs.declared.element.Element.{Element}
+use Rattle.qg_image.specs.Owed.{Owing, layout_extents}
+use Rattle.qg_image.specs.Reach.{extent_of, is_among, is_reached, level_of, own_elements, pieces_of, reach, reach_of, reach_of_root, reach_under, reaches}
+use Rattle.qg_image.specs.Space.{present_extents}
+use Rattle.qg_image.specs.State.{Placed, State, Subvolume, layout_of, next_generation, node_at}
+use Rattle.qg_image.proofs.Contained.{contains_here, contains_later}
 use Rattle.qg_machine.specs.Layout.{IsTreeOf, is_full_after}
 use Rattle.qg_machine.specs.Step.{without_subvolume}
 use Rattle.qg_blocks.specs.Told.{fresh_at, told, told_or}

@@ -7,9 +7,9 @@ use Rattle.std.proofs.lemmas.List.{length-map}
 use Rattle.std.proofs.lemmas.Map.Keys.{IsDistinct-cons}
 use Rattle.std.proofs.lemmas.Map.Steps.{length-le_from_distinct_below}
 use Rattle.qg_image.specs.Table.{has_key}
-use Rattle.qg_state.specs.declared.element.Element.{Element}
-use Rattle.qg_state.specs.Reach.{distinct, is_among}
-use Rattle.qg_state.specs.State.{Placed}
+use Rattle.qg_image.specs.declared.element.Element.{Element}
+use Rattle.qg_image.specs.Reach.{distinct, is_among}
+use Rattle.qg_image.specs.State.{Placed}
 use Rattle.qg_drop.proofs.Among.{nodes_among}
 
 module _ (layout : List (ℕ × Placed)) where

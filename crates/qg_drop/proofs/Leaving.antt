@@ -14,10 +14,10 @@ use Rattle.qg_node.specs.Nodes.{own_pointers}
 use Rattle.qg_super.specs.declared.superblock.Super.{Super}
 use Rattle.qg_super.specs.Places.{is_served}
 use Rattle.qg_image.specs.Table.{has_key, value_at}
-use Rattle.qg_state.specs.Reach.{extent_of, is_among, own_elements, pieces_of, reach_under}
-use Rattle.qg_state.specs.State.{State, node_at}
-use Rattle.qg_verdict.specs.declared.expected.Expected.{Expected}
-use Rattle.qg_verdict.specs.declared.tree.Tree.TheVariants.{Files}
+use Rattle.qg_image.specs.Reach.{extent_of, is_among, own_elements, pieces_of, reach_under}
+use Rattle.qg_image.specs.State.{State, node_at}
+use Rattle.qg_image.specs.declared.expected.Expected.{Expected}
+use Rattle.qg_image.specs.declared.tree.Tree.TheVariants.{Files}
 use Rattle.qg_machine.specs.Layout.{super_to_come}
 use Rattle.qg_blocks.specs.Held.{Held}
 use Rattle.qg_blocks.specs.Told.{held_at}

@@ -9,8 +9,8 @@ use Rattle.std.proofs.lemmas.List.Elements.{Contains-get_or, filter-append, filt
 use Rattle.qg_super.specs.declared.sizes.Sizes.{Sizes}
 use Rattle.qg_super.specs.Places.{is_run, sector}
 use Rattle.qg_super.proofs.Runs.{WholeRun-is_run}
-use Rattle.qg_state.specs.declared.element.Element.{Element}
-use Rattle.qg_state.specs.Owed.{Owing}
+use Rattle.qg_image.specs.declared.element.Element.{Element}
+use Rattle.qg_image.specs.Owed.{Owing}
 use Rattle.qg_space.specs.Holding.{Holding, has_run}
 use Rattle.qg_space.proofs.Members.{Contains-has_run, contains_filter}
 use Rattle.qg_owed.specs.declared.owing.Owing.{Owing as Listed}

@@ -11,11 +11,11 @@ use Rattle.qg_node.specs.declared.node.Node.{Node}
 use Rattle.qg_super.specs.declared.sizes.Sizes.{Sizes}
 use Rattle.qg_super.specs.Places.{is_run, is_served}
 use Rattle.qg_image.specs.Table.{has_key, value_at}
-use Rattle.qg_state.specs.declared.element.Element.{Element}
-use Rattle.qg_state.specs.Owed.{layout_extents}
-use Rattle.qg_state.specs.Reach.{extent_of, is_among, is_reached, own_elements, pieces_of}
-use Rattle.qg_state.specs.State.{Placed, State, layout_of, node_at}
-use Rattle.qg_state.proofs.Contained.{contains_cases, none_contained}
+use Rattle.qg_image.specs.declared.element.Element.{Element}
+use Rattle.qg_image.specs.Owed.{layout_extents}
+use Rattle.qg_image.specs.Reach.{extent_of, is_among, is_reached, own_elements, pieces_of}
+use Rattle.qg_image.specs.State.{Placed, State, layout_of, node_at}
+use Rattle.qg_image.proofs.Contained.{contains_cases, none_contained}
 use Rattle.qg_machine.specs.Layout.{is_full_after}
 use Rattle.qg_machine.specs.Step.{without_subvolume}
 use Rattle.qg_home.proofs.Reaching.{entry_of_value}

@@ -11,9 +11,9 @@ use Rattle.std.proofs.lemmas.List.Sums.{sum_by-cons}
 use Rattle.qg_device.specs.History.{Event}
 use Rattle.qg_items.specs.declared.extent.Reference.{Reference}
 use Rattle.qg_image.specs.Table.{value_at, without_key}
-use Rattle.qg_state.specs.Owed.{Owing, homeless, owed_by_node, owed_count}
-use Rattle.qg_state.specs.Reach.{is_among, is_reached, reach, reach_of, reach_of_root, reaches}
-use Rattle.qg_state.specs.State.{Placed, State, Subvolume, layout_of}
+use Rattle.qg_image.specs.Owed.{Owing, homeless, owed_by_node, owed_count}
+use Rattle.qg_image.specs.Reach.{is_among, is_reached, reach, reach_of, reach_of_root, reaches}
+use Rattle.qg_image.specs.State.{Placed, State, Subvolume, layout_of}
 use Rattle.qg_machine.specs.Layout.{is_full_after}
 use Rattle.qg_machine.specs.Step.{without_subvolume}
 use Rattle.qg_cow.specs.Children.{owed_if_there, owner_of}

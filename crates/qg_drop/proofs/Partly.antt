@@ -10,9 +10,9 @@ use Rattle.qg_device.specs.History.{Event}
 use Rattle.qg_node.specs.declared.node.Node.{Node}
 use Rattle.qg_node.specs.Nodes.{header_of}
 use Rattle.qg_image.specs.Table.{keys_of, value_at, without_key}
-use Rattle.qg_state.specs.declared.element.Element.{Element}
-use Rattle.qg_state.specs.Reach.{extent_of, is_among, is_reached, pieces_of}
-use Rattle.qg_state.specs.State.{Layout, Placed, State, Subvolume, layout_of, node_at}
+use Rattle.qg_image.specs.declared.element.Element.{Element}
+use Rattle.qg_image.specs.Reach.{extent_of, is_among, is_reached, pieces_of}
+use Rattle.qg_image.specs.State.{Layout, Placed, State, Subvolume, layout_of, node_at}
 use Rattle.qg_machine.specs.Layout.{IsReached, IsTreeOf, is_full_after}
 use Rattle.qg_machine.specs.Step.{without_subvolume}
 use Rattle.qg_files.proofs.Ascending.{Ascends-increasing, ascends-filter, increasing-Ascends}

@@ -7,8 +7,8 @@ use Rattle.std.proofs.lemmas.Option.{same_Some}
 use Rattle.qg_device.specs.History.{Event}
 use Rattle.qg_node.specs.declared.node.Node.{Node}
 use Rattle.qg_image.specs.Table.{value_at}
-use Rattle.qg_state.specs.Reach.{is_reached}
-use Rattle.qg_state.specs.State.{Placed, State, layout_of}
+use Rattle.qg_image.specs.Reach.{is_reached}
+use Rattle.qg_image.specs.State.{Placed, State, layout_of}
 use Rattle.qg_machine.specs.Step.{without_subvolume}
 use Rattle.qg_cow.specs.Left.{case_of, leaving_gains, leaving_losses}
 use Rattle.qg_blocks.specs.Told.{IsBacked, held_at}

@@ -16,13 +16,13 @@ use Rattle.qg_node.specs.NodeText.{IsNode}
 use Rattle.qg_image.specs.declared.part.FilePart.{FilePart}
 use Rattle.qg_image.specs.declared.part.FilePart.TheVariants.{Inode, PieceOf}
 use Rattle.qg_image.specs.ItemMeaning.{file_part}
-use Rattle.qg_state.specs.Owed.{Owing, owed_by_node, owed_by_part, owed_to_child}
-use Rattle.qg_state.specs.State.{Placed}
-use Rattle.qg_state.proofs.Contained.{contains_cases, contains_here, contains_later, none_contained}
+use Rattle.qg_image.specs.Owed.{Owing, owed_by_node, owed_by_part, owed_to_child}
+use Rattle.qg_image.specs.State.{Placed}
+use Rattle.qg_image.proofs.Contained.{contains_cases, contains_here, contains_later, none_contained}
 use Rattle.qg_cow.specs.Children.{shared_children}
 use Rattle.qg_reach.proofs.Members.{one_flat_mapped, one_mapped}
 use Rattle.qg_refs.proofs.RankOrder.{same_itself, same_reference_is}
-use Rattle.qg_state.specs.Record.{same_reference}
+use Rattle.qg_image.specs.Record.{same_reference}
 use Rattle.qg_tree_refs.specs.Exchange.{times}
 use Rattle.qg_tree_refs.proofs.Owings.{times-cons, times-few}
 use Rattle.qg_tree_refs.proofs.Times.{one_of, times-append, times-nil, times_here, times_there}

@@ -15,10 +15,10 @@ use Rattle.qg_node.specs.Nodes.{header_of}
 use Rattle.qg_super.specs.declared.sizes.Sizes.{Sizes}
 use Rattle.qg_super.specs.Places.{is_run}
 use Rattle.qg_image.specs.Table.{value_at}
-use Rattle.qg_state.specs.declared.element.Element.{Element}
-use Rattle.qg_state.specs.Owed.{Owing, owed, owed_by_node, owed_count}
-use Rattle.qg_state.specs.Reach.{is_reached}
-use Rattle.qg_state.specs.State.{Placed, State, layout_of}
+use Rattle.qg_image.specs.declared.element.Element.{Element}
+use Rattle.qg_image.specs.Owed.{Owing, owed, owed_by_node, owed_count}
+use Rattle.qg_image.specs.Reach.{is_reached}
+use Rattle.qg_image.specs.State.{Placed, State, layout_of}
 use Rattle.qg_machine.specs.Layout.{IsReached}
 use Rattle.qg_machine.specs.Step.{without_subvolume}
 use Rattle.qg_cow.specs.declared.cases.Leaving.{Leaving}

@@ -12,10 +12,10 @@ use Rattle.qg_node.specs.Nodes.{header_of, own_pointers}
 use Rattle.qg_super.specs.declared.sizes.Sizes.{Sizes}
 use Rattle.qg_super.specs.Places.{is_slot}
 use Rattle.qg_image.specs.Table.{has_key, value_at, without_key}
-use Rattle.qg_state.specs.declared.element.Element.{Element}
-use Rattle.qg_state.specs.Owed.{Owing, layout_extents, owed_by_node}
-use Rattle.qg_state.specs.Reach.{is_reached}
-use Rattle.qg_state.specs.State.{Placed, State, layout_of}
+use Rattle.qg_image.specs.declared.element.Element.{Element}
+use Rattle.qg_image.specs.Owed.{Owing, layout_extents, owed_by_node}
+use Rattle.qg_image.specs.Reach.{is_reached}
+use Rattle.qg_image.specs.State.{Placed, State, layout_of}
 use Rattle.qg_machine.specs.Layout.{is_full_after}
 use Rattle.qg_machine.specs.Step.{without_subvolume}
 use Rattle.qg_cow.specs.declared.cases.Leaving.{Leaving}

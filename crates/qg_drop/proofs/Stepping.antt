@@ -9,8 +9,8 @@ use Rattle.qg_num.specs.declared.fault.BlockFault.{BlockFault}
 use Rattle.qg_num.specs.declared.fault.BlockFault.TheVariants.{Disk}
 use Rattle.qg_super.specs.Places.{second_place}
 use Rattle.qg_image.specs.Table.{has_key}
-use Rattle.qg_state.specs.Reach.{distinct, reach_under}
-use Rattle.qg_state.specs.State.{State, node_at}
+use Rattle.qg_image.specs.Reach.{distinct, reach_under}
+use Rattle.qg_image.specs.State.{State, node_at}
 use Rattle.qg_blocks.specs.Held.{Held}
 use Rattle.qg_blocks.specs.Told.{IsBacked}
 use Rattle.qg_ground.specs.declared.ground.Ground.{Ground}

@@ -10,11 +10,11 @@ use Rattle.qg_node.specs.Nodes.{header_of, own_pointers}
 use Rattle.qg_super.specs.declared.superblock.Super.{Super}
 use Rattle.qg_super.specs.Places.{is_served}
 use Rattle.qg_image.specs.Table.{has_key, value_at}
-use Rattle.qg_state.specs.State.{State, next_generation, node_at}
-use Rattle.qg_verdict.specs.declared.expected.Expected.{Expected}
-use Rattle.qg_verdict.specs.declared.failure.Failure.{Failure}
-use Rattle.qg_verdict.specs.declared.tree.Tree.TheVariants.{Files}
-use Rattle.qg_verdict.specs.Walk.{node_failure, pointers_failure, walk_failure}
+use Rattle.qg_image.specs.State.{State, next_generation, node_at}
+use Rattle.qg_image.specs.declared.expected.Expected.{Expected}
+use Rattle.qg_image.specs.declared.failure.Failure.{Failure}
+use Rattle.qg_image.specs.declared.tree.Tree.TheVariants.{Files}
+use Rattle.qg_image.specs.Walk.{node_failure, pointers_failure, walk_failure}
 use Rattle.qg_machine.specs.Layout.{super_to_come}
 use Rattle.qg_walk.specs.Standing.{form_failure}
 use Rattle.qg_walk.proofs.Failures.{node_failure-form}

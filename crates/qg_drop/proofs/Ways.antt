@@ -7,8 +7,8 @@ use Rattle.qg_num.specs.declared.key.Key.{Key}
 use Rattle.qg_node.specs.declared.item.Item.{Item}
 use Rattle.qg_node.specs.declared.pointer.Pointer.{Pointer}
 use Rattle.qg_node.specs.Nodes.{is_ascending}
-use Rattle.qg_state.specs.State.{State, node_at}
-use Rattle.qg_verdict.specs.declared.tree.Tree.TheVariants.{Files}
+use Rattle.qg_image.specs.State.{State, node_at}
+use Rattle.qg_image.specs.declared.tree.Tree.TheVariants.{Files}
 use Rattle.qg_machine.specs.Layout.{super_to_come}
 use Rattle.qg_walk.specs.Standing.{expected_below}
 use Rattle.qg_descent.specs.declared.way.Way.{Way}

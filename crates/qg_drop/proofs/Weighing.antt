@@ -5,7 +5,7 @@ use Rattle.std.specs.Option.{option_or}
 use Rattle.qg_node.specs.declared.node.Node.{Node}
 use Rattle.qg_node.specs.Nodes.{used_bytes}
 use Rattle.qg_super.specs.Places.{capacity}
-use Rattle.qg_state.specs.State.{Placed}
+use Rattle.qg_image.specs.State.{Placed}
 use Rattle.qg_cow.specs.declared.cases.Leaving.{Leaving}
 use Rattle.qg_cow.specs.declared.cases.Leaving.TheVariants.{Goes, TurnsFull, Stays}
 use Rattle.qg_cow.specs.Left.{leaving_gains}

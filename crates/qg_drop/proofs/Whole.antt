@@ -7,12 +7,12 @@ use Rattle.qg_node.specs.Nodes.{is_ascending, own_keys}
 use Rattle.qg_super.specs.declared.sizes.Sizes.{Sizes}
 use Rattle.qg_super.specs.Places.{data_begin}
 use Rattle.qg_image.specs.Table.{has_key, value_at}
-use Rattle.qg_state.specs.declared.element.Element.{Element}
-use Rattle.qg_state.specs.Reach.{level_of, reach, reach_of, reach_of_root, reach_under}
-use Rattle.qg_state.specs.State.{State, Subvolume, has_subvolume, layout_of, node_at}
-use Rattle.qg_verdict.specs.declared.expected.Expected.{Expected}
-use Rattle.qg_verdict.specs.declared.tree.Tree.TheVariants.{Files}
-use Rattle.qg_verdict.specs.Walk.{root_expected}
+use Rattle.qg_image.specs.declared.element.Element.{Element}
+use Rattle.qg_image.specs.Reach.{level_of, reach, reach_of, reach_of_root, reach_under}
+use Rattle.qg_image.specs.State.{State, Subvolume, has_subvolume, layout_of, node_at}
+use Rattle.qg_image.specs.declared.expected.Expected.{Expected}
+use Rattle.qg_image.specs.declared.tree.Tree.TheVariants.{Files}
+use Rattle.qg_image.specs.Walk.{root_expected}
 use Rattle.qg_machine.specs.Layout.{IsReached, IsTreeOf, super_to_come}
 use Rattle.qg_machine.specs.Refusals.{nodes_reached, root_level}
 use Rattle.qg_ground.specs.declared.ground.Ground.{Ground}

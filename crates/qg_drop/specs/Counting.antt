@@ -8,10 +8,10 @@ use Rattle.qg_node.specs.declared.pointer.Pointer.{Pointer}
 use Rattle.qg_node.specs.Nodes.{is_ascending}
 use Rattle.qg_image.specs.Below.{items_below}
 use Rattle.qg_image.specs.Table.{has_key, value_at}
-use Rattle.qg_state.specs.Reach.{distinct, extent_of, is_among, pieces_of, reach_under}
-use Rattle.qg_state.specs.State.{Placed, State, node_at}
-use Rattle.qg_verdict.specs.declared.tree.Tree.TheVariants.{Files}
-use Rattle.qg_verdict.specs.Walk.{walk_failure}
+use Rattle.qg_image.specs.Reach.{distinct, extent_of, is_among, pieces_of, reach_under}
+use Rattle.qg_image.specs.State.{Placed, State, node_at}
+use Rattle.qg_image.specs.declared.tree.Tree.TheVariants.{Files}
+use Rattle.qg_image.specs.Walk.{walk_failure}
 use Rattle.qg_machine.specs.Layout.{super_to_come}
 use Rattle.qg_blocks.specs.Held.{Draft}
 use Rattle.qg_blocks.specs.Told.{told}

@@ -14,12 +14,12 @@ use Rattle.qg_node.specs.declared.pointer.Pointer.{Pointer}
 use Rattle.qg_node.specs.Nodes.{header_of, is_ascending, own_pointers}
 use Rattle.qg_super.specs.Places.{is_slot}
 use Rattle.qg_image.specs.Table.{has_key, keys_of, value_at}
-use Rattle.qg_state.specs.declared.element.Element.{Element}
-use Rattle.qg_state.specs.Owed.{Owing, homeless, layout_extents}
-use Rattle.qg_state.specs.Reach.{distinct, is_among, is_reached, reach_under}
-use Rattle.qg_state.specs.State.{Layout, Placed, State, layout_of, next_generation, node_at}
-use Rattle.qg_verdict.specs.declared.tree.Tree.TheVariants.{Files}
-use Rattle.qg_verdict.specs.Walk.{node_failure, walk_failure}
+use Rattle.qg_image.specs.declared.element.Element.{Element}
+use Rattle.qg_image.specs.Owed.{Owing, homeless, layout_extents}
+use Rattle.qg_image.specs.Reach.{distinct, is_among, is_reached, reach_under}
+use Rattle.qg_image.specs.State.{Layout, Placed, State, layout_of, next_generation, node_at}
+use Rattle.qg_image.specs.declared.tree.Tree.TheVariants.{Files}
+use Rattle.qg_image.specs.Walk.{node_failure, walk_failure}
 use Rattle.qg_machine.specs.Layout.{IsWhole, found_in, is_full_after, super_to_come}
 use Rattle.qg_machine.specs.Step.{without_subvolume}
 use Rattle.qg_blocks.specs.Told.{IsBacked, fresh_at, told}

@@ -3,7 +3,7 @@ ghost use Rattle.std.specs.Prelude.{◌≡◌, ◌+◌, ◌-◌, ◌^◌, ◌≤
 ghost use Rattle.qg_device.specs.Cause.{HasCause};
 ghost use Rattle.qg_device.specs.History.{Event};
 ghost use Rattle.qg_node.specs.Nodes.{own_pointers};
-ghost use Rattle.qg_state.specs.State.{State as MachineState, has_subvolume, next_generation};
+ghost use Rattle.qg_image.specs.State.{State as MachineState, has_subvolume, next_generation};
 ghost use Rattle.qg_machine.specs.Refusals.{nodes_reached};
 ghost use Rattle.qg_blocks.specs.Told.{BreaksNone};
 ghost use Rattle.qg_descent.specs.Way.{HasRead, IsReadable};

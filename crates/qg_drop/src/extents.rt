@@ -5,18 +5,18 @@ ghost use Rattle.std.specs.Option.{option_and_then};
 ghost use Rattle.qg_num.specs.declared.fault.BlockFault.TheVariants.{Image};
 ghost use Rattle.qg_num.specs.declared.rule.Rule.TheVariants.{Refs};
 ghost use Rattle.qg_super.specs.Places.{is_run};
-ghost use Rattle.qg_state.specs.Owed.{owed_by_node};
+ghost use Rattle.qg_image.specs.Owed.{owed_by_node};
 ghost use Rattle.qg_refs.specs.Book.{what_in};
 ghost use Rattle.qg_blocks.specs.Told.{BreaksNone};
 ghost use Rattle.qg_extents.specs.Table.{book_of};
 ghost use Rattle.qg_drop.specs.Dropping.{extent_of_what, extents_known, without_references};
 
 use qg_extents::Extents;
+use qg_image::Element;
 use qg_node::Node;
 use qg_num::{Address, BlockFault, NoMemory, Rule};
 use qg_owed::owings_of_node;
 use qg_space::Space;
-use qg_state::Element;
 use qg_super::SECTOR;
 use std::alloc::Global;
 

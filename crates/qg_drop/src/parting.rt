@@ -2,7 +2,7 @@
 ghost use Rattle.std.specs.Prelude.{◌≡◌, ◌≤◌, ◌&&◌, ◌==◌, ℕ, Bool, List, Option, IfErr, IsSome, IsTrue, OnOk, not};
 ghost use Rattle.qg_device.specs.History.{Event};
 ghost use Rattle.qg_image.specs.Table.{value_at};
-ghost use Rattle.qg_state.specs.State.{Placed as PlacedValue, State as MachineState};
+ghost use Rattle.qg_image.specs.State.{Placed as PlacedValue, State as MachineState};
 ghost use Rattle.qg_super.specs.Places.{capacity};
 ghost use Rattle.qg_blocks.specs.Told.{BreaksNone, IsBacked, held_at};
 ghost use Rattle.qg_space.specs.Holding.{free_slots};

@@ -14,8 +14,8 @@ use Rattle.qg_items.specs.declared.extent.Reference.TheVariants.{KeyedBlock, Sha
 use Rattle.qg_image.specs.declared.file.File.{File}
 use Rattle.qg_image.specs.FilesOf.{are_pieces, piece_end}
 use Rattle.qg_image.proofs.Pieces.{FirstPiece-are_pieces, WholeFile-is_file, WholePiece-is_piece}
-use Rattle.qg_state.specs.Owed.{Owing}
-use Rattle.qg_state.specs.Record.{same_reference}
+use Rattle.qg_image.specs.Owed.{Owing}
+use Rattle.qg_image.specs.Record.{same_reference}
 use Rattle.qg_parts.proofs.Parts.{and-false}
 use Rattle.qg_rules.specs.Writable.{AreWritableFiles, IsWritableFile}
 use Rattle.qg_files.proofs.Ascending.{Ascends, Ascends-increasing, all_past}

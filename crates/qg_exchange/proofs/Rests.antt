@@ -7,8 +7,8 @@ use Rattle.std.proofs.lemmas.List.Elements.{All-append, All-contains_itself, All
 use Rattle.qg_num.specs.declared.piece.Piece.{Piece}
 use Rattle.qg_image.specs.FilesOf.{piece_end}
 use Rattle.qg_machine.specs.FileChange.{after, before, part_after, part_before, with_range, within}
-use Rattle.qg_state.specs.declared.element.Element.{Element}
-use Rattle.qg_state.specs.Reach.{extent_of}
+use Rattle.qg_image.specs.declared.element.Element.{Element}
+use Rattle.qg_image.specs.Reach.{extent_of}
 use Rattle.qg_exchange.specs.Laws.{NameExtentsOf}
 
 -- whatever is true of the extents of pieces is true of those of their parts

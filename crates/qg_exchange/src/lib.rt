@@ -5,8 +5,6 @@
 mod laws;
 mod step;
 mod steps;
-#[cfg(test)]
-mod tests;
 
 pub use laws::{
     exchanges_by_files, exchanges_can_be_made, names_are_exchanged, names_are_few,

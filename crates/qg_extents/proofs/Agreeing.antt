@@ -10,10 +10,10 @@ use Rattle.qg_items.specs.declared.extent.Reference.{Reference}
 use Rattle.qg_image.specs.declared.part.ExtentPart.{ExtentPart}
 use Rattle.qg_image.specs.declared.part.ExtentPart.TheVariants.{DataRecord, NodeRecord, Referenced}
 use Rattle.qg_image.specs.ItemMeaning.{some_passes}
-use Rattle.qg_state.specs.State.{Layout}
-use Rattle.qg_state.specs.Record.{same_reference}
-use Rattle.qg_state.specs.Owed.{Agrees, What, agrees_at, are_references, is_nothing, is_record, is_recorded_once, is_told_once, node_flags, owed_count, owed_to, part_address, what_at}
-use Rattle.qg_state.specs.Owed.What.{Nothing, Data, Block}
+use Rattle.qg_image.specs.State.{Layout}
+use Rattle.qg_image.specs.Record.{same_reference}
+use Rattle.qg_image.specs.Owed.{Agrees, What, agrees_at, are_references, is_nothing, is_record, is_recorded_once, is_told_once, node_flags, owed_count, owed_to, part_address, what_at}
+use Rattle.qg_image.specs.Owed.What.{Nothing, Data, Block}
 use Rattle.qg_refs.specs.Book.{AgreesWithOwed, Book}
 use Rattle.qg_refs.specs.Counts.{greatest_count}
 use Rattle.qg_refs.proofs.RankOrder.{same_reference_is}

@@ -9,4 +9,3 @@ pub mod Agreeing
 pub mod Runs
 pub mod Singles
 pub mod FreshRecords
-pub mod Copying

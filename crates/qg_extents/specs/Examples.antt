@@ -6,11 +6,11 @@ use Rattle.qg_items.specs.declared.extent.Reference.TheVariants.{KeyedBlock, Sha
 use Rattle.qg_items.specs.ItemText.{inode_text, extent_data_text, extent_text, data_ref_text, shared_data_ref_text}
 use Rattle.qg_items.specs.ItemReading.{inode_read, extent_data_read}
 use Rattle.qg_image.specs.ItemMeaning.{file_part}
-use Rattle.qg_state.specs.State.{Layout, layout_of}
-use Rattle.qg_state.specs.Reach.{pieces_of}
-use Rattle.qg_state.specs.Owed.{owed_by_node, owed, layout_extents, agrees_at, recorded_addresses, disagreement}
-use Rattle.qg_state.specs.Examples.{piece, file, first_write, snapshot}
-use Rattle.qg_state.specs.ExamplesOfReferences.{leaf_of, layout}
+use Rattle.qg_image.specs.State.{Layout, layout_of}
+use Rattle.qg_image.specs.Reach.{pieces_of}
+use Rattle.qg_image.specs.Owed.{owed_by_node, owed, layout_extents, agrees_at, recorded_addresses, disagreement}
+use Rattle.qg_image.specs.ExamplesOfState.{piece, file, first_write, snapshot}
+use Rattle.qg_image.specs.ExamplesOfReferences.{leaf_of, layout}
 use Rattle.qg_refs.specs.declared.counted.Counted.{Counted}
 use Rattle.qg_refs.specs.declared.kept.Kept.{Kept}
 use Rattle.qg_extents.specs.Fresh.{fresh_table}

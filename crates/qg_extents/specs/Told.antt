@@ -7,8 +7,8 @@ use Rattle.qg_items.specs.declared.extent.Reference.{Reference}
 use Rattle.qg_image.specs.declared.part.ExtentPart.{ExtentPart}
 use Rattle.qg_image.specs.declared.part.ExtentPart.TheVariants.{DataRecord, NodeRecord, Referenced}
 use Rattle.qg_image.specs.ItemMeaning.{some_passes}
-use Rattle.qg_state.specs.Record.{same_reference}
-use Rattle.qg_state.specs.Owed.{is_record, is_told_once, node_flags, part_address, reference_told}
+use Rattle.qg_image.specs.Record.{same_reference}
+use Rattle.qg_image.specs.Owed.{is_record, is_told_once, node_flags, part_address, reference_told}
 use Rattle.qg_refs.specs.declared.kept.What.{What}
 use Rattle.qg_refs.specs.declared.kept.Kept.{Kept}
 use Rattle.qg_refs.specs.Book.{Book, count_at, full_in, what_in}

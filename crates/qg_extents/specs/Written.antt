@@ -11,7 +11,7 @@ use Rattle.qg_items.specs.ItemText.{extent_text, data_ref_text, shared_data_ref_
 use Rattle.qg_image.specs.declared.part.ExtentPart.{ExtentPart}
 use Rattle.qg_image.specs.declared.part.ExtentPart.TheVariants.{DataRecord, NodeRecord, Referenced}
 use Rattle.qg_parts.specs.Keys.{key_with}
-use Rattle.qg_state.specs.Owed.{node_flags}
+use Rattle.qg_image.specs.Owed.{node_flags}
 use Rattle.qg_refs.specs.declared.counted.Counted.{Counted}
 use Rattle.qg_refs.specs.declared.kept.Kept.{Kept}
 

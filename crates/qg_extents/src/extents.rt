@@ -9,8 +9,8 @@ ghost use Rattle.std.specs.Ordering.{nat_cmp};
 ghost use Rattle.qg_node.specs.Fits.{ItemFits};
 ghost use Rattle.qg_node.specs.Nodes.{is_ascending};
 ghost use Rattle.qg_image.specs.ItemMeaning.{extent_part};
-ghost use Rattle.qg_verdict.specs.Walk.{is_item_of};
-ghost use Rattle.qg_verdict.specs.declared.tree.Tree.TheVariants.{Extents as ExtentTree};
+ghost use Rattle.qg_image.specs.Walk.{is_item_of};
+ghost use Rattle.qg_image.specs.declared.tree.Tree.TheVariants.{Extents as ExtentTree};
 ghost use Rattle.qg_refs.specs.Book.{count_at, references_at, full_in, what_in, Adds, Drops, Marks};
 ghost use Rattle.qg_refs.specs.Counts.{greatest_count};
 ghost use Rattle.qg_extents.specs.Table.{IsPut, IsTable, MayKeep, book_of};
@@ -22,7 +22,7 @@ use qg_disk::Disk;
 use qg_node::Items;
 use qg_num::{Address, BlockFault, NoMemory, Steps};
 use qg_refs::{Kept, RefBook, RefList, Reference, What};
-use std::alloc::Global;
+use std::alloc::{AllocError, Global};
 use std::collections::BTreeMap;
 use std::marker::Model;
 use std::sync::ledger::Ledger;
@@ -171,17 +171,6 @@ impl Extents {
         &self.table
     }
 
-    /// The same book once more.
-    pub fn copy(&self, alloc: Global) -> Result<Extents, NoMemory>
-        ensures { IfOk result (λ copy. copy ≡ self.now) }
-    {
-        let mut table = BTreeMap::new(alloc);
-        for (at, kept) in self.table.iter() {
-            put_copy(alloc, &mut table, *at, kept)?;
-        }
-        Ok(Extents { alloc, table })
-    }
-
     /// One reference more at an address. What is told of it is kept where it has no reference yet.
     pub fn add_one(&mut self, at: Address, what: What, reference: Reference) -> Result<(), NoMemory>
         requires { count_at (book_of self.old) at reference < greatest_count reference }
@@ -240,25 +229,15 @@ impl Extents {
     }
 }
 
-// Puts the same once more at an address.
-fn put_copy(
-    alloc: Global,
-    table: &mut BTreeMap<u64, Kept>,
-    at: u64,
-    kept: &Kept,
-) -> Result<(), NoMemory>
-    ensures { OnOk result (table.new.entries ≡ insert_entry nat_cmp table.old.entries at kept.now) }
-{
-    let references = kept.references.copy(alloc)?;
-    table.insert(
-        at,
-        Kept {
-            what: kept.what,
-            full: kept.full,
-            references,
-        },
-    )?;
-    Ok(())
+impl Clone for Extents {
+    ghost is_clone = { λ book copy. copy ≡ book };
+
+    fn clone(&self) -> Result<Extents, AllocError> {
+        Ok(Extents {
+            alloc: self.alloc,
+            table: self.table.clone()?,
+        })
+    }
 }
 
 // Nothing is kept at an address from now on.

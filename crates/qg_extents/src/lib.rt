@@ -16,6 +16,3 @@ pub use extents::Extents;
 pub use fault::RefsFault;
 pub use fresh::fresh_records;
 pub use laws::book_laws;
-
-#[cfg(test)]
-mod tests;

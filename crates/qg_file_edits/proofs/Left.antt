@@ -9,7 +9,7 @@ use Rattle.qg_num.specs.declared.fault.BlockFault.{BlockFault}
 use Rattle.qg_num.specs.declared.piece.Piece.{Piece}
 use Rattle.qg_node.specs.declared.item.Item.{Item}
 use Rattle.qg_image.specs.declared.file.File.{File}
-use Rattle.qg_state.specs.Need.{file_copies}
+use Rattle.qg_image.specs.Need.{file_copies}
 use Rattle.qg_rules.specs.Writable.{AreWritableFiles, IsFileBy}
 use Rattle.qg_contents.specs.Written.{items_of_file}
 use Rattle.qg_blocks.specs.Told.{BreaksNone}

@@ -13,8 +13,8 @@ use Rattle.qg_node.specs.declared.item.Item.{Item}
 use Rattle.qg_items.specs.declared.extent.Reference.{Reference}
 use Rattle.qg_super.specs.declared.sizes.Sizes.{Sizes}
 use Rattle.qg_super.specs.Places.{data_begin, is_run}
-use Rattle.qg_state.specs.Owed.{Owing}
-use Rattle.qg_state.specs.Reach.{extent_of}
+use Rattle.qg_image.specs.Owed.{Owing}
+use Rattle.qg_image.specs.Reach.{extent_of}
 use Rattle.qg_blocks.specs.Told.{BreaksNone}
 use Rattle.qg_refs.specs.Book.{full_in}
 use Rattle.qg_extents.specs.Table.{book_of}

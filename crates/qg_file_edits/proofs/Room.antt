@@ -2,7 +2,7 @@
 use Rattle.std.proofs.Common.{ℕ, ◌+◌, ◌*◌, ◌≤◌, List, Option, arith}
 use Rattle.qg_device.specs.History.{Event}
 use Rattle.qg_image.specs.declared.file.File.{File}
-use Rattle.qg_state.specs.Need.{file_copies, nodes_filled}
+use Rattle.qg_image.specs.Need.{file_copies, nodes_filled}
 use Rattle.qg_space.specs.Holding.{free_slots}
 use Rattle.qg_weighed.specs.Weight.{weight_of}
 use Rattle.qg_heavier.specs.Heavier.{edit_bytes, name_new_bytes}

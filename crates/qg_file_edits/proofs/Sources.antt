@@ -6,8 +6,8 @@ use Rattle.qg_device.specs.History.{Event}
 use Rattle.qg_num.specs.declared.piece.Piece.{Piece}
 use Rattle.qg_node.specs.declared.item.Item.{Item}
 use Rattle.qg_image.specs.declared.file.File.{File}
-use Rattle.qg_state.proofs.Contained.{contains_cases}
-use Rattle.qg_verdict.specs.declared.tree.Tree.TheVariants.{Files}
+use Rattle.qg_image.proofs.Contained.{contains_cases}
+use Rattle.qg_image.specs.declared.tree.Tree.TheVariants.{Files}
 use Rattle.qg_contents.specs.Written.{items_of_file}
 use Rattle.qg_descent.specs.Tree.{Root, TellsTree}
 use Rattle.qg_fs_tree.specs.declared.fs_tree.FsTree.{FsTree}

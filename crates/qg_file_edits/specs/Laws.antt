@@ -2,7 +2,7 @@
 use Rattle.std.specs.Prelude.{ℕ, ◌+◌, ◌*◌, ◌≤◌, List, Option}
 use Rattle.qg_device.specs.History.{Event}
 use Rattle.qg_image.specs.declared.file.File.{File}
-use Rattle.qg_state.specs.Need.{file_copies, nodes_filled}
+use Rattle.qg_image.specs.Need.{file_copies, nodes_filled}
 use Rattle.qg_space.specs.Holding.{free_slots}
 use Rattle.qg_weighed.specs.Weight.{weight_of}
 use Rattle.qg_fs_tree.specs.declared.fs_tree.FsTree.{FsTree}

@@ -6,7 +6,7 @@ use Rattle.qg_num.specs.declared.fault.BlockFault.{BlockFault}
 use Rattle.qg_num.specs.declared.piece.Piece.{Piece}
 use Rattle.qg_node.specs.declared.item.Item.{Item}
 use Rattle.qg_items.specs.declared.extent.Reference.{Reference}
-use Rattle.qg_state.specs.Reach.{extent_of}
+use Rattle.qg_image.specs.Reach.{extent_of}
 use Rattle.qg_blocks.specs.Told.{BreaksNone}
 use Rattle.qg_space.specs.Holding.{free_slots}
 use Rattle.qg_fs_tree.specs.declared.fs_tree.FsTree.{FsTree}

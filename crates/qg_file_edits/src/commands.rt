@@ -6,7 +6,7 @@ ghost use Rattle.qg_image.specs.declared.file.File.{File as FileValue};
 ghost use Rattle.qg_image.specs.FilesOf.{is_aligned, largest_size};
 ghost use Rattle.qg_image.specs.Table.{value_at, without_key};
 ghost use Rattle.qg_machine.specs.FileChange.{pieces_meeting, pieces_past};
-ghost use Rattle.qg_state.specs.Need.{file_copies};
+ghost use Rattle.qg_image.specs.Need.{file_copies};
 ghost use Rattle.qg_blocks.specs.Told.{BreaksNone};
 ghost use Rattle.qg_space.specs.Holding.{free_slots, is_free_run};
 ghost use Rattle.qg_files.specs.Apart.{AreApart};

@@ -6,6 +6,3 @@ mod row;
 mod run;
 
 pub use row::FileRow;
-
-#[cfg(test)]
-mod tests;

@@ -4,8 +4,8 @@ use Rattle.std.specs.Prelude.{if◌then◌else◌}
 use Rattle.std.proofs.lemmas.List.Sums.{sum_by-cons}
 use Rattle.qg_items.specs.declared.extent.Reference.{Reference}
 use Rattle.qg_items.specs.declared.extent.Reference.TheVariants.{KeyedBlock, KeyedData, SharedBlock, SharedData}
-use Rattle.qg_state.specs.Owed.{Owing}
-use Rattle.qg_state.specs.Record.{same_reference}
+use Rattle.qg_image.specs.Owed.{Owing}
+use Rattle.qg_image.specs.Record.{same_reference}
 use Rattle.qg_weighed.specs.Weight.{reference_bytes}
 use Rattle.qg_tree_refs.specs.Exchange.{times}
 use Rattle.qg_tree_refs.proofs.Owings.{times-cons, times-few}

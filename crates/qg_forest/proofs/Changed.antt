@@ -7,7 +7,7 @@ use Rattle.std.proofs.lemmas.Bool.{cases_Bool, cases_eq, cond-true, cond-false, 
 use Rattle.std.proofs.lemmas.Option.{same_Some}
 use Rattle.qg_items.specs.declared.extent.Reference.{Reference}
 use Rattle.qg_image.specs.Table.{value_at}
-use Rattle.qg_state.specs.Owed.{Owing}
+use Rattle.qg_image.specs.Owed.{Owing}
 use Rattle.qg_files.proofs.Ascending.{Ascends}
 use Rattle.qg_tree_refs.specs.Exchange.{times}
 use Rattle.qg_tree_refs.proofs.Times.{times-nil}

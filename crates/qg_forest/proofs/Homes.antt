@@ -7,10 +7,10 @@ use Rattle.std.proofs.lemmas.Bool.{cases_Bool, cond-false, cond-true, eq-eqb, or
 use Rattle.qg_node.specs.declared.node.Node.{Node}
 use Rattle.qg_node.specs.Nodes.{header_of}
 use Rattle.qg_image.specs.Table.{keys_of, value_at}
-use Rattle.qg_state.specs.Owed.{homeless}
-use Rattle.qg_state.specs.Reach.{extent_of, is_among, own_elements, pieces_of, pointers_at, reach_under, reaches}
-use Rattle.qg_state.specs.State.{Layout, Placed}
-use Rattle.qg_state.proofs.Contained.{contains_cases, none_contained}
+use Rattle.qg_image.specs.Owed.{homeless}
+use Rattle.qg_image.specs.Reach.{extent_of, is_among, own_elements, pieces_of, pointers_at, reach_under, reaches}
+use Rattle.qg_image.specs.State.{Layout, Placed}
+use Rattle.qg_image.proofs.Contained.{contains_cases, none_contained}
 use Rattle.qg_home.proofs.Reaching.{entry_of_value, value_of_entry}
 use Rattle.qg_owed.proofs.Filters.{none_found}
 use Rattle.qg_reach.proofs.Members.{contains_map, one_mapped}

@@ -11,12 +11,12 @@ use Rattle.qg_node.specs.declared.node.Node.TheVariants.{Leaf, Inner}
 use Rattle.qg_node.specs.Nodes.{header_of, own_pointers}
 use Rattle.qg_node.specs.NodeText.{IsLevelled}
 use Rattle.qg_image.specs.Table.{keys_of, value_at}
-use Rattle.qg_state.specs.declared.element.Element.{Element}
-use Rattle.qg_state.specs.Reach.{extent_of, is_among, is_reached, level_of, own_elements, pieces_of, reach, reach_of, reach_of_root, reaches}
-use Rattle.qg_state.specs.State.{Layout, Placed, State, Subvolume, layout_of, node_at}
-use Rattle.qg_state.proofs.Contained.{contains_cases, contains_here, contains_later, none_contained}
-use Rattle.qg_verdict.specs.declared.tree.Tree.TheVariants.{Files}
-use Rattle.qg_verdict.specs.Walk.{deepest, node_failure, root_expected}
+use Rattle.qg_image.specs.declared.element.Element.{Element}
+use Rattle.qg_image.specs.Reach.{extent_of, is_among, is_reached, level_of, own_elements, pieces_of, reach, reach_of, reach_of_root, reaches}
+use Rattle.qg_image.specs.State.{Layout, Placed, State, Subvolume, layout_of, node_at}
+use Rattle.qg_image.proofs.Contained.{contains_cases, contains_here, contains_later, none_contained}
+use Rattle.qg_image.specs.declared.tree.Tree.TheVariants.{Files}
+use Rattle.qg_image.specs.Walk.{deepest, node_failure, root_expected}
 use Rattle.qg_machine.specs.Layout.{IsReached, IsTreeOf, IsWhole, super_to_come}
 use Rattle.qg_descent.specs.Tree.{Reaches}
 use Rattle.qg_descent.proofs.BranchFrames.{reach-top}

@@ -2,8 +2,8 @@
 use Rattle.std.proofs.Common.{◌≡◌, ℕ, ◌+◌, List, [], ◌∷◌, ◌++◌, map, arith, refl, ap, ◌∙◌}
 use Rattle.std.specs.List.{flat_map}
 use Rattle.qg_items.specs.declared.extent.Reference.{Reference}
-use Rattle.qg_state.specs.State.{Layout, Placed}
-use Rattle.qg_state.specs.Owed.{Owing, owed, owed_by_node, owed_count}
+use Rattle.qg_image.specs.State.{Layout, Placed}
+use Rattle.qg_image.specs.Owed.{Owing, owed, owed_by_node, owed_count}
 use Rattle.qg_cow.specs.Children.{way_to}
 use Rattle.qg_tree_refs.specs.Exchange.{times}
 use Rattle.qg_tree_refs.proofs.Times.{times-append}

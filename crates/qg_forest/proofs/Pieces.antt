@@ -18,9 +18,9 @@ use Rattle.qg_image.specs.declared.part.FilePart.TheVariants.{Inode, PieceOf}
 use Rattle.qg_image.specs.FilesOf.{are_files, file_in, file_parts, files_in, files_of, inodes_in, is_file_item, is_inode, is_owned, piece_in}
 use Rattle.qg_image.specs.ItemMeaning.{file_part}
 use Rattle.qg_image.specs.Table.{has_key, value_at}
-use Rattle.qg_state.specs.declared.element.Element.{Element}
-use Rattle.qg_state.specs.Reach.{extent_of, piece_of_part, pieces_of}
-use Rattle.qg_state.proofs.Contained.{contains_cases, none_contained}
+use Rattle.qg_image.specs.declared.element.Element.{Element}
+use Rattle.qg_image.specs.Reach.{extent_of, piece_of_part, pieces_of}
+use Rattle.qg_image.proofs.Contained.{contains_cases, none_contained}
 use Rattle.qg_home.proofs.Reaching.{entry_of_value}
 use Rattle.qg_reach.proofs.Members.{contains_flat_map, contains_map, one_flat_mapped, one_mapped}
 use Rattle.qg_forest.proofs.Referring.{filtered_one, named_by, one_filtered}

@@ -6,8 +6,8 @@ use Rattle.std.proofs.lemmas.List.Concat.{flat_map-cons}
 use Rattle.qg_node.specs.declared.pointer.Pointer.{Pointer}
 use Rattle.qg_node.specs.declared.node.Node.{Node}
 use Rattle.qg_node.specs.Nodes.{own_pointers}
-use Rattle.qg_state.specs.declared.element.Element.{Element}
-use Rattle.qg_state.specs.Reach.{own_elements, pointers_at, reach_under}
+use Rattle.qg_image.specs.declared.element.Element.{Element}
+use Rattle.qg_image.specs.Reach.{own_elements, pointers_at, reach_under}
 use Rattle.qg_descent.specs.Tree.{Reaches}
 
 flat_each : (f g : Pointer → List Element) (pointers : List Pointer)

@@ -16,11 +16,11 @@ use Rattle.qg_items.specs.declared.extent.Reference.TheVariants.{KeyedData, Shar
 use Rattle.qg_image.specs.declared.part.FilePart.{FilePart}
 use Rattle.qg_image.specs.declared.part.FilePart.TheVariants.{Inode, PieceOf}
 use Rattle.qg_image.specs.ItemMeaning.{file_part}
-use Rattle.qg_state.specs.declared.element.Element.{Element}
-use Rattle.qg_state.specs.Owed.{Owing, layout_extents, owed, owed_by_node, owed_by_part, owed_count, owed_to_child, reference_offset}
-use Rattle.qg_state.specs.Reach.{extent_of, piece_of_part, pieces_of}
-use Rattle.qg_state.specs.State.{Layout, Placed}
-use Rattle.qg_state.proofs.Contained.{contains_cases, contains_here, contains_later, none_contained}
+use Rattle.qg_image.specs.declared.element.Element.{Element}
+use Rattle.qg_image.specs.Owed.{Owing, layout_extents, owed, owed_by_node, owed_by_part, owed_count, owed_to_child, reference_offset}
+use Rattle.qg_image.specs.Reach.{extent_of, piece_of_part, pieces_of}
+use Rattle.qg_image.specs.State.{Layout, Placed}
+use Rattle.qg_image.proofs.Contained.{contains_cases, contains_here, contains_later, none_contained}
 use Rattle.qg_cow.specs.Children.{way_to}
 use Rattle.qg_refs.specs.declared.counted.Counted.{Counted}
 use Rattle.qg_refs.specs.Book.{Book, AgreesWithOwed, IsBook, count_at, references_at}

@@ -1,8 +1,8 @@
 -- The root of a subvolume that a state has, and the root's level.
 use Rattle.std.proofs.Common.{◌≡◌, ℕ, Some, refl}
 use Rattle.qg_image.specs.Table.{value_at}
-use Rattle.qg_state.specs.Reach.{level_of}
-use Rattle.qg_state.specs.State.{State, Subvolume, node_at}
+use Rattle.qg_image.specs.Reach.{level_of}
+use Rattle.qg_image.specs.State.{State, Subvolume, node_at}
 use Rattle.qg_machine.specs.Refusals.{root_level}
 use Rattle.qg_forest.specs.Standing.{root_of}
 

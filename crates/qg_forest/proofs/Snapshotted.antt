@@ -7,8 +7,8 @@ use Rattle.qg_items.specs.declared.extent.Reference.{Reference}
 use Rattle.qg_node.specs.declared.node.Node.{Node}
 use Rattle.qg_node.specs.declared.node.Node.TheVariants.{Leaf, Inner}
 use Rattle.qg_image.specs.Table.{keys_of, value_at, with_value}
-use Rattle.qg_state.specs.State.{Placed, State, Subvolume, layout_of, next_generation}
-use Rattle.qg_state.specs.Owed.{Owing, owed_by_node, owed_count}
+use Rattle.qg_image.specs.State.{Placed, State, Subvolume, layout_of, next_generation}
+use Rattle.qg_image.specs.Owed.{Owing, owed_by_node, owed_count}
 use Rattle.qg_machine.specs.Step.{Snapshots}
 use Rattle.qg_machine.specs.Step.{copy_of as machine_copy}
 use Rattle.qg_cow.specs.Children.{keyed_children, way_to}

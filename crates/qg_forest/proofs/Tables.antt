@@ -7,8 +7,8 @@ use Rattle.std.proofs.lemmas.Option.{same_Some}
 use Rattle.std.proofs.lemmas.List.Concat.{flat_map-cons}
 use Rattle.qg_items.specs.declared.extent.Reference.{Reference}
 use Rattle.qg_image.specs.Table.{value_at, with_value}
-use Rattle.qg_state.specs.Owed.{Owing}
-use Rattle.qg_state.proofs.Contained.{contains_cases, none_contained}
+use Rattle.qg_image.specs.Owed.{Owing}
+use Rattle.qg_image.proofs.Contained.{contains_cases, none_contained}
 use Rattle.qg_files.proofs.Ascending.{Ascends}
 use Rattle.qg_tree_refs.specs.Exchange.{times}
 use Rattle.qg_tree_refs.proofs.Times.{times-append}

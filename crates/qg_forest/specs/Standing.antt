@@ -6,10 +6,10 @@ use Rattle.qg_device.specs.History.{Event}
 use Rattle.qg_super.specs.declared.sizes.Sizes.{Sizes}
 use Rattle.qg_super.specs.Places.{is_run, is_slot}
 use Rattle.qg_image.specs.Table.{keys_of, value_at}
-use Rattle.qg_state.specs.declared.element.Element.{Element}
-use Rattle.qg_state.specs.Owed.{homeless}
-use Rattle.qg_state.specs.Space.{present_extents}
-use Rattle.qg_state.specs.State.{Placed, State, Subvolume, layout_of, next_generation}
+use Rattle.qg_image.specs.declared.element.Element.{Element}
+use Rattle.qg_image.specs.Owed.{homeless}
+use Rattle.qg_image.specs.Space.{present_extents}
+use Rattle.qg_image.specs.State.{Placed, State, Subvolume, layout_of, next_generation}
 use Rattle.qg_machine.specs.Layout.{IsWhole}
 use Rattle.qg_machine.specs.Refusals.{root_level}
 use Rattle.qg_blocks.specs.Told.{told}

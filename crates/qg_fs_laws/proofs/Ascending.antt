@@ -20,9 +20,9 @@ use Rattle.qg_image.specs.Table.{keys_of, value_at}
 use Rattle.qg_parts.specs.Keys.{root_key}
 use Rattle.qg_parts.proofs.Keys.{root_keyed}
 use Rattle.qg_shape.proofs.Ascending.{all_behind, ascending_tail_of}
-use Rattle.qg_verdict.specs.declared.tree.Tree.TheVariants.{Roots}
-use Rattle.qg_verdict.specs.ImageState.{root_items, roots_in, subvolume_roots}
-use Rattle.qg_verdict.specs.Walk.{is_item_of}
+use Rattle.qg_image.specs.declared.tree.Tree.TheVariants.{Roots}
+use Rattle.qg_image.specs.ImageState.{root_items, roots_in, subvolume_roots}
+use Rattle.qg_image.specs.Walk.{is_item_of}
 use Rattle.qg_fs_laws.proofs.OtherRecords.{root-said}
 
 -- ---- keys and numbers

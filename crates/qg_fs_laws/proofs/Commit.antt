@@ -9,14 +9,14 @@ use Rattle.qg_num.specs.declared.counters.Counters.{Counters}
 use Rattle.qg_node.specs.declared.node.Node.{Node}
 use Rattle.qg_super.specs.Places.{is_slot}
 use Rattle.qg_image.specs.Table.{has_key}
-use Rattle.qg_state.specs.declared.quota.Group.{Group}
-use Rattle.qg_state.specs.declared.quota.Quota.{Quota}
-use Rattle.qg_state.specs.Counts.{direct_count}
-use Rattle.qg_state.specs.Members.{Hierarchy, hierarchy_of}
-use Rattle.qg_state.specs.Space.{is_free_slot, present_extents}
-use Rattle.qg_state.specs.State.{Layout, State, layout_of, next_generation}
-use Rattle.qg_state.proofs.Contained.{contains_here, contains_later}
-use Rattle.qg_verdict.specs.ImageState.{addresses_of, as_committed}
+use Rattle.qg_image.specs.declared.quota.Group.{Group}
+use Rattle.qg_image.specs.declared.quota.Quota.{Quota}
+use Rattle.qg_image.specs.Counts.{direct_count}
+use Rattle.qg_image.specs.Members.{Hierarchy, hierarchy_of}
+use Rattle.qg_image.specs.Space.{is_free_slot, present_extents}
+use Rattle.qg_image.specs.State.{Layout, State, layout_of, next_generation}
+use Rattle.qg_image.proofs.Contained.{contains_here, contains_later}
+use Rattle.qg_image.specs.ImageState.{addresses_of, as_committed}
 use Rattle.qg_machine.specs.GroupChange.{recounted, recounted_group, same_counters}
 use Rattle.qg_machine.specs.Layout.{is_other_slot}
 use Rattle.qg_machine.specs.Step.{Commits, settled}

@@ -17,13 +17,13 @@ use Rattle.qg_super.specs.declared.sizes.Sizes.{Sizes}
 use Rattle.qg_super.specs.Places.{is_slot}
 use Rattle.qg_image.specs.declared.file.File.{File}
 use Rattle.qg_image.specs.Table.{keys_of, value_at}
-use Rattle.qg_state.specs.declared.element.Element.{Element}
-use Rattle.qg_state.specs.declared.quota.Quota.{Quota}
-use Rattle.qg_state.specs.Record.{Record}
-use Rattle.qg_state.specs.Space.{present_extents}
-use Rattle.qg_state.specs.State.{Placed, State, Subvolume}
-use Rattle.qg_state.proofs.Contained.{contains_later}
-use Rattle.qg_verdict.specs.ImageState.{addresses_of}
+use Rattle.qg_image.specs.declared.element.Element.{Element}
+use Rattle.qg_image.specs.declared.quota.Quota.{Quota}
+use Rattle.qg_image.specs.Record.{Record}
+use Rattle.qg_image.specs.Space.{present_extents}
+use Rattle.qg_image.specs.State.{Placed, State, Subvolume}
+use Rattle.qg_image.proofs.Contained.{contains_later}
+use Rattle.qg_image.specs.ImageState.{addresses_of}
 use Rattle.qg_rules.specs.Writable.{IsFileBy}
 use Rattle.qg_contents.specs.Written.{items_of_file}
 use Rattle.qg_home.proofs.Reaching.{entry_of_value, value_of_entry}

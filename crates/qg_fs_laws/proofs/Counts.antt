@@ -9,16 +9,16 @@ use Rattle.qg_num.specs.declared.counters.Counters.{Counters}
 use Rattle.qg_num.specs.declared.counters.Which.{Which}
 use Rattle.qg_num.specs.declared.counters.Which.TheVariants.{Rfer, Excl}
 use Rattle.qg_image.specs.Table.{keys_of}
-use Rattle.qg_state.specs.declared.quota.Group.{Group}
-use Rattle.qg_state.specs.declared.quota.Quota.{Quota}
-use Rattle.qg_state.specs.Counts.{direct_count, exclusive, referenced}
-use Rattle.qg_state.specs.Members.{Hierarchy, hierarchy_of}
-use Rattle.qg_state.specs.State.{Layout, State, layout_of}
-use Rattle.qg_state.proofs.Contained.{contains_here, contains_later}
-use Rattle.qg_verdict.specs.declared.failure.Failure.{Failure}
-use Rattle.qg_verdict.specs.declared.failure.Failure.TheVariants.{Differs}
-use Rattle.qg_verdict.specs.Failure.{first_failure}
-use Rattle.qg_verdict.specs.Verdict.{counted, counts_failure, group_failure}
+use Rattle.qg_image.specs.declared.quota.Group.{Group}
+use Rattle.qg_image.specs.declared.quota.Quota.{Quota}
+use Rattle.qg_image.specs.Counts.{direct_count, exclusive, referenced}
+use Rattle.qg_image.specs.Members.{Hierarchy, hierarchy_of}
+use Rattle.qg_image.specs.State.{Layout, State, layout_of}
+use Rattle.qg_image.proofs.Contained.{contains_here, contains_later}
+use Rattle.qg_image.specs.declared.failure.Failure.{Failure}
+use Rattle.qg_image.specs.declared.failure.Failure.TheVariants.{Differs}
+use Rattle.qg_image.specs.Failure.{first_failure}
+use Rattle.qg_image.specs.Verdict.{counted, counts_failure, group_failure}
 use Rattle.qg_fs_tree.proofs.Lists.{from-mapped}
 use Rattle.qg_fs_laws.specs.Keeping.{AreDirectCounts, group_after, quota_after, quota_laid}
 

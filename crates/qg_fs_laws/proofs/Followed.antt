@@ -12,9 +12,9 @@ use Rattle.qg_super.specs.declared.sizes.Sizes.{Sizes}
 use Rattle.qg_super.specs.Places.{is_slot}
 use Rattle.qg_image.specs.declared.file.File.{File}
 use Rattle.qg_image.specs.Table.{has_key, value_at, with_value}
-use Rattle.qg_state.specs.declared.element.Element.{Element}
-use Rattle.qg_state.specs.Need.{file_copies}
-use Rattle.qg_state.specs.State.{Accepted, Committed, Layout, Placed, State, Subvolume, next_generation}
+use Rattle.qg_image.specs.declared.element.Element.{Element}
+use Rattle.qg_image.specs.Need.{file_copies}
+use Rattle.qg_image.specs.State.{Accepted, Committed, Layout, Placed, State, Subvolume, next_generation}
 use Rattle.qg_contents.specs.Written.{items_of_file}
 use Rattle.qg_machine.specs.Layout.{made_nodes}
 use Rattle.qg_machine.specs.Step.{with_tree}

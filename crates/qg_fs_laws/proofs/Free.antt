@@ -10,7 +10,7 @@ use Rattle.qg_device.specs.History.{Event}
 use Rattle.qg_super.specs.Places.{is_slot, slot_at}
 use Rattle.qg_image.specs.declared.file.File.{File}
 use Rattle.qg_image.specs.Table.{has_key, keys_of, value_at}
-use Rattle.qg_state.specs.State.{State, Subvolume}
+use Rattle.qg_image.specs.State.{State, Subvolume}
 use Rattle.qg_space.specs.Holding.{Holding, free_slots, is_free_slot}
 use Rattle.qg_space.proofs.Agreements.{first_run-state, free_slots-state, is_free_run-state, is_free_slot-state}
 use Rattle.qg_fs_tree.specs.declared.fs_tree.FsTree.{FsTree}

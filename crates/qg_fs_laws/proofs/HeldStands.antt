@@ -20,12 +20,12 @@ use Rattle.qg_image.specs.declared.file.File.{File}
 use Rattle.qg_image.specs.Below.{items_below}
 use Rattle.qg_image.specs.FilesOf.{files_of}
 use Rattle.qg_image.specs.Table.{has_key, value_at}
-use Rattle.qg_state.specs.Owed.{owed_count}
-use Rattle.qg_state.specs.Reach.{extent_of, is_among, level_of, reaches}
-use Rattle.qg_state.specs.State.{Layout, Placed, State, Subvolume, layout_of, node_at}
-use Rattle.qg_state.proofs.Contained.{contains_cases, contains_here, contains_later}
-use Rattle.qg_verdict.specs.declared.tree.Tree.TheVariants.{Files}
-use Rattle.qg_verdict.specs.Walk.{root_expected}
+use Rattle.qg_image.specs.Owed.{owed_count}
+use Rattle.qg_image.specs.Reach.{extent_of, is_among, level_of, reaches}
+use Rattle.qg_image.specs.State.{Layout, Placed, State, Subvolume, layout_of, node_at}
+use Rattle.qg_image.proofs.Contained.{contains_cases, contains_here, contains_later}
+use Rattle.qg_image.specs.declared.tree.Tree.TheVariants.{Files}
+use Rattle.qg_image.specs.Walk.{root_expected}
 use Rattle.qg_contents.specs.Written.{extent_data_of, inode_of, item_of_inode, item_of_piece, items_of_file}
 use Rattle.qg_contents.proofs.FileTree.{file_items-told}
 use Rattle.qg_machine.specs.Layout.{IsTreeOf, found_in, super_to_come}

@@ -13,9 +13,9 @@ use Rattle.qg_node.specs.declared.node.Node.{Node}
 use Rattle.qg_super.specs.declared.sizes.Sizes.{Sizes}
 use Rattle.qg_super.specs.Places.{is_served, is_slot}
 use Rattle.qg_image.specs.Table.{keys_of, value_at, without_key}
-use Rattle.qg_state.specs.Reach.{level_of}
-use Rattle.qg_state.specs.State.{Layout, Placed, State, Subvolume, layout_of, next_generation, node_at}
-use Rattle.qg_state.proofs.Contained.{contains_cases, contains_here, contains_later}
+use Rattle.qg_image.specs.Reach.{level_of}
+use Rattle.qg_image.specs.State.{Layout, Placed, State, Subvolume, layout_of, next_generation, node_at}
+use Rattle.qg_image.proofs.Contained.{contains_cases, contains_here, contains_later}
 use Rattle.qg_home.proofs.Reaching.{entry_of_value, value_of_entry}
 use Rattle.qg_space.proofs.Marks.{SlotsFit-is_served}
 use Rattle.qg_space.proofs.Members.{contains_filter, filter_contains}

@@ -22,15 +22,15 @@ use Rattle.qg_super.specs.declared.superblock.Super.{Super}
 use Rattle.qg_super.specs.Places.{is_slot}
 use Rattle.qg_super.specs.SuperText.{sizes_of}
 use Rattle.qg_image.specs.Below.{items_below, joined, nodes_below}
-use Rattle.qg_verdict.specs.declared.expected.Expected.{Expected}
-use Rattle.qg_verdict.specs.declared.failure.Failure.{Failure}
-use Rattle.qg_verdict.specs.declared.tree.Tree.{Tree}
-use Rattle.qg_verdict.specs.Failure.{first_failure, unless}
-use Rattle.qg_verdict.specs.ImageState.{level_in, tree_items, tree_nodes}
-use Rattle.qg_verdict.specs.ItemsUnder.{is_way, items_under, nodes_of, nodes_under}
-use Rattle.qg_verdict.specs.Walk.{deepest, found_failure, in_slot, is_item_of, is_told, node_failure, node_found}
-use Rattle.qg_verdict.specs.Walk.{pointers_failure, root_expected, shape_failure, tree_failure, walk_failure}
-use Rattle.qg_verdict.specs.Walk.{way_failure}
+use Rattle.qg_image.specs.declared.expected.Expected.{Expected}
+use Rattle.qg_image.specs.declared.failure.Failure.{Failure}
+use Rattle.qg_image.specs.declared.tree.Tree.{Tree}
+use Rattle.qg_image.specs.Failure.{first_failure, unless}
+use Rattle.qg_image.specs.ImageState.{level_in, tree_items, tree_nodes}
+use Rattle.qg_image.specs.ItemsUnder.{is_way, items_under, nodes_of, nodes_under}
+use Rattle.qg_image.specs.Walk.{deepest, found_failure, in_slot, is_item_of, is_told, node_failure, node_found}
+use Rattle.qg_image.specs.Walk.{pointers_failure, root_expected, shape_failure, tree_failure, walk_failure}
+use Rattle.qg_image.specs.Walk.{way_failure}
 use Rattle.qg_walk.specs.Standing.{expected_below}
 use Rattle.qg_walk.proofs.Failures.{first_none, neither, walk-passed}
 use Rattle.qg_descent.specs.Tree.{IsTree}

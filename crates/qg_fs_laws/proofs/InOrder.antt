@@ -7,9 +7,9 @@ use Rattle.std.proofs.lemmas.Bool.{and_from, le-leb, lt-ltb, or_left}
 use Rattle.qg_super.specs.declared.sizes.Sizes.{Sizes}
 use Rattle.qg_super.specs.Places.{data_begin, is_run}
 use Rattle.qg_super.proofs.Runs.{WholeRun-is_run}
-use Rattle.qg_state.specs.declared.element.Element.{Element}
-use Rattle.qg_state.proofs.Contained.{contains_cases, contains_here, contains_later, none_contained}
-use Rattle.qg_verdict.specs.Verdict.{extent_set, is_extent, longest_extent, space_failure}
+use Rattle.qg_image.specs.declared.element.Element.{Element}
+use Rattle.qg_image.proofs.Contained.{contains_cases, contains_here, contains_later, none_contained}
+use Rattle.qg_image.specs.Verdict.{extent_set, is_extent, longest_extent, space_failure}
 use Rattle.qg_reach.specs.Fits.{first_fits}
 use Rattle.qg_reach.specs.Sets.{HaveSame}
 use Rattle.qg_reach.proofs.Distinct.{apart_none, apart_with}

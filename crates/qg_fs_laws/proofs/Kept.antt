@@ -16,11 +16,11 @@ use Rattle.qg_super.specs.Places.{is_run, is_served, is_slot}
 use Rattle.qg_image.specs.declared.file.File.{File}
 use Rattle.qg_image.specs.FilesOf.{files_of}
 use Rattle.qg_image.specs.Table.{has_key, value_at}
-use Rattle.qg_state.specs.declared.element.Element.{Element}
-use Rattle.qg_state.specs.Owed.{layout_extents}
-use Rattle.qg_state.specs.Reach.{level_of}
-use Rattle.qg_state.specs.State.{Placed, State, Subvolume, layout_of, node_at}
-use Rattle.qg_state.proofs.Contained.{contains_cases, contains_here}
+use Rattle.qg_image.specs.declared.element.Element.{Element}
+use Rattle.qg_image.specs.Owed.{layout_extents}
+use Rattle.qg_image.specs.Reach.{level_of}
+use Rattle.qg_image.specs.State.{Placed, State, Subvolume, layout_of, node_at}
+use Rattle.qg_image.proofs.Contained.{contains_cases, contains_here}
 use Rattle.qg_contents.specs.Written.{items_of_file}
 use Rattle.qg_contents.proofs.FileTree.{file_items-told}
 use Rattle.qg_machine.specs.Layout.{IsWhole}

@@ -5,8 +5,8 @@ use Rattle.std.specs.List.{All, Contains, flat_map}
 use Rattle.qg_device.specs.History.{Event}
 use Rattle.qg_image.specs.declared.file.File.{File}
 use Rattle.qg_image.specs.Table.{value_at}
-use Rattle.qg_state.specs.State.{State, Subvolume}
-use Rattle.qg_state.proofs.Contained.{contains_later}
+use Rattle.qg_image.specs.State.{State, Subvolume}
+use Rattle.qg_image.proofs.Contained.{contains_later}
 use Rattle.qg_rules.specs.Writable.{IsFileBy}
 use Rattle.qg_contents.specs.Written.{items_of_file}
 use Rattle.qg_space.specs.Holding.{Holding}

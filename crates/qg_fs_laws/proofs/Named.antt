@@ -7,11 +7,11 @@ use Rattle.qg_device.specs.History.{Event}
 use Rattle.qg_num.specs.declared.piece.Piece.{Piece}
 use Rattle.qg_node.specs.declared.item.Item.{Item}
 use Rattle.qg_image.specs.FilesOf.{files_of}
-use Rattle.qg_state.specs.declared.element.Element.{Element}
-use Rattle.qg_state.specs.Reach.{extent_of}
-use Rattle.qg_state.specs.Space.{present_extents}
-use Rattle.qg_state.specs.State.{State, Subvolume}
-use Rattle.qg_state.proofs.Contained.{contains_cases, contains_here, contains_later}
+use Rattle.qg_image.specs.declared.element.Element.{Element}
+use Rattle.qg_image.specs.Reach.{extent_of}
+use Rattle.qg_image.specs.Space.{present_extents}
+use Rattle.qg_image.specs.State.{State, Subvolume}
+use Rattle.qg_image.proofs.Contained.{contains_cases, contains_here, contains_later}
 use Rattle.qg_descent.specs.Tree.{Root}
 use Rattle.qg_fs_tree.specs.declared.fs_tree.FsTree.{FsTree}
 use Rattle.qg_fs_tree.specs.Standing.{extents_named, items_in, name_told, names_elsewhere, trees_of}

@@ -7,10 +7,10 @@ use Rattle.std.proofs.lemmas.List.Elements.{Contains-append_cases, Contains-appe
 use Rattle.std.proofs.lemmas.Map.Views.{Contains-from_any}
 use Rattle.qg_items.specs.declared.tree.TheConstants.{EXTENT_TREE, QUOTA_TREE}
 use Rattle.qg_image.specs.Table.{keys_of}
-use Rattle.qg_state.specs.declared.quota.Quota.{Quota}
-use Rattle.qg_state.specs.Record.{Record, RootOf, InfoOf, LimitOf, RelationOf, Status, same_record}
-use Rattle.qg_state.specs.State.{State}
-use Rattle.qg_state.proofs.Contained.{contains_cases, contains_here, contains_later, none_contained}
+use Rattle.qg_image.specs.declared.quota.Quota.{Quota}
+use Rattle.qg_image.specs.Record.{Record, RootOf, InfoOf, LimitOf, RelationOf, Status, same_record}
+use Rattle.qg_image.specs.State.{State}
+use Rattle.qg_image.proofs.Contained.{contains_cases, contains_here, contains_later, none_contained}
 use Rattle.qg_weighed.specs.Laws.{is_among}
 use Rattle.qg_weighed.proofs.Distinct.{record_itself, same_record_is}
 use Rattle.qg_fs_tree.proofs.Lists.{from-flat, from-mapped, has-flat, has-mapped}

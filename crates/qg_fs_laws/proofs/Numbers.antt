@@ -7,7 +7,7 @@ use Rattle.std.proofs.lemmas.Bool.{eq-eqb, le-ltb}
 use Rattle.qg_device.specs.History.{Event}
 use Rattle.qg_image.specs.declared.file.File.{File}
 use Rattle.qg_image.specs.Table.{keys_of, with_value}
-use Rattle.qg_state.specs.State.{State, Subvolume}
+use Rattle.qg_image.specs.State.{State, Subvolume}
 use Rattle.qg_contents.specs.Written.{items_of_file}
 use Rattle.qg_fs_tree.specs.declared.fs_tree.FsTree.{FsTree}
 use Rattle.qg_fs_layout.proofs.Roots.{roots-ascend}

@@ -16,14 +16,14 @@ use Rattle.qg_super.specs.SuperText.{sizes_of}
 use Rattle.qg_image.specs.declared.file.File.{File}
 use Rattle.qg_image.specs.FilesOf.{files_of}
 use Rattle.qg_image.specs.Table.{keys_of, value_at}
-use Rattle.qg_state.specs.declared.element.Element.{Element}
-use Rattle.qg_state.specs.Space.{present_extents}
-use Rattle.qg_state.specs.State.{Layout, Placed, State, Subvolume}
-use Rattle.qg_state.proofs.Contained.{contains_later}
-use Rattle.qg_verdict.specs.declared.tree.Tree.TheVariants.{Files}
-use Rattle.qg_verdict.specs.ImageState.{addresses_of, items_of_root, other_nodes, roots_in, state_in, subvolume_in}
-use Rattle.qg_verdict.specs.ImageState.{subvolume_roots, subvolumes_in}
-use Rattle.qg_verdict.specs.Walk.{root_told}
+use Rattle.qg_image.specs.declared.element.Element.{Element}
+use Rattle.qg_image.specs.Space.{present_extents}
+use Rattle.qg_image.specs.State.{Layout, Placed, State, Subvolume}
+use Rattle.qg_image.proofs.Contained.{contains_later}
+use Rattle.qg_image.specs.declared.tree.Tree.TheVariants.{Files}
+use Rattle.qg_image.specs.ImageState.{addresses_of, items_of_root, other_nodes, roots_in, state_in, subvolume_in}
+use Rattle.qg_image.specs.ImageState.{subvolume_roots, subvolumes_in}
+use Rattle.qg_image.specs.Walk.{root_told}
 use Rattle.qg_rules.specs.Writable.{IsFileBy}
 use Rattle.qg_space.proofs.Marks.{SlotsFit-is_served}
 use Rattle.qg_home.proofs.Reaching.{entry_of_value, value_of_entry}

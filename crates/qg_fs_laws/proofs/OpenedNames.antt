@@ -21,19 +21,19 @@ use Rattle.qg_image.specs.ItemMeaning.{is_subvolume_number, root_part, when}
 use Rattle.qg_image.specs.Table.{keys_of, value_at}
 use Rattle.qg_image.specs.declared.part.QuotaPart.{QuotaPart}
 use Rattle.qg_image.specs.declared.part.QuotaPart.TheVariants as part
-use Rattle.qg_state.specs.declared.quota.Group.{Group}
-use Rattle.qg_state.specs.declared.quota.Quota.{Quota}
-use Rattle.qg_state.specs.Members.{level_of_group}
-use Rattle.qg_state.specs.Need.{held_records, quota_records, root_records}
-use Rattle.qg_state.specs.Record.{Record, RootOf, InfoOf, LimitOf, RelationOf, Status, extent_record, quota_record}
-use Rattle.qg_state.proofs.Contained.{contains_cases, contains_here, contains_later, none_contained}
+use Rattle.qg_image.specs.declared.quota.Group.{Group}
+use Rattle.qg_image.specs.declared.quota.Quota.{Quota}
+use Rattle.qg_image.specs.Members.{level_of_group}
+use Rattle.qg_image.specs.Need.{held_records, quota_records, root_records}
+use Rattle.qg_image.specs.Record.{Record, RootOf, InfoOf, LimitOf, RelationOf, Status, extent_record, quota_record}
+use Rattle.qg_image.proofs.Contained.{contains_cases, contains_here, contains_later, none_contained}
 use Rattle.qg_home.proofs.Reaching.{entry_of_value}
 use Rattle.qg_owed.proofs.Filters.{contains_kept, kept_contains}
-use Rattle.qg_verdict.specs.ImageState.{extent_parts, group_told, info_told, limit_told, pair_told, quota_in}
-use Rattle.qg_verdict.specs.ImageState.{quota_parts, quota_root, quota_told, root_items, roots_in, state_in}
-use Rattle.qg_verdict.specs.ImageState.{subvolume_in}
-use Rattle.qg_verdict.specs.ImageState.{subvolume_roots, subvolumes_in}
-use Rattle.qg_verdict.specs.Verdict.{fits_quota, has_twin, is_status_part}
+use Rattle.qg_image.specs.ImageState.{extent_parts, group_told, info_told, limit_told, pair_told, quota_in}
+use Rattle.qg_image.specs.ImageState.{quota_parts, quota_root, quota_told, root_items, roots_in, state_in}
+use Rattle.qg_image.specs.ImageState.{subvolume_in}
+use Rattle.qg_image.specs.ImageState.{subvolume_roots, subvolumes_in}
+use Rattle.qg_image.specs.Verdict.{fits_quota, has_twin, is_status_part}
 use Rattle.qg_weighed.specs.Laws.{is_among, is_of_extents}
 use Rattle.qg_weighed.proofs.Layouts.{bool-iff, in-named, named-in}
 use Rattle.qg_weighed.proofs.Trees.{Are, are-both, none-named, quota-are, root-are}

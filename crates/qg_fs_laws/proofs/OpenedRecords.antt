@@ -15,14 +15,14 @@ use Rattle.qg_image.specs.declared.part.ExtentPart.{ExtentPart}
 use Rattle.qg_image.specs.declared.part.ExtentPart.TheVariants.{DataRecord, NodeRecord, Referenced}
 use Rattle.qg_image.specs.declared.part.QuotaPart.{QuotaPart}
 use Rattle.qg_image.specs.declared.part.QuotaPart.TheVariants as part
-use Rattle.qg_state.specs.declared.quota.Quota.{Quota}
-use Rattle.qg_state.specs.Need.{held_records}
-use Rattle.qg_state.specs.Owed.{Agrees, What, agrees_at, are_references, is_record, is_recorded_once}
-use Rattle.qg_state.specs.Owed.{owed_to, part_address, reference_told, what_at}
-use Rattle.qg_state.specs.Record.{Record, RootOf, ExtentOf, NodeOf, ReferenceTo, Status, InfoOf, LimitOf, RelationOf}
-use Rattle.qg_state.specs.Record.{extent_record, quota_record, same_record, same_reference}
-use Rattle.qg_state.specs.State.{Layout, layout_of}
-use Rattle.qg_verdict.specs.ImageState.{extent_parts, quota_parts, roots_in, state_in}
+use Rattle.qg_image.specs.declared.quota.Quota.{Quota}
+use Rattle.qg_image.specs.Need.{held_records}
+use Rattle.qg_image.specs.Owed.{Agrees, What, agrees_at, are_references, is_record, is_recorded_once}
+use Rattle.qg_image.specs.Owed.{owed_to, part_address, reference_told, what_at}
+use Rattle.qg_image.specs.Record.{Record, RootOf, ExtentOf, NodeOf, ReferenceTo, Status, InfoOf, LimitOf, RelationOf}
+use Rattle.qg_image.specs.Record.{extent_record, quota_record, same_record, same_reference}
+use Rattle.qg_image.specs.State.{Layout, layout_of}
+use Rattle.qg_image.specs.ImageState.{extent_parts, quota_parts, roots_in, state_in}
 use Rattle.qg_refs.specs.declared.kept.Kept.{Kept}
 use Rattle.qg_refs.specs.declared.kept.What.{What as Known}
 use Rattle.qg_refs.specs.Book.{Book, references_in, what_in}

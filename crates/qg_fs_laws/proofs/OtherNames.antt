@@ -26,16 +26,16 @@ use Rattle.qg_image.specs.declared.part.ExtentPart.TheVariants.{DataRecord, Node
 use Rattle.qg_image.specs.declared.part.QuotaPart.{QuotaPart}
 use Rattle.qg_image.specs.ItemMeaning.{extent_part, first_some, is_keyed, quota_part, root_part, some_passes, when}
 use Rattle.qg_image.specs.Table.{keys_of}
-use Rattle.qg_state.specs.declared.quota.Group.{Group}
-use Rattle.qg_state.specs.declared.quota.Quota.{Quota}
-use Rattle.qg_state.specs.Need.{held_records, quota_records}
-use Rattle.qg_state.specs.Record.{Record, InfoOf, LimitOf, RootOf, Status, RelationOf, extent_record, quota_record}
-use Rattle.qg_state.specs.Record.{record_named, same_record}
-use Rattle.qg_state.specs.State.{Committed, State}
-use Rattle.qg_state.proofs.Contained.{contains_cases, none_contained}
-use Rattle.qg_verdict.specs.Among.{node_among}
-use Rattle.qg_verdict.specs.declared.tree.Tree.TheVariants.{Extents}
-use Rattle.qg_verdict.specs.Walk.{is_item_of}
+use Rattle.qg_image.specs.declared.quota.Group.{Group}
+use Rattle.qg_image.specs.declared.quota.Quota.{Quota}
+use Rattle.qg_image.specs.Need.{held_records, quota_records}
+use Rattle.qg_image.specs.Record.{Record, InfoOf, LimitOf, RootOf, Status, RelationOf, extent_record, quota_record}
+use Rattle.qg_image.specs.Record.{record_named, same_record}
+use Rattle.qg_image.specs.State.{Committed, State}
+use Rattle.qg_image.proofs.Contained.{contains_cases, none_contained}
+use Rattle.qg_image.specs.Among.{node_among}
+use Rattle.qg_image.specs.declared.tree.Tree.TheVariants.{Extents}
+use Rattle.qg_image.specs.Walk.{is_item_of}
 use Rattle.qg_contents.specs.Written.{item_of_named, items_of_roots, roots_named}
 use Rattle.qg_quota.specs.Written.{both_ways, info_part, item_of_info, item_of_limit, item_of_relation, item_of_status}
 use Rattle.qg_quota.specs.Written.{items_of_quota, limit_part, parts_of_quota, relation_part, status_at}

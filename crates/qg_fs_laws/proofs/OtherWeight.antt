@@ -16,13 +16,13 @@ use Rattle.std.proofs.lemmas.Map.Keys.{sorted_from_strictly_increasing, sorted_h
 use Rattle.qg_items.specs.declared.tree.TheConstants.{EXTENT_TREE, QUOTA_TREE}
 use Rattle.qg_image.specs.ItemMeaning.{is_subvolume_number}
 use Rattle.qg_image.specs.Table.{keys_of}
-use Rattle.qg_state.specs.declared.quota.Group.{Group}
-use Rattle.qg_state.specs.declared.quota.Quota.{Quota}
-use Rattle.qg_state.specs.Record.{Record, RootOf, Status, InfoOf, LimitOf, RelationOf, record_bytes, records_bytes}
-use Rattle.qg_state.specs.Record.{same_record}
-use Rattle.qg_state.specs.Members.{hierarchy_of, level_of_group}
-use Rattle.qg_state.specs.State.{State, Subvolume}
-use Rattle.qg_state.proofs.Contained.{contains_here, contains_later}
+use Rattle.qg_image.specs.declared.quota.Group.{Group}
+use Rattle.qg_image.specs.declared.quota.Quota.{Quota}
+use Rattle.qg_image.specs.Record.{Record, RootOf, Status, InfoOf, LimitOf, RelationOf, record_bytes, records_bytes}
+use Rattle.qg_image.specs.Record.{same_record}
+use Rattle.qg_image.specs.Members.{hierarchy_of, level_of_group}
+use Rattle.qg_image.specs.State.{State, Subvolume}
+use Rattle.qg_image.proofs.Contained.{contains_here, contains_later}
 use Rattle.qg_machine.specs.GroupChange.{has_pair}
 use Rattle.qg_hier.specs.Groups.{IsSound, pair_cmp}
 use Rattle.qg_hier.proofs.Sets.{equal_pairs}

@@ -8,9 +8,9 @@ use Rattle.std.proofs.lemmas.List.Folds.{list_any-append}
 use Rattle.qg_device.specs.History.{Event}
 use Rattle.qg_image.specs.declared.file.File.{File}
 use Rattle.qg_image.specs.Table.{value_at, with_value, without_key}
-use Rattle.qg_state.specs.Need.{held_records, weight}
-use Rattle.qg_state.specs.Record.{Record, records_bytes, same_record}
-use Rattle.qg_state.specs.State.{State, Subvolume, file_at, files_in_sub, next_generation}
+use Rattle.qg_image.specs.Need.{held_records, weight}
+use Rattle.qg_image.specs.Record.{Record, records_bytes, same_record}
+use Rattle.qg_image.specs.State.{State, Subvolume, file_at, files_in_sub, next_generation}
 use Rattle.qg_super.specs.declared.sizes.Sizes.{Sizes}
 use Rattle.qg_machine.specs.FileChange.{FileChange, file_change, file_or_new, moved, new_piece, pieces_meeting}
 use Rattle.qg_machine.specs.FileChange.{pieces_or_none, pieces_past, truncate_change, unlink_change, with_pieces}

@@ -16,12 +16,12 @@ use Rattle.qg_node.specs.declared.node.Node.{Node}
 use Rattle.qg_super.proofs.Runs.{WholeRun-is_run}
 use Rattle.qg_image.specs.declared.file.File.{File}
 use Rattle.qg_image.specs.Table.{keys_of, value_at}
-use Rattle.qg_state.specs.declared.element.Element.{Element}
-use Rattle.qg_state.specs.Owed.{layout_extents}
-use Rattle.qg_state.specs.Reach.{extent_of, level_of, own_elements, pieces_of, pointers_at, reach, reach_of}
-use Rattle.qg_state.specs.Reach.{reach_of_root, reach_under}
-use Rattle.qg_state.specs.State.{Placed, State, Subvolume, layout_of, node_at}
-use Rattle.qg_state.proofs.Contained.{contains_cases, contains_here, contains_later, none_contained}
+use Rattle.qg_image.specs.declared.element.Element.{Element}
+use Rattle.qg_image.specs.Owed.{layout_extents}
+use Rattle.qg_image.specs.Reach.{extent_of, level_of, own_elements, pieces_of, pointers_at, reach, reach_of}
+use Rattle.qg_image.specs.Reach.{reach_of_root, reach_under}
+use Rattle.qg_image.specs.State.{Placed, State, Subvolume, layout_of, node_at}
+use Rattle.qg_image.proofs.Contained.{contains_cases, contains_here, contains_later, none_contained}
 use Rattle.qg_home.proofs.Reaching.{entry_of_value}
 use Rattle.qg_counted.specs.Counted.{AreAllReached}
 use Rattle.qg_reach.proofs.Distinct.{apart_with}

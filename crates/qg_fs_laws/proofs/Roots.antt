@@ -11,11 +11,11 @@ use Rattle.qg_node.specs.Nodes.{header_of}
 use Rattle.qg_items.specs.declared.root.RootItem.{RootItem}
 use Rattle.qg_image.specs.declared.file.File.{File}
 use Rattle.qg_image.specs.Table.{keys_of, value_at}
-use Rattle.qg_state.specs.Reach.{level_of}
-use Rattle.qg_state.specs.State.{Placed, State, Subvolume, node_at}
-use Rattle.qg_state.proofs.Contained.{contains_here, contains_later}
+use Rattle.qg_image.specs.Reach.{level_of}
+use Rattle.qg_image.specs.State.{Placed, State, Subvolume, node_at}
+use Rattle.qg_image.proofs.Contained.{contains_here, contains_later}
 use Rattle.qg_home.proofs.Reaching.{value_of_entry}
-use Rattle.qg_verdict.specs.OtherTrees.{root_item_of, subvolume_items}
+use Rattle.qg_image.specs.OtherTrees.{root_item_of, subvolume_items}
 use Rattle.qg_contents.specs.Written.{items_of_file}
 use Rattle.qg_refs.specs.declared.kept.What.{What}
 use Rattle.qg_refs.specs.Book.{what_in}

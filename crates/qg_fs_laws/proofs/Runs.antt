@@ -9,10 +9,10 @@ use Rattle.qg_super.specs.declared.sizes.Sizes.{Sizes}
 use Rattle.qg_super.specs.Places.{is_run}
 use Rattle.qg_image.specs.declared.file.File.{File}
 use Rattle.qg_image.specs.Table.{keys_of, value_at}
-use Rattle.qg_state.specs.declared.element.Element.{Element}
-use Rattle.qg_state.specs.Reach.{reaches}
-use Rattle.qg_state.specs.Space.{present_extents}
-use Rattle.qg_state.specs.State.{Placed, State, Subvolume, layout_of}
+use Rattle.qg_image.specs.declared.element.Element.{Element}
+use Rattle.qg_image.specs.Reach.{reaches}
+use Rattle.qg_image.specs.Space.{present_extents}
+use Rattle.qg_image.specs.State.{Placed, State, Subvolume, layout_of}
 use Rattle.qg_home.proofs.Reaching.{entry_of_value}
 use Rattle.qg_contents.specs.Written.{items_of_file}
 use Rattle.qg_space.specs.Agreement.{IsHoldingOf}

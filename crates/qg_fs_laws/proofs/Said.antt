@@ -13,10 +13,10 @@ use Rattle.qg_image.specs.declared.part.ExtentPart.{ExtentPart}
 use Rattle.qg_image.specs.declared.part.QuotaPart.{QuotaPart}
 use Rattle.qg_image.specs.ItemMeaning.{extent_part, first_some, quota_part, root_part}
 use Rattle.qg_image.specs.Table.{keys_of, with_value}
-use Rattle.qg_state.specs.declared.quota.Group.{Group}
-use Rattle.qg_state.specs.Record.{Record, InfoOf, LimitOf, RelationOf, RootOf, extent_record, quota_record}
-use Rattle.qg_state.specs.Record.{record_named}
-use Rattle.qg_state.proofs.Contained.{contains_here, contains_later}
+use Rattle.qg_image.specs.declared.quota.Group.{Group}
+use Rattle.qg_image.specs.Record.{Record, InfoOf, LimitOf, RelationOf, RootOf, extent_record, quota_record}
+use Rattle.qg_image.specs.Record.{record_named}
+use Rattle.qg_image.proofs.Contained.{contains_here, contains_later}
 use Rattle.qg_machine.specs.GroupChange.{same_pair, with_pair}
 use Rattle.qg_hier.proofs.Sets.{pair_is}
 use Rattle.qg_quota.specs.Written.{both_ways, info_part, limit_part, relation_part}

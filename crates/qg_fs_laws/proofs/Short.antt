@@ -12,12 +12,12 @@ use Rattle.qg_super.specs.Places.{is_run}
 use Rattle.qg_image.specs.declared.file.File.{File}
 use Rattle.qg_image.specs.FilesOf.{piece_end}
 use Rattle.qg_image.specs.Table.{value_at, with_value, without_key}
-use Rattle.qg_state.specs.declared.element.Element.{Element}
-use Rattle.qg_state.specs.Reach.{extent_of}
-use Rattle.qg_state.specs.Space.{present_extents}
-use Rattle.qg_state.specs.State.{State, Subvolume}
-use Rattle.qg_state.proofs.Contained.{contains_cases, contains_here, contains_later, none_contained}
-use Rattle.qg_verdict.specs.Verdict.{extent_set, is_extent, longest_extent, space_failure}
+use Rattle.qg_image.specs.declared.element.Element.{Element}
+use Rattle.qg_image.specs.Reach.{extent_of}
+use Rattle.qg_image.specs.Space.{present_extents}
+use Rattle.qg_image.specs.State.{State, Subvolume}
+use Rattle.qg_image.proofs.Contained.{contains_cases, contains_here, contains_later, none_contained}
+use Rattle.qg_image.specs.Verdict.{extent_set, is_extent, longest_extent, space_failure}
 use Rattle.qg_machine.specs.FileChange.{after, before, file_or_new, moved, new_piece, part_after, part_before}
 use Rattle.qg_machine.specs.FileChange.{pieces_or_none, with_pieces, with_range, with_size, within}
 use Rattle.qg_home.proofs.Reaching.{entry_of_value}

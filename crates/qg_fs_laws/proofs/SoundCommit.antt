@@ -14,14 +14,14 @@ use Rattle.qg_node.specs.Fits.{ItemFits}
 use Rattle.qg_items.specs.declared.root.RootItem.{RootItem}
 use Rattle.qg_super.specs.declared.sizes.Sizes.{Sizes}
 use Rattle.qg_image.specs.declared.file.File.{File}
-use Rattle.qg_state.specs.declared.element.Element.{Element}
-use Rattle.qg_state.specs.declared.quota.Quota.{Quota}
-use Rattle.qg_state.specs.Reach.{extent_of}
-use Rattle.qg_state.specs.Space.{present_extents}
-use Rattle.qg_state.specs.Space as present
-use Rattle.qg_state.specs.State.{Placed, State, Subvolume, layout_of, next_generation}
-use Rattle.qg_verdict.specs.OtherTrees.{subvolume_items}
-use Rattle.qg_verdict.specs.Verdict.{extent_set, longest_extent, space_failure}
+use Rattle.qg_image.specs.declared.element.Element.{Element}
+use Rattle.qg_image.specs.declared.quota.Quota.{Quota}
+use Rattle.qg_image.specs.Reach.{extent_of}
+use Rattle.qg_image.specs.Space.{present_extents}
+use Rattle.qg_image.specs.Space as present
+use Rattle.qg_image.specs.State.{Placed, State, Subvolume, layout_of, next_generation}
+use Rattle.qg_image.specs.OtherTrees.{subvolume_items}
+use Rattle.qg_image.specs.Verdict.{extent_set, longest_extent, space_failure}
 use Rattle.qg_contents.specs.Written.{items_of_file}
 use Rattle.qg_machine.specs.Written.{new_nodes}
 use Rattle.qg_machine.specs.Step.{Commits}

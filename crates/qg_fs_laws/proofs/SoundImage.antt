@@ -16,20 +16,20 @@ use Rattle.qg_image.specs.FilesOf.{are_files, file_parts, files_in, files_of, is
 use Rattle.qg_image.specs.ItemMeaning.{extent_part_stamps, is_subvolume_number}
 use Rattle.qg_image.specs.Table.{has_key, value_at}
 use Rattle.qg_image.specs.declared.part.ExtentPart.{ExtentPart}
-use Rattle.qg_state.specs.declared.quota.Quota.{Quota}
-use Rattle.qg_state.specs.Owed.{Agrees, homeless}
-use Rattle.qg_state.specs.Space.{present_extents}
-use Rattle.qg_state.specs.State.{layout_of}
-use Rattle.qg_verdict.specs.declared.failure.Failure.{Failure}
-use Rattle.qg_verdict.specs.declared.tree.Tree.TheVariants.{Extents, Files, Quotas, Roots}
-use Rattle.qg_verdict.specs.Failure.{first_failure, unless}
-use Rattle.qg_verdict.specs.ImageState.{extent_parts, items_of_root, nodes_of_root, quota_in, quota_parts}
-use Rattle.qg_verdict.specs.ImageState.{quota_root, quota_told, root_items, root_nodes, roots_in, state_in}
-use Rattle.qg_verdict.specs.ImageState.{subvolume_roots, super_in, super_of}
-use Rattle.qg_verdict.specs.Verdict.{IsSound, are_roots, extent_set, fits_quota, image_failure, is_quota}
-use Rattle.qg_verdict.specs.Verdict.{is_status_part, places_failure, quota_failure, root_failure, roots_failure}
-use Rattle.qg_verdict.specs.Verdict.{space_failure, subvolume_failure, together_failure, verdict}
-use Rattle.qg_verdict.specs.Walk.{are_by, is_item_of, root_expected, root_told, tree_failure}
+use Rattle.qg_image.specs.declared.quota.Quota.{Quota}
+use Rattle.qg_image.specs.Owed.{Agrees, homeless}
+use Rattle.qg_image.specs.Space.{present_extents}
+use Rattle.qg_image.specs.State.{layout_of}
+use Rattle.qg_image.specs.declared.failure.Failure.{Failure}
+use Rattle.qg_image.specs.declared.tree.Tree.TheVariants.{Extents, Files, Quotas, Roots}
+use Rattle.qg_image.specs.Failure.{first_failure, unless}
+use Rattle.qg_image.specs.ImageState.{extent_parts, items_of_root, nodes_of_root, quota_in, quota_parts}
+use Rattle.qg_image.specs.ImageState.{quota_root, quota_told, root_items, root_nodes, roots_in, state_in}
+use Rattle.qg_image.specs.ImageState.{subvolume_roots, super_in, super_of}
+use Rattle.qg_image.specs.Verdict.{IsSound, are_roots, extent_set, fits_quota, image_failure, is_quota}
+use Rattle.qg_image.specs.Verdict.{is_status_part, places_failure, quota_failure, root_failure, roots_failure}
+use Rattle.qg_image.specs.Verdict.{space_failure, subvolume_failure, together_failure, verdict}
+use Rattle.qg_image.specs.Walk.{are_by, is_item_of, root_expected, root_told, tree_failure}
 use Rattle.qg_walk.proofs.Failures.{kept-none}
 use Rattle.qg_standing.specs.Opening.{IsSoundImage, IsSoundSubvolume}
 use Rattle.qg_fs_laws.specs.Opening.{AreItemsOf, HoldsOthers, HoldsQuotaOf}

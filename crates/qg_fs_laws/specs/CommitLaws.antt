@@ -9,9 +9,9 @@ use Rattle.qg_node.specs.Nodes.{header_of}
 use Rattle.qg_items.specs.declared.root.RootItem.{RootItem}
 use Rattle.qg_super.specs.declared.sizes.Sizes.{Sizes}
 use Rattle.qg_image.specs.declared.file.File.{File}
-use Rattle.qg_state.specs.Space.{present_extents}
-use Rattle.qg_state.specs.State.{State, Subvolume}
-use Rattle.qg_verdict.specs.Verdict.{extent_set, space_failure}
+use Rattle.qg_image.specs.Space.{present_extents}
+use Rattle.qg_image.specs.State.{State, Subvolume}
+use Rattle.qg_image.specs.Verdict.{extent_set, space_failure}
 use Rattle.qg_contents.specs.Written.{items_of_file}
 use Rattle.qg_space.specs.Holding.{Holding}
 use Rattle.qg_exchange.specs.Named.{named}

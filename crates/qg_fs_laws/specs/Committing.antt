@@ -10,11 +10,11 @@ use Rattle.qg_items.specs.declared.root.RootItem.{RootItem}
 use Rattle.qg_super.specs.Places.{data_begin, is_slot, total_bytes}
 use Rattle.qg_image.specs.declared.file.File.{File}
 use Rattle.qg_image.specs.Table.{keys_of, value_at, without_key}
-use Rattle.qg_state.specs.declared.quota.Quota.{Quota}
-use Rattle.qg_state.specs.Counts.{direct_count}
-use Rattle.qg_state.specs.Members.{hierarchy_of}
-use Rattle.qg_state.specs.State.{State, Subvolume, layout_of}
-use Rattle.qg_verdict.specs.Verdict.{longest_extent}
+use Rattle.qg_image.specs.declared.quota.Quota.{Quota}
+use Rattle.qg_image.specs.Counts.{direct_count}
+use Rattle.qg_image.specs.Members.{hierarchy_of}
+use Rattle.qg_image.specs.State.{State, Subvolume, layout_of}
+use Rattle.qg_image.specs.Verdict.{longest_extent}
 use Rattle.qg_machine.specs.Written.{new_nodes}
 use Rattle.qg_machine.specs.Step.{Commits}
 use Rattle.qg_refs.specs.declared.kept.What.{What}

@@ -14,15 +14,15 @@ use Rattle.qg_node.specs.Nodes.{header_of}
 use Rattle.qg_super.specs.Places.{is_slot}
 use Rattle.qg_image.specs.declared.file.File.{File}
 use Rattle.qg_image.specs.Table.{has_key, keys_of, value_at, without_key}
-use Rattle.qg_state.specs.declared.element.Element.{Element}
-use Rattle.qg_state.specs.declared.quota.Group.{Group}
-use Rattle.qg_state.specs.declared.quota.Quota.{Quota}
-use Rattle.qg_state.specs.Counts.{direct_count}
-use Rattle.qg_state.specs.Members.{hierarchy_of}
-use Rattle.qg_state.specs.Need.{held_records, quota_records, root_records}
-use Rattle.qg_state.specs.Record.{Record, records_bytes}
-use Rattle.qg_state.specs.Space as present
-use Rattle.qg_state.specs.State.{Accepted, Committed, State, Subvolume, file_at, files_in_sub, layout_of}
+use Rattle.qg_image.specs.declared.element.Element.{Element}
+use Rattle.qg_image.specs.declared.quota.Group.{Group}
+use Rattle.qg_image.specs.declared.quota.Quota.{Quota}
+use Rattle.qg_image.specs.Counts.{direct_count}
+use Rattle.qg_image.specs.Members.{hierarchy_of}
+use Rattle.qg_image.specs.Need.{held_records, quota_records, root_records}
+use Rattle.qg_image.specs.Record.{Record, records_bytes}
+use Rattle.qg_image.specs.Space as present
+use Rattle.qg_image.specs.State.{Accepted, Committed, State, Subvolume, file_at, files_in_sub, layout_of}
 use Rattle.qg_machine.specs.FileChange.{file_change, pieces_meeting, pieces_or_none, pieces_past}
 use Rattle.qg_machine.specs.Layout.{CopiesOnWrite}
 use Rattle.qg_machine.specs.Step.{with_tree}

@@ -13,15 +13,15 @@ use Rattle.qg_super.specs.declared.superblock.Super.{Super}
 use Rattle.qg_image.specs.declared.file.File.{File}
 use Rattle.qg_image.specs.FilesOf.{files_of}
 use Rattle.qg_image.specs.Table.{value_at}
-use Rattle.qg_state.specs.declared.element.Element.{Element}
-use Rattle.qg_state.specs.declared.quota.Quota.{Quota}
-use Rattle.qg_state.specs.State.{Subvolume}
-use Rattle.qg_verdict.specs.declared.tree.Tree.TheVariants.{Extents, Files, Quotas, Roots}
-use Rattle.qg_verdict.specs.declared.tree.Tree.{Tree}
-use Rattle.qg_verdict.specs.ImageState.{addresses_of, items_of_root, nodes_of_root, other_nodes, quota_parts}
-use Rattle.qg_verdict.specs.ImageState.{quota_told, root_items, root_nodes, roots_in, subvolume_roots}
-use Rattle.qg_verdict.specs.Verdict.{fits_quota, is_status_part}
-use Rattle.qg_verdict.specs.Walk.{is_item_of}
+use Rattle.qg_image.specs.declared.element.Element.{Element}
+use Rattle.qg_image.specs.declared.quota.Quota.{Quota}
+use Rattle.qg_image.specs.State.{Subvolume}
+use Rattle.qg_image.specs.declared.tree.Tree.TheVariants.{Extents, Files, Quotas, Roots}
+use Rattle.qg_image.specs.declared.tree.Tree.{Tree}
+use Rattle.qg_image.specs.ImageState.{addresses_of, items_of_root, nodes_of_root, other_nodes, quota_parts}
+use Rattle.qg_image.specs.ImageState.{quota_told, root_items, root_nodes, roots_in, subvolume_roots}
+use Rattle.qg_image.specs.Verdict.{fits_quota, is_status_part}
+use Rattle.qg_image.specs.Walk.{is_item_of}
 use Rattle.qg_fs_tree.specs.declared.fs_tree.FsTree.{FsTree}
 
 -- What is kept of the last commit, where nothing was done since: the slots of its other trees' nodes and those of the

@@ -5,11 +5,11 @@ use Rattle.qg_items.specs.declared.root.RootItem.{RootItem}
 use Rattle.qg_super.specs.declared.superblock.Super.{Super}
 use Rattle.qg_super.specs.SuperText.{is_super}
 use Rattle.qg_image.specs.declared.file.File.{File}
-use Rattle.qg_state.specs.declared.quota.Quota.{Quota}
-use Rattle.qg_state.specs.Owed.{Agrees, homeless}
-use Rattle.qg_state.specs.State.{layout_of}
-use Rattle.qg_verdict.specs.ImageState.{extent_parts, quota_in, state_in, super_of}
-use Rattle.qg_verdict.specs.Verdict.{IsSound}
+use Rattle.qg_image.specs.declared.quota.Quota.{Quota}
+use Rattle.qg_image.specs.Owed.{Agrees, homeless}
+use Rattle.qg_image.specs.State.{layout_of}
+use Rattle.qg_image.specs.ImageState.{extent_parts, quota_in, state_in, super_of}
+use Rattle.qg_image.specs.Verdict.{IsSound}
 use Rattle.qg_weighed.specs.Laws.{IsRecorded}
 use Rattle.qg_extents.specs.Table.{IsTable}
 use Rattle.qg_fs_tree.specs.declared.fs_tree.FsTree.{FsTree}

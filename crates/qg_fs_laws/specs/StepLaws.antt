@@ -8,12 +8,12 @@ use Rattle.qg_node.specs.declared.node.Node.{Node}
 use Rattle.qg_image.specs.declared.file.File.{File}
 use Rattle.qg_image.specs.ItemMeaning.{is_subvolume_number}
 use Rattle.qg_image.specs.Table.{keys_of, value_at}
-use Rattle.qg_state.specs.declared.quota.Quota.{Quota}
-use Rattle.qg_state.specs.Members.{hierarchy_of}
-use Rattle.qg_state.specs.Need.{file_copies, weight}
-use Rattle.qg_state.specs.Record.{Record}
-use Rattle.qg_state.specs.Space.{is_free_slot}
-use Rattle.qg_state.specs.State.{Accepted, State, Subvolume, layout_of, next_generation}
+use Rattle.qg_image.specs.declared.quota.Quota.{Quota}
+use Rattle.qg_image.specs.Members.{hierarchy_of}
+use Rattle.qg_image.specs.Need.{file_copies, weight}
+use Rattle.qg_image.specs.Record.{Record}
+use Rattle.qg_image.specs.Space.{is_free_slot}
+use Rattle.qg_image.specs.State.{Accepted, State, Subvolume, layout_of, next_generation}
 use Rattle.qg_counted.specs.Counted.{AreAllReached}
 use Rattle.qg_machine.specs.Layout.{IsWhole}
 use Rattle.qg_machine.specs.Refusals.{root_level}

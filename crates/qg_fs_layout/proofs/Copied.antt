@@ -12,10 +12,10 @@ use Rattle.qg_super.specs.declared.sizes.Sizes.{Sizes}
 use Rattle.qg_super.specs.Places.{is_slot}
 use Rattle.qg_image.specs.Table.{has_key, keys_of}
 use Rattle.qg_machine.specs.Layout.{KeepsNode, StaysAs, has_same_maker, is_fixed, is_made_node, made_nodes}
-use Rattle.qg_state.specs.Reach.{owners, reaches}
-use Rattle.qg_state.specs.Space.{is_free_slot}
-use Rattle.qg_state.specs.State.{Layout, Placed, State, layout_of, next_generation}
-use Rattle.qg_state.proofs.Contained.{contains_cases, contains_here, contains_later}
+use Rattle.qg_image.specs.Reach.{owners, reaches}
+use Rattle.qg_image.specs.Space.{is_free_slot}
+use Rattle.qg_image.specs.State.{Layout, Placed, State, layout_of, next_generation}
+use Rattle.qg_image.proofs.Contained.{contains_cases, contains_here, contains_later}
 use Rattle.qg_space.specs.Holding as holding
 use Rattle.qg_space.proofs.Free.{free_is_slot}
 use Rattle.qg_space.proofs.Members.{filter_contains, one_passes}

@@ -8,13 +8,13 @@ use Rattle.qg_node.specs.declared.node.Node.{Node}
 use Rattle.qg_node.specs.Nodes.{header_of, own_items}
 use Rattle.qg_items.specs.declared.extent.Reference.{Reference}
 use Rattle.qg_image.specs.Table.{value_at}
-use Rattle.qg_state.specs.declared.element.Element.{Element}
-use Rattle.qg_state.specs.Owed.{layout_extents, owed_count}
-use Rattle.qg_state.specs.Space.{present_extents}
-use Rattle.qg_state.specs.State.{Layout, Placed, State, layout_of}
-use Rattle.qg_state.proofs.Contained.{contains_cases}
+use Rattle.qg_image.specs.declared.element.Element.{Element}
+use Rattle.qg_image.specs.Owed.{layout_extents, owed_count}
+use Rattle.qg_image.specs.Space.{present_extents}
+use Rattle.qg_image.specs.State.{Layout, Placed, State, layout_of}
+use Rattle.qg_image.proofs.Contained.{contains_cases}
 use Rattle.qg_home.proofs.Reaching.{entry_of_value}
-use Rattle.qg_verdict.specs.declared.tree.Tree.TheVariants.{Files}
+use Rattle.qg_image.specs.declared.tree.Tree.TheVariants.{Files}
 use Rattle.qg_blocks.specs.Told.{fresh_at}
 use Rattle.qg_refs.specs.Book.{count_at, what_in}
 use Rattle.qg_extents.specs.Table.{book_of}

@@ -17,12 +17,12 @@ use Rattle.qg_image.specs.FilesOf.{are_files, file_in, file_parts, files_in, fil
 use Rattle.qg_image.specs.FilesOf as files
 use Rattle.qg_image.specs.ItemMeaning.{file_part}
 use Rattle.qg_image.specs.Table.{has_key, value_at}
-use Rattle.qg_state.specs.declared.element.Element.{Element}
-use Rattle.qg_state.specs.Owed.{layout_extents}
-use Rattle.qg_state.specs.Reach.{extent_of, piece_of_part, pieces_of}
-use Rattle.qg_state.specs.Space.{present_extents}
-use Rattle.qg_state.specs.State.{Layout, Placed, State, Subvolume}
-use Rattle.qg_state.proofs.Contained.{contains_cases, none_contained}
+use Rattle.qg_image.specs.declared.element.Element.{Element}
+use Rattle.qg_image.specs.Owed.{layout_extents}
+use Rattle.qg_image.specs.Reach.{extent_of, piece_of_part, pieces_of}
+use Rattle.qg_image.specs.Space.{present_extents}
+use Rattle.qg_image.specs.State.{Layout, Placed, State, Subvolume}
+use Rattle.qg_image.proofs.Contained.{contains_cases, none_contained}
 use Rattle.qg_home.proofs.Reaching.{entry_of_value}
 use Rattle.qg_fs_tree.specs.Standing.{name_told, piece_in}
 use Rattle.qg_fs_layout.specs.Laying.{names_in}

@@ -19,9 +19,9 @@ use Rattle.qg_super.specs.declared.superblock.Super.{Super}
 use Rattle.qg_super.proofs.Served.{SizesFit-is_served}
 use Rattle.qg_super.proofs.Slots.{slot_ends}
 use Rattle.qg_image.specs.ItemMeaning.{is_subvolume_number}
-use Rattle.qg_state.proofs.Contained.{contains_here}
-use Rattle.qg_verdict.specs.declared.tree.Tree.TheVariants.{Files}
-use Rattle.qg_verdict.specs.Walk.{is_generation}
+use Rattle.qg_image.proofs.Contained.{contains_here}
+use Rattle.qg_image.specs.declared.tree.Tree.TheVariants.{Files}
+use Rattle.qg_image.specs.Walk.{is_generation}
 use Rattle.qg_descent.specs.Branch.{AreBranches, IsBranch, IsMember, IsPointed}
 use Rattle.qg_descent.specs.Tree.{Reaches, Root, super_of}
 use Rattle.qg_descent.proofs.Branches.{IsRow, branch-below, branch-first}

@@ -9,8 +9,8 @@ use Rattle.qg_node.specs.declared.item.Item.{Item}
 use Rattle.qg_node.specs.declared.node.Node.{Node}
 use Rattle.qg_node.specs.Nodes.{header_of}
 use Rattle.qg_items.specs.declared.extent.Reference.{Reference}
-use Rattle.qg_state.specs.Owed.{owed_count}
-use Rattle.qg_state.specs.State.{Placed}
+use Rattle.qg_image.specs.Owed.{owed_count}
+use Rattle.qg_image.specs.State.{Placed}
 use Rattle.qg_home.proofs.Reaching.{entry_of_value}
 use Rattle.qg_blocks.specs.Told.{fresh_at}
 use Rattle.qg_space.specs.Holding.{has_slot}

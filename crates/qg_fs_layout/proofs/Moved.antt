@@ -12,8 +12,8 @@ use Rattle.qg_node.specs.declared.node.Node.{Node}
 use Rattle.qg_node.specs.Nodes.{header_of}
 use Rattle.qg_super.specs.declared.sizes.Sizes.{Sizes}
 use Rattle.qg_super.specs.Places.{data_begin, is_slot}
-use Rattle.qg_state.specs.declared.element.Element.{Element}
-use Rattle.qg_state.proofs.Contained.{contains_here, contains_later}
+use Rattle.qg_image.specs.declared.element.Element.{Element}
+use Rattle.qg_image.proofs.Contained.{contains_here, contains_later}
 use Rattle.qg_reach.proofs.SlotRule.{slot_below}
 use Rattle.qg_space.specs.Holding.{Holding, is_free_slot}
 use Rattle.qg_space.proofs.Members.{passes_one}

@@ -13,8 +13,8 @@ use Rattle.qg_super.specs.declared.sizes.Sizes.{Sizes}
 use Rattle.qg_super.specs.Places.{is_slot, slot_at, slots_begin}
 use Rattle.qg_super.proofs.Slots.{IsSlotAt-is_slot}
 use Rattle.qg_image.specs.Table.{keys_of, value_at}
-use Rattle.qg_state.specs.State.{Placed, node_at}
-use Rattle.qg_state.proofs.Contained.{contains_cases, contains_here, contains_later, none_contained}
+use Rattle.qg_image.specs.State.{Placed, node_at}
+use Rattle.qg_image.proofs.Contained.{contains_cases, contains_here, contains_later, none_contained}
 use Rattle.qg_home.proofs.Reaching.{entry_of_value, value_of_entry}
 use Rattle.qg_space.proofs.Members.{one_passes, passes_one}
 use Rattle.qg_refs.specs.Book.{full_in}

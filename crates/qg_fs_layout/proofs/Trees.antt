@@ -15,13 +15,13 @@ use Rattle.qg_super.specs.Places.{is_slot}
 use Rattle.qg_image.specs.declared.file.File.{File}
 use Rattle.qg_image.specs.FilesOf.{are_files, file_parts, files_in, files_of, is_file_item}
 use Rattle.qg_image.specs.Table.{keys_of, value_at}
-use Rattle.qg_verdict.specs.declared.tree.Tree.TheVariants.{Files}
-use Rattle.qg_verdict.specs.ItemsUnder.{items_under}
-use Rattle.qg_verdict.specs.Walk.{deepest, is_item_of, node_failure, root_expected, walk_failure}
+use Rattle.qg_image.specs.declared.tree.Tree.TheVariants.{Files}
+use Rattle.qg_image.specs.ItemsUnder.{items_under}
+use Rattle.qg_image.specs.Walk.{deepest, is_item_of, node_failure, root_expected, walk_failure}
 use Rattle.qg_machine.specs.Layout.{IsTreeOf, found_in, super_to_come}
-use Rattle.qg_state.specs.Reach.{level_of}
-use Rattle.qg_state.specs.State.{Layout, Placed, State, Subvolume, layout_of, next_generation, node_at}
-use Rattle.qg_state.proofs.Contained.{contains_cases}
+use Rattle.qg_image.specs.Reach.{level_of}
+use Rattle.qg_image.specs.State.{Layout, Placed, State, Subvolume, layout_of, next_generation, node_at}
+use Rattle.qg_image.proofs.Contained.{contains_cases}
 use Rattle.qg_home.proofs.Reaching.{value_of_entry}
 use Rattle.qg_space.proofs.Marks.{SlotsFit-is_served}
 use Rattle.qg_ground.specs.Land.{IsDrafted}

@@ -16,12 +16,12 @@ use Rattle.qg_super.specs.Places.{is_slot}
 use Rattle.qg_image.specs.Table.{keys_of, value_at}
 use Rattle.qg_machine.specs.Layout.{IsWhole}
 use Rattle.qg_machine.specs.Layout as machine
-use Rattle.qg_state.specs.declared.element.Element.{Element}
-use Rattle.qg_state.specs.Reach.{extent_of, is_among, own_elements, pieces_of, reaches}
-use Rattle.qg_state.specs.State.{Placed, State, layout_of, node_at}
-use Rattle.qg_state.proofs.Contained.{contains_cases}
+use Rattle.qg_image.specs.declared.element.Element.{Element}
+use Rattle.qg_image.specs.Reach.{extent_of, is_among, own_elements, pieces_of, reaches}
+use Rattle.qg_image.specs.State.{Placed, State, layout_of, node_at}
+use Rattle.qg_image.proofs.Contained.{contains_cases}
 use Rattle.qg_home.proofs.Reaching.{value_of_entry}
-use Rattle.qg_verdict.specs.declared.tree.Tree.TheVariants.{Files}
+use Rattle.qg_image.specs.declared.tree.Tree.TheVariants.{Files}
 use Rattle.qg_ground.specs.Land.{IsDrafted}
 use Rattle.qg_descent.specs.Tree.{Reaches, Root, super_of}
 use Rattle.qg_descent.proofs.BranchFrames.{reach-same}

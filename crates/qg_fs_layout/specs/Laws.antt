@@ -10,10 +10,10 @@ use Rattle.qg_image.specs.declared.file.File.{File}
 use Rattle.qg_rules.specs.Writable.{AreWritableFiles}
 use Rattle.qg_contents.specs.Written.{items_of_file}
 use Rattle.qg_machine.specs.Layout.{IsTreeOf, IsWhole}
-use Rattle.qg_state.specs.State.{State}
+use Rattle.qg_image.specs.State.{State}
 use Rattle.qg_refs.specs.Book.{full_in}
 use Rattle.qg_extents.specs.Table.{book_of}
-use Rattle.qg_verdict.specs.Walk.{deepest}
+use Rattle.qg_image.specs.Walk.{deepest}
 use Rattle.qg_descent.specs.Tree.{Root}
 use Rattle.qg_fs_tree.specs.declared.fs_tree.FsTree.{FsTree}
 use Rattle.qg_fs_tree.specs.Standing.{IsSubvolume, KeepsTree, Stands, items_in, trees_of}

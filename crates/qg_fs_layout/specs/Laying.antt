@@ -16,10 +16,10 @@ use Rattle.qg_super.specs.Places.{is_run}
 use Rattle.qg_image.specs.FilesOf.{files_of}
 use Rattle.qg_image.specs.Table.{keys_of, value_at}
 use Rattle.qg_machine.specs.Layout.{KeepsNode, is_made_node, made_nodes}
-use Rattle.qg_state.specs.declared.element.Element.{Element}
-use Rattle.qg_state.specs.Owed.{layout_extents, owed_count}
-use Rattle.qg_state.specs.Space.{present_extents}
-use Rattle.qg_state.specs.State.{Placed, State, Subvolume, layout_of, next_generation, node_at}
+use Rattle.qg_image.specs.declared.element.Element.{Element}
+use Rattle.qg_image.specs.Owed.{layout_extents, owed_count}
+use Rattle.qg_image.specs.Space.{present_extents}
+use Rattle.qg_image.specs.State.{Placed, State, Subvolume, layout_of, next_generation, node_at}
 use Rattle.qg_refs.specs.Book.{AgreesWithOwed, Book, full_in, what_in}
 use Rattle.qg_extents.specs.Table.{book_of}
 use Rattle.qg_descent.specs.Tree.{Root}

@@ -15,12 +15,12 @@ use Rattle.qg_num.specs.declared.piece.Piece.{Piece}
 use Rattle.qg_node.specs.declared.item.Item.{Item}
 use Rattle.qg_node.specs.declared.node.Node.{Node}
 use Rattle.qg_items.specs.declared.extent.Reference.{Reference}
-use Rattle.qg_state.specs.State.{Layout, Placed}
-use Rattle.qg_state.specs.Owed.{owed_count}
-use Rattle.qg_state.specs.Reach.{extent_of}
-use Rattle.qg_state.proofs.Contained.{contains_cases, contains_here, contains_later}
-use Rattle.qg_verdict.specs.declared.tree.Tree.TheVariants.{Files}
-use Rattle.qg_verdict.specs.Walk.{is_owner}
+use Rattle.qg_image.specs.State.{Layout, Placed}
+use Rattle.qg_image.specs.Owed.{owed_count}
+use Rattle.qg_image.specs.Reach.{extent_of}
+use Rattle.qg_image.proofs.Contained.{contains_cases, contains_here, contains_later}
+use Rattle.qg_image.specs.declared.tree.Tree.TheVariants.{Files}
+use Rattle.qg_image.specs.Walk.{is_owner}
 use Rattle.qg_space.proofs.Marks.{SlotsFit-is_served}
 use Rattle.qg_space.proofs.Members.{one_passes, passes_one}
 use Rattle.qg_ground.specs.declared.ground.Ground.{Ground}

@@ -9,10 +9,10 @@ use Rattle.qg_node.specs.declared.node.Node.{Node}
 use Rattle.qg_node.specs.Nodes.{is_ascending}
 use Rattle.qg_items.specs.declared.extent.Reference.{Reference}
 use Rattle.qg_super.specs.Places.{is_slot}
-use Rattle.qg_state.specs.State.{Placed}
-use Rattle.qg_state.specs.Owed.{owed_count}
-use Rattle.qg_verdict.specs.declared.tree.Tree.TheVariants.{Files}
-use Rattle.qg_verdict.specs.Walk.{root_expected}
+use Rattle.qg_image.specs.State.{Placed}
+use Rattle.qg_image.specs.Owed.{owed_count}
+use Rattle.qg_image.specs.declared.tree.Tree.TheVariants.{Files}
+use Rattle.qg_image.specs.Walk.{root_expected}
 use Rattle.qg_space.proofs.Marks.{SlotsFit-is_served}
 use Rattle.qg_ground.specs.Land.{IsDrafted}
 use Rattle.qg_descent.specs.Branch.{IsBranch}

@@ -8,8 +8,8 @@ use Rattle.qg_node.specs.declared.item.Item.{Item}
 use Rattle.qg_items.specs.declared.extent.Reference.{Reference}
 use Rattle.qg_super.specs.declared.sizes.Sizes.{Sizes}
 use Rattle.qg_super.specs.Places.{capacity, is_slot}
-use Rattle.qg_state.specs.State.{Placed}
-use Rattle.qg_verdict.specs.declared.tree.Tree.TheVariants.{Files}
+use Rattle.qg_image.specs.State.{Placed}
+use Rattle.qg_image.specs.declared.tree.Tree.TheVariants.{Files}
 use Rattle.qg_space.specs.Holding.{has_slot, is_free_slot}
 use Rattle.qg_space.proofs.Free.{free_is_slot}
 use Rattle.qg_space.proofs.Marks.{SlotsFit-is_served}

@@ -11,12 +11,12 @@ use Rattle.qg_node.specs.declared.node.Node.{Node}
 use Rattle.qg_node.specs.Nodes.{own_items}
 use Rattle.qg_items.specs.declared.extent.Reference.TheVariants.{KeyedData}
 use Rattle.qg_super.specs.Places.{is_slot}
-use Rattle.qg_state.specs.State.{Placed}
-use Rattle.qg_state.specs.Owed.{owed_by_node}
+use Rattle.qg_image.specs.State.{Placed}
+use Rattle.qg_image.specs.Owed.{owed_by_node}
 use Rattle.qg_ground.specs.Land.{IsDrafted}
 use Rattle.qg_refs.specs.Book.{count_at, references_at}
 use Rattle.qg_extents.specs.Table.{book_of}
-use Rattle.qg_verdict.specs.declared.tree.Tree.TheVariants.{Files}
+use Rattle.qg_image.specs.declared.tree.Tree.TheVariants.{Files}
 use Rattle.qg_descent.specs.Tree.{Root, super_of}
 use Rattle.qg_descent.proofs.BranchFrames.{reach-top}
 use Rattle.qg_tree_refs.proofs.Counted.{many, total}

@@ -12,10 +12,10 @@ use Rattle.qg_node.specs.Nodes.{header_of, own_items, used_bytes}
 use Rattle.qg_items.specs.declared.extent.Reference.{Reference}
 use Rattle.qg_super.specs.Places.{is_slot}
 use Rattle.qg_super.proofs.Served.{SizesFit-is_served}
-use Rattle.qg_state.specs.State.{Placed}
-use Rattle.qg_state.specs.Owed.{owed_by_node}
+use Rattle.qg_image.specs.State.{Placed}
+use Rattle.qg_image.specs.Owed.{owed_by_node}
 use Rattle.qg_cow.specs.Children.{owner_of}
-use Rattle.qg_verdict.specs.declared.tree.Tree.TheVariants.{Files}
+use Rattle.qg_image.specs.declared.tree.Tree.TheVariants.{Files}
 use Rattle.qg_space.specs.Holding.{has_slot}
 use Rattle.qg_ground.specs.Land.{IsDrafted}
 use Rattle.qg_refs.specs.Book.{references_at}

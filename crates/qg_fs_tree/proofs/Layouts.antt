@@ -13,8 +13,8 @@ use Rattle.qg_items.specs.declared.extent.Reference.TheVariants.{KeyedBlock}
 use Rattle.qg_image.specs.Table.{with_value}
 use Rattle.qg_node.specs.declared.node.Node.{Node}
 use Rattle.qg_node.specs.Nodes.{header_of}
-use Rattle.qg_state.specs.State.{Layout, Placed}
-use Rattle.qg_state.specs.Owed.{Owing, owed, owed_by_node, owed_count}
+use Rattle.qg_image.specs.State.{Layout, Placed}
+use Rattle.qg_image.specs.Owed.{Owing, owed, owed_by_node, owed_count}
 use Rattle.qg_cow.specs.Children.{keyed_children, way_to}
 use Rattle.qg_cow.proofs.CopyLaws.{owed-keyed}
 use Rattle.qg_descent.specs.Tree.{Root}

@@ -11,12 +11,12 @@ use Rattle.qg_node.specs.declared.item.Item.{Item}
 use Rattle.qg_items.specs.declared.extent.Reference.{Reference}
 use Rattle.qg_super.specs.declared.sizes.Sizes.{Sizes}
 use Rattle.qg_super.specs.Places.{data_begin, is_run, is_slot, sector}
-use Rattle.qg_state.specs.declared.element.Element.{Element}
-use Rattle.qg_state.specs.Owed.{Owing, reference_offset}
-use Rattle.qg_state.specs.Reach.{extent_of}
-use Rattle.qg_state.specs.Record.{same_reference}
-use Rattle.qg_state.specs.Space.{overlaps}
-use Rattle.qg_state.proofs.Contained.{contains_cases, contains_here, contains_later}
+use Rattle.qg_image.specs.declared.element.Element.{Element}
+use Rattle.qg_image.specs.Owed.{Owing, reference_offset}
+use Rattle.qg_image.specs.Reach.{extent_of}
+use Rattle.qg_image.specs.Record.{same_reference}
+use Rattle.qg_image.specs.Space.{overlaps}
+use Rattle.qg_image.proofs.Contained.{contains_cases, contains_here, contains_later}
 use Rattle.qg_reach.proofs.SlotRule.{slot_below}
 use Rattle.qg_space.specs.Holding.{Holding, has_run, is_clear, is_free_run, with_run, without_run}
 use Rattle.qg_space.proofs.Members.{Contains-has_run, Contains-with_run, Contains-without_run, passes_one}

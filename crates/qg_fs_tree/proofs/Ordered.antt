@@ -8,8 +8,8 @@ use Rattle.std.proofs.lemmas.List.Sorted.{All-permutation, IsPermutation-map, Is
 use Rattle.std.proofs.lemmas.List.Sums.{sum_by-cons}
 use Rattle.qg_num.specs.declared.piece.Piece.{Piece}
 use Rattle.qg_items.specs.declared.extent.Reference.{Reference}
-use Rattle.qg_state.specs.Owed.{Owing}
-use Rattle.qg_state.specs.Reach.{extent_of}
+use Rattle.qg_image.specs.Owed.{Owing}
+use Rattle.qg_image.specs.Reach.{extent_of}
 use Rattle.qg_extents.specs.Table.{book_of}
 use Rattle.qg_tree_refs.specs.Exchange.{times}
 use Rattle.qg_tree_refs.proofs.Times.{times-nil}

@@ -17,11 +17,11 @@ use Rattle.qg_node.specs.declared.node.Header.{Header}
 use Rattle.qg_node.specs.declared.node.Node.{Node}
 use Rattle.qg_node.specs.declared.pointer.Pointer.{Pointer}
 use Rattle.qg_node.specs.Nodes.{header_of, own_items, own_pointers}
-use Rattle.qg_state.specs.State.{Placed}
-use Rattle.qg_state.specs.Owed.{Owing, owed_by_node, owed_by_part, owed_to_child, reference_offset}
+use Rattle.qg_image.specs.State.{Placed}
+use Rattle.qg_image.specs.Owed.{Owing, owed_by_node, owed_by_part, owed_to_child, reference_offset}
 use Rattle.qg_cow.specs.Children.{keyed_children, owner_of, shared_children}
 use Rattle.qg_cow.proofs.CopyLaws.{owed-keyed, owed-shared}
-use Rattle.qg_state.specs.Record.{same_reference}
+use Rattle.qg_image.specs.Record.{same_reference}
 use Rattle.qg_refs.specs.declared.counted.Counted.{Counted}
 use Rattle.qg_refs.specs.Counts.{count_of, counted}
 use Rattle.qg_refs.proofs.Counting.{count-cons, count-nil}

@@ -14,7 +14,7 @@ use Rattle.qg_items.specs.declared.extent.Reference.TheVariants.{KeyedBlock, Sha
 use Rattle.qg_image.specs.declared.part.FilePart.{FilePart}
 use Rattle.qg_image.specs.declared.part.FilePart.TheVariants.{Inode, PieceOf}
 use Rattle.qg_image.specs.ItemMeaning.{file_part}
-use Rattle.qg_state.specs.Owed.{Owing, owed_by_part}
+use Rattle.qg_image.specs.Owed.{Owing, owed_by_part}
 use Rattle.qg_cow.specs.Children.{keyed_children, way_to}
 use Rattle.qg_tree_edits.specs.Counting.{one}
 use Rattle.qg_tree_refs.specs.Exchange.{times}

@@ -15,10 +15,10 @@ use Rattle.qg_node.specs.Nodes.{header_of}
 use Rattle.qg_items.specs.declared.extent.Reference.{Reference}
 use Rattle.qg_super.specs.declared.sizes.Sizes.{Sizes}
 use Rattle.qg_super.specs.Places.{is_slot}
-use Rattle.qg_state.specs.declared.element.Element.{Element}
-use Rattle.qg_state.specs.Owed.{owed_count}
-use Rattle.qg_state.specs.Reach.{extent_of}
-use Rattle.qg_verdict.specs.declared.tree.Tree.TheVariants.{Files}
+use Rattle.qg_image.specs.declared.element.Element.{Element}
+use Rattle.qg_image.specs.Owed.{owed_count}
+use Rattle.qg_image.specs.Reach.{extent_of}
+use Rattle.qg_image.specs.declared.tree.Tree.TheVariants.{Files}
 use Rattle.qg_blocks.specs.Standing.{has_slot, standing}
 use Rattle.qg_blocks.specs.Told.{fresh_at, told, told_or}
 use Rattle.qg_space.specs.Holding.{Holding, is_free_slot}

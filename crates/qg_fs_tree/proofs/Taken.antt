@@ -6,7 +6,7 @@ use Rattle.qg_device.specs.History.{Event}
 use Rattle.qg_num.specs.declared.piece.Piece.{Piece}
 use Rattle.qg_node.specs.declared.item.Item.{Item}
 use Rattle.qg_super.specs.Places.{is_slot}
-use Rattle.qg_state.specs.State.{Placed}
+use Rattle.qg_image.specs.State.{Placed}
 use Rattle.qg_space.specs.Holding.{has_slot}
 use Rattle.qg_ground.specs.Land.{IsDrafted}
 use Rattle.qg_refs.specs.Book.{references_at}

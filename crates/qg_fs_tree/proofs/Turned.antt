@@ -10,8 +10,8 @@ use Rattle.qg_items.specs.declared.extent.Reference.{Reference}
 use Rattle.qg_items.specs.declared.extent.Reference.TheVariants.{KeyedBlock, SharedBlock, KeyedData, SharedData}
 use Rattle.qg_node.specs.declared.node.Node.{Node}
 use Rattle.qg_node.specs.Nodes.{header_of, own_items, own_pointers}
-use Rattle.qg_state.specs.State.{Placed}
-use Rattle.qg_state.specs.Owed.{Owing, owed_by_node}
+use Rattle.qg_image.specs.State.{Placed}
+use Rattle.qg_image.specs.Owed.{Owing, owed_by_node}
 use Rattle.qg_cow.specs.declared.cases.Edits.{Edits}
 use Rattle.qg_cow.specs.declared.cases.Edits.TheVariants.{ShareOld, AddKeyed, TakeOver, TurnKeyed}
 use Rattle.qg_cow.specs.declared.cases.Leaving.{Leaving}

@@ -7,7 +7,7 @@ ghost use Rattle.qg_num.specs.declared.fault.BlockFault.TheVariants.{Image};
 ghost use Rattle.qg_num.specs.declared.rule.Rule.TheVariants.{Refs};
 ghost use Rattle.qg_node.specs.declared.item.Item.{Item as ItemValue};
 ghost use Rattle.qg_super.specs.Places.{sector};
-ghost use Rattle.qg_state.specs.Reach.{extent_of};
+ghost use Rattle.qg_image.specs.Reach.{extent_of};
 ghost use Rattle.qg_blocks.specs.Told.{BreaksNone};
 ghost use Rattle.qg_space.specs.Holding.{free_slots, has_run, is_free_run};
 ghost use Rattle.qg_refs.specs.Book.{full_in};

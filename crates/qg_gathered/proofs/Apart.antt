@@ -24,17 +24,17 @@ use Rattle.qg_node.specs.Nodes.{used_bytes}
 use Rattle.qg_image.specs.Below.{inner_pointers, joined, leaf_items, nodes_below}
 use Rattle.qg_image.specs.IsShaped.{is_first, is_shaped}
 use Rattle.qg_image.specs.ItemMeaning.{when}
-use Rattle.qg_state.proofs.Contained.{contains_cases, contains_here, none_contained}
-use Rattle.qg_verdict.specs.declared.failure.Failure.{Failure}
-use Rattle.qg_verdict.specs.declared.tree.Tree.{Tree}
-use Rattle.qg_verdict.specs.declared.expected.Expected.{Expected}
-use Rattle.qg_verdict.specs.Failure.{first_failure, unless}
+use Rattle.qg_image.proofs.Contained.{contains_cases, contains_here, none_contained}
+use Rattle.qg_image.specs.declared.failure.Failure.{Failure}
+use Rattle.qg_image.specs.declared.tree.Tree.{Tree}
+use Rattle.qg_image.specs.declared.expected.Expected.{Expected}
+use Rattle.qg_image.specs.Failure.{first_failure, unless}
 use Rattle.qg_num.specs.declared.rule.Rule.TheVariants as rule
-use Rattle.qg_verdict.specs.Walk.{begins_at, deepest, ends_before, found_failure, is_item_of, is_told, next_key}
-use Rattle.qg_verdict.specs.Walk.{node_failure, node_found, pointers_failure, shape_failure, tree_failure, walk_failure}
-use Rattle.qg_verdict.specs.Walk.{way_failure}
-use Rattle.qg_verdict.specs.ItemsUnder.{is_way, nodes_of, nodes_under}
-use Rattle.qg_verdict.specs.ImageState.{level_in, tree_nodes}
+use Rattle.qg_image.specs.Walk.{begins_at, deepest, ends_before, found_failure, is_item_of, is_told, next_key}
+use Rattle.qg_image.specs.Walk.{node_failure, node_found, pointers_failure, shape_failure, tree_failure, walk_failure}
+use Rattle.qg_image.specs.Walk.{way_failure}
+use Rattle.qg_image.specs.ItemsUnder.{is_way, nodes_of, nodes_under}
+use Rattle.qg_image.specs.ImageState.{level_in, tree_nodes}
 use Rattle.qg_walk.specs.Added.{is_from, is_to}
 use Rattle.qg_walk.specs.Standing.{expected_below}
 use Rattle.qg_walk.proofs.Failures.{IsFormed, IsFormed-way, first_none, kept-none, neither, none_of_two, walk-passed}

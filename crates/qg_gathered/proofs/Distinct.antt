@@ -6,7 +6,7 @@ use Rattle.std.proofs.lemmas.Bool.{eq-eqb, ne_eqb, true≢false}
 use Rattle.std.proofs.lemmas.List.Elements.{All-contains, All-from_recursion, Contains-append_cases, Contains-get_or}
 use Rattle.std.proofs.lemmas.List.Elements.{recursion_from_All}
 use Rattle.std.proofs.lemmas.Map.Keys.{IsDistinct-cons, IsDistinct-head, IsDistinct-tail}
-use Rattle.qg_state.proofs.Contained.{contains_here, contains_later}
+use Rattle.qg_image.proofs.Contained.{contains_here, contains_later}
 use Rattle.qg_reach.proofs.Members.{contains_map, one_mapped}
 
 pub distinct_none : IsDistinct eqb []

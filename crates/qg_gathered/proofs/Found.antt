@@ -17,7 +17,7 @@ use Rattle.qg_node.specs.Reading.{leaf_at, node_read, pointers_at}
 use Rattle.qg_super.specs.declared.superblock.Super.{Super}
 use Rattle.qg_super.specs.Places.{is_slot}
 use Rattle.qg_super.specs.SuperText.{sizes_of}
-use Rattle.qg_verdict.specs.Walk.{in_slot, node_found}
+use Rattle.qg_image.specs.Walk.{in_slot, node_found}
 use Rattle.qg_reach.proofs.Reached.{address_of}
 
 -- ---- what is read of bytes

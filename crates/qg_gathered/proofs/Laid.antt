@@ -10,9 +10,9 @@ use Rattle.std.proofs.lemmas.Option.{same_Some}
 use Rattle.qg_node.specs.declared.node.Node.{Node}
 use Rattle.qg_image.specs.Table.{keys_of, number_set, value_at, with_number, with_value}
 use Rattle.qg_image.specs.declared.part.ExtentPart.{ExtentPart}
-use Rattle.qg_state.specs.State.{Placed}
-use Rattle.qg_state.proofs.Contained.{contains_here, contains_later}
-use Rattle.qg_verdict.specs.ImageState.{placed}
+use Rattle.qg_image.specs.State.{Placed}
+use Rattle.qg_image.proofs.Contained.{contains_here, contains_later}
+use Rattle.qg_image.specs.ImageState.{placed}
 use Rattle.qg_reach.specs.Sets.{HaveSame}
 use Rattle.qg_reach.proofs.Layouts.{AgreeByAddress, layout_by, node_at-layout, with_nodes}
 use Rattle.qg_reach.proofs.Members.{contains_map, one_mapped}

@@ -18,15 +18,15 @@ use Rattle.qg_node.specs.declared.node.Node.{Node}
 use Rattle.qg_node.specs.Nodes.{header_of, own_items, own_pointers}
 use Rattle.qg_image.specs.Table.{value_at}
 use Rattle.qg_num.specs.declared.piece.Piece.{Piece}
-use Rattle.qg_state.specs.declared.element.Element.{Element}
-use Rattle.qg_state.specs.Reach.{extent_of, pieces_of}
+use Rattle.qg_image.specs.declared.element.Element.{Element}
+use Rattle.qg_image.specs.Reach.{extent_of, pieces_of}
 use Rattle.qg_image.specs.declared.part.ExtentPart.{ExtentPart}
 use Rattle.qg_image.specs.declared.part.ExtentPart.TheVariants.{DataRecord, NodeRecord, Referenced}
 use Rattle.qg_image.specs.declared.part.FilePart.{FilePart}
 use Rattle.qg_image.specs.declared.part.FilePart.TheVariants.{Inode, PieceOf}
 use Rattle.qg_image.specs.ItemMeaning.{file_part}
-use Rattle.qg_state.specs.Owed.{Owing as OwedReference, owed_by_node, owed_by_part, owed_to_child}
-use Rattle.qg_verdict.specs.ImageState.{is_full_record, placed}
+use Rattle.qg_image.specs.Owed.{Owing as OwedReference, owed_by_node, owed_by_part, owed_to_child}
+use Rattle.qg_image.specs.ImageState.{is_full_record, placed}
 use Rattle.qg_reach.proofs.Reached.{address_of}
 use Rattle.qg_home.specs.Linked.{linked_of}
 use Rattle.qg_direct.specs.Surveyed.{surveyed_of}

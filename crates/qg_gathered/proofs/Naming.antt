@@ -16,8 +16,8 @@ use Rattle.qg_node.specs.declared.item.Item.{Item}
 use Rattle.qg_node.specs.declared.node.Node.{Node}
 use Rattle.qg_image.specs.declared.part.FilePart.TheVariants.{Inode, PieceOf}
 use Rattle.qg_image.specs.ItemMeaning.{when, is_keyed, piece_told, file_part, ◌orelse◌}
-use Rattle.qg_state.specs.declared.element.Element.{Element}
-use Rattle.qg_state.specs.Reach.{extent_of, piece_of_part, pieces_of}
+use Rattle.qg_image.specs.declared.element.Element.{Element}
+use Rattle.qg_image.specs.Reach.{extent_of, piece_of_part, pieces_of}
 use Rattle.qg_gathered.specs.declared.nodes.NodeRead.{NodeRead}
 use Rattle.qg_gathered.specs.Told.{NodeTold, told_by, told_of}
 

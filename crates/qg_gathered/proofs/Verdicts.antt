@@ -16,16 +16,16 @@ use Rattle.qg_super.specs.declared.superblock.Super.{Super}
 use Rattle.qg_super.specs.SuperText.{sizes_of}
 use Rattle.qg_image.specs.Table.{keys_of, value_at}
 use Rattle.qg_image.specs.declared.part.ExtentPart.{ExtentPart}
-use Rattle.qg_state.specs.declared.element.Element.{Element}
-use Rattle.qg_state.specs.State.{Layout, Placed, Subvolume, layout_of}
-use Rattle.qg_state.specs.Reach.{extent_of, is_among, pieces_of}
-use Rattle.qg_state.specs.Owed.{layout_extents, owed, owed_by_node}
-use Rattle.qg_state.proofs.Contained.{contains_here, contains_later}
-use Rattle.qg_verdict.specs.declared.tree.Tree.TheVariants.{Files}
-use Rattle.qg_verdict.specs.Walk.{node_found, root_told}
-use Rattle.qg_verdict.specs.ImageState.{extent_parts, level_in, nodes_of_root, placed, roots_in, state_in, subvolume_in}
-use Rattle.qg_verdict.specs.ImageState.{subvolume_roots, subvolumes_in}
-use Rattle.qg_verdict.specs.Verdict.{space_failure}
+use Rattle.qg_image.specs.declared.element.Element.{Element}
+use Rattle.qg_image.specs.State.{Layout, Placed, Subvolume, layout_of}
+use Rattle.qg_image.specs.Reach.{extent_of, is_among, pieces_of}
+use Rattle.qg_image.specs.Owed.{layout_extents, owed, owed_by_node}
+use Rattle.qg_image.proofs.Contained.{contains_here, contains_later}
+use Rattle.qg_image.specs.declared.tree.Tree.TheVariants.{Files}
+use Rattle.qg_image.specs.Walk.{node_found, root_told}
+use Rattle.qg_image.specs.ImageState.{extent_parts, level_in, nodes_of_root, placed, roots_in, state_in, subvolume_in}
+use Rattle.qg_image.specs.ImageState.{subvolume_roots, subvolumes_in}
+use Rattle.qg_image.specs.Verdict.{space_failure}
 use Rattle.qg_reach.specs.Sets.{HaveSame}
 use Rattle.qg_reach.proofs.Distinct.{AreApart}
 use Rattle.qg_reach.proofs.Layouts.{AgreeByAddress, layout_by, layout_in-nodes}

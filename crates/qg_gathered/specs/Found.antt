@@ -7,9 +7,9 @@ use Rattle.qg_node.specs.declared.node.Node.{Node}
 use Rattle.qg_node.specs.Nodes.{header_of}
 use Rattle.qg_items.specs.declared.root.RootItem.{RootItem}
 use Rattle.qg_super.specs.declared.superblock.Super.{Super}
-use Rattle.qg_verdict.specs.declared.tree.Tree.TheVariants.{Files}
-use Rattle.qg_verdict.specs.ImageState.{items_of_root, nodes_of_root}
-use Rattle.qg_verdict.specs.Walk.{node_found}
+use Rattle.qg_image.specs.declared.tree.Tree.TheVariants.{Files}
+use Rattle.qg_image.specs.ImageState.{items_of_root, nodes_of_root}
+use Rattle.qg_image.specs.Walk.{node_found}
 
 -- The reader keeps some nodes, each of which lies at its address in the image, no two at one. They are those of the
 -- trees with these ROOT_ITEMs

@@ -6,12 +6,12 @@ use Rattle.qg_super.specs.declared.superblock.Super.{Super}
 use Rattle.qg_super.specs.Places.{is_served}
 use Rattle.qg_super.specs.SuperText.{sizes_of}
 use Rattle.qg_image.specs.declared.part.ExtentPart.{ExtentPart}
-use Rattle.qg_state.specs.declared.element.Element.{Element}
-use Rattle.qg_state.specs.Reach.{extent_of, pieces_of}
-use Rattle.qg_verdict.specs.declared.tree.Tree.TheVariants.{Files}
-use Rattle.qg_verdict.specs.Walk.{root_told, tree_failure}
-use Rattle.qg_verdict.specs.ImageState.{extent_parts, roots_in, subvolume_roots}
-use Rattle.qg_verdict.specs.Verdict.{space_failure}
+use Rattle.qg_image.specs.declared.element.Element.{Element}
+use Rattle.qg_image.specs.Reach.{extent_of, pieces_of}
+use Rattle.qg_image.specs.declared.tree.Tree.TheVariants.{Files}
+use Rattle.qg_image.specs.Walk.{root_told, tree_failure}
+use Rattle.qg_image.specs.ImageState.{extent_parts, roots_in, subvolume_roots}
+use Rattle.qg_image.specs.Verdict.{space_failure}
 use Rattle.qg_reach.specs.Sets.{HaveSame}
 use Rattle.qg_gathered.specs.declared.nodes.NodesRead.{NodesRead}
 use Rattle.qg_gathered.specs.Found.{AreFound}

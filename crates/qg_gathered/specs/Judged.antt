@@ -1,6 +1,6 @@
 -- How the two rules are judged (this project's own).
 use Rattle.std.specs.Prelude.{List, Option, Some, None}
-use Rattle.qg_verdict.specs.declared.failure.Failure.{Failure}
+use Rattle.qg_image.specs.declared.failure.Failure.{Failure}
 use Rattle.qg_direct.specs.declared.surveyed.Surveyed.{Surveyed}
 use Rattle.qg_gathered.specs.declared.judging.Judged.{Judged}
 use Rattle.qg_gathered.specs.declared.judging.Judged.TheVariants.{Breaks, Keeps}

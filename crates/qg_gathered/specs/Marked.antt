@@ -6,8 +6,8 @@ use Rattle.qg_items.specs.declared.extent.Reference.{Reference}
 use Rattle.qg_items.specs.declared.extent.Reference.TheVariants.{KeyedBlock, SharedBlock, KeyedData, SharedData}
 use Rattle.qg_image.specs.declared.part.ExtentPart.{ExtentPart}
 use Rattle.qg_image.specs.declared.part.ExtentPart.TheVariants.{DataRecord, NodeRecord, Referenced}
-use Rattle.qg_state.specs.Owed.{Owing as OwedReference}
-use Rattle.qg_state.specs.declared.element.Element.{Element}
+use Rattle.qg_image.specs.Owed.{Owing as OwedReference}
+use Rattle.qg_image.specs.declared.element.Element.{Element}
 use Rattle.qg_home.specs.declared.linked.Linked.{Linked}
 use Rattle.qg_direct.specs.declared.surveyed.Surveyed.{Surveyed}
 use Rattle.qg_owed.specs.declared.thing.Thing.{Thing}

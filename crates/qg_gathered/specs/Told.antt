@@ -2,10 +2,10 @@
 use Rattle.std.specs.Prelude.{◌≡◌, ℕ, false, List, map}
 use Rattle.qg_node.specs.declared.node.Node.{Node}
 use Rattle.qg_node.specs.Nodes.{header_of}
-use Rattle.qg_state.specs.declared.element.Element.{Element}
-use Rattle.qg_state.specs.State.{Placed}
-use Rattle.qg_state.specs.Reach.{extent_of, pieces_of}
-use Rattle.qg_state.specs.Owed.{Owing as OwedReference, owed_by_node}
+use Rattle.qg_image.specs.declared.element.Element.{Element}
+use Rattle.qg_image.specs.State.{Placed}
+use Rattle.qg_image.specs.Reach.{extent_of, pieces_of}
+use Rattle.qg_image.specs.Owed.{Owing as OwedReference, owed_by_node}
 use Rattle.qg_home.specs.Linked.{linked_of}
 use Rattle.qg_home.specs.declared.linked.Linked.{Linked}
 use Rattle.qg_owed.specs.Told.{owings_told}

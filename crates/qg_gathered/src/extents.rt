@@ -5,15 +5,15 @@ ghost use Rattle.std.specs.List.Sorted.{IsPermutation, IsSortedBy};
 ghost use Rattle.std.specs.Option.{option_and_then};
 ghost use Rattle.qg_items.specs.ItemReading.{extent_data_read};
 ghost use Rattle.qg_image.specs.ItemMeaning.{file_part, piece_told};
-ghost use Rattle.qg_state.specs.Reach.{extent_of, piece_of_part, pieces_of};
-ghost use Rattle.qg_verdict.specs.Verdict.{extent_set, is_before};
+ghost use Rattle.qg_image.specs.Reach.{extent_of, piece_of_part, pieces_of};
+ghost use Rattle.qg_image.specs.Verdict.{extent_set, is_before};
 
+use qg_image::Element;
 use qg_items::kind::EXTENT_DATA;
 use qg_items::read_extent_data;
 use qg_node::{Item, Node};
 use qg_num::{Piece, Sequence};
 use qg_reach::extent_of;
-use qg_state::Element;
 use std::alloc::{AllocError, Global};
 
 /// The data extents that a node's pieces name, in their order.

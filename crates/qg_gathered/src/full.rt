@@ -3,7 +3,7 @@ ghost use Rattle.std.specs.Prelude.{◌≡◌, ◌==◌, ℕ, IfOk};
 ghost use Rattle.std.specs.List.{list_any};
 ghost use Rattle.std.specs.List.Sorted.{IsNonDecreasing};
 ghost use Rattle.std.specs.Option.{option_to_list};
-ghost use Rattle.qg_verdict.specs.ImageState.{is_full_record};
+ghost use Rattle.qg_image.specs.ImageState.{is_full_record};
 ghost use Rattle.qg_gathered.specs.Marked.{full_address, is_marked};
 
 use qg_image::ExtentPart;

@@ -4,10 +4,10 @@ ghost use Rattle.std.specs.List.Sorted.{IsNonDecreasingBy, IsStrictlyIncreasing}
 ghost use Rattle.qg_items.specs.declared.root.RootItem.{RootItem};
 ghost use Rattle.qg_super.specs.declared.superblock.Super.{Super};
 ghost use Rattle.qg_image.specs.Table.{keys_of};
-ghost use Rattle.qg_state.specs.State.{layout_of};
-ghost use Rattle.qg_state.specs.Owed.{part_address};
-ghost use Rattle.qg_verdict.specs.ImageState.{state_in};
-ghost use Rattle.qg_verdict.specs.Verdict.{references_failure};
+ghost use Rattle.qg_image.specs.State.{layout_of};
+ghost use Rattle.qg_image.specs.Owed.{part_address};
+ghost use Rattle.qg_image.specs.ImageState.{state_in};
+ghost use Rattle.qg_image.specs.Verdict.{references_failure};
 ghost use Rattle.qg_reach.specs.Sets.{HaveSame};
 ghost use Rattle.qg_direct.specs.Surveyed.{AreSurveyed};
 ghost use Rattle.qg_gathered.specs.Gathered.{AreGathered, root_at};
@@ -19,11 +19,9 @@ use crate::lists::{add_extents, add_roots, lists_of};
 use crate::order::{shared_address, sort_nodes};
 use crate::surveyed::links_of;
 use qg_direct::Surveyed;
-use qg_image::ExtentPart;
+use qg_image::{Element, ExtentPart, Failure};
 use qg_num::{Address, NoMemory, RootId, Rule};
 use qg_owed::{references_failure, sort_things};
-use qg_state::Element;
-use qg_verdict::Failure;
 use std::alloc::Global;
 
 /// How the references of an image were judged (this project's own).

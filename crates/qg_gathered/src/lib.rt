@@ -11,6 +11,3 @@ mod surveyed;
 
 pub use judging::{Judged, judge_references};
 pub use nodes::{NodeRead, NodesRead};
-
-#[cfg(test)]
-mod tests;

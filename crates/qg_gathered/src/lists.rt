@@ -11,10 +11,10 @@ use crate::NodeRead;
 use crate::full::is_full;
 use crate::surveyed::addresses_of;
 use qg_direct::Surveyed;
+use qg_image::Element;
 use qg_items::Reference;
 use qg_num::{Address, NoMemory, RootId};
 use qg_owed::{Kind, Owing, Thing};
-use qg_state::Element;
 use std::alloc::Global;
 
 /// What is owed by nodes, what they are, and what they point to and name.

@@ -2,17 +2,17 @@
 ghost use Rattle.std.specs.Prelude.{◌≡◌, [], List, map, IfOk};
 ghost use Rattle.std.specs.List.{flat_map};
 ghost use Rattle.qg_node.specs.declared.node.Node.{Node as NodeValue};
-ghost use Rattle.qg_state.specs.Reach.{extent_of, pieces_of};
-ghost use Rattle.qg_verdict.specs.Verdict.{extent_set};
+ghost use Rattle.qg_image.specs.Reach.{extent_of, pieces_of};
+ghost use Rattle.qg_image.specs.Verdict.{extent_set};
 ghost use Rattle.qg_walk.specs.Held.{AreAddressesOf};
 ghost use Rattle.qg_gathered.specs.Told.{AreOfNodes, told_by, told_of};
 
 use crate::extents::{extents_of_node, put_extents, sort, without_repeats};
 use qg_home::{Linked, linked_of};
+use qg_image::Element;
 use qg_node::Node;
 use qg_num::{Address, Generation, NoMemory, Sequence};
 use qg_owed::{Owing, owings_of_node};
-use qg_state::Element;
 use qg_walk::NodeList;
 use std::alloc::Global;
 

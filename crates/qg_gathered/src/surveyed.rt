@@ -4,8 +4,8 @@ ghost use Rattle.qg_direct.specs.Surveyed.{links_in};
 
 use qg_direct::Surveyed;
 use qg_home::Linked;
+use qg_image::Element;
 use qg_num::{Address, Sequence};
-use qg_state::Element;
 use std::alloc::{AllocError, Global};
 
 /// Where extents begin, in bytes.

@@ -1,2 +1,4 @@
-mod OfKind
-mod InGrammar
+pub mod OfKind
+pub mod InGrammar
+pub mod Short
+pub mod FirstLines

@@ -4,7 +4,7 @@ use Rattle.std.specs.Fmt.{digits}
 use Rattle.qg_grammar.specs.ScriptText.{command_text}
 use Rattle.qg_generator.specs.GeneratedScript.{drawn_on, draw, sub_drawn, ino_drawn, position_drawn, length_drawn, write_drawn, clone_drawn, truncate_drawn, unlink_drawn, snap_drawn, delete_drawn, assign_drawn, limit_drawn, line_of_kind, line_drawn, generated_script}
 
--- ---- draws from the seed 1, whole
+-- ---- draws from a seed of 1, whole
 
 first_draw : draw (2 ^ 31) 1 ≡ 908834774
 unfolding draw drawn_on

@@ -1,6 +1,6 @@
 // The lines of the generator, one after the other.
-ghost use Rattle.std.specs.Prelude.{◌≡◌, [], ◌∷◌, IfSome, IfNone, IsTrue};
-ghost use Rattle.qg_grammar.specs.ScriptText.{is_in_grammar};
+ghost use Rattle.std.specs.Prelude.{◌≡◌, [], ◌∷◌, IfSome, IfNone};
+ghost use Rattle.qg_grammar.specs.ScriptText.{IsLineOf, command_text};
 ghost use Rattle.qg_generator.specs.GeneratedScript.{generated_script};
 
 use crate::draws::Draws;
@@ -47,7 +47,7 @@ impl Generator {
     /// The next line's command; `None` exactly where none is left. It takes no memory.
     pub fn next(&mut self) -> Option<Command>
         ensures given { IfSome result (λ command. self.old ≡ command ∷ self.new) }
-        ensures in_grammar { IfSome result (λ command. IsTrue (is_in_grammar command)) }
+        ensures line { IfSome result (λ command. IsLineOf (command_text command) command) }
         ensures none { IfNone result (self.old ≡ []) }
         ensures over { IfNone result (self.new ≡ []) }
     {

@@ -1,6 +1,6 @@
 // The five lines that come first.
-ghost use Rattle.std.specs.Prelude.{◌≡◌, ◌+◌, ◌*◌, ◌^◌, ◌<◌, ◌∷◌, drop, IsTrue};
-ghost use Rattle.qg_grammar.specs.ScriptText.{is_in_grammar};
+ghost use Rattle.std.specs.Prelude.{◌≡◌, ◌+◌, ◌*◌, ◌^◌, ◌<◌, ◌∷◌, drop};
+ghost use Rattle.qg_grammar.specs.ScriptText.{IsLineOf, command_text};
 ghost use Rattle.qg_generator.specs.GeneratedScript.{opening_lines};
 
 use qg_num::{Command, GroupId};
@@ -18,11 +18,10 @@ pub(crate) fn group(level: u64, id: u64) -> GroupId
 }
 
 /// The line at an index.
-#[tactic(auto, unfolding(qg_grammar::specs::ScriptText::is_in_grammar))]
 pub(crate) fn opening_line(index: u8) -> Command
     requires { index < 5 }
     ensures next { drop index opening_lines ≡ result ∷ drop (index + 1) opening_lines }
-    ensures in_grammar { IsTrue (is_in_grammar result) }
+    ensures line { IsLineOf (command_text result) result }
 {
     match index {
         0 => Command::GroupCreate { group: group(1, 1) },

@@ -13,6 +13,3 @@ pub use ground::Ground;
 pub use making::{leave_node, make_node};
 pub use owning::own_node;
 pub use slot_book::SlotBook;
-
-#[cfg(test)]
-mod tests;

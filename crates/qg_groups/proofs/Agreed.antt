@@ -8,9 +8,9 @@ use Rattle.std.proofs.lemmas.Bool.{true≢false}
 use Rattle.std.proofs.lemmas.List.{map-append, map_more}
 use Rattle.qg_num.specs.declared.counters.Which.{Which}
 use Rattle.qg_image.specs.Table.{keys_of, value_at, with_number, with_value, without_key}
-use Rattle.qg_state.specs.declared.quota.Group.{Group}
-use Rattle.qg_state.specs.declared.quota.Quota.{Quota}
-use Rattle.qg_state.specs.Members.{Hierarchy, hierarchy_of}
+use Rattle.qg_image.specs.declared.quota.Group.{Group}
+use Rattle.qg_image.specs.declared.quota.Quota.{Quota}
+use Rattle.qg_image.specs.Members.{Hierarchy, hierarchy_of}
 use Rattle.qg_hier.specs.declared.fault.HierFault.{HierFault}
 use Rattle.qg_hier.specs.declared.fault.HierFault.TheVariants as why
 use Rattle.qg_hier.specs.Faults.{IsCause, create_fault}

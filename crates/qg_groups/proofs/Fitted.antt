@@ -15,10 +15,10 @@ use Rattle.qg_num.specs.declared.refusal.Refusal.{Refusal}
 use Rattle.qg_num.specs.declared.refusal.Refusal.TheVariants as why
 use Rattle.qg_image.specs.ItemMeaning.{is_subvolume_number}
 use Rattle.qg_image.specs.Table.{has_key, keys_of, value_at, with_value, without_key}
-use Rattle.qg_state.specs.declared.quota.Group.{Group}
-use Rattle.qg_state.specs.declared.quota.Quota.{Quota}
-use Rattle.qg_state.specs.Members.{id_of_group, level_of_group}
-use Rattle.qg_verdict.specs.Verdict.{is_group_number, most_groups, most_relations}
+use Rattle.qg_image.specs.declared.quota.Group.{Group}
+use Rattle.qg_image.specs.declared.quota.Quota.{Quota}
+use Rattle.qg_image.specs.Members.{id_of_group, level_of_group}
+use Rattle.qg_image.specs.Verdict.{is_group_number, most_groups, most_relations}
 use Rattle.qg_machine.specs.GroupChange.{assigned, has_pair, inherited, limited, limits_of, new_group, same_pair, with_group, with_limit, with_pair}
 use Rattle.qg_machine.specs.Refusals.{refuse}
 use Rattle.qg_hier.specs.Groups.{has_number}

@@ -8,5 +8,4 @@ pub mod Reserved
 pub mod Recounted
 pub mod Snapped
 pub mod Fitted
-pub mod Sample
 pub mod RefusedByEach

@@ -8,7 +8,7 @@ use Rattle.std.proofs.lemmas.Bool.{cases_Bool, cond-false, cond-true, eq-eqb}
 use Rattle.qg_num.specs.declared.counters.Which.{Which}
 use Rattle.qg_num.specs.declared.counters.Which.TheVariants.{Rfer, Excl}
 use Rattle.qg_image.specs.Table.{keys_of, value_at, with_value, without_key}
-use Rattle.qg_state.specs.declared.quota.Group.{Group}
+use Rattle.qg_image.specs.declared.quota.Group.{Group}
 use Rattle.qg_machine.specs.GroupChange.{with_limit}
 use Rattle.qg_limits.specs.declared.limits.Maxima.{Maxima}
 use Rattle.qg_limits.specs.Limit.{IsSetAt, maxima_at, no_maxima, with_max}

@@ -13,9 +13,9 @@ use Rattle.std.proofs.lemmas.List.Elements.{All-weaker}
 use Rattle.std.proofs.lemmas.List.Folds.{list_any-append}
 use Rattle.qg_image.specs.ItemMeaning.{first_some}
 use Rattle.qg_image.specs.Table.{value_at, with_value}
-use Rattle.qg_state.specs.declared.quota.Group.{Group}
-use Rattle.qg_state.specs.declared.quota.Quota.{Quota}
-use Rattle.qg_state.specs.Members.{Hierarchy, hierarchy_of, level_of_group}
+use Rattle.qg_image.specs.declared.quota.Group.{Group}
+use Rattle.qg_image.specs.declared.quota.Quota.{Quota}
+use Rattle.qg_image.specs.Members.{Hierarchy, hierarchy_of, level_of_group}
 use Rattle.qg_machine.specs.GroupChange.{has_pair, same_pair, with_group, with_pair}
 use Rattle.qg_hier.specs.declared.fault.HierFault.{HierFault}
 use Rattle.qg_hier.specs.declared.fault.HierFault.TheVariants as why

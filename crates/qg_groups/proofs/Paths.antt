@@ -12,11 +12,11 @@ use Rattle.std.proofs.lemmas.List.Elements.{All-filter, All-head, All-tail}
 use Rattle.std.proofs.lemmas.List.Sums.{sum_by-cons}
 use Rattle.qg_num.specs.declared.counters.Counters.{Counters}
 use Rattle.qg_image.specs.Table.{keys_of, value_at}
-use Rattle.qg_state.specs.declared.quota.Group.{Group}
-use Rattle.qg_state.specs.declared.quota.Quota.{Quota}
-use Rattle.qg_state.specs.State.{Accepted}
-use Rattle.qg_state.specs.Limits.{bytes_reserved, over}
-use Rattle.qg_state.specs.Members.{Hierarchy, hierarchy_of, is_below, is_member}
+use Rattle.qg_image.specs.declared.quota.Group.{Group}
+use Rattle.qg_image.specs.declared.quota.Quota.{Quota}
+use Rattle.qg_image.specs.State.{Accepted}
+use Rattle.qg_image.specs.Limits.{bytes_reserved, over}
+use Rattle.qg_image.specs.Members.{Hierarchy, hierarchy_of, is_below, is_member}
 use Rattle.qg_hier.specs.Groups.{IsSound, groups_above, has_number, is_kept}
 use Rattle.qg_hier.proofs.Agreements.{above_are, above_ascends, member_is_below}
 use Rattle.qg_hier.proofs.Chains.{below_last}

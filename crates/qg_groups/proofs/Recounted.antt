@@ -7,10 +7,10 @@ use Rattle.qg_num.specs.declared.command.Command.TheVariants as command
 use Rattle.qg_num.specs.declared.refusal.Refusal.TheVariants as why
 use Rattle.qg_image.specs.ItemMeaning.{first_some}
 use Rattle.qg_image.specs.Table.{keys_of}
-use Rattle.qg_state.specs.declared.quota.Group.{Group}
-use Rattle.qg_state.specs.declared.quota.Quota.{Quota}
-use Rattle.qg_state.specs.Members.{level_of_group}
-use Rattle.qg_verdict.specs.Verdict.{most_groups, most_relations}
+use Rattle.qg_image.specs.declared.quota.Group.{Group}
+use Rattle.qg_image.specs.declared.quota.Quota.{Quota}
+use Rattle.qg_image.specs.Members.{level_of_group}
+use Rattle.qg_image.specs.Verdict.{most_groups, most_relations}
 use Rattle.qg_machine.specs.GroupChange.{has_pair}
 use Rattle.qg_machine.specs.Refusals.{refuse}
 use Rattle.qg_hier.specs.Groups.{has_number}

@@ -5,7 +5,7 @@ use Rattle.std.specs.Bool.{then_some}
 use Rattle.std.specs.List.{list_any}
 use Rattle.std.proofs.lemmas.Bool.{true≢false}
 use Rattle.std.proofs.lemmas.List.{length-map}
-use Rattle.qg_verdict.specs.Verdict.{most_groups, most_relations}
+use Rattle.qg_image.specs.Verdict.{most_groups, most_relations}
 use Rattle.qg_num.specs.declared.answer.Answer.{Answer}
 use Rattle.qg_num.specs.declared.answer.Answer.TheVariants as answer
 use Rattle.qg_num.specs.declared.command.Command.{Command}
@@ -14,9 +14,9 @@ use Rattle.qg_num.specs.declared.refusal.Refusal.{Refusal}
 use Rattle.qg_num.specs.declared.refusal.Refusal.TheVariants as why
 use Rattle.qg_image.specs.Table.{keys_of}
 use Rattle.qg_image.specs.ItemMeaning.{first_some}
-use Rattle.qg_state.specs.declared.quota.Quota.{Quota}
-use Rattle.qg_state.specs.Members.{hierarchy_of, level_of_group}
-use Rattle.qg_state.specs.State.{State, Subvolume, next_generation}
+use Rattle.qg_image.specs.declared.quota.Quota.{Quota}
+use Rattle.qg_image.specs.Members.{hierarchy_of, level_of_group}
+use Rattle.qg_image.specs.State.{State, Subvolume, next_generation}
 use Rattle.qg_machine.specs.GroupChange.{has_pair}
 use Rattle.qg_machine.specs.Refusals.{groups_of, no_commit, pairs_of, refusal, refuse}
 use Rattle.qg_machine.specs.Step.{Changes, with_quota}

@@ -7,10 +7,10 @@ use Rattle.qg_num.specs.declared.counters.Which.{Which}
 use Rattle.qg_num.specs.declared.refusal.Refusal.TheVariants as why
 use Rattle.qg_image.specs.ItemMeaning.{is_subvolume_number}
 use Rattle.qg_image.specs.Table.{has_key}
-use Rattle.qg_state.specs.declared.quota.Quota.{Quota}
-use Rattle.qg_state.specs.Limits.{over}
-use Rattle.qg_state.specs.Members.{hierarchy_of, is_member, level_of_group}
-use Rattle.qg_state.specs.State.{Accepted, State}
+use Rattle.qg_image.specs.declared.quota.Quota.{Quota}
+use Rattle.qg_image.specs.Limits.{over}
+use Rattle.qg_image.specs.Members.{hierarchy_of, is_member, level_of_group}
+use Rattle.qg_image.specs.State.{Accepted, State}
 use Rattle.qg_machine.specs.Refusals.{over_limit}
 use Rattle.qg_limits.specs.Limit.{SameHeld}
 use Rattle.qg_groups.specs.declared.judging.Judged.{Judged}

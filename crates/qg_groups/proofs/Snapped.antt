@@ -10,9 +10,9 @@ use Rattle.qg_num.specs.declared.refusal.Refusal.{Refusal}
 use Rattle.qg_num.specs.declared.refusal.Refusal.TheVariants as why
 use Rattle.qg_image.specs.ItemMeaning.{first_some}
 use Rattle.qg_image.specs.Table.{has_key, keys_of}
-use Rattle.qg_state.specs.declared.quota.Quota.{Quota}
-use Rattle.qg_state.specs.Members.{hierarchy_of, level_of_group}
-use Rattle.qg_state.specs.State.{State, is_quota_on}
+use Rattle.qg_image.specs.declared.quota.Quota.{Quota}
+use Rattle.qg_image.specs.Members.{hierarchy_of, level_of_group}
+use Rattle.qg_image.specs.State.{State, is_quota_on}
 use Rattle.qg_machine.specs.Refusals.{no_parents, refuse}
 use Rattle.qg_hier.specs.declared.fault.HierFault.TheVariants as fault
 use Rattle.qg_hier.specs.Faults.{create_fault}

@@ -8,9 +8,9 @@ use Rattle.qg_num.specs.declared.refusal.Refusal.{Refusal}
 use Rattle.qg_num.specs.declared.refusal.Refusal.TheVariants as why
 use Rattle.qg_image.specs.Table.{keys_of}
 use Rattle.qg_image.specs.ItemMeaning.{first_some}
-use Rattle.qg_state.specs.declared.quota.Quota.{Quota}
-use Rattle.qg_state.specs.Members.{Hierarchy, hierarchy_of, level_of_group}
-use Rattle.qg_verdict.specs.Verdict.{most_groups, most_relations}
+use Rattle.qg_image.specs.declared.quota.Quota.{Quota}
+use Rattle.qg_image.specs.Members.{Hierarchy, hierarchy_of, level_of_group}
+use Rattle.qg_image.specs.Verdict.{most_groups, most_relations}
 use Rattle.qg_machine.specs.GroupChange.{assigned, destroyed, has_pair, limited, new_group, unassigned, with_group}
 use Rattle.qg_machine.specs.Refusals.{refuse}
 use Rattle.qg_hier.specs.declared.fault.HierFault.{HierFault}

@@ -4,7 +4,7 @@ use Rattle.std.specs.Option.{option_map}
 use Rattle.qg_num.specs.declared.counters.Counters.{Counters}
 use Rattle.qg_num.specs.declared.counters.Which.{Which}
 use Rattle.qg_image.specs.Table.{value_at}
-use Rattle.qg_state.specs.declared.quota.Group.{Group}
+use Rattle.qg_image.specs.declared.quota.Group.{Group}
 use Rattle.qg_groups.specs.declared.judging.Judged.{Judged}
 use Rattle.qg_groups.specs.declared.judging.Judged.TheVariants.{Over, Path}
 

@@ -2,11 +2,11 @@
 -- own). All in bytes.
 use Rattle.std.specs.Prelude.{◌≡◌, ℕ, ◌≤◌, List, map, Option, Some, None, IsTrue}
 use Rattle.std.specs.Option.{option_map}
-use Rattle.qg_state.specs.declared.quota.Group.{Group}
-use Rattle.qg_state.specs.declared.quota.Quota.{Quota}
-use Rattle.qg_state.specs.State.{Accepted}
-use Rattle.qg_state.specs.Limits.{bytes_reserved}
-use Rattle.qg_state.specs.Members.{hierarchy_of, level_of_group}
+use Rattle.qg_image.specs.declared.quota.Group.{Group}
+use Rattle.qg_image.specs.declared.quota.Quota.{Quota}
+use Rattle.qg_image.specs.State.{Accepted}
+use Rattle.qg_image.specs.Limits.{bytes_reserved}
+use Rattle.qg_image.specs.Members.{hierarchy_of, level_of_group}
 use Rattle.qg_hier.specs.Groups.{IsSound, groups_above, is_kept}
 use Rattle.qg_limits.specs.declared.limits.Maxima.{Maxima}
 use Rattle.qg_limits.specs.Limit.{held_of, maxima_at, maxima_of}

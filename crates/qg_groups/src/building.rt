@@ -3,7 +3,7 @@ ghost use Rattle.std.specs.Prelude.{◌≡◌, ℕ, [], map, IfOk, OnOk};
 ghost use Rattle.std.specs.List.Sorted.{IsStrictlySortedBy};
 ghost use Rattle.std.specs.Ordering.{nat_cmp};
 ghost use Rattle.qg_image.specs.Table.{keys_of};
-ghost use Rattle.qg_state.specs.Members.{hierarchy_of};
+ghost use Rattle.qg_image.specs.Members.{hierarchy_of};
 ghost use Rattle.qg_machine.specs.GroupChange.{new_group};
 ghost use Rattle.qg_hier.specs.Groups.{IsSound};
 ghost use Rattle.qg_limits.specs.Limit.{held_of, maxima_at, maxima_of};
@@ -12,9 +12,9 @@ ghost use Rattle.qg_groups.specs.Tracked.{limits_by};
 use crate::groups::new_group;
 use crate::parts::{set_both, want_of_memory};
 use qg_hier::Hierarchy;
+use qg_image::{Group, Quota};
 use qg_limits::Limits;
 use qg_num::{Generation, GroupId, NoMemory, RootId, Sequence};
-use qg_state::{Group, Quota};
 use std::alloc::Global;
 
 /// The hierarchy of a quota.

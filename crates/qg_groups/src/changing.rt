@@ -1,7 +1,7 @@
 // Changes of groups, relations and limits, each of the quota and of what is looked up in it.
 ghost use Rattle.std.specs.Prelude.{◌≡◌, None, OnOk};
 ghost use Rattle.std.specs.List.{fold};
-ghost use Rattle.qg_state.specs.Members.{hierarchy_of};
+ghost use Rattle.qg_image.specs.Members.{hierarchy_of};
 ghost use Rattle.qg_machine.specs.GroupChange.{assigned, destroyed, limited, unassigned, with_group};
 ghost use Rattle.qg_hier.specs.Faults.{assign_fault, create_fault, destroy_fault, remove_fault};
 ghost use Rattle.qg_limits.specs.Limit.{SameHeld};
@@ -11,8 +11,8 @@ ghost use Rattle.qg_groups.specs.Changing.{CanJoin};
 use crate::QuotaState;
 use crate::groups::{find_group, put_group, take_group, with_limit};
 use crate::parts::{relations_of, set_both, want_of_memory};
+use qg_image::Group;
 use qg_num::{GroupId, NoMemory, Which};
-use qg_state::Group;
 
 impl QuotaState {
     /// Puts a group that isn't there among the others.

@@ -6,8 +6,8 @@ ghost use Rattle.std.specs.Ordering.{nat_cmp};
 ghost use Rattle.qg_image.specs.Table.{keys_of, value_at, with_value, without_key};
 ghost use Rattle.qg_machine.specs.GroupChange.{limits_of, new_group, with_limit};
 
+use qg_image::Group;
 use qg_num::{Counters, Generation, GroupId, NoMemory, Sequence, Which};
-use qg_state::Group;
 
 /// A group that is made in a generation: nothing is counted, and no limit is set.
 pub(crate) fn new_group(stamp: Generation) -> Group

@@ -6,8 +6,8 @@ ghost use Rattle.qg_image.specs.Table.{keys_of};
 ghost use Rattle.qg_groups.specs.Judging.{counted_path, counters_at, over_in, IfPath};
 
 use crate::groups::find_group;
+use qg_image::Group;
 use qg_num::{Counters, GroupId, GroupList, NoMemory, Sequence, Which};
-use qg_state::Group;
 use std::alloc::Global;
 
 /// What a reservation into a subvolume is answered (btrfs-qgroup(8), "limits").

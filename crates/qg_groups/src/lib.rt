@@ -12,6 +12,3 @@ mod state;
 pub use judging::Judged;
 pub use refusing::{refusal_of, refusal_of_parents};
 pub use state::QuotaState;
-
-#[cfg(test)]
-mod tests;

@@ -5,7 +5,7 @@ ghost use Rattle.qg_num.specs.declared.command.Command.TheVariants.{Assign, Grou
 ghost use Rattle.qg_num.specs.declared.refusal.Refusal.TheVariants as reason;
 ghost use Rattle.qg_image.specs.Table.{keys_of};
 ghost use Rattle.qg_image.specs.ItemMeaning.{first_some};
-ghost use Rattle.qg_state.specs.Members.{level_of_group};
+ghost use Rattle.qg_image.specs.Members.{level_of_group};
 ghost use Rattle.qg_machine.specs.GroupChange.{has_pair};
 ghost use Rattle.qg_machine.specs.Refusals.{refuse};
 ghost use Rattle.qg_hier.specs.Groups.{has_number};

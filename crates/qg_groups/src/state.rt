@@ -4,9 +4,9 @@ ghost use Rattle.std.specs.List.{All};
 ghost use Rattle.std.specs.List.Sorted.{IsStrictlySortedBy};
 ghost use Rattle.std.specs.Ordering.{nat_cmp};
 ghost use Rattle.qg_image.specs.Table.{keys_of};
-ghost use Rattle.qg_state.specs.State.{Accepted};
-ghost use Rattle.qg_state.specs.Limits.{over};
-ghost use Rattle.qg_state.specs.Members.{hierarchy_of, level_of_group};
+ghost use Rattle.qg_image.specs.State.{Accepted};
+ghost use Rattle.qg_image.specs.Limits.{over};
+ghost use Rattle.qg_image.specs.Members.{hierarchy_of, level_of_group};
 ghost use Rattle.qg_machine.specs.GroupChange.{inherited, new_group, quota_for, with_group};
 ghost use Rattle.qg_hier.specs.Faults.{create_fault};
 ghost use Rattle.qg_hier.specs.Groups.{IsSound};
@@ -20,9 +20,9 @@ use crate::groups::{find_group, new_group, with_limits};
 use crate::judging::{Judged, answer_by, counted};
 use crate::parts::want_of_memory;
 use qg_hier::Hierarchy;
+use qg_image::{Group, Quota};
 use qg_limits::Limits;
 use qg_num::{Command, Generation, GroupId, NoMemory, RootId, Sequence};
-use qg_state::{Group, Quota};
 use std::alloc::Global;
 
 /// Quota while it is on (btrfs-quota(8)), with what is looked up in it: what lies above each group, and the limits,

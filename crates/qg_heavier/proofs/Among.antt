@@ -5,7 +5,7 @@ use Rattle.std.specs.List.{sum_by}
 use Rattle.std.proofs.lemmas.Bool.{cases_Bool, cond-false, cond-true}
 use Rattle.std.proofs.lemmas.List.Folds.{list_any-append}
 use Rattle.std.proofs.lemmas.List.Sums.{sum_by-cons}
-use Rattle.qg_state.specs.Record.{Record, record_bytes, records_bytes, same_record}
+use Rattle.qg_image.specs.Record.{Record, record_bytes, records_bytes, same_record}
 use Rattle.qg_weighed.specs.Laws.{is_among}
 use Rattle.qg_weighed.proofs.Distinct.{adds, bytes-alike, bytes-one}
 

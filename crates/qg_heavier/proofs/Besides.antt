@@ -4,7 +4,7 @@ use Rattle.std.specs.Prelude.{◌||◌}
 use Rattle.std.specs.List.{sum_by}
 use Rattle.std.proofs.lemmas.Bool.{or_left}
 use Rattle.std.proofs.lemmas.List.Folds.{list_any-append}
-use Rattle.qg_state.specs.Record.{Record, record_bytes, records_bytes, same_record}
+use Rattle.qg_image.specs.Record.{Record, record_bytes, records_bytes, same_record}
 use Rattle.qg_refs.specs.Book.{Book}
 use Rattle.qg_extents.specs.Table.{IsTable, book_of}
 use Rattle.qg_weighed.specs.Laws.{is_among}

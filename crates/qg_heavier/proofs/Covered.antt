@@ -3,7 +3,7 @@ use Rattle.std.proofs.Common.{◌≡◌, ℕ, ◌+◌, ◌-◌, ◌*◌, ◌/◌
 use Rattle.std.proofs.Math.Nat.{le_of_mul-le-mul_left, mul-div-le, mul-le-mul_left, mul-le-mul_right}
 use Rattle.std.proofs.lemmas.Nat.{mul-le}
 use Rattle.qg_super.specs.Places.{capacity}
-use Rattle.qg_state.specs.Need.{file_copies, nodes_filled}
+use Rattle.qg_image.specs.Need.{file_copies, nodes_filled}
 use Rattle.qg_heavier.specs.Heavier.{edit_bytes, name_new_bytes}
 use Rattle.qg_heavier.specs.Need.{GetsHeavierBy}
 

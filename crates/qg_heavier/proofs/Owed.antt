@@ -24,8 +24,8 @@ use Rattle.qg_items.proofs.Trips.{then_some_parts}
 use Rattle.qg_image.specs.declared.part.FilePart.{FilePart}
 use Rattle.qg_image.specs.declared.part.FilePart.TheVariants.{Inode, PieceOf}
 use Rattle.qg_image.specs.ItemMeaning.{◌orelse◌, file_part, is_keyed, piece_told, when}
-use Rattle.qg_state.specs.State.{Placed}
-use Rattle.qg_state.specs.Owed.{Owing, owed_by_node, owed_by_part, owed_to_child}
+use Rattle.qg_image.specs.State.{Placed}
+use Rattle.qg_image.specs.Owed.{Owing, owed_by_node, owed_by_part, owed_to_child}
 use Rattle.qg_weighed.specs.Weight.{reference_bytes}
 use Rattle.qg_cow.specs.Children.{keyed_children, shared_children, with_header}
 use Rattle.qg_heavier.specs.Heavier.{owings_bytes}

@@ -3,7 +3,7 @@ use Rattle.std.proofs.Common.{◌≡◌, ℕ, ◌+◌, [], Option, Some, None, a
 use Rattle.std.specs.Prelude.{if◌then◌else◌, is_some, unwrap_or}
 use Rattle.std.proofs.lemmas.Bool.{cond-true}
 use Rattle.qg_items.specs.declared.extent.Reference.{Reference}
-use Rattle.qg_state.specs.Record.{same_reference}
+use Rattle.qg_image.specs.Record.{same_reference}
 use Rattle.qg_refs.specs.declared.kept.What.{What}
 use Rattle.qg_refs.specs.declared.kept.Kept.{Kept}
 use Rattle.qg_refs.specs.Book.{Adds, Book, Drops, references_in, what_in}

@@ -1,7 +1,7 @@
 -- A file command that is let in leaves the slots that a commit may want (this project's own). Weights are in bytes, the
 -- rest in slots.
 use Rattle.std.specs.Prelude.{ℕ, ◌+◌, ◌*◌, ◌≤◌}
-use Rattle.qg_state.specs.Need.{file_copies, nodes_filled}
+use Rattle.qg_image.specs.Need.{file_copies, nodes_filled}
 use Rattle.qg_heavier.specs.Heavier.{edit_bytes, name_new_bytes}
 
 -- What a file command in a tree of this level, which touches so many pieces, makes of what the root, extent and quota

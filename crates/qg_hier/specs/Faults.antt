@@ -2,7 +2,7 @@
 use Rattle.std.specs.Prelude.{◌≡◌, ◌⊎◌, ℕ, not, [], ◌∷◌, Option, Some, nat_lt}
 use Rattle.std.specs.Bool.{then_some}
 use Rattle.qg_image.specs.ItemMeaning.{first_some}
-use Rattle.qg_state.specs.Members.{Hierarchy, level_of_group}
+use Rattle.qg_image.specs.Members.{Hierarchy, level_of_group}
 use Rattle.qg_machine.specs.GroupChange.{has_pair}
 use Rattle.qg_hier.specs.declared.fault.HierFault.{HierFault}
 use Rattle.qg_hier.specs.declared.fault.HierFault.TheVariants as why

@@ -8,6 +8,3 @@ mod pairs;
 
 pub use fault::HierFault;
 pub use hierarchy::{Hierarchy, PairList, RootList};
-
-#[cfg(test)]
-mod tests;

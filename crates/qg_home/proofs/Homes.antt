@@ -10,9 +10,9 @@ use Rattle.std.proofs.lemmas.Bool.{false_from_ne_true}
 use Rattle.std.proofs.lemmas.Option.{same_Some, none-some}
 use Rattle.qg_node.specs.Nodes.{header_of}
 use Rattle.qg_image.specs.Table.{keys_of}
-use Rattle.qg_state.specs.State.{Layout, Placed}
-use Rattle.qg_state.specs.Reach.{reaches}
-use Rattle.qg_state.specs.Owed.{homeless}
+use Rattle.qg_image.specs.State.{Layout, Placed}
+use Rattle.qg_image.specs.Reach.{reaches}
+use Rattle.qg_image.specs.Owed.{homeless}
 use Rattle.qg_home.specs.declared.linked.Linked.{Linked}
 use Rattle.qg_home.specs.Linked.{linked_of, AreLinksOf}
 use Rattle.qg_home.specs.Leading.{IsAtHome}

@@ -12,12 +12,12 @@ use Rattle.std.proofs.lemmas.Option.{same_Some, none-some}
 use Rattle.qg_node.specs.declared.pointer.Pointer.{Pointer}
 use Rattle.qg_node.specs.Nodes.{own_pointers}
 use Rattle.qg_image.specs.Table.{value_at, keys_of}
-use Rattle.qg_state.specs.declared.element.Element.{Element}
-use Rattle.qg_state.specs.State.{Layout, Placed, node_at}
-use Rattle.qg_state.specs.Reach.{extent_of, pieces_of, own_elements, pointers_at, reach_under, level_of, reach_of_root}
-use Rattle.qg_state.specs.Reach.{reach_of, reach, is_among, reaches}
-use Rattle.qg_state.specs.Owed.{layout_extents}
-use Rattle.qg_state.proofs.Contained.{none_contained, contains_here, contains_later, contains_cases}
+use Rattle.qg_image.specs.declared.element.Element.{Element}
+use Rattle.qg_image.specs.State.{Layout, Placed, node_at}
+use Rattle.qg_image.specs.Reach.{extent_of, pieces_of, own_elements, pointers_at, reach_under, level_of, reach_of_root}
+use Rattle.qg_image.specs.Reach.{reach_of, reach, is_among, reaches}
+use Rattle.qg_image.specs.Owed.{layout_extents}
+use Rattle.qg_image.proofs.Contained.{none_contained, contains_here, contains_later, contains_cases}
 use Rattle.qg_home.specs.declared.linked.Linked.{Linked}
 use Rattle.qg_home.specs.Linked.{linked_of, AreLinksOf}
 use Rattle.qg_home.specs.Leading.{PointsTo, Leads, Here, Down, IsReached}

@@ -3,9 +3,9 @@
 use Rattle.std.specs.Prelude.{◌≡◌, ℕ, ◌+◌, false, List, map}
 use Rattle.std.specs.List.{Contains}
 use Rattle.qg_node.specs.Nodes.{header_of, own_pointers}
-use Rattle.qg_state.specs.State.{Layout, Placed}
-use Rattle.qg_state.specs.Reach.{is_among}
-use Rattle.qg_state.specs.Owed.{layout_extents}
+use Rattle.qg_image.specs.State.{Layout, Placed}
+use Rattle.qg_image.specs.Reach.{is_among}
+use Rattle.qg_image.specs.Owed.{layout_extents}
 use Rattle.qg_home.specs.declared.linked.Linked.{Linked}
 
 -- what is told of a node at an address: its level and owner, its full mark, and where its children lie

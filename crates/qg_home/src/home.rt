@@ -2,8 +2,8 @@
 ghost use Rattle.std.specs.Prelude.{◌≡◌, map, IfOk};
 ghost use Rattle.std.specs.List.Sorted.{IsStrictlyIncreasing};
 ghost use Rattle.qg_image.specs.Table.{keys_of};
-ghost use Rattle.qg_state.specs.State.{Layout};
-ghost use Rattle.qg_state.specs.Owed.{homeless};
+ghost use Rattle.qg_image.specs.State.{Layout};
+ghost use Rattle.qg_image.specs.Owed.{homeless};
 ghost use Rattle.qg_home.specs.Linked.{AreLinksOf};
 
 use crate::Linked;

@@ -14,6 +14,3 @@ pub use home::homeless;
 pub use linked::{Linked, linked_of};
 pub use marks::highest_level;
 pub use places::place_of_node;
-
-#[cfg(test)]
-mod tests;

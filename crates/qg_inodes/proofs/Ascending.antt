@@ -15,8 +15,8 @@ use Rattle.qg_node.specs.declared.fault.NodeFault.TheVariants.{Csum, Place, Leve
 use Rattle.qg_node.specs.Nodes.{is_ascending, own_keys}
 use Rattle.qg_node.specs.Reading.{◌>>=◌, check, count_at, has_checksum, has_empty_fields, header_at, inner_at, items_at, leaf_at, node_read, pointers_at}
 use Rattle.qg_super.specs.declared.sizes.Sizes.{Sizes}
-use Rattle.qg_verdict.specs.declared.tree.Tree.{Tree}
-use Rattle.qg_verdict.specs.Walk.{root_expected}
+use Rattle.qg_image.specs.declared.tree.Tree.{Tree}
+use Rattle.qg_image.specs.Walk.{root_expected}
 use Rattle.qg_blocks.specs.Held.{Draft}
 use Rattle.qg_blocks.specs.Standing.{has_slot, ruled, standing}
 use Rattle.qg_blocks.specs.Told.{fresh_at, told, told_or}

@@ -13,7 +13,7 @@ use Rattle.qg_num.specs.declared.rule.Rule.TheVariants as rule
 use Rattle.qg_node.specs.declared.item.Item.{Item}
 use Rattle.qg_image.specs.declared.file.File.{File}
 use Rattle.qg_image.specs.FilesOf.{are_pieces, file_parts, files_of, largest_size, piece_end, pieces_in}
-use Rattle.qg_verdict.specs.declared.tree.Tree.TheVariants.{Files}
+use Rattle.qg_image.specs.declared.tree.Tree.TheVariants.{Files}
 use Rattle.qg_parts.specs.Keys.{key_with}
 use Rattle.qg_blocks.specs.Held.{Draft, Held}
 use Rattle.qg_blocks.specs.Told.{BreaksNone}

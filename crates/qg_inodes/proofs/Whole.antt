@@ -11,7 +11,7 @@ use Rattle.qg_items.specs.declared.file.InodeItem.{InodeItem}
 use Rattle.qg_image.specs.declared.file.File.{File}
 use Rattle.qg_image.specs.FilesOf.{largest_size}
 use Rattle.qg_image.specs.Table.{value_at}
-use Rattle.qg_verdict.specs.declared.tree.Tree.TheVariants.{Files}
+use Rattle.qg_image.specs.declared.tree.Tree.TheVariants.{Files}
 use Rattle.qg_machine.specs.FileChange.{pieces_or_none}
 use Rattle.qg_contents.specs.Written.{inode_of}
 use Rattle.qg_blocks.specs.Held.{Draft, Held}

@@ -7,7 +7,7 @@ use Rattle.qg_num.specs.declared.rule.Rule.TheVariants as rule
 use Rattle.qg_node.specs.declared.item.Item.{Item}
 use Rattle.qg_image.specs.declared.file.File.{File}
 use Rattle.qg_image.specs.FilesOf.{files_of}
-use Rattle.qg_verdict.specs.declared.tree.Tree.TheVariants.{Files}
+use Rattle.qg_image.specs.declared.tree.Tree.TheVariants.{Files}
 use Rattle.qg_blocks.specs.Held.{Draft}
 use Rattle.qg_descent.specs.Tree.{Root, TellsTree}
 use Rattle.qg_descent.specs.Way.{FailsOnWay}

@@ -10,6 +10,3 @@ mod pieces;
 pub use file::file_of;
 pub use inode::inode_of;
 pub use pieces::pieces_meeting;
-
-#[cfg(test)]
-mod tests;

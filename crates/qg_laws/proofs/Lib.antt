@@ -1,13 +1,3 @@
-pub mod Ranges
-pub mod LastWrites
-pub mod Places
-pub mod Moments
-pub mod Stages
-pub mod Chosen
-pub mod Repaired
-pub mod Held
 pub mod CommitCalls
-pub mod OpeningCalls
-pub mod Unwritten
 pub mod OtherNodes
 pub mod NewNodes

@@ -1,7 +1,1 @@
-pub mod Crashes
-pub mod Committing
-pub mod Superblocks
-pub mod Repairing
-pub mod Premise
 pub mod CommitCalls
-pub mod Unwritten

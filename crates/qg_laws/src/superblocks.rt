@@ -1,35 +1,18 @@
-// What a crash leaves of the two superblocks while a commit writes them.
-ghost use Rattle.qg_laws.specs.CommitCalls.{CallsCommit, NewNodesStand, OpeningRepairs, OtherNodesStay};
-ghost use Rattle.qg_laws.specs.Repairing.{KeepsWhatCounts};
-ghost use Rattle.qg_laws.specs.Superblocks.{LeavesAValidOne, LeavesTheNew, LeavesTheOld, LeavesOldOrNew};
-
-/// A law on a crash at any moment of a commit, however far that came, where a torn superblock does not match its
-/// checksum by chance (this project's own):
-///
-/// - one of the two places is valid, where the second one was before;
-/// - where both places held one superblock and the commit's has a greater generation, the one that counts is one of
-///   the two: until the write of the first place begins the old one, and once its sync has returned the new one.
-pub fn two_places_leave_a_valid_one()
-    ensures valid { LeavesAValidOne }
-    ensures chosen { LeavesOldOrNew }
-    ensures old { LeavesTheOld }
-    ensures new { LeavesTheNew }
-{}
-
-/// A law: where the superblock that counts stands at one place, and is written at the other and made sure of, as opening
-/// an image does, it counts at any moment of that, under the same premise (this project's own).
-pub fn a_repair_keeps_what_counts()
-    ensures { KeepsWhatCounts }
-{}
+// The device calls of a commit, and those of opening, by what they do to a disk.
+ghost use Rattle.qg_commit.specs.CallEvents.{CallsAreWhole, CallsWrite, OpeningRepairs};
+ghost use Rattle.qg_laws.specs.CommitCalls.{CallsCommit, NewNodesStand, OtherNodesStay};
 
 /// A law: the device calls of a commit whose nodes lie in slots, as far as they came, are the writes and syncs of which
-/// `two_places_leave_a_valid_one` speaks (this project's own).
+/// `two_places_leave_a_valid_one` of qg_crashes speaks; so they are a commit of nodes in slots, and all of them do what
+/// the whole commit does (this project's own).
 pub fn the_calls_of_a_commit()
-    ensures { CallsCommit }
+    ensures commits { CallsCommit }
+    ensures writes { CallsWrite }
+    ensures whole { CallsAreWhole }
 {}
 
-/// A law: where opening writes a stale place, as far as it came, that is a repair of which `a_repair_keeps_what_counts`
-/// speaks (this project's own).
+/// A law: where opening writes a stale place, as far as it came, that is a repair of which
+/// `a_repair_keeps_what_counts` of qg_crashes speaks (this project's own).
 pub fn the_calls_of_opening()
     ensures { OpeningRepairs }
 {}

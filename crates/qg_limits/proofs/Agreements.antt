@@ -6,17 +6,17 @@ use Rattle.std.proofs.lemmas.Bool.{cases_Bool, cond-false, cond-true}
 use Rattle.std.proofs.lemmas.Bool.Decides.{nat_tests}
 use Rattle.std.proofs.lemmas.List.Sums.{sum_by-cons}
 use Rattle.std.proofs.lemmas.Map.Keys.{sorted_head, sorted_tail}
-use Rattle.qg_state.specs.State.{Accepted}
-use Rattle.qg_state.specs.Members.{hierarchy_of, is_member}
-use Rattle.qg_state.specs.declared.quota.Quota.{Quota}
+use Rattle.qg_image.specs.State.{Accepted}
+use Rattle.qg_image.specs.Members.{hierarchy_of, is_member}
+use Rattle.qg_image.specs.declared.quota.Quota.{Quota}
 use Rattle.std.proofs.Common.{◌≡◌, ℕ, List, [], ◌∷◌, Option, map, refl, ap, ◌∙◌, ◌<◌, ◌≤◌, Bool, false, sym, arith, inl, inr}
 use Rattle.std.specs.Prelude.{slice_get, if◌then◌else◌, ◌==◌, ◌||◌}
 use Rattle.std.specs.List.{All, AllByRecursion, cons_option, filter, filter_map, list_any}
 use Rattle.std.specs.Option.{option_map}
 use Rattle.std.proofs.lemmas.List.Elements.{All-filter, All-head, All-tail}
 use Rattle.qg_num.specs.declared.counters.Which.{Which}
-use Rattle.qg_state.specs.declared.quota.Group.{Group}
-use Rattle.qg_state.specs.Limits.{bytes_reserved, first_over, limit_passed, over}
+use Rattle.qg_image.specs.declared.quota.Group.{Group}
+use Rattle.qg_image.specs.Limits.{bytes_reserved, first_over, limit_passed, over}
 use Rattle.qg_limits.specs.Agreement.{IsLimitedAs, counted_groups}
 use Rattle.qg_limits.proofs.Held.{one}
 use Rattle.qg_limits.specs.Limit.{Limited, first_over_of, held_of, limited_group, times_named}

@@ -14,8 +14,8 @@ use Rattle.std.proofs.Math.Nat.{mul-le-mul_left}
 use Rattle.qg_num.specs.declared.counters.Counters.{Counters}
 use Rattle.qg_num.specs.declared.counters.Which.{Which}
 use Rattle.qg_image.specs.Table.{has_key}
-use Rattle.qg_state.specs.declared.quota.Group.{Group}
-use Rattle.qg_state.specs.Limits.{first_over, limit_passed}
+use Rattle.qg_image.specs.declared.quota.Group.{Group}
+use Rattle.qg_image.specs.Limits.{first_over, limit_passed}
 use Rattle.qg_limits.specs.declared.limits.Maxima.{Maxima}
 use Rattle.qg_limits.specs.Limit.{Limited, IsSetAt, bytes_after, bytes_at, first_over_of, held_of, limited_group, maxima_at, no_maxima, times_named}
 use Rattle.qg_limits.proofs.Tables.{got_at, set_at}

@@ -1,7 +1,7 @@
 -- What is set and held by a machine's quota (this project's own). All in bytes.
 use Rattle.std.specs.Prelude.{◌≡◌, ℕ, List, map}
 use Rattle.qg_num.specs.declared.counters.Counters.{Counters}
-use Rattle.qg_state.specs.declared.quota.Group.{Group}
+use Rattle.qg_image.specs.declared.quota.Group.{Group}
 use Rattle.qg_limits.specs.Limit.{Limited, held_of, maxima_of}
 
 -- a group of a quota has the limits that are set, and as many bytes are held for it as are reserved into it

@@ -6,8 +6,8 @@ use Rattle.qg_num.specs.declared.counters.Counters.{Counters}
 use Rattle.qg_num.specs.declared.counters.Which.{Which}
 use Rattle.qg_num.specs.declared.counters.Which.TheVariants.{Rfer, Excl}
 use Rattle.qg_image.specs.Table.{value_at}
-use Rattle.qg_state.specs.declared.quota.Group.{Group}
-use Rattle.qg_state.specs.Limits.{first_over}
+use Rattle.qg_image.specs.declared.quota.Group.{Group}
+use Rattle.qg_image.specs.Limits.{first_over}
 use Rattle.qg_limits.specs.declared.limits.Maxima.{Maxima}
 
 -- the limits that are set and the bytes that are held, each by the group's number, ascending

@@ -4,6 +4,3 @@
 mod limits;
 
 pub use limits::Limits;
-
-#[cfg(test)]
-mod tests;

@@ -2,7 +2,7 @@
 ghost use Rattle.std.specs.Prelude.{◌≡◌, ℕ, ◌^◌, ◌<◌, IsTrue, OnOk, OnErr};
 ghost use Rattle.std.specs.List.{All};
 ghost use Rattle.qg_image.specs.Table.{has_key};
-ghost use Rattle.qg_state.specs.Limits.{limit_passed, passes_limit};
+ghost use Rattle.qg_image.specs.Limits.{limit_passed, passes_limit};
 ghost use Rattle.qg_limits.specs.Limit.{bytes_after, bytes_at, first_over_of, held_of, limited_group, max_in, maxima_at, maxima_of, nothing_limited, with_max, HasMax, HoldsMore, IsSetAt, SameHeld, SameMaxima};
 
 use qg_num::{Counters, GroupId, NoMemory, Which};

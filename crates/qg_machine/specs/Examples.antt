@@ -7,13 +7,13 @@ use Rattle.qg_num.specs.declared.command.Command.TheVariants.{Write, Commit, Sub
 use Rattle.qg_num.specs.declared.answer.Answer.TheVariants as answer
 use Rattle.qg_num.specs.declared.refusal.Refusal.TheVariants as why
 use Rattle.qg_super.specs.Places.{is_slot, is_run}
-use Rattle.qg_state.specs.State.{State}
-use Rattle.qg_state.specs.Reach.{reach}
-use Rattle.qg_state.specs.Members.{leads, is_below, members, next_subvolume}
-use Rattle.qg_state.specs.Limits.{bytes_reserved, first_over, over}
-use Rattle.qg_state.specs.Space.{present_extents, is_free_run, is_free_slot, free_slots, least, first_run}
-use Rattle.qg_state.specs.Need.{present_records, weight}
-use Rattle.qg_state.specs.Examples.{fresh, fresh-weight, piece, file, one_one}
+use Rattle.qg_image.specs.State.{State}
+use Rattle.qg_image.specs.Reach.{reach}
+use Rattle.qg_image.specs.Members.{leads, is_below, members, next_subvolume}
+use Rattle.qg_image.specs.Limits.{bytes_reserved, first_over, over}
+use Rattle.qg_image.specs.Space.{present_extents, is_free_run, is_free_slot, free_slots, least, first_run}
+use Rattle.qg_image.specs.Need.{present_records, weight}
+use Rattle.qg_image.specs.ExamplesOfState.{fresh, fresh-weight, piece, file, one_one}
 use Rattle.qg_machine.specs.FileChange.{before, after, with_range, within, moved, with_size, file_change}
 use Rattle.qg_machine.specs.GroupChange.{with_pair}
 use Rattle.qg_machine.specs.Refusals.{refusal}

@@ -8,11 +8,11 @@ use Rattle.qg_super.specs.Places.{is_slot}
 use Rattle.qg_image.specs.declared.file.File.{File}
 use Rattle.qg_image.specs.ItemMeaning.{file_part}
 use Rattle.qg_image.specs.Table.{keys_of}
-use Rattle.qg_state.specs.State.{State, Subvolume, layout_of}
-use Rattle.qg_state.specs.Reach.{pieces_of, reach_of_root, reach, owners}
-use Rattle.qg_state.specs.Space.{is_free_slot}
-use Rattle.qg_state.specs.Examples.{state_of}
-use Rattle.qg_state.specs.ExamplesOfReferences.{leaf_of, inner_of, pointer, first_file, second_file, rewritten_file, written_source, deleted_source}
+use Rattle.qg_image.specs.State.{State, Subvolume, layout_of}
+use Rattle.qg_image.specs.Reach.{pieces_of, reach_of_root, reach, owners}
+use Rattle.qg_image.specs.Space.{is_free_slot}
+use Rattle.qg_image.specs.ExamplesOfState.{state_of}
+use Rattle.qg_image.specs.ExamplesOfReferences.{leaf_of, inner_of, pointer, first_file, second_file, rewritten_file, written_source, deleted_source}
 use Rattle.qg_machine.specs.Layout.{is_fixed, is_full_after, StaysAs, is_made_node, made_nodes}
 
 -- ---- a snapshot, and then a write into its source

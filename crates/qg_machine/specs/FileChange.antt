@@ -10,8 +10,8 @@ use Rattle.qg_num.specs.declared.command.Command.TheVariants.{Write, Clone, Trun
 use Rattle.qg_image.specs.Table.{with_value, without_key}
 use Rattle.qg_image.specs.declared.file.File.{File}
 use Rattle.qg_image.specs.FilesOf.{piece_end}
-use Rattle.qg_state.specs.State.{State, files_in_sub, file_at, next_generation}
-use Rattle.qg_state.specs.Space.{first_run}
+use Rattle.qg_image.specs.State.{State, files_in_sub, file_at, next_generation}
+use Rattle.qg_image.specs.Space.{first_run}
 
 -- ---- pieces
 

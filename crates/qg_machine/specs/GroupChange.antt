@@ -5,11 +5,11 @@ use Rattle.qg_num.specs.declared.counters.Counters.{Counters}
 use Rattle.qg_num.specs.declared.counters.Which.{Which}
 use Rattle.qg_num.specs.declared.counters.Which.TheVariants.{Rfer, Excl}
 use Rattle.qg_image.specs.Table.{value_at, with_value, without_key}
-use Rattle.qg_state.specs.declared.quota.Quota.{Quota}
-use Rattle.qg_state.specs.declared.quota.Group.{Group}
-use Rattle.qg_state.specs.State.{Layout}
-use Rattle.qg_state.specs.Members.{Hierarchy, hierarchy_of}
-use Rattle.qg_state.specs.Counts.{direct_count}
+use Rattle.qg_image.specs.declared.quota.Quota.{Quota}
+use Rattle.qg_image.specs.declared.quota.Group.{Group}
+use Rattle.qg_image.specs.State.{Layout}
+use Rattle.qg_image.specs.Members.{Hierarchy, hierarchy_of}
+use Rattle.qg_image.specs.Counts.{direct_count}
 
 -- a group that is made in this generation: nothing counted, no limit
 abbrev pub new_group : ℕ → Group

@@ -11,15 +11,15 @@ use Rattle.qg_super.specs.declared.superblock.Super.{Super}
 use Rattle.qg_super.specs.Places.{is_slot}
 use Rattle.qg_image.specs.Table.{value_at, has_key, keys_of}
 use Rattle.qg_image.specs.FilesOf.{files_of}
-use Rattle.qg_state.specs.Stage.{edits_other_trees}
-use Rattle.qg_state.specs.State.{State, Subvolume, Placed, layout_of, node_at, next_generation}
-use Rattle.qg_state.specs.Reach.{level_of, reaches, is_reached, owners}
-use Rattle.qg_state.specs.Space.{is_free_slot}
-use Rattle.qg_verdict.specs.declared.failure.Failure.{Failure}
-use Rattle.qg_verdict.specs.declared.tree.Tree.TheVariants.{Files}
-use Rattle.qg_verdict.specs.Walk.{root_expected, node_failure, walk_failure, deepest}
-use Rattle.qg_verdict.specs.ItemsUnder.{items_under}
-use Rattle.qg_verdict.specs.Among.{found_there}
+use Rattle.qg_image.specs.Stage.{edits_other_trees}
+use Rattle.qg_image.specs.State.{State, Subvolume, Placed, layout_of, node_at, next_generation}
+use Rattle.qg_image.specs.Reach.{level_of, reaches, is_reached, owners}
+use Rattle.qg_image.specs.Space.{is_free_slot}
+use Rattle.qg_image.specs.declared.failure.Failure.{Failure}
+use Rattle.qg_image.specs.declared.tree.Tree.TheVariants.{Files}
+use Rattle.qg_image.specs.Walk.{root_expected, node_failure, walk_failure, deepest}
+use Rattle.qg_image.specs.ItemsUnder.{items_under}
+use Rattle.qg_image.specs.Among.{found_there}
 
 -- ---- a state whose layout is that of its files
 

@@ -12,14 +12,14 @@ use Rattle.qg_image.specs.Table.{has_key, value_at, with_value, keys_of}
 use Rattle.qg_image.specs.ItemMeaning.{some_passes, first_some}
 use Rattle.qg_image.specs.declared.file.File.{File}
 use Rattle.qg_image.specs.FilesOf.{largest_size, is_aligned}
-use Rattle.qg_state.specs.declared.quota.Quota.{Quota}
-use Rattle.qg_state.specs.State.{State, Subvolume, layout_of, has_subvolume, file_at, node_at, is_quota_on}
-use Rattle.qg_state.specs.Reach.{level_of, reach, distinct}
-use Rattle.qg_state.specs.Members.{level_of_group, next_subvolume}
-use Rattle.qg_state.specs.Limits.{over}
-use Rattle.qg_state.specs.Space.{free_slots, first_run}
-use Rattle.qg_state.specs.Need.{file_copies, file_need, structural_need}
-use Rattle.qg_verdict.specs.Verdict.{most_subvolumes, most_groups, most_relations, longest_extent}
+use Rattle.qg_image.specs.declared.quota.Quota.{Quota}
+use Rattle.qg_image.specs.State.{State, Subvolume, layout_of, has_subvolume, file_at, node_at, is_quota_on}
+use Rattle.qg_image.specs.Reach.{level_of, reach, distinct}
+use Rattle.qg_image.specs.Members.{level_of_group, next_subvolume}
+use Rattle.qg_image.specs.Limits.{over}
+use Rattle.qg_image.specs.Space.{free_slots, first_run}
+use Rattle.qg_image.specs.Need.{file_copies, file_need, structural_need}
+use Rattle.qg_image.specs.Verdict.{most_subvolumes, most_groups, most_relations, longest_extent}
 use Rattle.qg_machine.specs.FileChange.{FileChange, file_change}
 use Rattle.qg_machine.specs.GroupChange.{has_pair}
 

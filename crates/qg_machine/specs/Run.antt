@@ -4,7 +4,7 @@ use Rattle.qg_num.specs.declared.answer.Answer.{Answer}
 use Rattle.qg_num.specs.declared.command.Command.{Command}
 use Rattle.qg_grammar.specs.ScriptText.{IsLineOf}
 use Rattle.qg_grammar.specs.ReplyText.{reply_text, no_line}
-use Rattle.qg_state.specs.State.{State}
+use Rattle.qg_image.specs.State.{State}
 use Rattle.qg_machine.specs.Step.{Step, Stays}
 
 -- the line is that of a command, which the machine does or refuses

@@ -11,13 +11,13 @@ use Rattle.qg_node.specs.declared.node.Node.{Node}
 use Rattle.qg_node.specs.declared.node.Node.TheVariants.{Leaf, Inner}
 use Rattle.qg_image.specs.Table.{value_at, with_value, without_key, keys_of}
 use Rattle.qg_image.specs.declared.file.File.{File}
-use Rattle.qg_state.specs.declared.quota.Group.{Group}
-use Rattle.qg_state.specs.declared.quota.Quota.{Quota}
-use Rattle.qg_state.specs.State.{State, Subvolume, Placed, Accepted, layout_of, next_generation, node_at, file_at}
-use Rattle.qg_state.specs.Reach.{owners, is_reached}
-use Rattle.qg_state.specs.Space.{is_free_slot, first_run}
-use Rattle.qg_verdict.specs.ImageState.{addresses_of, as_committed}
-use Rattle.qg_verdict.specs.OtherTrees.{AreOtherTrees}
+use Rattle.qg_image.specs.declared.quota.Group.{Group}
+use Rattle.qg_image.specs.declared.quota.Quota.{Quota}
+use Rattle.qg_image.specs.State.{State, Subvolume, Placed, Accepted, layout_of, next_generation, node_at, file_at}
+use Rattle.qg_image.specs.Reach.{owners, is_reached}
+use Rattle.qg_image.specs.Space.{is_free_slot, first_run}
+use Rattle.qg_image.specs.ImageState.{addresses_of, as_committed}
+use Rattle.qg_image.specs.OtherTrees.{AreOtherTrees}
 use Rattle.qg_machine.specs.FileChange.{FileChange, file_change}
 use Rattle.qg_machine.specs.GroupChange.{new_group, with_group, assigned, unassigned, destroyed, limited, inherited, quota_for, recounted}
 use Rattle.qg_machine.specs.Refusals.{refusal, is_pending, change_copies, change_need, number_to_come}

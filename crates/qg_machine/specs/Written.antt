@@ -3,7 +3,7 @@ use Rattle.std.specs.Prelude.{Bool, not, List, ◌++◌, map, ◌==◌}
 use Rattle.std.specs.List.{filter, list_any}
 use Rattle.qg_node.specs.declared.node.Node.{Node}
 use Rattle.qg_node.specs.Nodes.{header_of}
-use Rattle.qg_state.specs.State.{State, Committed}
+use Rattle.qg_image.specs.State.{State, Committed}
 
 -- the nodes of a committed state: those of its root, extent and quota trees, and those of its subvolumes
 abbrev pub committed_nodes : State → List Node

@@ -9,13 +9,13 @@ use Rattle.std.proofs.lemmas.Option.{same_Some}
 use Rattle.qg_node.specs.Nodes.{header_of, items_bytes}
 use Rattle.qg_items.specs.declared.extent.ExtentItem.{ExtentItem}
 use Rattle.qg_items.specs.declared.extent.Reference.{Reference}
-use Rattle.qg_state.specs.declared.element.Element.{Element}
-use Rattle.qg_state.specs.Need.{extent_records}
-use Rattle.qg_state.specs.Owed.{Owing, is_nothing, layout_extents, owed, owed_to}
-use Rattle.qg_state.specs.Record.{Record, distinct_records, extent_record, record_bytes, records_bytes, same_record, same_reference}
-use Rattle.qg_state.specs.Record.Record.{ExtentOf, InfoOf, LimitOf, NodeOf, ReferenceTo, RelationOf, RootOf, Status}
-use Rattle.qg_state.specs.State.{Layout, Placed}
-use Rattle.qg_state.proofs.Contained.{contains_cases, contains_here, contains_later, none_contained}
+use Rattle.qg_image.specs.declared.element.Element.{Element}
+use Rattle.qg_image.specs.Need.{extent_records}
+use Rattle.qg_image.specs.Owed.{Owing, is_nothing, layout_extents, owed, owed_to}
+use Rattle.qg_image.specs.Record.{Record, distinct_records, extent_record, record_bytes, records_bytes, same_record, same_reference}
+use Rattle.qg_image.specs.Record.Record.{ExtentOf, InfoOf, LimitOf, NodeOf, ReferenceTo, RelationOf, RootOf, Status}
+use Rattle.qg_image.specs.State.{Layout, Placed}
+use Rattle.qg_image.proofs.Contained.{contains_cases, contains_here, contains_later, none_contained}
 use Rattle.qg_refs.specs.declared.counted.Counted.{Counted}
 use Rattle.qg_refs.specs.declared.kept.Kept.{Kept}
 use Rattle.qg_refs.specs.declared.kept.What.{What as Known}

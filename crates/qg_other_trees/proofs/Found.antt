@@ -7,8 +7,8 @@ use Rattle.qg_node.specs.declared.node.Node.{Node}
 use Rattle.qg_items.specs.declared.root.RootItem.{RootItem}
 use Rattle.qg_super.specs.declared.superblock.Super.{Super}
 use Rattle.qg_super.specs.Places.{is_served}
-use Rattle.qg_state.specs.State.{State, Subvolume, node_at}
-use Rattle.qg_verdict.specs.OtherTrees.{root_item_of, subvolume_items}
+use Rattle.qg_image.specs.State.{State, Subvolume, node_at}
+use Rattle.qg_image.specs.OtherTrees.{root_item_of, subvolume_items}
 use Rattle.qg_machine.specs.Layout.{IsTreeOf, IsWhole}
 use Rattle.qg_other_trees.specs.Holds.{AreRuns, AreThoseOf, HoldsLayout, IsToCome, IsWalkedIn, nodes_of_roots}
 use Rattle.qg_other_trees.proofs.MetNodes.{all_nodes, finds, met, those}

@@ -12,10 +12,10 @@ use Rattle.qg_super.specs.Places.{is_served, is_slot}
 use Rattle.qg_image.specs.declared.part.ExtentPart.{ExtentPart}
 use Rattle.qg_image.specs.declared.part.ExtentPart.TheVariants.{DataRecord, NodeRecord, Referenced}
 use Rattle.qg_image.specs.Table.{value_at}
-use Rattle.qg_state.specs.Owed.{Agrees, What, agrees_at, are_references, is_record, is_recorded_once, node_flags, owed_to, what_at}
-use Rattle.qg_state.specs.Owed.What.{Block}
-use Rattle.qg_state.specs.State.{Layout, Placed, State, layout_of, node_at}
-use Rattle.qg_verdict.specs.ImageState.{is_full_record, placed}
+use Rattle.qg_image.specs.Owed.{Agrees, What, agrees_at, are_references, is_record, is_recorded_once, node_flags, owed_to, what_at}
+use Rattle.qg_image.specs.Owed.What.{Block}
+use Rattle.qg_image.specs.State.{Layout, Placed, State, layout_of, node_at}
+use Rattle.qg_image.specs.ImageState.{is_full_record, placed}
 use Rattle.qg_machine.specs.Layout.{IsReached, IsWhole}
 use Rattle.qg_reach.proofs.Layouts.{AgreeByAddress, layout_by, node_at-layout, node_at-layout_other}
 use Rattle.qg_extents.specs.Told.{parts_at, told_in, told_sum}

@@ -17,4 +17,3 @@ pub mod Owing
 pub mod Sound
 mod Lists
 pub mod One
-mod Seventh

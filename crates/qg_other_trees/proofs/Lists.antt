@@ -9,9 +9,9 @@ use Rattle.qg_items.specs.declared.root.RootItem.{RootItem}
 use Rattle.qg_image.specs.ItemMeaning.{is_subvolume_number}
 use Rattle.qg_image.specs.Table.{has_key, value_at, with_value}
 use Rattle.qg_image.specs.declared.part.QuotaPart.{QuotaPart}
-use Rattle.qg_state.specs.declared.quota.Quota.{Quota}
-use Rattle.qg_verdict.specs.ImageState.{quota_told, subvolume_roots}
-use Rattle.qg_verdict.specs.Verdict.{are_few, are_roots, is_quota}
+use Rattle.qg_image.specs.declared.quota.Quota.{Quota}
+use Rattle.qg_image.specs.ImageState.{quota_told, subvolume_roots}
+use Rattle.qg_image.specs.Verdict.{are_few, are_roots, is_quota}
 use Rattle.qg_contents.specs.Written.{roots_named, with_quotas}
 use Rattle.qg_quota.specs.Laws.{IsServedFor}
 use Rattle.qg_quota.specs.Written.{parts_of_quota}

@@ -11,11 +11,11 @@ use Rattle.qg_super.specs.Places.{is_served, is_slot}
 use Rattle.qg_super.proofs.Runs.{WholeRun, WholeRun-is_run}
 use Rattle.qg_image.specs.Below.{nodes_below}
 use Rattle.qg_image.specs.Table.{keys_of, value_at}
-use Rattle.qg_state.specs.declared.element.Element.{Element}
-use Rattle.qg_state.specs.State.{Placed, State, Subvolume, layout_of, node_at}
-use Rattle.qg_state.specs.Owed.{layout_extents}
-use Rattle.qg_state.specs.Reach.{extent_of, is_among, level_of, pieces_of, reach, reach_of, reaches}
-use Rattle.qg_state.proofs.Contained.{contains_cases, contains_here, contains_later, none_contained}
+use Rattle.qg_image.specs.declared.element.Element.{Element}
+use Rattle.qg_image.specs.State.{Placed, State, Subvolume, layout_of, node_at}
+use Rattle.qg_image.specs.Owed.{layout_extents}
+use Rattle.qg_image.specs.Reach.{extent_of, is_among, level_of, pieces_of, reach, reach_of, reaches}
+use Rattle.qg_image.proofs.Contained.{contains_cases, contains_here, contains_later, none_contained}
 use Rattle.qg_machine.specs.Layout.{IsReached, IsTreeOf, IsWhole}
 use Rattle.qg_reach.proofs.Counting.{HasNodes, reach_of_root_nodes}
 use Rattle.qg_reach.proofs.Members.{contains_flat_map}

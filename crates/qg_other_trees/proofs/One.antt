@@ -11,11 +11,11 @@ use Rattle.qg_items.specs.declared.root.RootItem.{RootItem}
 use Rattle.qg_items.specs.declared.tree.TheConstants.{TOP_LEVEL}
 use Rattle.qg_image.specs.ItemMeaning.{is_subvolume_number}
 use Rattle.qg_image.specs.Table.{has_key}
-use Rattle.qg_state.specs.Members.{hierarchy_of}
-use Rattle.qg_state.specs.declared.quota.Group.{Group}
-use Rattle.qg_state.specs.State.{State, Subvolume, node_at}
-use Rattle.qg_verdict.specs.OtherTrees.{root_item_of, subvolume_items}
-use Rattle.qg_verdict.specs.Verdict.{is_group_number}
+use Rattle.qg_image.specs.Members.{hierarchy_of}
+use Rattle.qg_image.specs.declared.quota.Group.{Group}
+use Rattle.qg_image.specs.State.{State, Subvolume, node_at}
+use Rattle.qg_image.specs.OtherTrees.{root_item_of, subvolume_items}
+use Rattle.qg_image.specs.Verdict.{is_group_number}
 use Rattle.qg_hier.specs.Groups.{IsSound}
 use Rattle.qg_contents.specs.Writable.{IsRootBy}
 use Rattle.qg_other_trees.specs.Telling.{HasRoot, one_group}

@@ -7,13 +7,13 @@ use Rattle.std.proofs.lemmas.Map.Keys.{IsDistinct-IsPermutation}
 use Rattle.qg_node.specs.declared.item.Item.{Item}
 use Rattle.qg_node.specs.declared.node.Node.{Node}
 use Rattle.qg_super.specs.declared.superblock.Super.{Super}
-use Rattle.qg_state.specs.Reach.{level_of}
-use Rattle.qg_verdict.specs.declared.expected.Expected.{Expected}
-use Rattle.qg_verdict.specs.declared.tree.Tree.{Tree}
-use Rattle.qg_verdict.specs.Among.{found_among, found_there, node_among}
-use Rattle.qg_verdict.specs.ItemsUnder.{items_under, nodes_under}
-use Rattle.qg_verdict.specs.OtherTrees.{IsOfFormat, IsTreeOfNodes}
-use Rattle.qg_verdict.specs.Walk.{root_expected}
+use Rattle.qg_image.specs.Reach.{level_of}
+use Rattle.qg_image.specs.declared.expected.Expected.{Expected}
+use Rattle.qg_image.specs.declared.tree.Tree.{Tree}
+use Rattle.qg_image.specs.Among.{found_among, found_there, node_among}
+use Rattle.qg_image.specs.ItemsUnder.{items_under, nodes_under}
+use Rattle.qg_image.specs.OtherTrees.{IsOfFormat, IsTreeOfNodes}
+use Rattle.qg_image.specs.Walk.{root_expected}
 use Rattle.qg_tree.specs.Build.{IsMadeFor}
 use Rattle.qg_tree.specs.Row.{address_of}
 use Rattle.qg_tree.proofs.Frame.{all_found}

@@ -21,11 +21,11 @@ use Rattle.qg_image.specs.ItemMeaning.{file_part}
 use Rattle.qg_image.specs.Table.{value_at}
 use Rattle.qg_image.specs.declared.part.FilePart.{FilePart}
 use Rattle.qg_image.specs.declared.part.FilePart.TheVariants.{Inode, PieceOf}
-use Rattle.qg_state.specs.declared.element.Element.{Element}
-use Rattle.qg_state.specs.Owed.{Owing, is_nothing, layout_extents, owed, owed_by_node, owed_by_part, owed_count, owed_to, owed_to_child, what_at}
-use Rattle.qg_state.specs.Reach.{extent_of, piece_of_part, pieces_of}
-use Rattle.qg_state.specs.State.{Layout, Placed, State, Subvolume, layout_of, node_at}
-use Rattle.qg_state.proofs.Contained.{contains_cases, contains_here, contains_later, none_contained}
+use Rattle.qg_image.specs.declared.element.Element.{Element}
+use Rattle.qg_image.specs.Owed.{Owing, is_nothing, layout_extents, owed, owed_by_node, owed_by_part, owed_count, owed_to, owed_to_child, what_at}
+use Rattle.qg_image.specs.Reach.{extent_of, piece_of_part, pieces_of}
+use Rattle.qg_image.specs.State.{Layout, Placed, State, Subvolume, layout_of, node_at}
+use Rattle.qg_image.proofs.Contained.{contains_cases, contains_here, contains_later, none_contained}
 use Rattle.qg_machine.specs.Layout.{IsTreeOf, IsWhole}
 use Rattle.qg_reach.proofs.Members.{contains_flat_map}
 use Rattle.qg_check.proofs.Found.{first_below}

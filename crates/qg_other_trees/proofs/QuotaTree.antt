@@ -11,9 +11,9 @@ use Rattle.qg_items.specs.declared.root.RootItem.{RootItem}
 use Rattle.qg_items.specs.declared.tree.TheConstants.{QUOTA_TREE}
 use Rattle.qg_image.specs.ItemMeaning.{quota_part}
 use Rattle.qg_image.specs.declared.part.QuotaPart.{QuotaPart}
-use Rattle.qg_state.specs.Need.{nodes_filled}
-use Rattle.qg_state.specs.declared.quota.Quota.{Quota}
-use Rattle.qg_verdict.specs.declared.tree.Tree.TheVariants.{Quotas}
+use Rattle.qg_image.specs.Need.{nodes_filled}
+use Rattle.qg_image.specs.declared.quota.Quota.{Quota}
+use Rattle.qg_image.specs.declared.tree.Tree.TheVariants.{Quotas}
 use Rattle.qg_contents.specs.Written.{quota_roots}
 use Rattle.qg_quota.specs.Writable.{AreWritableQuota}
 use Rattle.qg_quota.specs.Written.{items_of_quota, parts_of_quota, status_at}

@@ -14,12 +14,12 @@ use Rattle.qg_items.specs.declared.extent.Reference.{Reference}
 use Rattle.qg_items.specs.declared.extent.Reference.TheVariants.{KeyedBlock}
 use Rattle.qg_image.specs.Table.{value_at}
 use Rattle.qg_image.specs.declared.part.ExtentPart.{ExtentPart}
-use Rattle.qg_state.specs.declared.element.Element.{Element}
-use Rattle.qg_state.specs.Owed.{Agrees, What, agrees_at, are_references, is_nothing, is_record, is_record_of, is_recorded_once, is_told_once, layout_extents, node_flags, owed_count, owed_to, what_at}
-use Rattle.qg_state.specs.Owed.What.{Nothing, Data, Block}
-use Rattle.qg_state.specs.Record.{same_reference}
-use Rattle.qg_state.specs.State.{Layout, Placed}
-use Rattle.qg_state.proofs.Contained.{contains_cases, contains_here, contains_later, none_contained}
+use Rattle.qg_image.specs.declared.element.Element.{Element}
+use Rattle.qg_image.specs.Owed.{Agrees, What, agrees_at, are_references, is_nothing, is_record, is_record_of, is_recorded_once, is_told_once, layout_extents, node_flags, owed_count, owed_to, what_at}
+use Rattle.qg_image.specs.Owed.What.{Nothing, Data, Block}
+use Rattle.qg_image.specs.Record.{same_reference}
+use Rattle.qg_image.specs.State.{Layout, Placed}
+use Rattle.qg_image.proofs.Contained.{contains_cases, contains_here, contains_later, none_contained}
 use Rattle.qg_refs.specs.declared.counted.Counted.{Counted}
 use Rattle.qg_refs.specs.declared.kept.Kept.{Kept}
 use Rattle.qg_refs.specs.declared.kept.What.{What as Known}

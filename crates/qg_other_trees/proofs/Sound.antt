@@ -25,18 +25,18 @@ use Rattle.qg_image.specs.Table.{keys_of, value_at}
 use Rattle.qg_image.specs.declared.file.File.{File}
 use Rattle.qg_image.specs.declared.part.ExtentPart.{ExtentPart}
 use Rattle.qg_image.specs.declared.part.QuotaPart.{QuotaPart}
-use Rattle.qg_state.specs.declared.quota.Quota.{Quota}
-use Rattle.qg_state.specs.declared.element.Element.{Element}
-use Rattle.qg_state.specs.Owed.{Agrees, agrees_at, disagreement, homeless}
-use Rattle.qg_state.specs.Space.{present_extents}
-use Rattle.qg_state.specs.State.{Layout, Placed, State, Subvolume, layout_of, next_generation}
-use Rattle.qg_verdict.specs.declared.failure.Failure.{Failure}
-use Rattle.qg_verdict.specs.declared.tree.Tree.TheVariants.{Extents, Files, Quotas, Roots}
-use Rattle.qg_verdict.specs.Failure.{first_failure, unless}
-use Rattle.qg_verdict.specs.ImageState.{as_committed, extent_parts, items_of_root, layout_in, nodes_of_root, of_tree, other_nodes, quota_in, quota_parts, quota_told, roots_in, state_in, subvolume_in, subvolume_roots, subvolumes_in, super_in, super_of, tree_nodes}
-use Rattle.qg_verdict.specs.OtherTrees.{subvolume_items, super_at}
-use Rattle.qg_verdict.specs.Verdict.{IsSound, are_few, are_roots, counts_failure, extent_set, is_quota, most_subvolumes, places_failure, quota_failure, references_failure, root_failure, roots_failure, space_failure, subvolume_failure, together_failure}
-use Rattle.qg_verdict.specs.Walk.{node_found, root_expected, root_told, tree_failure}
+use Rattle.qg_image.specs.declared.quota.Quota.{Quota}
+use Rattle.qg_image.specs.declared.element.Element.{Element}
+use Rattle.qg_image.specs.Owed.{Agrees, agrees_at, disagreement, homeless}
+use Rattle.qg_image.specs.Space.{present_extents}
+use Rattle.qg_image.specs.State.{Layout, Placed, State, Subvolume, layout_of, next_generation}
+use Rattle.qg_image.specs.declared.failure.Failure.{Failure}
+use Rattle.qg_image.specs.declared.tree.Tree.TheVariants.{Extents, Files, Quotas, Roots}
+use Rattle.qg_image.specs.Failure.{first_failure, unless}
+use Rattle.qg_image.specs.ImageState.{as_committed, extent_parts, items_of_root, layout_in, nodes_of_root, of_tree, other_nodes, quota_in, quota_parts, quota_told, roots_in, state_in, subvolume_in, subvolume_roots, subvolumes_in, super_in, super_of, tree_nodes}
+use Rattle.qg_image.specs.OtherTrees.{subvolume_items, super_at}
+use Rattle.qg_image.specs.Verdict.{IsSound, are_few, are_roots, counts_failure, extent_set, is_quota, most_subvolumes, places_failure, quota_failure, references_failure, root_failure, roots_failure, space_failure, subvolume_failure, together_failure}
+use Rattle.qg_image.specs.Walk.{node_found, root_expected, root_told, tree_failure}
 use Rattle.qg_machine.specs.Layout.{IsTreeOf, IsWhole}
 use Rattle.qg_reach.proofs.Layouts.{layout_by, layout_in-nodes}
 use Rattle.qg_check.proofs.Verdicts.{image_failure_parts, rest_failure, verdict_some}

@@ -13,9 +13,9 @@ use Rattle.std.proofs.lemmas.Option.{same_Some}
 use Rattle.qg_node.specs.declared.node.Node.{Node}
 use Rattle.qg_image.specs.Table.{keys_of, value_at, with_value}
 use Rattle.qg_image.specs.declared.part.ExtentPart.{ExtentPart}
-use Rattle.qg_state.specs.State.{Placed}
-use Rattle.qg_state.proofs.Contained.{contains_cases, contains_here, contains_later, none_contained}
-use Rattle.qg_verdict.specs.ImageState.{placed}
+use Rattle.qg_image.specs.State.{Placed}
+use Rattle.qg_image.proofs.Contained.{contains_cases, contains_here, contains_later, none_contained}
+use Rattle.qg_image.specs.ImageState.{placed}
 use Rattle.qg_reach.proofs.Layouts.{layout_by, with_nodes}
 use Rattle.qg_tree.specs.Row.{address_of}
 use Rattle.qg_tree.proofs.Frame.{AllByRecursion-weaker}

@@ -19,14 +19,14 @@ use Rattle.qg_image.specs.ItemMeaning.{extent_part, quota_part, root_part}
 use Rattle.qg_image.specs.Table.{keys_of, value_at}
 use Rattle.qg_image.specs.declared.part.ExtentPart.{ExtentPart}
 use Rattle.qg_image.specs.declared.part.QuotaPart.{QuotaPart}
-use Rattle.qg_state.specs.declared.quota.Quota.{Quota}
-use Rattle.qg_state.specs.State.{State, layout_of}
-use Rattle.qg_state.specs.Owed.{Agrees}
-use Rattle.qg_verdict.specs.declared.tree.Tree.{Tree}
-use Rattle.qg_verdict.specs.declared.tree.Tree.TheVariants.{Extents, Quotas, Roots}
-use Rattle.qg_verdict.specs.ImageState.{addresses_of, quota_told, subvolume_roots}
-use Rattle.qg_verdict.specs.OtherTrees.{AreOtherTrees, IsOfFormat, IsTreeOfNodes, IsTreeOfRoot, subvolume_items, super_at}
-use Rattle.qg_verdict.specs.Walk.{is_generation, is_item_of, is_owner, root_expected, root_told}
+use Rattle.qg_image.specs.declared.quota.Quota.{Quota}
+use Rattle.qg_image.specs.State.{State, layout_of}
+use Rattle.qg_image.specs.Owed.{Agrees}
+use Rattle.qg_image.specs.declared.tree.Tree.{Tree}
+use Rattle.qg_image.specs.declared.tree.Tree.TheVariants.{Extents, Quotas, Roots}
+use Rattle.qg_image.specs.ImageState.{addresses_of, quota_told, subvolume_roots}
+use Rattle.qg_image.specs.OtherTrees.{AreOtherTrees, IsOfFormat, IsTreeOfNodes, IsTreeOfRoot, subvolume_items, super_at}
+use Rattle.qg_image.specs.Walk.{is_generation, is_item_of, is_owner, root_expected, root_told}
 use Rattle.qg_contents.specs.Written.{roots_named}
 use Rattle.qg_refs.specs.declared.kept.Kept.{Kept}
 use Rattle.qg_tree.specs.declared.building.Built.{Built}

@@ -14,15 +14,15 @@ use Rattle.qg_node.specs.Nodes.{header_of, own_items, own_pointers}
 use Rattle.qg_super.specs.declared.superblock.Super.{Super}
 use Rattle.qg_image.specs.Below.{items_below, nodes_below}
 use Rattle.qg_image.specs.ItemMeaning.{when}
-use Rattle.qg_verdict.specs.declared.failure.Failure.{Failure}
-use Rattle.qg_verdict.specs.declared.tree.Tree.{Tree}
-use Rattle.qg_verdict.specs.declared.expected.Expected.{Expected}
-use Rattle.qg_verdict.specs.Failure.{first_failure, unless}
-use Rattle.qg_verdict.specs.Walk.{is_generation, is_item_of, is_owner, is_told, way_failure, shape_failure, node_failure, node_found, pointers_failure, found_failure, walk_failure, deepest, root_expected, tree_failure}
-use Rattle.qg_verdict.specs.ItemsUnder.{is_way, items_under, nodes_under, nodes_of}
-use Rattle.qg_verdict.specs.ImageState.{level_in, tree_items, tree_nodes}
+use Rattle.qg_image.specs.declared.failure.Failure.{Failure}
+use Rattle.qg_image.specs.declared.tree.Tree.{Tree}
+use Rattle.qg_image.specs.declared.expected.Expected.{Expected}
+use Rattle.qg_image.specs.Failure.{first_failure, unless}
+use Rattle.qg_image.specs.Walk.{is_generation, is_item_of, is_owner, is_told, way_failure, shape_failure, node_failure, node_found, pointers_failure, found_failure, walk_failure, deepest, root_expected, tree_failure}
+use Rattle.qg_image.specs.ItemsUnder.{is_way, items_under, nodes_under, nodes_of}
+use Rattle.qg_image.specs.ImageState.{level_in, tree_items, tree_nodes}
 use Rattle.qg_tree.specs.Build.{Allows, IsBuilt}
-use Rattle.qg_verdict.specs.Among.{node_among, found_among, found_there}
+use Rattle.qg_image.specs.Among.{node_among, found_among, found_there}
 use Rattle.qg_tree.specs.Row.{address_of}
 use Rattle.qg_tree.proofs.Frame.{Judge, Keeps, neither, none_of_two, under_kept, walk_kept}
 use Rattle.qg_tree.proofs.Reached.{nodes_kept}

@@ -17,15 +17,15 @@ use Rattle.qg_super.specs.SuperText.{sizes_of}
 use Rattle.qg_image.specs.Below.{items_below, nodes_below}
 use Rattle.qg_image.specs.FilesOf.{files_of}
 use Rattle.qg_image.specs.Table.{value_at}
-use Rattle.qg_state.specs.State.{Placed, State, Subvolume, node_at}
-use Rattle.qg_verdict.specs.declared.failure.Failure.{Failure}
-use Rattle.qg_verdict.specs.declared.tree.Tree.{Tree}
-use Rattle.qg_verdict.specs.declared.tree.Tree.TheVariants.{Files}
-use Rattle.qg_verdict.specs.declared.expected.Expected.{Expected}
-use Rattle.qg_verdict.specs.Failure.{unless}
-use Rattle.qg_verdict.specs.ImageState.{level_in, tree_items, tree_nodes}
-use Rattle.qg_verdict.specs.ItemsUnder.{is_way, items_under, nodes_of, nodes_under}
-use Rattle.qg_verdict.specs.Walk.{deepest, found_failure, in_slot, is_generation, is_item_of, is_owner, node_failure, node_found, pointers_failure, root_expected, shape_failure, tree_failure, walk_failure, way_failure}
+use Rattle.qg_image.specs.State.{Placed, State, Subvolume, node_at}
+use Rattle.qg_image.specs.declared.failure.Failure.{Failure}
+use Rattle.qg_image.specs.declared.tree.Tree.{Tree}
+use Rattle.qg_image.specs.declared.tree.Tree.TheVariants.{Files}
+use Rattle.qg_image.specs.declared.expected.Expected.{Expected}
+use Rattle.qg_image.specs.Failure.{unless}
+use Rattle.qg_image.specs.ImageState.{level_in, tree_items, tree_nodes}
+use Rattle.qg_image.specs.ItemsUnder.{is_way, items_under, nodes_of, nodes_under}
+use Rattle.qg_image.specs.Walk.{deepest, found_failure, in_slot, is_generation, is_item_of, is_owner, node_failure, node_found, pointers_failure, root_expected, shape_failure, tree_failure, walk_failure, way_failure}
 use Rattle.qg_machine.specs.Layout.{IsTreeOf, IsWhole, found_in, super_to_come}
 use Rattle.qg_tree.proofs.Frame.{AllByRecursion-weaker, Judge, Keeps, neither, none_of_two, under_kept, walk_kept}
 use Rattle.qg_tree.proofs.Reached.{nodes_kept}

@@ -18,9 +18,9 @@ use Rattle.qg_items.specs.declared.extent.Reference.TheVariants.{KeyedBlock, Sha
 use Rattle.qg_items.proofs.ExtentBodies.{length-data_ref_text, length-extent_text, length-shared_data_ref_text}
 use Rattle.qg_image.specs.declared.part.ExtentPart.{ExtentPart}
 use Rattle.qg_image.specs.declared.part.ExtentPart.TheVariants.{DataRecord, NodeRecord, Referenced}
-use Rattle.qg_state.specs.Owed.{part_address}
-use Rattle.qg_state.specs.Record.{Record, distinct_records, extent_record, record_bytes, records_bytes, same_record, same_reference}
-use Rattle.qg_state.specs.Record.Record.{ReferenceTo}
+use Rattle.qg_image.specs.Owed.{part_address}
+use Rattle.qg_image.specs.Record.{Record, distinct_records, extent_record, record_bytes, records_bytes, same_record, same_reference}
+use Rattle.qg_image.specs.Record.Record.{ReferenceTo}
 use Rattle.qg_refs.specs.declared.counted.Counted.{Counted}
 use Rattle.qg_refs.specs.declared.kept.Kept.{Kept}
 use Rattle.qg_refs.specs.Counts.{Ascend}

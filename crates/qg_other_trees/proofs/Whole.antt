@@ -16,14 +16,14 @@ use Rattle.qg_super.specs.declared.superblock.Super.{Super}
 use Rattle.qg_image.specs.Below.{inner_pointers, items_below, joined, leaf_items, nodes_below}
 use Rattle.qg_image.specs.ItemMeaning.{when}
 use Rattle.qg_image.specs.Table.{value_at}
-use Rattle.qg_state.specs.State.{Placed, State, Subvolume, node_at}
-use Rattle.qg_state.specs.Reach.{level_of}
-use Rattle.qg_verdict.specs.declared.failure.Failure.{Failure}
-use Rattle.qg_verdict.specs.declared.tree.Tree.TheVariants.{Files}
-use Rattle.qg_verdict.specs.declared.expected.Expected.{Expected}
-use Rattle.qg_verdict.specs.Among.{found_there}
-use Rattle.qg_verdict.specs.ItemsUnder.{is_way, nodes_of}
-use Rattle.qg_verdict.specs.Walk.{deepest, found_failure, node_failure, root_expected, walk_failure}
+use Rattle.qg_image.specs.State.{Placed, State, Subvolume, node_at}
+use Rattle.qg_image.specs.Reach.{level_of}
+use Rattle.qg_image.specs.declared.failure.Failure.{Failure}
+use Rattle.qg_image.specs.declared.tree.Tree.TheVariants.{Files}
+use Rattle.qg_image.specs.declared.expected.Expected.{Expected}
+use Rattle.qg_image.specs.Among.{found_there}
+use Rattle.qg_image.specs.ItemsUnder.{is_way, nodes_of}
+use Rattle.qg_image.specs.Walk.{deepest, found_failure, node_failure, root_expected, walk_failure}
 use Rattle.qg_machine.specs.Layout.{IsReached, IsTreeOf, IsWhole, found_in, super_to_come}
 use Rattle.qg_reach.proofs.Reached.{LieWhereFound}
 use Rattle.qg_tree.proofs.Frame.{Judge}

@@ -12,17 +12,17 @@ use Rattle.qg_super.specs.SuperText.{sizes_of}
 use Rattle.qg_image.specs.Below.{items_below, nodes_below}
 use Rattle.qg_image.specs.FilesOf.{files_of}
 use Rattle.qg_image.specs.Table.{value_at}
-use Rattle.qg_state.specs.declared.element.Element.{Element}
-use Rattle.qg_state.specs.Owed.{layout_extents}
-use Rattle.qg_state.specs.State.{Placed, State, Subvolume, layout_of, next_generation, node_at}
-use Rattle.qg_state.specs.Reach.{level_of}
-use Rattle.qg_verdict.specs.declared.tree.Tree.{Tree}
-use Rattle.qg_verdict.specs.declared.tree.Tree.TheVariants.{Files}
-use Rattle.qg_verdict.specs.declared.expected.Expected.{Expected}
-use Rattle.qg_verdict.specs.Walk.{node_found, root_told, tree_failure}
-use Rattle.qg_verdict.specs.OtherTrees.{root_item_of}
-use Rattle.qg_verdict.specs.ItemsUnder.{items_under, nodes_under}
-use Rattle.qg_verdict.specs.ImageState.{super_in, level_in, nodes_of_root, tree_items, tree_nodes}
+use Rattle.qg_image.specs.declared.element.Element.{Element}
+use Rattle.qg_image.specs.Owed.{layout_extents}
+use Rattle.qg_image.specs.State.{Placed, State, Subvolume, layout_of, next_generation, node_at}
+use Rattle.qg_image.specs.Reach.{level_of}
+use Rattle.qg_image.specs.declared.tree.Tree.{Tree}
+use Rattle.qg_image.specs.declared.tree.Tree.TheVariants.{Files}
+use Rattle.qg_image.specs.declared.expected.Expected.{Expected}
+use Rattle.qg_image.specs.Walk.{node_found, root_told, tree_failure}
+use Rattle.qg_image.specs.OtherTrees.{root_item_of}
+use Rattle.qg_image.specs.ItemsUnder.{items_under, nodes_under}
+use Rattle.qg_image.specs.ImageState.{super_in, level_in, nodes_of_root, tree_items, tree_nodes}
 
 -- an image has this superblock at both places, is as long as it says, and has these nodes where they lie
 pub record HasCommit (super : Super) (nodes : List Node) (image : List ℕ) : Type 0 where

@@ -8,14 +8,14 @@ use Rattle.qg_items.specs.declared.root.RootItem.{RootItem}
 use Rattle.qg_super.specs.declared.sizes.Sizes.{Sizes}
 use Rattle.qg_super.specs.declared.superblock.Super.{Super}
 use Rattle.qg_super.specs.Places.{is_served, is_slot}
-use Rattle.qg_state.specs.declared.quota.Quota.{Quota}
-use Rattle.qg_state.specs.Need.{extent_records}
-use Rattle.qg_state.specs.Owed.{homeless, is_nothing, owed_count, what_at}
-use Rattle.qg_state.specs.Record.{extent_record, records_bytes}
-use Rattle.qg_state.specs.Space.{present_extents}
-use Rattle.qg_state.specs.State.{Layout, State, layout_of, next_generation}
-use Rattle.qg_verdict.specs.OtherTrees.{subvolume_items}
-use Rattle.qg_verdict.specs.Verdict.{counts_failure, extent_set, space_failure}
+use Rattle.qg_image.specs.declared.quota.Quota.{Quota}
+use Rattle.qg_image.specs.Need.{extent_records}
+use Rattle.qg_image.specs.Owed.{homeless, is_nothing, owed_count, what_at}
+use Rattle.qg_image.specs.Record.{extent_record, records_bytes}
+use Rattle.qg_image.specs.Space.{present_extents}
+use Rattle.qg_image.specs.State.{Layout, State, layout_of, next_generation}
+use Rattle.qg_image.specs.OtherTrees.{subvolume_items}
+use Rattle.qg_image.specs.Verdict.{counts_failure, extent_set, space_failure}
 use Rattle.qg_machine.specs.Layout.{IsWhole}
 use Rattle.qg_refs.specs.declared.kept.Kept.{Kept}
 use Rattle.qg_extents.specs.Table.{IsTable, book_of}

@@ -3,4 +3,3 @@ pub mod Telling
 pub mod Holds
 pub mod Sound
 pub mod Laws
-pub mod Examples

@@ -6,14 +6,14 @@ use Rattle.qg_super.specs.declared.superblock.Super.{Super}
 use Rattle.qg_super.specs.Places.{first_place, second_place}
 use Rattle.qg_super.specs.SuperText.{sizes_of}
 use Rattle.qg_image.specs.Table.{value_at}
-use Rattle.qg_state.specs.declared.quota.Quota.{Quota}
-use Rattle.qg_state.specs.Space.{present_extents}
-use Rattle.qg_state.specs.State.{State, layout_of, next_generation}
-use Rattle.qg_verdict.specs.declared.tree.Tree.TheVariants.{Extents}
-use Rattle.qg_verdict.specs.Failure.{first_failure}
-use Rattle.qg_verdict.specs.ImageState.{as_committed, roots_in, state_in, subvolume_roots, super_in}
-use Rattle.qg_verdict.specs.StateOf.{StateOf}
-use Rattle.qg_verdict.specs.Verdict.{counts_failure, extent_set, places_failure, quota_failure, references_failure, root_failure, roots_failure, space_failure, subvolume_failure}
+use Rattle.qg_image.specs.declared.quota.Quota.{Quota}
+use Rattle.qg_image.specs.Space.{present_extents}
+use Rattle.qg_image.specs.State.{State, layout_of, next_generation}
+use Rattle.qg_image.specs.declared.tree.Tree.TheVariants.{Extents}
+use Rattle.qg_image.specs.Failure.{first_failure}
+use Rattle.qg_image.specs.ImageState.{as_committed, roots_in, state_in, subvolume_roots, super_in}
+use Rattle.qg_image.specs.StateOf.{StateOf}
+use Rattle.qg_image.specs.Verdict.{counts_failure, extent_set, places_failure, quota_failure, references_failure, root_failure, roots_failure, space_failure, subvolume_failure}
 use Rattle.qg_other_trees.specs.declared.laying.OtherTrees.{OtherTrees}
 use Rattle.qg_other_trees.specs.Telling.{AreToldBy}
 

@@ -11,12 +11,12 @@ use Rattle.qg_items.specs.declared.root.RootItem.{RootItem}
 use Rattle.qg_items.specs.declared.tree.TheConstants.{TOP_LEVEL}
 use Rattle.qg_super.specs.declared.sizes.Sizes.{Sizes}
 use Rattle.qg_image.specs.Table.{value_at}
-use Rattle.qg_state.specs.declared.element.Element.{Element}
-use Rattle.qg_state.specs.declared.quota.Quota.{Quota}
-use Rattle.qg_state.specs.State.{Layout, Placed, State, Subvolume, layout_of, node_at}
-use Rattle.qg_state.specs.Owed.{is_nothing, layout_extents, owed_count, what_at}
-use Rattle.qg_verdict.specs.ImageState.{addresses_of}
-use Rattle.qg_verdict.specs.OtherTrees.{AreOtherTrees, subvolume_items}
+use Rattle.qg_image.specs.declared.element.Element.{Element}
+use Rattle.qg_image.specs.declared.quota.Quota.{Quota}
+use Rattle.qg_image.specs.State.{Layout, Placed, State, Subvolume, layout_of, node_at}
+use Rattle.qg_image.specs.Owed.{is_nothing, layout_extents, owed_count, what_at}
+use Rattle.qg_image.specs.ImageState.{addresses_of}
+use Rattle.qg_image.specs.OtherTrees.{AreOtherTrees, subvolume_items}
 use Rattle.qg_refs.specs.declared.kept.Kept.{Kept}
 use Rattle.qg_refs.specs.Book.{AgreesWithOwed, Book, full_in, what_in}
 use Rattle.qg_extents.specs.Table.{book_of, IsTable}

@@ -14,11 +14,11 @@ use Rattle.qg_super.specs.declared.superblock.Super.{Super}
 use Rattle.qg_super.specs.Places.{capacity, is_served}
 use Rattle.qg_image.specs.ItemMeaning.{extent_part, quota_part, root_part}
 use Rattle.qg_image.specs.Table.{keys_of}
-use Rattle.qg_state.specs.declared.quota.Quota.{Quota}
-use Rattle.qg_state.specs.Need.{nodes_filled}
-use Rattle.qg_verdict.specs.declared.tree.Tree.{Tree}
-use Rattle.qg_verdict.specs.declared.tree.Tree.TheVariants.{Extents, Quotas, Roots}
-use Rattle.qg_verdict.specs.Walk.{is_item_of}
+use Rattle.qg_image.specs.declared.quota.Quota.{Quota}
+use Rattle.qg_image.specs.Need.{nodes_filled}
+use Rattle.qg_image.specs.declared.tree.Tree.{Tree}
+use Rattle.qg_image.specs.declared.tree.Tree.TheVariants.{Extents, Quotas, Roots}
+use Rattle.qg_image.specs.Walk.{is_item_of}
 use Rattle.qg_check.specs.Editable.{AreGroupsOf, AreSubvolumes}
 use Rattle.qg_tree.specs.declared.building.Built.{Built}
 use Rattle.qg_tree.specs.Build.{IsBuilt}

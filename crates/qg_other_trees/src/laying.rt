@@ -9,10 +9,10 @@ use crate::trees::{
     OwnRoots, extent_tree, quota_len, quota_nodes, quota_root, quota_tree_of, root_of, root_tree,
 };
 use qg_extents::Extents;
+use qg_image::Quota;
 use qg_items::RootItem;
 use qg_node::Node;
 use qg_num::{Address, Counters, Generation, NoMemory, RootId};
-use qg_state::Quota;
 use qg_super::{Sizes, Super};
 use qg_tree::Built;
 use std::alloc::Global;

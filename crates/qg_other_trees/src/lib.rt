@@ -4,8 +4,6 @@
 
 mod laws;
 mod laying;
-#[cfg(test)]
-mod tests;
 mod trees;
 
 pub use laws::{

@@ -4,8 +4,8 @@ ghost use Rattle.std.specs.Option.{option_map};
 ghost use Rattle.qg_node.specs.NodeText.{IsNodeSize};
 ghost use Rattle.qg_node.specs.Nodes.{items_bytes};
 ghost use Rattle.qg_items.specs.declared.tree.TheConstants.{EXTENT_TREE, QUOTA_TREE, ROOT_TREE};
-ghost use Rattle.qg_state.specs.Need.{nodes_filled};
-ghost use Rattle.qg_verdict.specs.declared.tree.Tree.TheVariants.{Extents as ExtentTree, Quotas, Roots};
+ghost use Rattle.qg_image.specs.Need.{nodes_filled};
+ghost use Rattle.qg_image.specs.declared.tree.Tree.TheVariants.{Extents as ExtentTree, Quotas, Roots};
 ghost use Rattle.qg_contents.specs.Writable.{IsRootBy, IsWritableRoot};
 ghost use Rattle.qg_contents.specs.Written.{quota_roots};
 ghost use Rattle.qg_quota.specs.Writable.{AreWritableQuota};
@@ -27,12 +27,12 @@ ghost use Rattle.qg_check.specs.Editable.{AreSubvolumes};
 
 use qg_contents::root_items;
 use qg_extents::Extents;
+use qg_image::Quota;
 use qg_items::RootItem;
 use qg_items::tree::{EXTENT_TREE, QUOTA_TREE, ROOT_TREE};
 use qg_node::Node;
 use qg_num::{Address, Generation, NoMemory, RootId};
 use qg_quota::quota_items;
-use qg_state::Quota;
 use qg_tree::{Built, build};
 use std::alloc::Global;
 

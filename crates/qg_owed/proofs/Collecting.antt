@@ -17,7 +17,7 @@ use Rattle.qg_node.specs.declared.item.Item.{Item}
 use Rattle.qg_image.specs.declared.part.FilePart.TheVariants.{Inode, PieceOf}
 use Rattle.qg_image.specs.declared.part.ExtentPart.{ExtentPart}
 use Rattle.qg_image.specs.ItemMeaning.{when, is_keyed, piece_told, file_part, ◌orelse◌}
-use Rattle.qg_state.specs.Owed.{Owing as OwedReference, What, owed_by_part, is_record, is_recorded_once, reference_told}
+use Rattle.qg_image.specs.Owed.{Owing as OwedReference, What, owed_by_part, is_record, is_recorded_once, reference_told}
 use Rattle.qg_refs.specs.declared.counted.Counted.{Counted}
 use Rattle.qg_owed.specs.declared.owing.Owing.{Owing}
 use Rattle.qg_owed.specs.Told.{owings_told}

@@ -6,13 +6,13 @@ use Rattle.std.proofs.lemmas.Bool.{true≢false}
 use Rattle.qg_num.specs.declared.rule.Rule.TheVariants as rule
 use Rattle.qg_super.specs.declared.superblock.Super.{Super}
 use Rattle.qg_image.specs.declared.part.ExtentPart.{ExtentPart}
-use Rattle.qg_state.specs.State.{Layout}
-use Rattle.qg_state.specs.Owed.{disagreement, homeless}
-use Rattle.qg_verdict.specs.declared.failure.Failure.{Failure}
-use Rattle.qg_verdict.specs.declared.failure.Failure.TheVariants.{Broken}
-use Rattle.qg_verdict.specs.Failure.{first_failure}
-use Rattle.qg_verdict.specs.ImageState.{extent_parts}
-use Rattle.qg_verdict.specs.Verdict.{references_failure}
+use Rattle.qg_image.specs.State.{Layout}
+use Rattle.qg_image.specs.Owed.{disagreement, homeless}
+use Rattle.qg_image.specs.declared.failure.Failure.{Failure}
+use Rattle.qg_image.specs.declared.failure.Failure.TheVariants.{Broken}
+use Rattle.qg_image.specs.Failure.{first_failure}
+use Rattle.qg_image.specs.ImageState.{extent_parts}
+use Rattle.qg_image.specs.Verdict.{references_failure}
 
 -- the first of where both rules are broken
 abbrev first_of : Option ℕ → Option ℕ → Option Failure

@@ -18,8 +18,8 @@ use Rattle.qg_node.specs.Nodes.{ascends_from, is_ascending}
 use Rattle.qg_image.specs.declared.part.ExtentPart.{ExtentPart}
 use Rattle.qg_image.specs.declared.part.ExtentPart.TheVariants.{DataRecord, NodeRecord, Referenced}
 use Rattle.qg_image.specs.ItemMeaning.{when, ◌orelse◌, extent_part}
-use Rattle.qg_state.specs.Owed.{part_address}
-use Rattle.qg_state.proofs.Contained.{none_contained, contains_cases}
+use Rattle.qg_image.specs.Owed.{part_address}
+use Rattle.qg_image.proofs.Contained.{none_contained, contains_cases}
 use Rattle.qg_owed.proofs.Passing.{and_first, and_second}
 use Rattle.qg_owed.proofs.Filters.{Rises}
 

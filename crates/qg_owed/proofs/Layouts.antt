@@ -12,11 +12,11 @@ use Rattle.qg_items.specs.declared.extent.Reference.{Reference}
 use Rattle.qg_image.specs.Table.{value_at, keys_of}
 use Rattle.qg_image.specs.declared.part.ExtentPart.{ExtentPart}
 use Rattle.qg_image.specs.declared.part.ExtentPart.TheVariants.{DataRecord, NodeRecord, Referenced}
-use Rattle.qg_state.specs.Record.{same_reference}
-use Rattle.qg_state.specs.declared.element.Element.{Element}
-use Rattle.qg_state.specs.State.{Layout, Placed}
-use Rattle.qg_state.specs.Owed.{Owing as OwedReference, owed, owed_to, What, Nothing, Data, Block, what_at, layout_extents, part_address, is_nothing, is_record, is_record_of, is_recorded_once, reference_told, are_references, agrees_at, recorded_addresses, disagreement}
-use Rattle.qg_state.proofs.Contained.{none_contained, contains_here, contains_later, contains_cases}
+use Rattle.qg_image.specs.Record.{same_reference}
+use Rattle.qg_image.specs.declared.element.Element.{Element}
+use Rattle.qg_image.specs.State.{Layout, Placed}
+use Rattle.qg_image.specs.Owed.{Owing as OwedReference, owed, owed_to, What, Nothing, Data, Block, what_at, layout_extents, part_address, is_nothing, is_record, is_record_of, is_recorded_once, reference_told, are_references, agrees_at, recorded_addresses, disagreement}
+use Rattle.qg_image.proofs.Contained.{none_contained, contains_here, contains_later, contains_cases}
 use Rattle.qg_reach.specs.Sets.{HaveSame}
 use Rattle.qg_owed.specs.declared.owing.Owing.{Owing}
 use Rattle.qg_owed.specs.declared.thing.Thing.{Thing}

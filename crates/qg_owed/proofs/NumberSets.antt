@@ -3,7 +3,7 @@ use Rattle.std.proofs.Common.{◌≡◌, ℕ, ◌<◌, List, [], ◌∷◌, refl
 use Rattle.std.specs.List.{Contains}
 use Rattle.std.proofs.lemmas.Bool.{cases_Bool, cases_eq, cond-true, cond-false, eq-eqb, ne_eqb, lt-ltb, le-ltb}
 use Rattle.qg_image.specs.Table.{with_number, number_set}
-use Rattle.qg_state.proofs.Contained.{none_contained, contains_here, contains_later, contains_cases}
+use Rattle.qg_image.proofs.Contained.{none_contained, contains_here, contains_later, contains_cases}
 use Rattle.qg_reach.specs.Sets.{HaveSame}
 
 -- each number is less than all later ones

@@ -9,8 +9,8 @@ use Rattle.std.proofs.lemmas.List.Sums.{sum_by-cons}
 use Rattle.std.proofs.lemmas.List.Sorted.{sum_by-IsPermutation, IsPermutation-map}
 use Rattle.qg_items.specs.declared.extent.Reference.{Reference}
 use Rattle.qg_image.specs.declared.part.ExtentPart.{ExtentPart}
-use Rattle.qg_state.specs.Record.{same_reference}
-use Rattle.qg_state.specs.Owed.{What, is_record, is_recorded_once, reference_told, are_references}
+use Rattle.qg_image.specs.Record.{same_reference}
+use Rattle.qg_image.specs.Owed.{What, is_record, is_recorded_once, reference_told, are_references}
 use Rattle.qg_refs.specs.declared.counted.Counted.{Counted}
 use Rattle.qg_refs.specs.Order.{precedes}
 use Rattle.qg_owed.specs.Judged.{count_told, counts_told, agree}

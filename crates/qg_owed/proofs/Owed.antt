@@ -7,9 +7,9 @@ use Rattle.std.proofs.lemmas.Bool.{cases_Bool, cond-true, cond-false, eq-eqb, eq
 use Rattle.std.proofs.lemmas.List.Sums.{sum_by-cons}
 use Rattle.std.proofs.lemmas.List.Sorted.{sum_by-IsPermutation, Contains-permutation, IsPermutation-sym}
 use Rattle.qg_items.specs.declared.extent.Reference.{Reference}
-use Rattle.qg_state.specs.Record.{same_reference}
-use Rattle.qg_state.specs.Owed.{is_told_once, are_references}
-use Rattle.qg_state.proofs.Contained.{none_contained, contains_here, contains_later, contains_cases}
+use Rattle.qg_image.specs.Record.{same_reference}
+use Rattle.qg_image.specs.Owed.{is_told_once, are_references}
+use Rattle.qg_image.proofs.Contained.{none_contained, contains_here, contains_later, contains_cases}
 use Rattle.qg_refs.proofs.RankOrder.{same_reference_is, same_itself}
 use Rattle.qg_owed.proofs.Passing.{and_first, and_second, and_both, count-cons, any_at, at_any, all_at, all_by, count_none, count_some, none_any}
 

@@ -6,7 +6,7 @@ use Rattle.std.specs.List.Sorted.{IsNonDecreasingBy}
 use Rattle.std.proofs.lemmas.List.{length-drop, take_all}
 use Rattle.std.proofs.lemmas.List.Sorted.{IsNonDecreasingBy-drop}
 use Rattle.qg_image.specs.declared.part.ExtentPart.{ExtentPart}
-use Rattle.qg_state.specs.Owed.{part_address}
+use Rattle.qg_image.specs.Owed.{part_address}
 use Rattle.qg_owed.specs.declared.owing.Owing.{Owing}
 use Rattle.qg_owed.specs.declared.thing.Thing.{Thing}
 use Rattle.qg_owed.specs.declared.thing.Kind.{Kind}

@@ -10,8 +10,8 @@ use Rattle.std.proofs.lemmas.List.Elements.{Contains-append_left, Contains-appen
 use Rattle.qg_items.specs.declared.extent.Reference.{Reference}
 use Rattle.qg_image.specs.Table.{number_set}
 use Rattle.qg_image.specs.declared.part.ExtentPart.{ExtentPart}
-use Rattle.qg_state.proofs.Contained.{contains_here, contains_cases}
-use Rattle.qg_state.specs.Owed.{part_address}
+use Rattle.qg_image.proofs.Contained.{contains_here, contains_cases}
+use Rattle.qg_image.specs.Owed.{part_address}
 use Rattle.qg_reach.proofs.Members.{contains_map, one_mapped}
 use Rattle.qg_owed.specs.declared.owing.Owing.{Owing}
 use Rattle.qg_owed.specs.declared.thing.Thing.{Thing}

@@ -10,9 +10,9 @@ use Rattle.std.proofs.lemmas.Bool.Decides.{nat_tests}
 use Rattle.qg_node.specs.Nodes.{header_of}
 use Rattle.qg_image.specs.Table.{value_at}
 use Rattle.qg_image.specs.ItemMeaning.{◌orelse◌}
-use Rattle.qg_state.specs.declared.element.Element.{Element}
-use Rattle.qg_state.specs.State.{Layout, Placed}
-use Rattle.qg_state.specs.Owed.{what_at, layout_extents}
+use Rattle.qg_image.specs.declared.element.Element.{Element}
+use Rattle.qg_image.specs.State.{Layout, Placed}
+use Rattle.qg_image.specs.Owed.{what_at, layout_extents}
 use Rattle.qg_owed.specs.declared.thing.Thing.{Thing}
 use Rattle.qg_owed.specs.declared.thing.Kind.{Kind}
 use Rattle.qg_owed.specs.declared.thing.Kind.TheVariants.{Node, Extent}

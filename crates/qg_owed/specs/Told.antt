@@ -4,8 +4,8 @@ use Rattle.std.specs.List.{find}
 use Rattle.std.specs.List.Sorted.{IsPermutation}
 use Rattle.std.specs.Option.{option_map}
 use Rattle.qg_items.specs.declared.extent.Reference.{Reference}
-use Rattle.qg_state.specs.State.{Layout}
-use Rattle.qg_state.specs.Owed.{Owing as OwedReference, owed, What, Nothing, Data, Block, what_at}
+use Rattle.qg_image.specs.State.{Layout}
+use Rattle.qg_image.specs.Owed.{Owing as OwedReference, owed, What, Nothing, Data, Block, what_at}
 use Rattle.qg_owed.specs.declared.owing.Owing.{Owing}
 use Rattle.qg_owed.specs.declared.thing.Thing.{Thing}
 use Rattle.qg_owed.specs.declared.thing.Kind.{Kind}

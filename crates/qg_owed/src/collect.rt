@@ -7,7 +7,7 @@ ghost use Rattle.qg_items.specs.ItemReading.{extent_data_read};
 ghost use Rattle.qg_node.specs.Nodes.{own_items, own_pointers};
 ghost use Rattle.qg_image.specs.ItemMeaning.{file_part, piece_told};
 ghost use Rattle.qg_image.specs.declared.part.FilePart.TheVariants.{PieceOf};
-ghost use Rattle.qg_state.specs.Owed.{owed_by_node, owed_by_part, owed_to_child};
+ghost use Rattle.qg_image.specs.Owed.{owed_by_node, owed_by_part, owed_to_child};
 ghost use Rattle.qg_owed.specs.Told.{owed_told, owing_told, owings_told};
 
 use crate::owing::Owing;

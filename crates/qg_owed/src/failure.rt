@@ -1,8 +1,8 @@
 // The rule `refs` over lists.
 ghost use Rattle.std.specs.Prelude.{◌≡◌, IfOk};
 ghost use Rattle.std.specs.List.Sorted.{IsNonDecreasingBy};
-ghost use Rattle.qg_state.specs.State.{Layout};
-ghost use Rattle.qg_state.specs.Owed.{disagreement, part_address};
+ghost use Rattle.qg_image.specs.State.{Layout};
+ghost use Rattle.qg_image.specs.Owed.{disagreement, part_address};
 ghost use Rattle.qg_owed.specs.Told.{IsTold};
 ghost use Rattle.qg_owed.specs.Judged.{first_disagreement};
 

@@ -1,7 +1,7 @@
 // Where the first of several lists by address ends.
 ghost use Rattle.std.specs.Prelude.{◌≡◌, ◌≤◌, length, nat_lt, nat_le, if◌then◌else◌};
 ghost use Rattle.std.specs.List.{prefix_len};
-ghost use Rattle.qg_state.specs.Owed.{part_address};
+ghost use Rattle.qg_image.specs.Owed.{part_address};
 ghost use Rattle.qg_owed.specs.Judged.{least_address, kind_first};
 
 use crate::owing::Owing;

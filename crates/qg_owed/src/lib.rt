@@ -18,6 +18,3 @@ pub use failure::owed_failure;
 pub use owing::Owing;
 pub use rules::references_failure;
 pub use thing::{Kind, Thing, sort_things, thing_of_extent, thing_of_node};
-
-#[cfg(test)]
-mod tests;

@@ -1,7 +1,7 @@
 // The record of what begins at an address.
 ghost use Rattle.std.specs.Prelude.{◌≡◌};
 ghost use Rattle.std.specs.List.{filter, sum_by};
-ghost use Rattle.qg_state.specs.Owed.{is_record, is_record_of, is_recorded_once, node_flags};
+ghost use Rattle.qg_image.specs.Owed.{is_record, is_record_of, is_recorded_once, node_flags};
 ghost use Rattle.qg_refs.specs.declared.counted.Counted.{Counted};
 ghost use Rattle.qg_owed.specs.Judged.{what_of};
 

@@ -3,8 +3,8 @@ ghost use Rattle.std.specs.Prelude.{◌≡◌, ◌≤◌, length, map, OnOk};
 ghost use Rattle.std.specs.List.{filter_map, prefix_len};
 ghost use Rattle.std.specs.Option.{option_map};
 ghost use Rattle.std.specs.List.Sorted.{IsSortedBy};
-ghost use Rattle.qg_state.specs.Owed.{are_references, reference_told};
-ghost use Rattle.qg_state.specs.Record.{same_reference};
+ghost use Rattle.qg_image.specs.Owed.{are_references, reference_told};
+ghost use Rattle.qg_image.specs.Record.{same_reference};
 ghost use Rattle.qg_refs.specs.Order.{precedes};
 ghost use Rattle.qg_owed.specs.Judged.{count_told, counts_told};
 

@@ -4,11 +4,11 @@ ghost use Rattle.std.specs.List.Sorted.{IsNonDecreasingBy, IsStrictlyIncreasing}
 ghost use Rattle.std.specs.Option.{option_map};
 ghost use Rattle.qg_super.specs.declared.superblock.Super.{Super};
 ghost use Rattle.qg_image.specs.Table.{keys_of};
-ghost use Rattle.qg_state.specs.State.{Layout};
-ghost use Rattle.qg_state.specs.Owed.{part_address};
-ghost use Rattle.qg_verdict.specs.declared.failure.Failure.TheVariants.{Broken};
-ghost use Rattle.qg_verdict.specs.ImageState.{extent_parts};
-ghost use Rattle.qg_verdict.specs.Verdict.{references_failure};
+ghost use Rattle.qg_image.specs.State.{Layout};
+ghost use Rattle.qg_image.specs.Owed.{part_address};
+ghost use Rattle.qg_image.specs.declared.failure.Failure.TheVariants.{Broken};
+ghost use Rattle.qg_image.specs.ImageState.{extent_parts};
+ghost use Rattle.qg_image.specs.Verdict.{references_failure};
 ghost use Rattle.qg_home.specs.Linked.{AreLinksOf};
 ghost use Rattle.qg_owed.specs.Told.{IsTold};
 
@@ -16,9 +16,8 @@ use crate::failure::owed_failure;
 use crate::owing::Owing;
 use crate::thing::Thing;
 use qg_home::{Linked, homeless};
-use qg_image::ExtentPart;
+use qg_image::{ExtentPart, Failure};
 use qg_num::{Address, NoMemory, RootId, Rule};
-use qg_verdict::Failure;
 use std::alloc::Global;
 
 /// The failure of an image's references: the rule `refs` at the least address where the extent tree doesn't record

@@ -1,12 +1,12 @@
 // What begins at an address.
 ghost use Rattle.std.specs.Prelude.{◌≡◌, ℕ, OnOk, Some};
 ghost use Rattle.std.specs.List.Sorted.{IsNonDecreasingBy, IsPermutation};
-ghost use Rattle.qg_state.specs.Owed.{Data, Block};
+ghost use Rattle.qg_image.specs.Owed.{Data, Block};
 ghost use Rattle.qg_owed.specs.Told.{kind_at, kind_of};
 
+use qg_image::Element;
 use qg_node::Header;
 use qg_num::{Address, Generation, NoMemory};
-use qg_state::Element;
 
 /// What there is at an address, as far as its record tells it (on-disk format, EXTENT_ITEM and METADATA_ITEM).
 #[derive(Clone, Copy, Debug)]

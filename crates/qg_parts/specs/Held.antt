@@ -3,8 +3,8 @@ use Rattle.std.specs.Prelude.{◌≡◌, ℕ, Bool, true, Option, Some, None, Is
 use Rattle.qg_node.specs.declared.item.Item.{Item}
 use Rattle.qg_image.specs.ItemMeaning.{some_passes, root_part, extent_part, quota_part, file_part}
 use Rattle.qg_image.specs.FilesOf.{is_file_item}
-use Rattle.qg_verdict.specs.declared.tree.Tree.TheVariants.{Roots, Extents, Quotas, Files}
-use Rattle.qg_verdict.specs.Walk.{is_item_of}
+use Rattle.qg_image.specs.declared.tree.Tree.TheVariants.{Roots, Extents, Quotas, Files}
+use Rattle.qg_image.specs.Walk.{is_item_of}
 
 -- what passes a test is there
 some_passed : {A : Type 0} (test : A → Bool) (o : Option A) → some_passes test o ≡ true → is_some o ≡ true

@@ -18,7 +18,7 @@ use qg_num::{Address, Generation, RootId};
 
 impl TreePart for ExtentPart {
     ghost use Rattle.qg_image.specs.ItemMeaning.{extent_part};
-    ghost use Rattle.qg_verdict.specs.declared.tree.Tree.TheVariants.{Extents};
+    ghost use Rattle.qg_image.specs.declared.tree.Tree.TheVariants.{Extents};
     ghost use Rattle.qg_parts.specs.Held.{extent_said};
 
     ghost tree = { Extents };
@@ -29,7 +29,7 @@ impl TreePart for ExtentPart {
         owner.value() == EXTENT_TREE
     }
 
-    #[tactic(auto, unfolding(qg_verdict::specs::Walk::is_item_of))]
+    #[tactic(auto, unfolding(qg_image::specs::Walk::is_item_of))]
     fn read(item: &Item, generation: Generation) -> Option<ExtentPart> {
         // Each part is made anew: the toolchain finds no proof of one that is kept while it is tested.
         match extent_part(item)? {

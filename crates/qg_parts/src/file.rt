@@ -5,7 +5,7 @@ ghost use Rattle.qg_image.specs.ItemMeaning.{when, is_keyed, piece_told, file_pa
 ghost use Rattle.qg_items.specs.ItemReading.{inode_read, extent_data_read};
 ghost use Rattle.qg_items.specs.declared.kind.TheConstants.{INODE_ITEM};
 ghost use Rattle.qg_image.specs.declared.part.FilePart.TheVariants.{Inode, PieceOf};
-ghost use Rattle.qg_verdict.specs.Walk.{are_by};
+ghost use Rattle.qg_image.specs.Walk.{are_by};
 
 use crate::part::TreePart;
 use crate::root::is_subvolume_number;
@@ -17,7 +17,7 @@ use qg_num::{Generation, Ino, Piece, RootId};
 
 impl TreePart for FilePart {
     ghost use Rattle.qg_image.specs.ItemMeaning.{file_part};
-    ghost use Rattle.qg_verdict.specs.declared.tree.Tree.TheVariants.{Files};
+    ghost use Rattle.qg_image.specs.declared.tree.Tree.TheVariants.{Files};
     ghost use Rattle.qg_parts.specs.Held.{file_said};
 
     ghost tree = { Files };
@@ -28,7 +28,7 @@ impl TreePart for FilePart {
         is_subvolume_number(owner.value())
     }
 
-    #[tactic(auto, unfolding(qg_verdict::specs::Walk::is_item_of, qg_image::specs::FilesOf::is_file_item))]
+    #[tactic(auto, unfolding(qg_image::specs::Walk::is_item_of, qg_image::specs::FilesOf::is_file_item))]
     fn read(item: &Item, generation: Generation) -> Option<FilePart> {
         file_part(item).filter(|part| stamps_are_by(part, generation))
     }

@@ -9,8 +9,8 @@ pub trait TreePart: Sized + Drop {
     ghost use Rattle.std.specs.Prelude.{◌≡◌, ℕ, Option, IsTrue, is_some};
     ghost use Rattle.qg_node.specs.declared.item.Item.{Item};
     ghost use Rattle.qg_image.specs.ItemMeaning.{when};
-    ghost use Rattle.qg_verdict.specs.declared.tree.Tree.{Tree};
-    ghost use Rattle.qg_verdict.specs.Walk.{is_owner, is_item_of};
+    ghost use Rattle.qg_image.specs.declared.tree.Tree.{Tree};
+    ghost use Rattle.qg_image.specs.Walk.{is_owner, is_item_of};
 
     /// The tree.
     ghost tree: { Tree };

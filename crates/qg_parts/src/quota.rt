@@ -6,7 +6,7 @@ ghost use Rattle.qg_image.specs.ItemMeaning.{when, is_keyed, is_status, quota_pa
 ghost use Rattle.qg_items.specs.ItemReading.{status_read, info_read, limit_read};
 ghost use Rattle.qg_items.specs.declared.kind.TheConstants.{QGROUP_STATUS, QGROUP_INFO, QGROUP_LIMIT};
 ghost use Rattle.qg_image.specs.declared.part.QuotaPart.TheVariants.{Status, Info, Limits, Relation};
-ghost use Rattle.qg_verdict.specs.Walk.{are_by, tells_generation};
+ghost use Rattle.qg_image.specs.Walk.{are_by, tells_generation};
 
 use crate::part::TreePart;
 use qg_image::QuotaPart;
@@ -21,7 +21,7 @@ const LIMIT_FLAGS: u64 = 3;
 
 impl TreePart for QuotaPart {
     ghost use Rattle.qg_image.specs.ItemMeaning.{quota_part};
-    ghost use Rattle.qg_verdict.specs.declared.tree.Tree.TheVariants.{Quotas};
+    ghost use Rattle.qg_image.specs.declared.tree.Tree.TheVariants.{Quotas};
     ghost use Rattle.qg_parts.specs.Held.{quota_said};
 
     ghost tree = { Quotas };
@@ -32,7 +32,7 @@ impl TreePart for QuotaPart {
         owner.value() == QUOTA_TREE
     }
 
-    #[tactic(auto, unfolding(qg_verdict::specs::Walk::is_item_of))]
+    #[tactic(auto, unfolding(qg_image::specs::Walk::is_item_of))]
     fn read(item: &Item, generation: Generation) -> Option<QuotaPart> {
         quota_part(item).filter(|part| stamps_fit(part, generation))
     }

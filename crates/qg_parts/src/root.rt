@@ -1,7 +1,7 @@
 // What the items of the root tree say.
 ghost use Rattle.std.specs.Prelude.{◌≡◌};
 ghost use Rattle.qg_image.specs.ItemMeaning.{is_subvolume_number, root_part, root_part_stamps};
-ghost use Rattle.qg_verdict.specs.Walk.{are_by};
+ghost use Rattle.qg_image.specs.Walk.{are_by};
 
 use crate::part::TreePart;
 use qg_image::RootPart;
@@ -16,7 +16,7 @@ const SUBVOLUMES_END: u64 = 1 << 48;
 
 impl TreePart for RootPart {
     ghost use Rattle.qg_image.specs.ItemMeaning.{root_part};
-    ghost use Rattle.qg_verdict.specs.declared.tree.Tree.TheVariants.{Roots};
+    ghost use Rattle.qg_image.specs.declared.tree.Tree.TheVariants.{Roots};
     ghost use Rattle.qg_parts.specs.Held.{root_said};
 
     ghost tree = { Roots };
@@ -27,7 +27,7 @@ impl TreePart for RootPart {
         owner.value() == ROOT_TREE
     }
 
-    #[tactic(auto, unfolding(qg_verdict::specs::Walk::is_item_of))]
+    #[tactic(auto, unfolding(qg_image::specs::Walk::is_item_of))]
     fn read(item: &Item, generation: Generation) -> Option<RootPart> {
         root_part(item).filter(|part| stamps_are_by(part, generation))
     }

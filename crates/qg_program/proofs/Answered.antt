@@ -1,5 +1,6 @@
 -- What was answered so far, turn by turn, and what follows at the end.
 use Rattle.std.proofs.Common.{◌≡◌, ◌⊎◌, inl, inr, ℕ, ◌+◌, ◌-◌, ◌≤◌, List, [], ◌∷◌, ◌++◌, length, take, drop, true, false, Option, Some, None, refl, sym, ap, ◌∙◌, subst, arith, append_assoc}
+use Rattle.std.specs.Prelude.{⊤}
 use Rattle.std.specs.List.{concat}
 use Rattle.std.specs.Io.KnownBytes.{append_known, IsAtEnd}
 use Rattle.std.proofs.Math.Seq.{drop-append_seam, take-append_seam, take-append-add}
@@ -8,24 +9,21 @@ use Rattle.qg_device.specs.History.{Event}
 use Rattle.qg_edge.specs.Appended.{AppendsFront}
 use Rattle.qg_grammar.specs.ScriptText.{script_lines, longest_script}
 use Rattle.qg_script.specs.Feeding.{Feeding, IsTooLong, IsWithinLimit}
-use Rattle.qg_script.specs.Lines.{LosesLine, pending, CountsTaken}
-use Rattle.qg_state.specs.State.{Committed, State}
+use Rattle.qg_script.specs.Lines.{LosesLine, TakesLine, pending, CountsTaken}
+use Rattle.qg_image.specs.State.{Committed, State}
 use Rattle.qg_machine.specs.Run.{Run}
 use Rattle.qg_commit.specs.Opened.{IsOpened}
-use Rattle.qg_store.specs.Making.{MadeCommits, Makes}
+use Rattle.qg_store.specs.Making.{Makes}
 use Rattle.qg_store.specs.Stored.{Stored, IsStoreOf}
 use Rattle.qg_store.proofs.Synced.{Makes-append, held_after, synced-Makes}
 use Rattle.qg_program.specs.declared.status.Status.{Status}
 use Rattle.qg_program.specs.declared.status.Status.TheVariants as status
-use Rattle.qg_program.specs.Following.{Follows, FollowsPart, FollowsSome, FollowsUntil, MakesAll, StopsBefore}
+use Rattle.qg_program.specs.Following.{Follows, FollowsSome, FollowsUntil, MakesAll, StopsBefore}
 use Rattle.qg_program.specs.Running.{IsTaken, ended_lines}
-use Rattle.qg_program.specs.Turning.{Turns, TurnsPart, IsTurn, FailsToTurn}
+use Rattle.qg_program.specs.Turning.{TurnsPart, IsTurn, FailsToTurn, StopsLine}
 use Rattle.qg_program.proofs.EndedLines.{ended_lines-line, ended_lines-none}
 use Rattle.qg_store.proofs.HeldAfter.{held_after-append, turn-held}
 use Rattle.qg_program.proofs.Steps.{append_known-nil, put-snoc, run-snoc}
-
-some-injective : {a b : List ℕ} → Some a ≡ Some b → a ≡ b
-some-injective {a} {b} same = cc
 
 -- these lines ended in front of what is left
 pub record IsFront (input : List ℕ) (lines : List (List ℕ)) (left : List ℕ) : Type 0 where
@@ -33,19 +31,28 @@ pub record IsFront (input : List ℕ) (lines : List (List ℕ)) (left : List ℕ
   pub parted : input ≡ front ++ left
   pub ended : (tail : List ℕ) → ended_lines (front ++ tail) ≡ lines ++ ended_lines tail
 
+-- these lines are the first of an input of which so much is left
+pub record IsAhead (input : List ℕ) (lines : List (List ℕ)) (left : List ℕ) : Type 0 where
+  pub ahead : script_lines input ≡ lines ++ script_lines left
+  pub limit : IsFront input lines left ⊎ (left ≡ [])
+
+-- so they are where the input is told, and what is left is told exactly there
+abbrev pub IsScript : Option (List ℕ) → List (List ℕ) → Option (List ℕ) → Type 0
+IsScript None lines None = ⊤
+IsScript None lines (Some left) = ⊥
+IsScript (Some input) lines None = ⊥
+IsScript (Some input) lines (Some left) = IsAhead input lines left
+
 -- some lines of the input were answered and their replies put; so much of it is left. The store stands for the present state, and since it
 -- was opened the disk was made to hold what was committed
-pub record HasAnswered (state : State) (input : List ℕ) (opened : List Event) (pend : Option (List ℕ)) (store : Stored) (history : Option (List Event)) (old new : Option (List ℕ)) : Type 0 where
-  pub left : List ℕ
-  pub told : pend ≡ Some left
+pub record HasAnswered (state : State) (input : Option (List ℕ)) (opened : List Event) (pend : Option (List ℕ)) (store : Stored) (history : Option (List Event)) (old new : Option (List ℕ)) : Type 0 where
   pub lines : List (List ℕ)
   pub replies : List (List ℕ)
   pub commits : List State
   pub present : State
   pub run : Run state lines replies commits present
   pub put : new ≡ append_known old (concat replies)
-  pub ahead : script_lines input ≡ lines ++ script_lines left
-  pub limit : IsFront input lines left ⊎ (left ≡ [])
+  pub script : IsScript input lines pend
   pub stands : IsStoreOf store present history
   pub events : List Event
   pub known : history ≡ Some events
@@ -53,25 +60,31 @@ pub record HasAnswered (state : State) (input : List ℕ) (opened : List Event) 
   pub held : held_after state.held commits ≡ present.held
 
 -- at the beginning
-pub answered-none : (state : State) (input : List ℕ) (opened : List Event) (pend : Option (List ℕ)) (store : Stored) (history : Option (List Event)) (old : Option (List ℕ))
-    → pend ≡ Some input → IsStoreOf store state history → history ≡ Some opened → HasAnswered state input opened pend store history old old
-answered-none state input opened pend store history old told stands known = record {
-  left = input;
-  told = told;
+script-none : (input : Option (List ℕ)) → IsScript input [] input
+script-none None = tt
+script-none (Some input) = record { ahead = refl; limit = inl (record { front = []; parted = refl; ended = λ tail. refl }) }
+
+pub answered-none : (state : State) (input : Option (List ℕ)) (opened : List Event) (pend : Option (List ℕ)) (store : Stored) (history : Option (List Event)) (old : Option (List ℕ))
+    → pend ≡ input → IsStoreOf store state history → history ≡ Some opened → HasAnswered state input opened pend store history old old
+answered-none state input opened pend store history old all stands known = record {
   lines = [];
   replies = [];
   commits = [];
   present = state;
   run = (refl, refl);
   put = append_known-nil old;
-  ahead = refl;
-  limit = inl (record { front = []; parted = refl; ended = λ tail. refl });
+  script = subst (λ (left : Option (List ℕ)). IsScript input [] left) (sym all) (script-none input);
   stands = stands;
   events = opened;
   known = known;
   made = refl;
   held = refl;
 }
+
+-- a feed that has taken nothing holds nothing
+pub pending-none : (left : Option (List ℕ)) → pending (record { taken = 0; rest = [] }) left ≡ left
+pending-none None = refl
+pending-none (Some left) = refl
 
 -- a line that ended is one more in front
 front-line : {input line after : List ℕ} {lines : List (List ℕ)} {before : List ℕ} → IsFront input lines before → LosesLine before after line
@@ -106,30 +119,37 @@ ahead-line : (input : List ℕ) (lines : List (List ℕ)) {line before after : L
 ahead-line input lines {line} {before} {after} ahead loses =
     ahead ∙ ap (λ (more : List (List ℕ)). lines ++ more) loses.first ∙ sym (append_assoc lines (line ∷ []) (script_lines after))
 
+pub script-line : (input before after : Option (List ℕ)) (lines : List (List ℕ)) (line : List ℕ) → IsScript input lines before → TakesLine before after line
+    → IsScript input (lines ++ line ∷ []) after
+script-line None None None lines line script takes = tt
+script-line None None (Some after) lines line script takes = absurd takes
+script-line None (Some before) after lines line script takes = absurd script
+script-line (Some input) None after lines line script takes = absurd script
+script-line (Some input) (Some before) None lines line script takes = absurd takes
+script-line (Some input) (Some before) (Some after) lines line script takes =
+    record { ahead = ahead-line input lines script.ahead takes; limit = limit-line script.limit takes }
+
 -- commits of the present state behind those that led to it
-made-more : (state present : State) (first more : List State) (before mid after : List Event) → held_after state.held first ≡ present.held
+pub made-more : (state present : State) (first more : List State) (before mid after : List Event) → held_after state.held first ≡ present.held
     → Makes state.held first before mid → Makes present.held more mid after → Makes state.held (first ++ more) before after
 made-more state present first more before mid after held made later =
     Makes-append state.held first more before mid after made (subst (λ (held : Committed). Makes held more mid after) (sym held) later)
 
-answered-line : {state : State} {input after : List ℕ} {opened : List Event} {pend : Option (List ℕ)} {before store : Stored} {history told : Option (List Event)} {old mid new : Option (List ℕ)}
-    → (so_far : HasAnswered state input opened pend before history old mid)
-    → Turns so_far.present so_far.events so_far.left after store told mid new → HasAnswered state input opened (Some after) store told old new
-answered-line {state} {input} {after} {opened} {pend} {before} {store} {history} {told} {old} {mid} {new} so_far turns =
+-- a turn that goes on
+pub answered-more : {state : State} {input : Option (List ℕ)} {opened : List Event} {pend : Option (List ℕ)} {before store : Stored} {history told : Option (List Event)} {old mid new : Option (List ℕ)}
+    → (after : Option (List ℕ)) → (so_far : HasAnswered state input opened pend before history old mid)
+    → IsTurn true so_far.present so_far.events pend after store told mid new → HasAnswered state input opened after store told old new
+answered-more {state} {input} {opened} {pend} {before} {store} {history} {told} {old} {mid} {new} after so_far turns =
     let line = turns.replies.line in
-    let loses = turns.replies.loses in
     let is = turns.replies.answered in
     record {
-      left = after;
-      told = refl;
       lines = so_far.lines ++ line ∷ [];
       replies = so_far.replies ++ turns.reply ∷ [];
       commits = so_far.commits ++ is.commits;
       present = is.new;
       run = run-snoc state so_far.present is.new so_far.lines so_far.replies line turns.reply so_far.commits is.commits so_far.run is.turn;
       put = turns.put ∙ ap (λ (told : Option (List ℕ)). append_known told turns.reply) so_far.put ∙ put-snoc old so_far.replies turns.reply;
-      ahead = ahead-line input so_far.lines so_far.ahead loses;
-      limit = limit-line so_far.limit loses;
+      script = script-line input pend after so_far.lines line so_far.script turns.replies.takes;
       stands = is.stands;
       events = is.made.after;
       known = is.made.told;
@@ -138,17 +158,56 @@ answered-line {state} {input} {after} {opened} {pend} {before} {store} {history}
           ∙ turn-held so_far.present line turns.reply is.commits is.new is.turn;
     }
 
--- a turn that goes on
-pub answered-more : {state : State} {input : List ℕ} {opened : List Event} {pend : Option (List ℕ)} {before store : Stored} {history told : Option (List Event)} {old mid new : Option (List ℕ)}
-    → (after : Option (List ℕ)) → (so_far : HasAnswered state input opened pend before history old mid)
-    → IsTurn true so_far.present so_far.events so_far.left after store told mid new → HasAnswered state input opened after store told old new
-answered-more None so_far turns = absurd turns
-answered-more (Some after) so_far turns = answered-line so_far turns
+-- ---- which lines were answered
+
+-- all of them, where nothing is left
+pub all-lines : (input : List ℕ) (lines : List (List ℕ)) (left : Option (List ℕ)) → IsScript (Some input) lines left → IsAtEnd left → lines ≡ script_lines input
+all-lines input lines None script end = absurd script
+all-lines input lines (Some left) script end =
+    sym (script.ahead ∙ ap (λ (bytes : List ℕ). lines ++ script_lines bytes) end ∙ append-nil lines)
+
+-- the first ones
+pub first-lines : (input : List ℕ) (lines : List (List ℕ)) (left : Option (List ℕ)) → IsScript (Some input) lines left
+    → lines ≡ take (length lines) (script_lines input)
+first-lines input lines None script = absurd script
+first-lines input lines (Some left) script = sym (ap (take (length lines)) script.ahead ∙ take-append_seam lines (script_lines left))
+
+-- and the next one behind them
+pub record HasNext (input : List ℕ) (lines : List (List ℕ)) (line : List ℕ) : Type 0 where
+  pub later : List (List ℕ)
+  pub are : script_lines input ≡ lines ++ line ∷ later
+
+pub next-line : (input : List ℕ) (lines : List (List ℕ)) (left after : Option (List ℕ)) (line : List ℕ) → IsScript (Some input) lines left
+    → TakesLine left after line → HasNext input lines line
+next-line input lines None after line script takes = absurd script
+next-line input lines (Some left) None line script takes = absurd takes
+next-line input lines (Some left) (Some after) line script takes = record {
+  later = script_lines after;
+  are = script.ahead ∙ ap (λ (more : List (List ℕ)). lines ++ more) takes.first;
+}
+
+-- what stops before the next line
+stops-script : (state : State) (input : List ℕ) (lines : List (List ℕ)) (left : Option (List ℕ)) (events : List Event) (history : Option (List Event))
+    → IsScript (Some input) lines left → StopsLine state left events history → StopsBefore state (drop (length lines) (script_lines input)) events history
+stops-script state input lines left events history script (inl none) = inl none
+stops-script state input lines left events history script (inr breaks) =
+    let next = next-line input lines left breaks.after breaks.line script breaks.takes in
+    inr (record {
+      line = breaks.line;
+      later = next.later;
+      first = ap (drop (length lines)) next.are ∙ drop-append_seam lines (breaks.line ∷ next.later);
+      starts = breaks.starts;
+    })
+
+-- where the source tells its input
+pub script-told : {state : State} {input : Option (List ℕ)} {opened : List Event} {pend : Option (List ℕ)} {before : Stored} {history : Option (List Event)} {old mid : Option (List ℕ)}
+    → (so_far : HasAnswered state input opened pend before history old mid) (bytes : List ℕ) → input ≡ Some bytes → IsScript (Some bytes) so_far.lines pend
+script-told {pend = pend} so_far bytes told = subst (λ (input : Option (List ℕ)). IsScript input so_far.lines pend) told so_far.script
 
 -- ---- the end
 
 -- what was committed, and nothing else, was done to the disk
-made-all : {held : Committed} {commits : List State} {events opened after : List Event} {history : Option (List Event)} → IsOpened events (Some opened)
+pub made-all : {held : Committed} {commits : List State} {events opened after : List Event} {history : Option (List Event)} → IsOpened events (Some opened)
     → history ≡ Some after → Makes held commits opened after → MakesAll held commits events history
 made-all {held} {commits} {events} {opened} {after} {history} opens told made = record {
   opened = opened;
@@ -158,72 +217,68 @@ made-all {held} {commits} {events} {opened} {after} {history} opens told made = 
 }
 
 -- the turn that finds nothing left
-pub answered-all : {state : State} {input : List ℕ} {events opened : List Event} {pend : Option (List ℕ)} {before : Stored} {history told : Option (List Event)} {old mid new : Option (List ℕ)}
-    → (after : Option (List ℕ)) (store : Stored) → (so_far : HasAnswered state input opened pend before history old mid) → IsOpened events (Some opened)
-    → IsTurn false so_far.present so_far.events so_far.left after store told mid new → Follows status.Done state input events told old new
-answered-all {state} {input} {events} {opened} {pend} {before} {history} {told} {old} {mid} {new} after store so_far opens over =
-    let all : script_lines input ≡ so_far.lines =
-    so_far.ahead ∙ ap (λ (bytes : List ℕ). so_far.lines ++ script_lines bytes) over.0 ∙ append-nil so_far.lines in
+pub answered-all : {state : State} {input : Option (List ℕ)} {events opened : List Event} {pend : Option (List ℕ)} {before : Stored} {history told : Option (List Event)} {old mid new : Option (List ℕ)}
+    → (bytes : List ℕ) (after : Option (List ℕ)) (store : Stored) → (so_far : HasAnswered state input opened pend before history old mid) → input ≡ Some bytes
+    → IsOpened events (Some opened) → IsTurn false so_far.present so_far.events pend after store told mid new
+    → Follows status.Done state bytes events told old new
+answered-all {state} {input} {events} {opened} {pend} {before} {history} {told} {old} {mid} {new} bytes after store so_far is opens over =
+    let all = all-lines bytes so_far.lines pend (script-told so_far bytes is) over.0 in
     record {
       replies = so_far.replies;
       commits = so_far.commits;
       after = so_far.present;
-      run = subst (λ (lines : List (List ℕ)). Run state lines so_far.replies so_far.commits so_far.present) (sym all) so_far.run;
+      run = subst (λ (lines : List (List ℕ)). Run state lines so_far.replies so_far.commits so_far.present) all so_far.run;
       put = over.3 ∙ so_far.put;
       made = made-all opens over.2 so_far.made;
     }
 
--- the lines that were answered are the first of the script, and the others are those of what is left
-answered-front : {state : State} {input : List ℕ} {opened : List Event} {pend : Option (List ℕ)} {before : Stored} {history : Option (List Event)} {old mid : Option (List ℕ)}
-    → (so_far : HasAnswered state input opened pend before history old mid)
-    → (take (length so_far.lines) (script_lines input) ≡ so_far.lines) × (drop (length so_far.lines) (script_lines input) ≡ script_lines so_far.left)
-answered-front so_far = (
-  ap (take (length so_far.lines)) so_far.ahead ∙ take-append_seam so_far.lines (script_lines so_far.left),
-  ap (drop (length so_far.lines)) so_far.ahead ∙ drop-append_seam so_far.lines (script_lines so_far.left),
-)
-
 -- whole replies up to a fault
-answered-some : {state : State} {input : List ℕ} {events opened : List Event} {pend : Option (List ℕ)} {before : Stored} {history told : Option (List Event)} {old mid new : Option (List ℕ)}
-    → (so_far : HasAnswered state input opened pend before history old mid) → IsOpened events (Some opened) → told ≡ Some so_far.events → new ≡ mid
-    → FollowsSome state (script_lines input) events told old new
-answered-some {state} so_far opens told same = record {
-  count = length so_far.lines;
-  follows = record {
-    replies = so_far.replies;
-    commits = so_far.commits;
-    after = so_far.present;
-    run = subst (λ (lines : List (List ℕ)). Run state lines so_far.replies so_far.commits so_far.present) (sym (answered-front so_far).0) so_far.run;
-    put = same ∙ so_far.put;
-    made = made-all opens told so_far.made;
-  };
-}
+answered-some : {state : State} {input : Option (List ℕ)} {events opened : List Event} {pend : Option (List ℕ)} {before : Stored} {history told : Option (List Event)} {old mid new : Option (List ℕ)}
+    → (bytes : List ℕ) (so_far : HasAnswered state input opened pend before history old mid) → input ≡ Some bytes → IsOpened events (Some opened)
+    → told ≡ Some so_far.events → new ≡ mid → FollowsSome state (script_lines bytes) events told old new
+answered-some {state = state} {pend = pend} bytes so_far is opens told same =
+    let front = first-lines bytes so_far.lines pend (script-told so_far bytes is) in
+    record {
+      count = length so_far.lines;
+      follows = record {
+        replies = so_far.replies;
+        commits = so_far.commits;
+        after = so_far.present;
+        run = subst (λ (lines : List (List ℕ)). Run state lines so_far.replies so_far.commits so_far.present) front so_far.run;
+        put = same ∙ so_far.put;
+        made = made-all opens told so_far.made;
+      };
+    }
 
 -- and then perhaps calls of the next line's commits
-answered-until : {state : State} {input : List ℕ} {events opened : List Event} {pend : Option (List ℕ)} {before : Stored} {history told : Option (List Event)} {old mid new : Option (List ℕ)}
-    → (so_far : HasAnswered state input opened pend before history old mid) → IsOpened events (Some opened)
-    → StopsBefore so_far.present (script_lines so_far.left) so_far.events told × (new ≡ mid) → FollowsUntil state (script_lines input) events told old new
-answered-until {state} {input} {events} {opened} {pend} {before} {history} {told} so_far opens stops = record {
-  count = length so_far.lines;
-  replies = so_far.replies;
-  commits = so_far.commits;
-  after = so_far.present;
-  run = subst (λ (lines : List (List ℕ)). Run state lines so_far.replies so_far.commits so_far.present) (sym (answered-front so_far).0) so_far.run;
-  put = stops.1 ∙ so_far.put;
-  mid = so_far.events;
-  made = made-all opens refl so_far.made;
-  stops = subst (λ (lines : List (List ℕ)). StopsBefore so_far.present lines so_far.events told) (sym (answered-front so_far).1) stops.0;
-}
+answered-until : {state : State} {input : Option (List ℕ)} {events opened : List Event} {pend : Option (List ℕ)} {before : Stored} {history told : Option (List Event)} {old mid new : Option (List ℕ)}
+    → (bytes : List ℕ) (so_far : HasAnswered state input opened pend before history old mid) → input ≡ Some bytes → IsOpened events (Some opened)
+    → StopsLine so_far.present pend so_far.events told × (new ≡ mid) → FollowsUntil state (script_lines bytes) events told old new
+answered-until {state} {input} {events} {opened} {pend} {before} {history} {told} bytes so_far is opens stops =
+    let script = script-told so_far bytes is in
+    let front = first-lines bytes so_far.lines pend script in
+    record {
+      count = length so_far.lines;
+      replies = so_far.replies;
+      commits = so_far.commits;
+      after = so_far.present;
+      run = subst (λ (lines : List (List ℕ)). Run state lines so_far.replies so_far.commits so_far.present) front so_far.run;
+      put = stops.1 ∙ so_far.put;
+      mid = so_far.events;
+      made = made-all opens refl so_far.made;
+      stops = stops-script so_far.present bytes so_far.lines pend so_far.events told script stops.0;
+    }
 
 -- the sink failed: a front of the last reply
-failed-sink : {state : State} {input : List ℕ} {events opened : List Event} {pend : Option (List ℕ)} {before store : Stored} {history told : Option (List Event)} {old mid new : Option (List ℕ)}
-    → (so_far : HasAnswered state input opened pend before history old mid) → IsOpened events (Some opened)
-    → TurnsPart so_far.present so_far.events so_far.left store told mid new → Follows status.Sink state input events told old new
-failed-sink {state} {input} {events} {opened} {pend} {before} {store} {history} {told} {old} {mid} {new} so_far opens turns =
+failed-sink : {state : State} {input : Option (List ℕ)} {events opened : List Event} {pend : Option (List ℕ)} {before store : Stored} {history told : Option (List Event)} {old mid new : Option (List ℕ)}
+    → (bytes : List ℕ) (so_far : HasAnswered state input opened pend before history old mid) → input ≡ Some bytes → IsOpened events (Some opened)
+    → TurnsPart so_far.present so_far.events pend store told mid new → Follows status.Sink state bytes events told old new
+failed-sink {state} {input} {events} {opened} {pend} {before} {store} {history} {told} {old} {mid} {new} bytes so_far told-as opens turns =
     let line = turns.replies.line in
     let is = turns.replies.answered in
     let lines = so_far.lines ++ line ∷ [] in
-    let front : take (length lines) (script_lines input) ≡ lines =
-    ap (take (length lines)) (ahead-line input so_far.lines so_far.ahead turns.replies.loses) ∙ take-append_seam lines (script_lines turns.after) in
+    let script = script-line (Some bytes) pend turns.after so_far.lines line (script-told so_far bytes told-as) turns.replies.takes in
+    let front = first-lines bytes lines turns.after script in
     let run = run-snoc state so_far.present is.new so_far.lines so_far.replies line turns.reply so_far.commits is.commits so_far.run is.turn in
     record {
       count = length lines;
@@ -231,7 +286,7 @@ failed-sink {state} {input} {events} {opened} {pend} {before} {store} {history} 
       last = turns.reply;
       commits = so_far.commits ++ is.commits;
       after = is.new;
-      run = subst (λ (answered : List (List ℕ)). Run state answered (so_far.replies ++ turns.reply ∷ []) (so_far.commits ++ is.commits) is.new) (sym front) run;
+      run = subst (λ (answered : List (List ℕ)). Run state answered (so_far.replies ++ turns.reply ∷ []) (so_far.commits ++ is.commits) is.new) front run;
       put = subst (λ (held : Option (List ℕ)). AppendsFront held new turns.reply) so_far.put turns.put;
       made = made-all opens is.made.told (made-more state so_far.present so_far.commits is.commits opened so_far.events is.made.after so_far.held so_far.made is.made.made);
     }
@@ -263,41 +318,48 @@ ended-at_limit {input} {rest} left {lines} {taken} is counted too_long held =
     ∙ append-nil lines
 
 -- the lines within the limit, where the input is too long
-answered-limit : {input : List ℕ} {lines : List (List ℕ)} {rest : List ℕ} (feeding : Feeding) (left : Option (List ℕ)) → pending feeding left ≡ Some rest
-    → IsFront input lines rest ⊎ (rest ≡ []) → HasFed input feeding left → IsTooLong feeding → ended_lines (take longest_script input) ≡ lines
-answered-limit feeding None told limit fed too_long = absurd fed.counted
-answered-limit {input} {lines} {rest} feeding (Some left) told limit fed too_long =
-    let is : feeding.rest ++ left ≡ rest = some-injective told in
-    elim limit [
-      | inl front ↦ ended-at_limit left (subst (λ (bytes : List ℕ). IsFront input lines bytes) (sym is) front) fed.counted too_long fed.within.handed_out
-      | inr nothing ↦
-          let none : length feeding.rest + length left ≡ 0 = sym (length-append feeding.rest left) ∙ ap length (is ∙ nothing) in
-          absurd (omega (arith, none, fed.within.handed_out, too_long.taken))
-    ]
+pub limit-lines : (input : List ℕ) (lines : List (List ℕ)) (feeding : Feeding) (left : Option (List ℕ)) → IsScript (Some input) lines (pending feeding left)
+    → HasFed input feeding left → IsTooLong feeding → lines ≡ ended_lines (take longest_script input)
+limit-lines input lines feeding None script fed too_long = absurd fed.counted
+limit-lines input lines feeding (Some left) script fed too_long = elim script.limit [
+  | inl front ↦ sym (ended-at_limit left front fed.counted too_long fed.within.handed_out)
+  | inr nothing ↦
+      let none : length feeding.rest + length left ≡ 0 = sym (length-append feeding.rest left) ∙ ap length nothing in
+      absurd (omega (arith, none, fed.within.handed_out, too_long.taken))
+]
+
+pub answered-limit : {state : State} {input : Option (List ℕ)} {opened : List Event} {pend : Option (List ℕ)} {before : Stored} {history : Option (List Event)} {old mid : Option (List ℕ)}
+    → (bytes : List ℕ) (feeding : Feeding) (left : Option (List ℕ)) (so_far : HasAnswered state input opened pend before history old mid) → input ≡ Some bytes
+    → pending feeding left ≡ pend → HasFed bytes feeding left → IsTooLong feeding → so_far.lines ≡ ended_lines (take longest_script bytes)
+answered-limit bytes feeding left so_far is same fed too_long =
+    limit-lines bytes so_far.lines feeding left
+    (subst (λ (told : Option (List ℕ)). IsScript (Some bytes) so_far.lines told) (sym same) (script-told so_far bytes is)) fed too_long
 
 -- a turn that fails
-pub answered-failed : {state : State} {input : List ℕ} {events opened : List Event} {pend : Option (List ℕ)} {before : Stored} {history : Option (List Event)} {old mid : Option (List ℕ)}
-    → (end : Status) (feeding : Feeding) (left : Option (List ℕ)) (store : Stored) (told : Option (List Event)) (new : Option (List ℕ)) → (so_far : HasAnswered state input opened pend before history old mid)
-    → IsOpened events (Some opened) → HasFed input feeding left → (end ≡ status.TooLong → IsTooLong feeding)
-    → FailsToTurn end so_far.present so_far.events so_far.left (pending feeding left) store told mid new → Follows end state input events told old new
-answered-failed status.Sink feeding left store told new so_far opens fed too_long fails = failed-sink so_far opens fails
-answered-failed status.Source feeding left store told new so_far opens fed too_long fails = answered-some so_far opens fails.0 fails.1
-answered-failed status.NoMemory feeding left store told new so_far opens fed too_long fails = inr (answered-until so_far opens fails)
-answered-failed status.Disk feeding left store told new so_far opens fed too_long fails = inr (answered-until so_far opens fails)
-answered-failed {state} {input} status.TooLong feeding left store told new so_far opens fed too_long fails =
-    let lines = answered-limit feeding left fails.0 so_far.limit fed (too_long refl) in
+pub answered-failed : {state : State} {input : Option (List ℕ)} {events opened : List Event} {pend : Option (List ℕ)} {before : Stored} {history : Option (List Event)} {old mid : Option (List ℕ)}
+    → (end : Status) (bytes : List ℕ) (feeding : Feeding) (left : Option (List ℕ)) (store : Stored) (told : Option (List Event)) (new : Option (List ℕ))
+    → (so_far : HasAnswered state input opened pend before history old mid) → input ≡ Some bytes
+    → IsOpened events (Some opened) → HasFed bytes feeding left → (end ≡ status.TooLong → IsTooLong feeding)
+    → FailsToTurn end so_far.present so_far.events pend (pending feeding left) store told mid new → Follows end state bytes events told old new
+answered-failed status.Sink bytes feeding left store told new so_far is opens fed too_long fails = failed-sink bytes so_far is opens fails
+answered-failed status.Source bytes feeding left store told new so_far is opens fed too_long fails = answered-some bytes so_far is opens fails.0 fails.1
+answered-failed status.NoMemory bytes feeding left store told new so_far is opens fed too_long fails = inr (answered-until bytes so_far is opens fails)
+answered-failed status.Disk bytes feeding left store told new so_far is opens fed too_long fails = inr (answered-until bytes so_far is opens fails)
+answered-failed {state} status.TooLong bytes feeding left store told new so_far is opens fed too_long fails =
+    let lines = answered-limit bytes feeding left so_far is fails.0 fed (too_long refl) in
     record {
       replies = so_far.replies;
       commits = so_far.commits;
       after = so_far.present;
-      run = subst (λ (lines : List (List ℕ)). Run state lines so_far.replies so_far.commits so_far.present) (sym lines) so_far.run;
+      run = subst (λ (lines : List (List ℕ)). Run state lines so_far.replies so_far.commits so_far.present) lines so_far.run;
       put = fails.2 ∙ so_far.put;
       made = made-all opens fails.1 so_far.made;
     }
-answered-failed status.Done feeding left store told new so_far opens fed too_long fails = absurd fails
-answered-failed status.Words feeding left store told new so_far opens fed too_long fails = absurd fails
-answered-failed status.Image feeding left store told new so_far opens fed too_long fails = absurd fails
-answered-failed status.Sizes feeding left store told new so_far opens fed too_long fails = absurd fails
+answered-failed status.Done bytes feeding left store told new so_far is opens fed too_long fails = absurd fails
+answered-failed status.Words bytes feeding left store told new so_far is opens fed too_long fails = absurd fails
+answered-failed status.Image bytes feeding left store told new so_far is opens fed too_long fails = absurd fails
+answered-failed status.Found bytes feeding left store told new so_far is opens fed too_long fails = absurd fails
+answered-failed status.Sizes bytes feeding left store told new so_far is opens fed too_long fails = absurd fails
 
 -- ---- how many bytes were taken
 

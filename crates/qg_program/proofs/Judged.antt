@@ -2,11 +2,11 @@
 use Rattle.std.proofs.Common.{◌≡◌, ◌⊎◌, ℕ, List, [], Option, Some, None, inl, inr, refl, sym, ◌∙◌, subst}
 use Rattle.qg_device.specs.History.{Event, content}
 use Rattle.qg_super.specs.declared.superblock.Super.{Super}
-use Rattle.qg_state.specs.State.{State}
-use Rattle.qg_verdict.specs.ImageState.{state_in, super_of}
-use Rattle.qg_verdict.specs.StateOf.{StateOf}
-use Rattle.qg_verdict.specs.Verdict.{IsSound, verdict}
-use Rattle.qg_verdict.specs.declared.failure.Failure.{Failure}
+use Rattle.qg_image.specs.State.{State}
+use Rattle.qg_image.specs.ImageState.{state_in, super_of}
+use Rattle.qg_image.specs.StateOf.{StateOf}
+use Rattle.qg_image.specs.Verdict.{IsSound, verdict}
+use Rattle.qg_image.specs.declared.failure.Failure.{Failure}
 use Rattle.qg_walk.specs.declared.fault.OpenFault.{OpenFault}
 use Rattle.qg_walk.specs.declared.fault.OpenFault.TheVariants as opening
 use Rattle.qg_check.proofs.Verdicts.{verdict_none}

@@ -1,6 +1,17 @@
 pub mod EndedLines
 pub mod Steps
 pub mod Answered
+pub mod Grown
+pub mod Outlived
+pub mod Acknowledged
+pub mod Left
 pub mod Turned
 pub mod Judged
 pub mod Replied
+pub mod Said
+pub mod Loaded
+pub mod Generated
+pub mod Shown
+pub mod Drawn
+pub mod Asked
+pub mod Completed

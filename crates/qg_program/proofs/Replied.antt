@@ -5,8 +5,8 @@ use Rattle.std.specs.Io.KnownBytes.{append_known}
 use Rattle.std.proofs.lemmas.List.{append-nil}
 use Rattle.std.proofs.lemmas.List.Elements.{All-append, All-cons, All-nil}
 use Rattle.std.proofs.lemmas.List.Folds.{concat-append}
-use Rattle.qg_verdict.specs.declared.failure.Failure.{Failure}
-use Rattle.qg_program.specs.Putting.{IsReplyText, PutsFailure, PutsReplies, TellsFailure, failure_text}
+use Rattle.qg_image.specs.declared.failure.Failure.{Failure}
+use Rattle.qg_program.specs.Putting.{IsReplyText, PutsFailure, PutsReplies, SaysFailure, TellsFailure, failure_text}
 use Rattle.qg_program.proofs.Steps.{append_known-more, append_known-nil}
 
 -- nothing
@@ -50,5 +50,12 @@ failure-behind old mid new replied fails = record {
 }
 
 -- the line of a failure, by itself
-pub failure-said : (old new : Option (List ℕ)) (failure : Failure) → new ≡ append_known old (failure_text failure) → PutsFailure old new
-failure-said old new failure put = record { mid = old; replied = replies-none old; failure = failure; put = put }
+pub failure-said : (old new : Option (List ℕ)) (failure : Failure) → new ≡ append_known old (failure_text failure) → SaysFailure old new
+failure-said old new failure put = record { failure = failure; put = put }
+
+pub failure-put : (old new : Option (List ℕ)) → SaysFailure old new → PutsFailure old new
+failure-put old new says = record { mid = old; replied = replies-none old; failure = says.failure; put = says.put }
+
+-- and as it stands in a text
+pub failure-told : (old new : Option (List ℕ)) (text : List ℕ) → TellsFailure text → new ≡ append_known old text → SaysFailure old new
+failure-told old new text tells put = record { failure = tells.failure; put = put ∙ ap (append_known old) tells.told }

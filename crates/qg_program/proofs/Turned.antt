@@ -1,23 +1,21 @@
 -- A line is answered.
-use Rattle.std.proofs.Common.{◌≡◌, ◌≢◌, ◌⊎◌, true, ℕ, List, [], Option, Some, None, refl, sym, subst, inl, inr, IsTrue}
+use Rattle.std.proofs.Common.{◌≡◌, ◌≢◌, true, ℕ, List, [], Option, Some, None, refl, sym, subst, inl, inr, IsTrue}
 use Rattle.std.specs.Prelude.{Bool, Result, Err, IfErr}
 use Rattle.std.specs.Io.KnownBytes.{append_known}
 use Rattle.qg_device.specs.History.{Event}
 use Rattle.qg_num.specs.declared.answer.Answer.{Answer}
 use Rattle.qg_num.specs.declared.command.Command.{Command}
-use Rattle.qg_grammar.specs.ScriptText.{script_lines}
 use Rattle.qg_grammar.specs.ReplyText.{reply_text, no_line}
-use Rattle.qg_script.specs.Lines.{LosesLine, TakesLine}
+use Rattle.qg_script.specs.Lines.{TakesLine}
 use Rattle.qg_grammar.specs.ScriptText.{IsLineOf}
-use Rattle.qg_state.specs.State.{State}
+use Rattle.qg_image.specs.State.{State}
 use Rattle.qg_store.specs.Answering.{AnswersOn, IsDoneSoFar}
 use Rattle.qg_store.specs.Stored.{Stored, IsStoreOf}
 use Rattle.qg_program.specs.declared.status.Status.{Status}
 use Rattle.qg_program.specs.declared.status.Status.TheVariants as status
 use Rattle.qg_program.specs.Ends.{is_stop}
-use Rattle.qg_program.specs.Following.{StopsBefore}
 use Rattle.qg_program.specs.Putting.{FailsToPut}
-use Rattle.qg_program.specs.Turning.{FailsToTurn, IsLineSoFar, IsReply, IsTurn}
+use Rattle.qg_program.specs.Turning.{FailsToTurn, IsLineSoFar, IsReply, IsTurn, StopsLine}
 
 -- a command was done or refused
 pub reply-command : (old : State) (events : List Event) (line reply : List ℕ) (store : Stored) (history : Option (List Event)) (command : Command) (answer : Answer)
@@ -60,33 +58,32 @@ so_far-command old events line history command asked (inl none) = inl none
 so_far-command old events line history command asked (inr starts) =
     inr (record { command = command; asked = asked; starts = starts })
 
--- a line that was taken is the first of those that are not answered any more
-stops-before : (old : State) (events : List Event) (before rest line : List ℕ) (history : Option (List Event)) → LosesLine before rest line
-    → IsLineSoFar old line events history → StopsBefore old (script_lines before) events history
-stops-before old events before rest line history loses (inl none) = inl none
-stops-before old events before rest line history loses (inr starts) =
-    inr (record { line = line; later = script_lines rest; first = loses.first; starts = starts })
+-- a line that was taken is the one that is not answered
+stops-line : (old : State) (events : List Event) (before taken : Option (List ℕ)) (line : List ℕ) (history : Option (List Event)) → TakesLine before taken line
+    → IsLineSoFar old line events history → StopsLine old before events history
+stops-line old events before taken line history takes (inl none) = inl none
+stops-line old events before taken line history takes (inr starts) = inr (record { line = line; after = taken; takes = takes; starts = starts })
 
 -- where it was not answered
-pub fails-answer : (end : Status) (old : State) (events : List Event) (before : List ℕ) (taken after : Option (List ℕ)) (line : List ℕ) (store : Stored)
-    (history : Option (List Event)) (held : Option (List ℕ)) → TakesLine (Some before) taken line → IsLineSoFar old line events history
+pub fails-answer : (end : Status) (old : State) (events : List Event) (before taken after : Option (List ℕ)) (line : List ℕ) (store : Stored)
+    (history : Option (List Event)) (held : Option (List ℕ)) → TakesLine before taken line → IsLineSoFar old line events history
     → IsTrue (is_stop end) → end ≢ status.Image → FailsToTurn end old events before after store history held held
-fails-answer end old events before None after line store history held takes so_far stops sound = absurd takes
-fails-answer status.NoMemory old events before (Some rest) after line store history held takes so_far stops sound =
-    (stops-before old events before rest line history takes so_far, refl)
-fails-answer status.Disk old events before (Some rest) after line store history held takes so_far stops sound =
-    (stops-before old events before rest line history takes so_far, refl)
-fails-answer status.Image old events before (Some rest) after line store history held takes so_far stops sound = absurd (sound refl)
-fails-answer status.Done old events before (Some rest) after line store history held takes so_far stops sound = absurd cc
-fails-answer status.Words old events before (Some rest) after line store history held takes so_far stops sound = absurd cc
-fails-answer status.Source old events before (Some rest) after line store history held takes so_far stops sound = absurd cc
-fails-answer status.Sink old events before (Some rest) after line store history held takes so_far stops sound = absurd cc
-fails-answer status.Sizes old events before (Some rest) after line store history held takes so_far stops sound = absurd cc
-fails-answer status.TooLong old events before (Some rest) after line store history held takes so_far stops sound = absurd cc
+fails-answer status.NoMemory old events before taken after line store history held takes so_far stops sound =
+    (stops-line old events before taken line history takes so_far, refl)
+fails-answer status.Disk old events before taken after line store history held takes so_far stops sound =
+    (stops-line old events before taken line history takes so_far, refl)
+fails-answer status.Image old events before taken after line store history held takes so_far stops sound = absurd (sound refl)
+fails-answer status.Done old events before taken after line store history held takes so_far stops sound = absurd cc
+fails-answer status.Words old events before taken after line store history held takes so_far stops sound = absurd cc
+fails-answer status.Source old events before taken after line store history held takes so_far stops sound = absurd cc
+fails-answer status.Sink old events before taken after line store history held takes so_far stops sound = absurd cc
+fails-answer status.Found old events before taken after line store history held takes so_far stops sound = absurd cc
+fails-answer status.Sizes old events before taken after line store history held takes so_far stops sound = absurd cc
+fails-answer status.TooLong old events before taken after line store history held takes so_far stops sound = absurd cc
 
 -- and that was handed on
-pub fails-handed : (end : Status) (result : Result Bool Status) (old : State) (events : List Event) (before : List ℕ)
-    (after : Option (List ℕ)) (store : Stored) (history : Option (List Event)) (held now : Option (List ℕ))
+pub fails-handed : (end : Status) (result : Result Bool Status) (old : State) (events : List Event)
+    (before after : Option (List ℕ)) (store : Stored) (history : Option (List Event)) (held now : Option (List ℕ))
     → result ≡ Err end → now ≡ held → FailsToTurn end old events before after store history held held
     → IfErr result (λ status. FailsToTurn status old events before after store history held now)
 fails-handed end result old events before after store history held now handed same fails =
@@ -94,32 +91,32 @@ fails-handed end result old events before after store history held now handed sa
     (subst (λ (told : Option (List ℕ)). FailsToTurn end old events before after store history held told) (sym same) fails)
 
 -- where the reply was put
-pub turns-reply : (old : State) (events : List Event) (before : List ℕ) (taken : Option (List ℕ)) (line reply : List ℕ) (store : Stored)
-    (history : Option (List Event)) (held now : Option (List ℕ)) → TakesLine (Some before) taken line → IsReply old events line reply store history
+pub turns-reply : (old : State) (events : List Event) (before taken : Option (List ℕ)) (line reply : List ℕ) (store : Stored)
+    (history : Option (List Event)) (held now : Option (List ℕ)) → TakesLine before taken line → IsReply old events line reply store history
     → now ≡ append_known held reply → IsTurn true old events before taken store history held now
-turns-reply old events before None line reply store history held now takes is put = absurd takes
-turns-reply old events before (Some rest) line reply store history held now takes is put = record {
+turns-reply old events before taken line reply store history held now takes is put = record {
   reply = reply;
-  replies = record { line = line; loses = takes; answered = is };
+  replies = record { line = line; takes = takes; answered = is };
   put = put;
 }
 
 -- where the reply was not put whole
-pub fails-reply : (end : Status) (old : State) (events : List Event) (before : List ℕ) (taken after : Option (List ℕ)) (line reply : List ℕ) (store : Stored)
-    (history : Option (List Event)) (held now : Option (List ℕ)) → TakesLine (Some before) taken line → IsReply old events line reply store history
+pub fails-reply : (end : Status) (old : State) (events : List Event) (before taken after : Option (List ℕ)) (line reply : List ℕ) (store : Stored)
+    (history : Option (List Event)) (held now : Option (List ℕ)) → TakesLine before taken line → IsReply old events line reply store history
     → IsLineSoFar old line events history → FailsToPut end reply held now → FailsToTurn end old events before after store history held now
-fails-reply end old events before None after line reply store history held now takes is later fails = absurd takes
-fails-reply status.Sink old events before (Some rest) after line reply store history held now takes is later fails = record {
-  after = rest;
+fails-reply status.Sink old events before taken after line reply store history held now takes is later fails = record {
+  after = taken;
   reply = reply;
-  replies = record { line = line; loses = takes; answered = is };
+  replies = record { line = line; takes = takes; answered = is };
   put = fails;
 }
-fails-reply status.NoMemory old events before (Some rest) after line reply store history held now takes is later fails = (stops-before old events before rest line history takes later, fails)
-fails-reply status.Done old events before (Some rest) after line reply store history held now takes is later fails = absurd fails
-fails-reply status.Words old events before (Some rest) after line reply store history held now takes is later fails = absurd fails
-fails-reply status.Image old events before (Some rest) after line reply store history held now takes is later fails = absurd fails
-fails-reply status.Source old events before (Some rest) after line reply store history held now takes is later fails = absurd fails
-fails-reply status.Disk old events before (Some rest) after line reply store history held now takes is later fails = absurd fails
-fails-reply status.Sizes old events before (Some rest) after line reply store history held now takes is later fails = absurd fails
-fails-reply status.TooLong old events before (Some rest) after line reply store history held now takes is later fails = absurd fails
+fails-reply status.NoMemory old events before taken after line reply store history held now takes is later fails =
+    (stops-line old events before taken line history takes later, fails)
+fails-reply status.Done old events before taken after line reply store history held now takes is later fails = absurd fails
+fails-reply status.Words old events before taken after line reply store history held now takes is later fails = absurd fails
+fails-reply status.Image old events before taken after line reply store history held now takes is later fails = absurd fails
+fails-reply status.Source old events before taken after line reply store history held now takes is later fails = absurd fails
+fails-reply status.Disk old events before taken after line reply store history held now takes is later fails = absurd fails
+fails-reply status.Found old events before taken after line reply store history held now takes is later fails = absurd fails
+fails-reply status.Sizes old events before taken after line reply store history held now takes is later fails = absurd fails
+fails-reply status.TooLong old events before taken after line reply store history held now takes is later fails = absurd fails

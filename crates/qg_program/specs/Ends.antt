@@ -3,7 +3,7 @@ use Rattle.std.specs.Prelude.{◌≡◌, ℕ, Bool, true, false}
 use Rattle.qg_script.specs.declared.fault.LineFault.{LineFault}
 use Rattle.qg_script.specs.declared.fault.LineFault.TheVariants as fault
 use Rattle.qg_program.specs.declared.status.Status.{Status}
-use Rattle.qg_program.specs.declared.status.Status.TheVariants.{Done, NoMemory, Words, Image, Source, Sink, Disk, Sizes, TooLong}
+use Rattle.qg_program.specs.declared.status.Status.TheVariants.{Done, NoMemory, Words, Image, Source, Sink, Disk, Found, Sizes, TooLong}
 
 -- the image was made: all that can still fail is to say so
 abbrev pub is_made : Status → Bool
@@ -32,6 +32,7 @@ exit_number Image = 3
 exit_number Source = 4
 exit_number Sink = 5
 exit_number Disk = 6
+exit_number Found = 7
 exit_number Sizes = 8
 exit_number TooLong = 9
 
@@ -79,8 +80,28 @@ is_answerers _ = false
 -- the ends of a run
 abbrev pub is_runners : Status → Bool
 is_runners Words = false
+is_runners Found = false
 is_runners Sizes = false
 is_runners _ = true
+
+-- the ends of a call that was asked what an image is
+abbrev pub is_checkers : Status → Bool
+is_checkers Done = true
+is_checkers NoMemory = true
+is_checkers Sink = true
+is_checkers Disk = true
+is_checkers Found = true
+is_checkers _ = false
+
+-- the ends of a call that was asked for the generator's lines
+abbrev pub is_generators : Status → Bool
+is_generators Done = true
+is_generators NoMemory = true
+is_generators Image = true
+is_generators Sink = true
+is_generators Disk = true
+is_generators Sizes = true
+is_generators _ = false
 
 -- an end that tells of a fault has its cause
 pub record HasCauses (status : Status) (SourceFails SinkFails DiskFails : Type 0) : Type 0 where

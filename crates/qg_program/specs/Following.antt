@@ -7,7 +7,7 @@ use Rattle.qg_device.specs.History.{Event, synced}
 use Rattle.qg_edge.specs.Appended.{AppendsFront}
 use Rattle.qg_num.specs.declared.command.Command.{Command}
 use Rattle.qg_grammar.specs.ScriptText.{IsLineOf, script_lines, longest_script}
-use Rattle.qg_state.specs.State.{Committed, State}
+use Rattle.qg_image.specs.State.{Committed, State}
 use Rattle.qg_machine.specs.Run.{Run}
 use Rattle.qg_commit.specs.Opened.{IsOpened, IsOpening}
 use Rattle.qg_store.specs.Answering.{StartsCommits}

@@ -3,4 +3,9 @@ pub mod Ends
 pub mod Putting
 pub mod Running
 pub mod Following
+pub mod Leaving
 pub mod Turning
+pub mod Checking
+pub mod Generating
+pub mod Loading
+pub mod Complete

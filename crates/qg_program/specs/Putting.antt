@@ -1,15 +1,17 @@
 -- What a call puts (this project's own): what is put where a line could not be put whole, and what one says that puts one line alone.
-use Rattle.std.specs.Prelude.{◌≡◌, ◌⊎◌, ℕ, All, List, ◌∷◌, Option, Some, IsTrue, codes}
+use Rattle.std.specs.Prelude.{◌≡◌, ◌⊎◌, ℕ, All, List, ◌∷◌, Option, Some, IsTrue, String, codes}
 use Rattle.std.specs.List.{concat}
 use Rattle.std.specs.Option.{option_map}
+use Rattle.std.specs.declared.alloc.Global.{Global}
 use Rattle.std.specs.Io.KnownBytes.{append_known}
-use Rattle.qg_device.specs.History.{Event, Synced}
+use Rattle.qg_device.specs.History.{Event, Synced, content}
 use Rattle.qg_edge.specs.Appended.{AppendsFront}
 use Rattle.qg_num.specs.declared.answer.Answer.{Answer}
 use Rattle.qg_grammar.specs.ReplyText.{line, no_line, reply_text}
 use Rattle.qg_grammar.specs.FailureText.{broken_text, differs_text}
-use Rattle.qg_verdict.specs.declared.failure.Failure.{Failure}
-use Rattle.qg_verdict.specs.declared.failure.Failure.TheVariants.{Broken, Differs}
+use Rattle.qg_image.specs.Verdict.{IsSound, verdict}
+use Rattle.qg_image.specs.declared.failure.Failure.{Failure}
+use Rattle.qg_image.specs.declared.failure.Failure.TheVariants.{Broken, Differs}
 use Rattle.qg_super.specs.declared.sizes.Sizes.{Sizes}
 use Rattle.qg_super.specs.Places.{slot_at}
 use Rattle.qg_commit.specs.Calls.{with_image}
@@ -17,6 +19,7 @@ use Rattle.qg_commit.specs.Fresh.{fresh_nodes, fresh_super}
 use Rattle.qg_commit.specs.Mkfs.{HoldsFreshImage}
 use Rattle.qg_commit.specs.Opening.{IsLookedAt}
 use Rattle.qg_program.specs.Ends.{is_judged, is_made}
+use Rattle.qg_program.specs.Words.{AskToGenerate, AskToOpen, AskToRun}
 use Rattle.qg_program.specs.declared.status.Status.{Status}
 use Rattle.qg_program.specs.declared.status.Status.TheVariants.{Done, NoMemory, Image, Sink, Disk}
 
@@ -25,6 +28,14 @@ abbrev pub FailsToPut : Status → List ℕ → Option (List ℕ) → Option (Li
 FailsToPut Sink bytes old new = AppendsFront old new bytes
 FailsToPut NoMemory bytes old new = new ≡ old
 FailsToPut _ bytes old new = ⊥
+
+-- how it ends that some bytes were not put whole
+abbrev pub IsPutFault : Status → Type 0
+IsPutFault end = (end ≡ Sink) ⊎ (end ≡ NoMemory)
+
+-- some bytes were put, and so it ends; or they were not put whole
+abbrev pub PutsAndEnds : Status → Status → List ℕ → Option (List ℕ) → Option (List ℕ) → Type 0
+PutsAndEnds end result bytes old new = ((result ≡ end) × (new ≡ append_known old bytes)) ⊎ FailsToPut result bytes old new
 
 -- the line that says that an image was made
 abbrev pub made_text : List ℕ
@@ -65,6 +76,11 @@ pub record TellsFailure (bytes : List ℕ) : Type 0 where
   pub failure : Failure
   pub told : bytes ≡ failure_text failure
 
+-- the line of some failure was put, and nothing else
+pub record SaysFailure (old new : Option (List ℕ)) : Type 0 where
+  pub failure : Failure
+  pub put : new ≡ append_known old (failure_text failure)
+
 -- some replies were put, none where the image was not opened, and behind them the line of some failure
 pub record PutsFailure (old new : Option (List ℕ)) : Type 0 where
   pub mid : Option (List ℕ)
@@ -72,11 +88,25 @@ pub record PutsFailure (old new : Option (List ℕ)) : Type 0 where
   pub failure : Failure
   pub put : new ≡ append_known mid (failure_text failure)
 
+-- what was asked ended with the line of some failure: a run's may stand behind replies, that of the generator's lines stands alone
+abbrev pub EndsByFailure : List (String Global) → Option (List ℕ) → Option (List ℕ) → Type 0
+EndsByFailure words old new =
+    (AskToRun words × PutsFailure old new) ⊎ ((seed : ℕ) × (count : ℕ) × AskToGenerate words seed count × SaysFailure old new)
+
 -- A run refuses an image by its first failure: it says so, and at most a sync was asked of the disk, just one where the line was to be put.
 pub record RefusesImage (status : Status) (failure : Failure) (events : List Event) (history : Option (List Event)) (old new : Option (List ℕ)) : Type 0 where
   pub put : Refuses status (failure_text failure) old new
   pub looked_at : IsLookedAt events history
   pub unwritten : IsTrue (is_judged status) → history ≡ Some (Synced ∷ events)
+
+-- Where a run or the generator's lines were asked for, an image that is not sound is refused by its first failure, and the
+-- source stays as it is. And what ends so has put the line of some failure, and opened no image that is sound.
+pub record RefusesAsAsked (words : List (String Global)) (end : Status) (before after : Option (List Event))
+    (old new : Option (List ℕ)) (SourceStays : Type 0) : Type 0 where
+  pub refuses : (events : List Event) (failure : Failure) → AskToOpen words → before ≡ Some events
+      → verdict (content events) ≡ Some failure → RefusesImage end failure events after old new × SourceStays
+  pub told : end ≡ Image → EndsByFailure words old new
+  pub unsound : (events : List Event) → end ≡ Image → before ≡ Some events → IsSound (content events) → ⊥
 
 -- An image of these sizes was asked for, and they are served: the calls where it was made; what the disk holds then, where it tells it; and
 -- what was put.

@@ -1,20 +1,18 @@
 -- One turn of a run (this project's own): the next line is taken and answered.
-use Rattle.std.specs.Prelude.{◌≡◌, ◌⊎◌, ℕ, ◌<◌, ◌≤◌, Bool, true, false, List, [], Option, Some, None, Result, Ok, Err, OnOk}
+use Rattle.std.specs.Prelude.{◌≡◌, ◌⊎◌, ℕ, ◌<◌, Bool, true, false, List, [], Option, Some, Result, Ok, Err, OnOk}
 use Rattle.std.specs.Io.KnownBytes.{IsAtEnd, append_known}
 use Rattle.qg_device.specs.Cause.{HasCause}
 use Rattle.qg_device.specs.History.{Event}
-use Rattle.qg_super.specs.Places.{total_bytes}
 use Rattle.qg_edge.specs.Appended.{AppendsFront}
-use Rattle.qg_grammar.specs.ScriptText.{script_lines}
 use Rattle.qg_script.specs.Feeding.{Feeding, IsTooLong, IsWithinLimit}
-use Rattle.qg_script.specs.Lines.{CountsTaken, LosesLine}
-use Rattle.qg_state.specs.State.{State}
+use Rattle.qg_script.specs.Lines.{CountsTaken, TakesLine}
+use Rattle.qg_image.specs.State.{State}
 use Rattle.qg_machine.specs.Run.{Turn}
 use Rattle.qg_store.specs.Making.{MadeCommits}
-use Rattle.qg_store.specs.Stored.{Stored, IsStoreOf, IsStoreOver, sizes_stored}
+use Rattle.qg_store.specs.Stored.{Stored, IsStoreOf}
 use Rattle.qg_program.specs.declared.status.Status.{Status}
 use Rattle.qg_program.specs.declared.status.Status.TheVariants.{NoMemory, Image, Source, Sink, Disk, TooLong}
-use Rattle.qg_program.specs.Following.{StartsLine, StopsBefore}
+use Rattle.qg_program.specs.Following.{StartsLine}
 use Rattle.qg_program.specs.Putting.{PutsFailure, PutsReplies}
 
 -- a new ledger of a name, cut into some parts, is the one of this name and of so many parts
@@ -22,12 +20,6 @@ pub record IsBlankOf (name parts ledger shares : ℕ) : Type 0 where
   pub named : name ≡ ledger
   pub parted : parts ≡ shares
   pub some : 0 < parts
-
--- a store has not stopped, its disk, where that tells, is as the store left it, and its disk of so many bytes has all of its image
-pub record IsReady (store : Stored) (history : Option (List Event)) (size : ℕ) : Type 0 where
-  pub running : store.stopped ≡ None
-  pub backed : IsStoreOver store history
-  pub long : total_bytes (sizes_stored store) ≤ size
 
 -- a store stands for some state over a disk that tells
 pub record StandsOver (store : Stored) (history : Option (List Event)) : Type 0 where
@@ -44,43 +36,53 @@ pub record IsReply (old : State) (events : List Event) (line reply : List ℕ) (
   pub stands : IsStoreOf store new history
   pub made : MadeCommits old.held commits events history
 
--- the first line of what was pending has this reply
-pub record Replies (old : State) (events : List Event) (before after reply : List ℕ) (store : Stored) (history : Option (List Event)) : Type 0 where
+-- the first line of what was pending, where that is told, has this reply
+pub record Replies (old : State) (events : List Event) (before after : Option (List ℕ)) (reply : List ℕ) (store : Stored) (history : Option (List Event)) : Type 0 where
   pub line : List ℕ
-  pub loses : LosesLine before after line
+  pub takes : TakesLine before after line
   pub answered : IsReply old events line reply store history
 
 -- and the reply was put
-pub record Turns (old : State) (events : List Event) (before after : List ℕ) (store : Stored) (history : Option (List Event)) (held now : Option (List ℕ)) : Type 0 where
+pub record Turns (old : State) (events : List Event) (before after : Option (List ℕ)) (store : Stored) (history : Option (List Event)) (held now : Option (List ℕ)) : Type 0 where
   pub reply : List ℕ
   pub replies : Replies old events before after reply store history
   pub put : now ≡ append_known held reply
 
 -- and a front of it was put
-pub record TurnsPart (old : State) (events : List Event) (before : List ℕ) (store : Stored) (history : Option (List Event)) (held now : Option (List ℕ)) : Type 0 where
-  pub after : List ℕ
+pub record TurnsPart (old : State) (events : List Event) (before : Option (List ℕ)) (store : Stored) (history : Option (List Event)) (held now : Option (List ℕ)) : Type 0 where
+  pub after : Option (List ℕ)
   pub reply : List ℕ
   pub replies : Replies old events before after reply store history
   pub put : AppendsFront held now reply
 
 -- a line was answered; where there was none, nothing was put and nothing was done to the disk
-abbrev pub IsTurn : Bool → State → List Event → List ℕ → Option (List ℕ) → Stored → Option (List Event) → Option (List ℕ) → Option (List ℕ) → Type 0
-IsTurn true old events before (Some after) store history held now = Turns old events before after store history held now
-IsTurn true old events before None store history held now = ⊥
-IsTurn false old events before after store history held now = (before ≡ []) × (after ≡ Some []) × (history ≡ Some events) × (now ≡ held)
+abbrev pub IsTurn : Bool → State → List Event → Option (List ℕ) → Option (List ℕ) → Stored → Option (List Event) → Option (List ℕ) → Option (List ℕ) → Type 0
+IsTurn true old events before after store history held now = Turns old events before after store history held now
+IsTurn false old events before after store history held now = IsAtEnd before × (after ≡ before) × (history ≡ Some events) × (now ≡ held)
 
 -- what a line that is not answered to its end has done to the disk: nothing, or calls of the commits that it makes
 abbrev pub IsLineSoFar : State → List ℕ → List Event → Option (List Event) → Type 0
 IsLineSoFar old line events history = (history ≡ Some events) ⊎ StartsLine old line events history
 
+-- the first line of what was pending, where that is told, is broken off in the midst of its commits
+pub record BreaksLine (old : State) (before : Option (List ℕ)) (events : List Event) (history : Option (List Event)) : Type 0 where
+  pub line : List ℕ
+  pub after : Option (List ℕ)
+  pub takes : TakesLine before after line
+  pub starts : StartsLine old line events history
+
+-- nothing was done to the disk, or the next line is broken off so
+abbrev pub StopsLine : State → Option (List ℕ) → List Event → Option (List Event) → Type 0
+StopsLine old before events history = (history ≡ Some events) ⊎ BreaksLine old before events history
+
 -- A turn that fails. Where the sink failed, the line was answered but for its reply. Where no line was read, nothing was done; else perhaps
 -- calls of the commits that the line makes.
-abbrev pub FailsToTurn : Status → State → List Event → List ℕ → Option (List ℕ) → Stored → Option (List Event) → Option (List ℕ) → Option (List ℕ) → Type 0
+abbrev pub FailsToTurn : Status → State → List Event → Option (List ℕ) → Option (List ℕ) → Stored → Option (List Event) → Option (List ℕ) → Option (List ℕ) → Type 0
 FailsToTurn Sink old events before after store history held now = TurnsPart old events before store history held now
 FailsToTurn Source old events before after store history held now = (history ≡ Some events) × (now ≡ held)
-FailsToTurn TooLong old events before after store history held now = (after ≡ Some before) × (history ≡ Some events) × (now ≡ held)
-FailsToTurn NoMemory old events before after store history held now = StopsBefore old (script_lines before) events history × (now ≡ held)
-FailsToTurn Disk old events before after store history held now = StopsBefore old (script_lines before) events history × (now ≡ held)
+FailsToTurn TooLong old events before after store history held now = (after ≡ before) × (history ≡ Some events) × (now ≡ held)
+FailsToTurn NoMemory old events before after store history held now = StopsLine old before events history × (now ≡ held)
+FailsToTurn Disk old events before after store history held now = StopsLine old before events history × (now ≡ held)
 FailsToTurn _ old events before after store history held now = ⊥
 
 -- ---- over any disk

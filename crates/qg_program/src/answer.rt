@@ -2,11 +2,11 @@
 ghost use Rattle.std.specs.Prelude.{◌≡◌, ◌≢◌, List, Some, IfErr, OnOk, IsTrue};
 ghost use Rattle.qg_device.specs.Cause.{HasCause};
 ghost use Rattle.qg_device.specs.History.{Event};
-ghost use Rattle.qg_state.specs.State.{State};
-ghost use Rattle.qg_store.specs.Stored.{IsStoreOf};
+ghost use Rattle.qg_image.specs.State.{State};
+ghost use Rattle.qg_store.specs.Stored.{IsReady, IsStoreOf};
 ghost use Rattle.qg_program.specs.Ends.{is_stop};
 ghost use Rattle.qg_program.specs.Putting.{IsReplyText, TellsFailure};
-ghost use Rattle.qg_program.specs.Turning.{IsLineSoFar, IsReady, IsReply};
+ghost use Rattle.qg_program.specs.Turning.{IsLineSoFar, IsReply};
 
 use crate::Status;
 use crate::session::Session;

@@ -2,9 +2,12 @@
 #![tactic(auto)]
 
 mod answer;
+mod check;
+mod generate;
 mod make;
 mod program;
 mod put;
+mod refuse;
 mod run;
 mod session;
 mod status;

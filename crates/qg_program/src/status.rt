@@ -23,7 +23,9 @@ pub enum Status {
     Sink,
     /// The disk failed.
     Disk,
-    /// A size is out of its range.
+    /// The image was judged and is not sound, and the line that says so was put.
+    Found,
+    /// A size, or the count of the generator's lines, is out of its range.
     Sizes,
     /// The input has more bytes than a script may have.
     TooLong,
@@ -42,6 +44,7 @@ impl Status {
             Status::Source => 4,
             Status::Sink => 5,
             Status::Disk => 6,
+            Status::Found => 7,
             Status::Sizes => 8,
             Status::TooLong => 9,
         }

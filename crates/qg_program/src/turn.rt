@@ -1,23 +1,25 @@
 // One line after the other.
-ghost use Rattle.std.specs.Prelude.{◌≡◌, ◌≢◌, ◌<◌, List, ℕ, Some, Ok, Err, true, IfOk, IfErr, IsErr, OnOk, IsTrue};
-ghost use Rattle.std.specs.Io.KnownBytes.{append_known};
-ghost use Rattle.qg_device.specs.Cause.{HasCause, Rose};
-ghost use Rattle.qg_device.specs.History.{Event};
+ghost use Rattle.std.specs.Prelude.{◌≡◌, ◌≢◌, ◌<◌, List, ℕ, Some, Ok, Err, true, IfOk, IfErr, OnOk, IsTrue};
+ghost use Rattle.qg_device.specs.Cause.{Rose};
+ghost use Rattle.qg_device.specs.History.{Event, content};
 ghost use Rattle.qg_script.specs.Feeding.{most_to_come};
 ghost use Rattle.qg_script.specs.Lines.{pending};
-ghost use Rattle.qg_state.specs.State.{State};
+ghost use Rattle.qg_image.specs.State.{State};
+ghost use Rattle.qg_image.specs.StateOf.{StateOf};
+ghost use Rattle.qg_crashes.specs.Outcomes.{Rests};
 ghost use Rattle.qg_commit.specs.Opened.{IsOpened};
-ghost use Rattle.qg_store.specs.Stored.{IsStoreOf};
+ghost use Rattle.qg_store.specs.Stored.{IsReady, IsStoreOf};
 ghost use Rattle.qg_program.specs.Ends.{HasCauses, is_answerers};
 ghost use Rattle.qg_program.specs.Following.{Follows};
-ghost use Rattle.qg_program.specs.Putting.{FailsToPut, PutsFailure};
+ghost use Rattle.qg_program.specs.Leaving.{Input, LeavesBehind};
+ghost use Rattle.qg_program.specs.Putting.{PutsFailure};
 ghost use Rattle.qg_program.specs.Running.{IsTaken};
-ghost use Rattle.qg_program.specs.Turning.{FailsToTurn, HaveCauses, IsBlankOf, IsReady, IsTurn, PutsLine};
+ghost use Rattle.qg_program.specs.Turning.{FailsToTurn, HaveCauses, IsBlankOf, IsTurn, PutsLine};
 ghost use Rattle.qg_program.specs.Turning.{StandsOver, TakesTurn};
 
 use crate::Status;
 use crate::answer::answer_line;
-use crate::put::put;
+use crate::put::{end, put};
 use crate::session::Session;
 use qg_disk::Disk;
 use qg_edge::{Sink, Source};
@@ -26,24 +28,6 @@ use qg_script::{Feed, Text, next_line};
 use qg_store::Store;
 use std::alloc::Global;
 use std::sync::ledger::{Blank, Ledger};
-
-// Puts the line that says why the image is no longer sound, where a line is not answered for that; hands on how the
-// program ends.
-fn end<K: Sink>(status: Status, text: &Text, sink: &mut K) -> Result<bool, Status>
-    ensures other { status ≢ Status.Image → (result ≡ Err status) × (K.bytes_held sink.new ≡ K.bytes_held sink.old) }
-    ensures image { status ≡ Status.Image → result ≡ Err Status.Image
-        → K.bytes_held sink.new ≡ append_known (K.bytes_held sink.old) text.now }
-    ensures fails { status ≡ Status.Image → IfErr result (λ end. end ≢ Status.Image
-        → FailsToPut end text.now (K.bytes_held sink.old) (K.bytes_held sink.new)) }
-    ensures sure { IsErr result }
-    ensures cause { status ≢ Status.Sink → HasCause Status.Sink (K.faults sink.old) (K.faults sink.new) result }
-{
-    if status != Status::Image {
-        return Err(status);
-    }
-    put(sink, text.as_slice())?;
-    Err(Status::Image)
-}
 
 // Answers the next line, if there is one; says whether there was. Where a rule of the image is found broken, the line
 // that says so is put in place of the reply.
@@ -57,17 +41,16 @@ fn turn<L: Ledger, M: Ledger, D: Disk, S: Source, K: Sink>(
     sink: &mut K,
 ) -> Result<bool, Status>
     requires { IsReady session.old.store (D.history disk.old) (D.size disk.old) }
-    ensures ok { (state : State) (events : List Event) (before : List ℕ)
-        → IsStoreOf session.old.store state (D.history disk.old)
-        → D.history disk.old ≡ Some events → pending feed.old (S.bytes_left source.old) ≡ Some before
+    ensures ok { (state : State) (events : List Event) → IsStoreOf session.old.store state (D.history disk.old)
+        → D.history disk.old ≡ Some events
         → IfOk result (λ more.
-        IsTurn more state events before (pending feed.new (S.bytes_left source.new))
+        IsTurn more state events (pending feed.old (S.bytes_left source.old)) (pending feed.new (S.bytes_left source.new))
         session.new.store (D.history disk.new) (K.bytes_held sink.old) (K.bytes_held sink.new)) }
-    ensures err { (state : State) (events : List Event) (before : List ℕ)
-        → IsStoreOf session.old.store state (D.history disk.old)
-        → D.history disk.old ≡ Some events → pending feed.old (S.bytes_left source.old) ≡ Some before
+    ensures err { (state : State) (events : List Event) → IsStoreOf session.old.store state (D.history disk.old)
+        → D.history disk.old ≡ Some events
         → IfErr result (λ status.
-        FailsToTurn status state events before (pending feed.new (S.bytes_left source.new))
+        FailsToTurn status state events (pending feed.old (S.bytes_left source.old))
+        (pending feed.new (S.bytes_left source.new))
         session.new.store (D.history disk.new) (K.bytes_held sink.old) (K.bytes_held sink.new)) }
     ensures stands { StandsOver session.old.store (D.history disk.old)
         → OnOk result (StandsOver session.new.store (D.history disk.new)) }
@@ -90,7 +73,7 @@ fn turn<L: Ledger, M: Ledger, D: Disk, S: Source, K: Sink>(
             put(sink, text.as_slice())?;
             Ok(true)
         }
-        Err(status) => end(status, text, sink),
+        Err(status) => Err(end(status, text, sink)),
     }
 }
 
@@ -111,6 +94,11 @@ pub(crate) fn answer_lines<L: Ledger, M: Ledger, D: Disk, S: Source, K: Sink>(
         → IsStoreOf store state (D.history disk.old)
         → IsOpened events (Some opened) → D.history disk.old ≡ Some opened → S.bytes_left source.old ≡ Some input
         → Follows result state input events (D.history disk.new) (K.bytes_held sink.old) (K.bytes_held sink.new) }
+    ensures crashes { (state : State) (events opened after : List Event) → IsStoreOf store state (D.history disk.old)
+        → IsOpened events (Some opened) → D.history disk.old ≡ Some opened → D.history disk.new ≡ Some after
+        → StateOf (content events) state → Rests state opened
+        → LeavesBehind result state (Input (S.bytes_left source.old)) events after (K.bytes_held sink.old)
+        (K.bytes_held sink.new) }
     ensures sound { StandsOver store (D.history disk.old) → result ≢ Status.Image }
     ensures told { result ≡ Status.Image → PutsFailure (K.bytes_held sink.old) (K.bytes_held sink.new) }
     ensures takes { IsTaken result (S.bytes_left source.old) (S.bytes_left source.new) }

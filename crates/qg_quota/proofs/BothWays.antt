@@ -10,7 +10,7 @@ use Rattle.std.proofs.lemmas.List.{get_or_default}
 use Rattle.std.proofs.lemmas.List.Elements.{recursion_from_All}
 use Rattle.std.proofs.lemmas.List.Sums.{fold_more}
 use Rattle.std.proofs.lemmas.Map.Keys.{sorted_head, sorted_tail}
-use Rattle.qg_state.specs.Members.{level_of_group}
+use Rattle.qg_image.specs.Members.{level_of_group}
 use Rattle.qg_machine.specs.GroupChange.{has_pair, same_pair, with_pair}
 use Rattle.qg_hier.specs.Groups.{pair_cmp}
 use Rattle.qg_hier.proofs.Lists.{any_same, or_false}

@@ -20,12 +20,12 @@ use Rattle.qg_image.specs.declared.part.QuotaPart.TheVariants.{Status}
 use Rattle.qg_image.specs.ItemMeaning.{quota_part}
 use Rattle.qg_parts.specs.Keys.{key_with}
 use Rattle.qg_parts.proofs.Parts.{and-false}
-use Rattle.qg_state.specs.declared.quota.Group.{Group}
-use Rattle.qg_state.specs.declared.quota.Quota.{Quota}
-use Rattle.qg_state.specs.Members.{hierarchy_of}
+use Rattle.qg_image.specs.declared.quota.Group.{Group}
+use Rattle.qg_image.specs.declared.quota.Quota.{Quota}
+use Rattle.qg_image.specs.Members.{hierarchy_of}
 use Rattle.qg_hier.specs.Groups.{IsSound}
-use Rattle.qg_verdict.specs.declared.tree.Tree.TheVariants.{Quotas}
-use Rattle.qg_verdict.specs.Walk.{is_item_of}
+use Rattle.qg_image.specs.declared.tree.Tree.TheVariants.{Quotas}
+use Rattle.qg_image.specs.Walk.{is_item_of}
 use Rattle.qg_quota.specs.Writable.{GroupFits, PairFits}
 use Rattle.qg_quota.specs.Written.{both_ways, info_of, info_part, item_of_info, item_of_limit, item_of_relation, item_of_status, items_of_groups, items_of_quota, limit_of, flag_of, limit_part, parts_of_quota, relation_part, status_at}
 use Rattle.qg_quota.proofs.Bodies.{item-fits, status_text-AreBytes, info_text-AreBytes, limit_text-AreBytes, nothing-AreBytes}

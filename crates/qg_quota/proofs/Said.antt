@@ -25,8 +25,8 @@ use Rattle.qg_image.specs.declared.part.QuotaPart.TheVariants.{Status, Info, Lim
 use Rattle.qg_image.specs.ItemMeaning.{when, ◌orelse◌, is_keyed, is_status, quota_part, quota_part_stamps, some_passes}
 use Rattle.qg_parts.specs.Keys.{quota_key}
 use Rattle.qg_parts.proofs.Keys.{quota_keyed, quotas_ascending}
-use Rattle.qg_verdict.specs.declared.tree.Tree.TheVariants.{Quotas}
-use Rattle.qg_verdict.specs.Walk.{are_by, is_item_of, tells_generation}
+use Rattle.qg_image.specs.declared.tree.Tree.TheVariants.{Quotas}
+use Rattle.qg_image.specs.Walk.{are_by, is_item_of, tells_generation}
 
 -- ---- one item
 

@@ -11,15 +11,15 @@ use Rattle.qg_items.specs.declared.quota.QgroupLimit.{QgroupLimit}
 use Rattle.qg_image.specs.Table.{has_key}
 use Rattle.qg_image.specs.declared.part.QuotaPart.{QuotaPart}
 use Rattle.qg_image.specs.declared.part.QuotaPart.TheVariants.{Relation}
-use Rattle.qg_state.specs.declared.quota.Group.{Group}
-use Rattle.qg_state.specs.declared.quota.Quota.{Quota}
-use Rattle.qg_state.specs.Members.{hierarchy_of, level_of_group}
+use Rattle.qg_image.specs.declared.quota.Group.{Group}
+use Rattle.qg_image.specs.declared.quota.Quota.{Quota}
+use Rattle.qg_image.specs.Members.{hierarchy_of, level_of_group}
 use Rattle.qg_machine.specs.GroupChange.{has_pair}
 use Rattle.qg_hier.specs.Groups.{IsSound, is_kept}
 use Rattle.qg_groups.proofs.Pairs.{pair-there}
 use Rattle.qg_groups.proofs.Tables.{each-found, key-found}
-use Rattle.qg_verdict.specs.ImageState.{info_told, limit_told}
-use Rattle.qg_verdict.specs.Verdict.{are_few, fits_quota, has_twin, is_group_number, is_limit, is_plain, is_quota, is_relation_part, most_groups, most_relations}
+use Rattle.qg_image.specs.ImageState.{info_told, limit_told}
+use Rattle.qg_image.specs.Verdict.{are_few, fits_quota, has_twin, is_group_number, is_limit, is_plain, is_quota, is_relation_part, most_groups, most_relations}
 use Rattle.qg_quota.specs.Laws.{IsServedFor}
 use Rattle.qg_quota.specs.Quota.{quota_rule}
 use Rattle.qg_quota.specs.Written.{both_ways, info_of, info_part, limit_of, limit_part, parts_of_quota, relation_part}

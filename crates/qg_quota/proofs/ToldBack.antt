@@ -22,15 +22,15 @@ use Rattle.qg_image.specs.Table.{has_key, keys_of, value_at}
 use Rattle.qg_image.specs.declared.part.QuotaPart.{QuotaPart}
 use Rattle.qg_image.specs.declared.part.QuotaPart.TheVariants.{Status, Info, Limits, Relation}
 use Rattle.qg_parts.specs.Keys.{key_with, quota_key}
-use Rattle.qg_state.specs.Members.{hierarchy_of, level_of_group}
-use Rattle.qg_state.specs.declared.quota.Group.{Group}
-use Rattle.qg_state.specs.declared.quota.Quota.{Quota}
+use Rattle.qg_image.specs.Members.{hierarchy_of, level_of_group}
+use Rattle.qg_image.specs.declared.quota.Group.{Group}
+use Rattle.qg_image.specs.declared.quota.Quota.{Quota}
 use Rattle.qg_machine.specs.GroupChange.{has_pair, same_pair}
 use Rattle.qg_hier.specs.Groups.{IsSound, has_number, is_kept, pair_cmp}
 use Rattle.qg_hier.proofs.Sets.{pair_flipped, pair_is}
 use Rattle.qg_groups.proofs.Tables.{key-found}
-use Rattle.qg_verdict.specs.ImageState.{group_told, info_told, limit_told, pair_told, quota_told}
-use Rattle.qg_verdict.specs.Verdict.{are_few, fits_quota, has_twin, is_group_number, is_limit, is_plain, is_quota, is_relation_part, is_status_part, most_groups, most_relations}
+use Rattle.qg_image.specs.ImageState.{group_told, info_told, limit_told, pair_told, quota_told}
+use Rattle.qg_image.specs.Verdict.{are_few, fits_quota, has_twin, is_group_number, is_limit, is_plain, is_quota, is_relation_part, is_status_part, most_groups, most_relations}
 use Rattle.qg_quota.specs.declared.told.Told.{Told}
 use Rattle.qg_quota.specs.Told.{are_told, fits_told, group_by, relation_told, rises, Ascends, AreTold}
 

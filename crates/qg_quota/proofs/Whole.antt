@@ -16,8 +16,8 @@ use Rattle.qg_items.specs.declared.quota.QgroupLimit.{QgroupLimit}
 use Rattle.qg_image.specs.declared.part.QuotaPart.{QuotaPart}
 use Rattle.qg_image.specs.declared.part.QuotaPart.TheVariants.{Status, Info, Limits, Relation}
 use Rattle.qg_parts.specs.Keys.{key_with, quota_key}
-use Rattle.qg_verdict.specs.ImageState.{info_told, limit_told}
-use Rattle.qg_verdict.specs.Verdict.{is_status_part}
+use Rattle.qg_image.specs.ImageState.{info_told, limit_told}
+use Rattle.qg_image.specs.Verdict.{is_status_part}
 use Rattle.qg_quota.specs.Told.{relation_told}
 use Rattle.qg_quota.specs.Written.{relation_part}
 use Rattle.qg_quota.proofs.Rising.{before_relations, less_is}

@@ -20,18 +20,18 @@ use Rattle.qg_image.specs.Table.{has_key, keys_of, value_at}
 use Rattle.qg_image.specs.declared.part.QuotaPart.{QuotaPart}
 use Rattle.qg_image.specs.declared.part.QuotaPart.TheVariants.{Status, Info, Limits, Relation}
 use Rattle.qg_parts.specs.Keys.{quota_key}
-use Rattle.qg_state.specs.declared.quota.Group.{Group}
-use Rattle.qg_state.specs.Members.{level_of_group}
+use Rattle.qg_image.specs.declared.quota.Group.{Group}
+use Rattle.qg_image.specs.Members.{level_of_group}
 use Rattle.qg_machine.specs.GroupChange.{has_pair, same_pair}
 use Rattle.qg_hier.specs.Groups.{has_number}
 use Rattle.qg_hier.proofs.Lists.{same_tests}
 use Rattle.qg_hier.proofs.Order.{same_numbers}
 use Rattle.qg_hier.proofs.Sets.{pair_is}
 use Rattle.qg_groups.proofs.Tables.{each-found, key-found}
-use Rattle.qg_verdict.specs.declared.tree.Tree.TheVariants.{Quotas}
-use Rattle.qg_verdict.specs.ImageState.{info_told, limit_told, max_excl_told, max_rfer_told, pair_told, quota_told}
-use Rattle.qg_verdict.specs.Verdict.{are_few, fits_quota, has_twin, is_group_number, is_limit, is_plain, is_quota, is_status_part}
-use Rattle.qg_verdict.specs.Walk.{are_by, is_item_of}
+use Rattle.qg_image.specs.declared.tree.Tree.TheVariants.{Quotas}
+use Rattle.qg_image.specs.ImageState.{info_told, limit_told, max_excl_told, max_rfer_told, pair_told, quota_told}
+use Rattle.qg_image.specs.Verdict.{are_few, fits_quota, has_twin, is_group_number, is_limit, is_plain, is_quota, is_status_part}
+use Rattle.qg_image.specs.Walk.{are_by, is_item_of}
 use Rattle.qg_quota.specs.Quota.{items_rule}
 use Rattle.qg_quota.specs.Told.{relation_told, rises}
 use Rattle.qg_quota.specs.Written.{both_ways, info_of, item_of_info, item_of_limit, item_of_relation, item_of_status, items_of_quota, limit_of, relation_part, status_at}

@@ -6,11 +6,11 @@ use Rattle.qg_node.specs.Fits.{ItemFits}
 use Rattle.qg_node.specs.Nodes.{is_ascending}
 use Rattle.qg_image.specs.ItemMeaning.{quota_part}
 use Rattle.qg_image.specs.Table.{has_key}
-use Rattle.qg_state.specs.declared.quota.Quota.{Quota}
-use Rattle.qg_state.specs.Members.{hierarchy_of}
+use Rattle.qg_image.specs.declared.quota.Quota.{Quota}
+use Rattle.qg_image.specs.Members.{hierarchy_of}
 use Rattle.qg_hier.specs.Groups.{IsSound}
-use Rattle.qg_verdict.specs.ImageState.{quota_told}
-use Rattle.qg_verdict.specs.Verdict.{is_group_number, most_groups, most_relations}
+use Rattle.qg_image.specs.ImageState.{quota_told}
+use Rattle.qg_image.specs.Verdict.{is_group_number, most_groups, most_relations}
 use Rattle.qg_quota.specs.Quota.{items_rule, quota_rule}
 use Rattle.qg_quota.specs.Written.{items_of_quota, parts_of_quota, status_at}
 

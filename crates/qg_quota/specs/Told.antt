@@ -7,12 +7,12 @@ use Rattle.qg_items.specs.declared.quota.QgroupInfo.{QgroupInfo}
 use Rattle.qg_image.specs.Table.{has_key, keys_of, value_at}
 use Rattle.qg_image.specs.declared.part.QuotaPart.{QuotaPart}
 use Rattle.qg_image.specs.declared.part.QuotaPart.TheVariants.{Status, Info, Limits, Relation}
-use Rattle.qg_state.specs.declared.quota.Group.{Group}
-use Rattle.qg_state.specs.Members.{level_of_group}
+use Rattle.qg_image.specs.declared.quota.Group.{Group}
+use Rattle.qg_image.specs.Members.{level_of_group}
 use Rattle.qg_machine.specs.GroupChange.{has_pair}
 use Rattle.qg_hier.specs.Groups.{pair_cmp}
-use Rattle.qg_verdict.specs.ImageState.{group_told, info_told, limit_told}
-use Rattle.qg_verdict.specs.Verdict.{is_group_number, is_limit, is_plain, is_status_part}
+use Rattle.qg_image.specs.ImageState.{group_told, info_told, limit_told}
+use Rattle.qg_image.specs.Verdict.{is_group_number, is_limit, is_plain, is_status_part}
 use Rattle.qg_quota.specs.declared.told.Told.{Told}
 
 -- the two numbers of a relation's item, as its key has them

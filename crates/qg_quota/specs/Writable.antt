@@ -1,9 +1,9 @@
 -- Quota that can be written as items, so that it is read again (this project's own).
 use Rattle.std.specs.Prelude.{ℕ, ◌≤◌, ◌<◌, ◌^◌, Option, IfSome}
 use Rattle.std.specs.List.{All}
-use Rattle.qg_state.specs.declared.quota.Group.{Group}
-use Rattle.qg_state.specs.declared.quota.Quota.{Quota}
-use Rattle.qg_state.specs.Members.{hierarchy_of}
+use Rattle.qg_image.specs.declared.quota.Group.{Group}
+use Rattle.qg_image.specs.declared.quota.Quota.{Quota}
+use Rattle.qg_image.specs.Members.{hierarchy_of}
 use Rattle.qg_hier.specs.Groups.{IsSound}
 
 -- groups and relations are sound, so groups ascend by number; and no commit past this generation changed a group's counters

@@ -10,8 +10,8 @@ use Rattle.qg_items.specs.declared.quota.QgroupLimit.{QgroupLimit}
 use Rattle.qg_items.specs.ItemText.{status_text, info_text, limit_text}
 use Rattle.qg_image.specs.declared.part.QuotaPart.{QuotaPart}
 use Rattle.qg_image.specs.declared.part.QuotaPart.TheVariants.{Status, Info, Limits, Relation}
-use Rattle.qg_state.specs.declared.quota.Group.{Group}
-use Rattle.qg_state.specs.declared.quota.Quota.{Quota}
+use Rattle.qg_image.specs.declared.quota.Group.{Group}
+use Rattle.qg_image.specs.declared.quota.Quota.{Quota}
 use Rattle.qg_machine.specs.GroupChange.{with_pair}
 
 -- ---- numbers

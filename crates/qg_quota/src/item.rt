@@ -12,6 +12,7 @@ ghost use Rattle.qg_quota.specs.Written.{
   limit_of,
 };
 
+use qg_image::Group;
 use qg_items::kind::{QGROUP_INFO, QGROUP_LIMIT, QGROUP_RELATION, QGROUP_STATUS};
 use qg_items::{
     QGROUP_INFO_BYTES, QGROUP_LIMIT_BYTES, QGROUP_STATUS_BYTES, QgroupInfo, QgroupLimit,
@@ -19,7 +20,6 @@ use qg_items::{
 };
 use qg_node::{Body, Item};
 use qg_num::{Counters, Generation, GroupId, Key};
-use qg_state::Group;
 use std::alloc::{AllocError, Global};
 
 // The item under a key, its offset in the unit of its kind.

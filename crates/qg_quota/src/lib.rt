@@ -16,6 +16,3 @@ pub use laws::{items_are_written_back, quota_is_read_back};
 pub use reading::read_quota;
 pub use state::{from_items, to_items};
 pub use writing::quota_items;
-
-#[cfg(test)]
-mod tests;

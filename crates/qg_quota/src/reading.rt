@@ -4,19 +4,18 @@ ghost use Rattle.std.specs.List.{filter};
 ghost use Rattle.qg_node.specs.Nodes.{is_ascending};
 ghost use Rattle.qg_image.specs.Table.{keys_of};
 ghost use Rattle.qg_parts.specs.Keys.{quota_key};
-ghost use Rattle.qg_state.specs.Members.{hierarchy_of};
+ghost use Rattle.qg_image.specs.Members.{hierarchy_of};
 ghost use Rattle.qg_hier.specs.Groups.{IsSound};
-ghost use Rattle.qg_verdict.specs.ImageState.{group_told, max_excl_told, max_rfer_told, quota_told};
+ghost use Rattle.qg_image.specs.ImageState.{group_told, max_excl_told, max_rfer_told, quota_told};
 ghost use Rattle.qg_quota.specs.Told.{group_by, rises, Ascends};
 ghost use Rattle.qg_quota.specs.Quota.{quota_rule, IfRule};
 
 use crate::fault::QuotaFault;
 use crate::rules::{are_few, is_quota, value_of};
 use crate::told::{Told, told_by};
-use qg_image::{QuotaPart, RootPart};
+use qg_image::{Group, Quota, QuotaPart, RootPart};
 use qg_items::{QgroupInfo, QgroupLimit};
 use qg_num::{Counters, GroupId, RootId, Rule, Sequence};
-use qg_state::{Group, Quota};
 use std::alloc::{AllocError, Global};
 
 /// Quota, as its items tell it, or the first of the rules `quota` and `limits` that they break, unless memory is refused.

@@ -6,7 +6,7 @@ ghost use Rattle.std.specs.Ordering.{nat_cmp};
 ghost use Rattle.qg_image.specs.Table.{has_key, keys_of, value_at};
 ghost use Rattle.qg_machine.specs.GroupChange.{has_pair};
 ghost use Rattle.qg_hier.specs.Groups.{pair_cmp};
-ghost use Rattle.qg_verdict.specs.Verdict.{are_few, is_group_number, is_limit, is_plain, is_quota, is_status_part, most_groups, most_relations};
+ghost use Rattle.qg_image.specs.Verdict.{are_few, is_group_number, is_limit, is_plain, is_quota, is_status_part, most_groups, most_relations};
 ghost use Rattle.qg_quota.specs.Told.{are_told, fits_told, Ascends, AreTold};
 
 use crate::told::Told;

@@ -1,7 +1,7 @@
 // What quota items tell, each kind by itself.
 ghost use Rattle.std.specs.Prelude.{◌≡◌, ◌++◌, ◌∷◌, [], IfOk, OnOk};
 ghost use Rattle.std.specs.List.{filter_map};
-ghost use Rattle.qg_verdict.specs.ImageState.{info_told, limit_told};
+ghost use Rattle.qg_image.specs.ImageState.{info_told, limit_told};
 ghost use Rattle.qg_quota.specs.Told.{relation_told, AreTold};
 
 use qg_image::QuotaPart;

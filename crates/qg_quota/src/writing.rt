@@ -4,8 +4,8 @@ ghost use Rattle.std.specs.List.{filter_map, list_all};
 ghost use Rattle.qg_node.specs.Fits.{ItemFits};
 ghost use Rattle.qg_node.specs.Nodes.{is_ascending, items_bytes};
 ghost use Rattle.qg_image.specs.ItemMeaning.{quota_part};
-ghost use Rattle.qg_verdict.specs.Walk.{is_item_of};
-ghost use Rattle.qg_verdict.specs.declared.tree.Tree.TheVariants.{Quotas};
+ghost use Rattle.qg_image.specs.Walk.{is_item_of};
+ghost use Rattle.qg_image.specs.declared.tree.Tree.TheVariants.{Quotas};
 ghost use Rattle.qg_quota.specs.Writable.{AreWritableQuota, GroupFits, PairFits};
 ghost use Rattle.qg_quota.specs.Written.{
   both_ways,
@@ -18,10 +18,10 @@ ghost use Rattle.qg_quota.specs.Written.{
 
 use crate::item::{info_item, limit_item, relation_item, status_item};
 use crate::pairs::both_ways;
+use qg_image::{Group, Quota};
 use qg_items::QgroupStatus;
 use qg_node::Items;
 use qg_num::{Generation, GroupId, NoMemory};
-use qg_state::{Group, Quota};
 use std::alloc::{AllocError, Global};
 use std::collections::BTreeSet;
 

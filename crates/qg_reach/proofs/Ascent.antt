@@ -6,10 +6,10 @@ use Rattle.std.proofs.lemmas.Bool.{and_parts, and_from, not-true, true≢false}
 use Rattle.std.proofs.lemmas.List.{drop_more, map-append, take-append-drop, take_more}
 use Rattle.std.proofs.lemmas.List.Folds.{list_all-append}
 use Rattle.qg_num.specs.declared.piece.Piece.{Piece}
-use Rattle.qg_state.specs.Reach.{extent_of}
-use Rattle.qg_state.specs.declared.element.Element.{Element}
-use Rattle.qg_state.proofs.Contained.{none_contained, contains_here, contains_later, contains_cases}
-use Rattle.qg_verdict.specs.Verdict.{is_before, same_extent, extent_set}
+use Rattle.qg_image.specs.Reach.{extent_of}
+use Rattle.qg_image.specs.declared.element.Element.{Element}
+use Rattle.qg_image.proofs.Contained.{none_contained, contains_here, contains_later, contains_cases}
+use Rattle.qg_image.specs.Verdict.{is_before, same_extent, extent_set}
 use Rattle.qg_reach.specs.Ascent.{comes_last, do_ascend}
 use Rattle.qg_reach.specs.Sets.{HaveSame}
 use Rattle.qg_reach.proofs.Order.{before_not_itself, before_one_way, not_same, order_cases, same_itself}

@@ -16,13 +16,13 @@ use Rattle.qg_super.specs.declared.sizes.Sizes.{Sizes}
 use Rattle.qg_super.specs.Places.{is_served, is_slot}
 use Rattle.qg_image.specs.Below.{nodes_below}
 use Rattle.qg_image.specs.Table.{value_at, keys_of}
-use Rattle.qg_state.specs.declared.element.Element.{Element}
-use Rattle.qg_state.specs.State.{Layout, node_at}
-use Rattle.qg_state.specs.Members.{Hierarchy, members, is_member, is_below, leads, level_of_group}
-use Rattle.qg_state.specs.Reach.{reach, reach_of, reach_of_root, reaches, level_of, distinct}
-use Rattle.qg_state.specs.Counts.{referenced, exclusive, reach_of_group, is_reached_outside, bytes_of}
-use Rattle.qg_state.proofs.Contained.{contains_here, contains_later, contains_cases}
-use Rattle.qg_verdict.specs.Verdict.{space_failure}
+use Rattle.qg_image.specs.declared.element.Element.{Element}
+use Rattle.qg_image.specs.State.{Layout, node_at}
+use Rattle.qg_image.specs.Members.{Hierarchy, members, is_member, is_below, leads, level_of_group}
+use Rattle.qg_image.specs.Reach.{reach, reach_of, reach_of_root, reaches, level_of, distinct}
+use Rattle.qg_image.specs.Counts.{referenced, exclusive, reach_of_group, is_reached_outside, bytes_of}
+use Rattle.qg_image.proofs.Contained.{contains_here, contains_later, contains_cases}
+use Rattle.qg_image.specs.Verdict.{space_failure}
 use Rattle.qg_reach.specs.Sets.{HaveSame}
 use Rattle.qg_reach.proofs.Members.{contains_map, one_mapped, contains_flat_map, one_flat_mapped}
 use Rattle.qg_reach.proofs.Distinct.{AreApart, apart_with, bytes_of_distinct}

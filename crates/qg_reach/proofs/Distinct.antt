@@ -9,10 +9,10 @@ use Rattle.std.proofs.lemmas.List.Elements.{All-from_recursion, recursion_from_A
 use Rattle.std.proofs.lemmas.List.Sums.{sum_by-cons, sum_by-remove}
 use Rattle.std.proofs.lemmas.List.Sorted.{IsPermutation-remove, Contains-permutation, IsPermutation-sym}
 use Rattle.std.proofs.lemmas.Map.Keys.{IsDistinct-head, IsDistinct-tail, IsDistinct-cons, IsDistinct-IsPermutation}
-use Rattle.qg_state.specs.declared.element.Element.{Element}
-use Rattle.qg_state.specs.Reach.{is_among, distinct}
-use Rattle.qg_state.specs.Counts.{bytes_of}
-use Rattle.qg_state.proofs.Contained.{none_contained, contains_here, contains_later, contains_cases}
+use Rattle.qg_image.specs.declared.element.Element.{Element}
+use Rattle.qg_image.specs.Reach.{is_among, distinct}
+use Rattle.qg_image.specs.Counts.{bytes_of}
+use Rattle.qg_image.proofs.Contained.{none_contained, contains_here, contains_later, contains_cases}
 use Rattle.qg_reach.specs.Sets.{HaveSame}
 use Rattle.qg_reach.proofs.Members.{same_on}
 

@@ -6,9 +6,9 @@ use Rattle.std.proofs.lemmas.Bool.{cond-true, cond-false, true≢false}
 use Rattle.std.proofs.lemmas.List.{get_or-take, get_or_default, get_or_read, length-take-le}
 use Rattle.std.proofs.lemmas.List.Sums.{fold_more}
 use Rattle.std.proofs.lemmas.List.Sorted.{sorted_far}
-use Rattle.qg_state.specs.declared.element.Element.{Element}
-use Rattle.qg_state.proofs.Contained.{none_contained, contains_here, contains_later, contains_cases}
-use Rattle.qg_verdict.specs.Verdict.{is_before, same_extent, with_extent, extent_set}
+use Rattle.qg_image.specs.declared.element.Element.{Element}
+use Rattle.qg_image.proofs.Contained.{none_contained, contains_here, contains_later, contains_cases}
+use Rattle.qg_image.specs.Verdict.{is_before, same_extent, with_extent, extent_set}
 use Rattle.qg_reach.specs.Sets.{HaveSame}
 use Rattle.qg_reach.proofs.Members.{same_back, same_on}
 use Rattle.qg_reach.proofs.Order.{before_chain, before_one_way, before_not_itself, same_itself, same_extent_is, not_same, order_cases, order_of_extents, not_after}

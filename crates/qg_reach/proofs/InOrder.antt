@@ -3,9 +3,9 @@ use Rattle.std.proofs.Common.{◌≡◌, ℕ, zero, suc, ◌+◌, ◌-◌, true,
 use Rattle.std.specs.Prelude.{Some, None, slice_get}
 use Rattle.std.specs.List.{Contains}
 use Rattle.std.proofs.lemmas.Option.{get_or_from_slice_get, slice_get-get_or, slice_get_within}
-use Rattle.qg_state.specs.declared.element.Element.{Element}
-use Rattle.qg_state.proofs.Contained.{none_contained, contains_cases}
-use Rattle.qg_verdict.specs.Verdict.{is_before, extent_set, with_extent}
+use Rattle.qg_image.specs.declared.element.Element.{Element}
+use Rattle.qg_image.proofs.Contained.{none_contained, contains_cases}
+use Rattle.qg_image.specs.Verdict.{is_before, extent_set, with_extent}
 use Rattle.qg_reach.proofs.Order.{before_chain}
 use Rattle.qg_reach.proofs.ExtentSets.{Ascends, all_in, extent_set_ascends, with_last, with_member}
 

@@ -9,10 +9,10 @@ use Rattle.qg_node.specs.declared.node.Node.{Node}
 use Rattle.qg_super.specs.declared.superblock.Super.{Super}
 use Rattle.qg_image.specs.Table.{value_at, with_value}
 use Rattle.qg_image.specs.declared.part.ExtentPart.{ExtentPart}
-use Rattle.qg_state.specs.State.{Placed, node_at}
-use Rattle.qg_state.proofs.Contained.{none_contained, contains_here, contains_later, contains_cases}
-use Rattle.qg_verdict.specs.declared.tree.Tree.TheVariants.{Files}
-use Rattle.qg_verdict.specs.ImageState.{placed, layout_in, extent_parts, nodes_of_root, subvolume_roots, roots_in}
+use Rattle.qg_image.specs.State.{Placed, node_at}
+use Rattle.qg_image.proofs.Contained.{none_contained, contains_here, contains_later, contains_cases}
+use Rattle.qg_image.specs.declared.tree.Tree.TheVariants.{Files}
+use Rattle.qg_image.specs.ImageState.{placed, layout_in, extent_parts, nodes_of_root, subvolume_roots, roots_in}
 use Rattle.qg_reach.proofs.Reached.{address_of, LieWhereFound}
 
 -- ---- a table with one more value

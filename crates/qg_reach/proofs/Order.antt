@@ -3,8 +3,8 @@ use Rattle.std.proofs.Common.{◌≡◌, true, false, sym, subst, ◌∙◌, ari
 use Rattle.std.specs.Cmp.{IsStrictWeakOrder}
 use Rattle.std.proofs.lemmas.Bool.{cases_Bool, true≢false}
 use Rattle.std.proofs.lemmas.Bool.Decides.{nat_tests}
-use Rattle.qg_state.specs.declared.element.Element.{Element}
-use Rattle.qg_verdict.specs.Verdict.{is_before, same_extent}
+use Rattle.qg_image.specs.declared.element.Element.{Element}
+use Rattle.qg_image.specs.Verdict.{is_before, same_extent}
 
 pub before_chain : (a b c : Element) → is_before a b ≡ true → is_before b c ≡ true → is_before a c ≡ true
 before_chain a b c h k = grind (arith, nat_tests)

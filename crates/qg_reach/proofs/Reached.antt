@@ -11,9 +11,9 @@ use Rattle.qg_node.specs.declared.node.Node.{Node}
 use Rattle.qg_node.specs.declared.node.Node.TheVariants.{Leaf, Inner}
 use Rattle.qg_node.specs.Nodes.{header_of}
 use Rattle.qg_image.specs.Below.{leaf_items, inner_pointers, joined, nodes_below}
-use Rattle.qg_state.specs.declared.element.Element.{Element}
-use Rattle.qg_state.specs.Reach.{extent_of, pieces_of, own_elements, pointers_at, reach_under}
-use Rattle.qg_state.proofs.Contained.{contains_here}
+use Rattle.qg_image.specs.declared.element.Element.{Element}
+use Rattle.qg_image.specs.Reach.{extent_of, pieces_of, own_elements, pointers_at, reach_under}
+use Rattle.qg_image.proofs.Contained.{contains_here}
 
 -- where a node says that it lies
 abbrev pub address_of : Node → ℕ

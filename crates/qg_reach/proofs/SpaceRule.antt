@@ -10,13 +10,13 @@ use Rattle.qg_num.specs.declared.rule.Rule.TheVariants as rule
 use Rattle.qg_super.specs.declared.sizes.Sizes.{Sizes}
 use Rattle.qg_super.specs.Places.{total_bytes, is_run}
 use Rattle.qg_super.proofs.Runs.{WholeRun, WholeRun-is_run}
-use Rattle.qg_state.specs.declared.element.Element.{Element}
-use Rattle.qg_state.specs.Counts.{bytes_of}
-use Rattle.qg_state.proofs.Contained.{none_contained, contains_cases}
-use Rattle.qg_verdict.specs.declared.failure.Failure.{Failure}
-use Rattle.qg_verdict.specs.declared.failure.Failure.TheVariants.{Broken}
-use Rattle.qg_verdict.specs.Failure.{unless, first_failure}
-use Rattle.qg_verdict.specs.Verdict.{is_extent, longest_extent, space_failure}
+use Rattle.qg_image.specs.declared.element.Element.{Element}
+use Rattle.qg_image.specs.Counts.{bytes_of}
+use Rattle.qg_image.proofs.Contained.{none_contained, contains_cases}
+use Rattle.qg_image.specs.declared.failure.Failure.{Failure}
+use Rattle.qg_image.specs.declared.failure.Failure.TheVariants.{Broken}
+use Rattle.qg_image.specs.Failure.{unless, first_failure}
+use Rattle.qg_image.specs.Verdict.{is_extent, longest_extent, space_failure}
 use Rattle.qg_reach.specs.Fits.{first_fits}
 use Rattle.qg_reach.proofs.Distinct.{AreApart, apart_none, apart_with}
 

@@ -1,8 +1,8 @@
 -- Extents in the order in which they are named (this project's own).
 use Rattle.std.specs.Prelude.{Bool, true, ◌&&◌, not, List, [], ◌∷◌}
 use Rattle.std.specs.List.{list_all}
-use Rattle.qg_state.specs.declared.element.Element.{Element}
-use Rattle.qg_verdict.specs.Verdict.{is_before}
+use Rattle.qg_image.specs.declared.element.Element.{Element}
+use Rattle.qg_image.specs.Verdict.{is_before}
 
 -- an extent comes before none of some others
 abbrev pub comes_last : List Element → Element → Bool

@@ -1,8 +1,8 @@
 -- The rule `space` on one extent (this project's own).
 use Rattle.std.specs.Prelude.{◌+◌, Bool, true, ◌&&◌, List, [], ◌∷◌, nat_le}
 use Rattle.qg_super.specs.declared.sizes.Sizes.{Sizes}
-use Rattle.qg_state.specs.declared.element.Element.{Element}
-use Rattle.qg_verdict.specs.Verdict.{is_extent}
+use Rattle.qg_image.specs.declared.element.Element.{Element}
+use Rattle.qg_image.specs.Verdict.{is_extent}
 
 -- the first of some extents lies where it may and ends by the next one
 abbrev pub first_fits : Sizes → List Element → Bool

@@ -3,11 +3,11 @@ ghost use Rattle.std.specs.Prelude.{◌≡◌, ◌+◌, ◌*◌, None, length, I
 ghost use Rattle.std.specs.List.{All};
 ghost use Rattle.std.specs.List.Sorted.{IsStrictlyIncreasing};
 ghost use Rattle.qg_super.specs.Places.{is_served, is_slot};
-ghost use Rattle.qg_state.specs.Counts.{bytes_of};
-ghost use Rattle.qg_verdict.specs.Verdict.{space_failure};
+ghost use Rattle.qg_image.specs.Counts.{bytes_of};
+ghost use Rattle.qg_image.specs.Verdict.{space_failure};
 
+use qg_image::Element;
 use qg_num::Address;
-use qg_state::Element;
 use qg_super::Sizes;
 
 /// What the nodes and the extents of a subvolume take together, in bytes (btrfs-quota(8), "subvolume quota groups").

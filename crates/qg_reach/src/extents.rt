@@ -3,13 +3,12 @@ ghost use Rattle.std.specs.Prelude.{◌≡◌, ◌∷◌, ◌++◌, [], List, ma
 ghost use Rattle.std.specs.Bool.{then_some};
 ghost use Rattle.std.specs.List.{flat_map};
 ghost use Rattle.std.specs.List.Sorted.{IsPermutation, IsSortedBy};
-ghost use Rattle.qg_state.specs.Reach.{extent_of};
-ghost use Rattle.qg_verdict.specs.Verdict.{extent_set, is_before};
+ghost use Rattle.qg_image.specs.Reach.{extent_of};
+ghost use Rattle.qg_image.specs.Verdict.{extent_set, is_before};
 ghost use Rattle.qg_reach.specs.Ascent.{comes_last, do_ascend};
 
-use qg_image::File;
+use qg_image::{Element, File};
 use qg_num::{Ino, NoMemory, Piece, Sequence};
-use qg_state::Element;
 use std::alloc::{AllocError, Global};
 
 /// The data extents that files name, ascending by address and length, each once (on-disk format, EXTENT_DATA).

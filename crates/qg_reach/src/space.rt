@@ -2,12 +2,11 @@
 ghost use Rattle.std.specs.Prelude.{◌≡◌, IsTrue};
 ghost use Rattle.qg_super.specs.Places.{is_served, is_run};
 ghost use Rattle.qg_reach.specs.Fits.{first_fits};
-ghost use Rattle.qg_verdict.specs.Verdict.{is_extent, space_failure};
+ghost use Rattle.qg_image.specs.Verdict.{is_extent, space_failure};
 
+use qg_image::{Element, Failure};
 use qg_num::Rule;
-use qg_state::Element;
 use qg_super::{DATA_BEGIN, SECTOR, Sizes};
-use qg_verdict::Failure;
 
 /// The longest data extent, in bytes (this project's own).
 pub const LONGEST_EXTENT: u64 = 134217728;

@@ -10,6 +10,3 @@ mod sets;
 
 pub use reached::{Reached, reached_from};
 pub use sets::SetId;
-
-#[cfg(test)]
-mod tests;

@@ -12,7 +12,7 @@ use Rattle.std.proofs.lemmas.List.Elements.{All-set}
 use Rattle.std.proofs.lemmas.List.Edits.{length-insert, get_or-insert_at, get_or-insert_below, get_or-insert_above}
 use Rattle.std.proofs.lemmas.List.Quantifiers.{all_pairs_remove}
 use Rattle.qg_items.specs.declared.extent.Reference.{Reference}
-use Rattle.qg_state.specs.Record.{same_reference}
+use Rattle.qg_image.specs.Record.{same_reference}
 use Rattle.qg_refs.specs.declared.counted.Counted.{Counted}
 use Rattle.qg_refs.specs.Order.{precedes}
 use Rattle.qg_refs.specs.Counts.{counted, count_of, Ascend, IsRefList, HasOneMore, HasSoManyMore}

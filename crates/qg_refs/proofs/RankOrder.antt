@@ -5,7 +5,7 @@ use Rattle.std.proofs.lemmas.Bool.{cases_Bool, true≢false}
 use Rattle.std.proofs.lemmas.Bool.Decides.{nat_tests}
 use Rattle.qg_items.specs.declared.extent.Reference.{Reference}
 use Rattle.qg_items.specs.declared.extent.Reference.TheVariants.{KeyedBlock, SharedBlock, KeyedData, SharedData}
-use Rattle.qg_state.specs.Record.{same_reference}
+use Rattle.qg_image.specs.Record.{same_reference}
 use Rattle.qg_refs.specs.declared.order.Rank.{Rank}
 use Rattle.qg_refs.specs.Order.{rank_of, is_lower, precedes}
 

@@ -1,5 +1,8 @@
+ghost use Rattle.std.specs.Prelude.{◌≡◌};
+
 use crate::RefList;
 use qg_num::Generation;
+use std::alloc::AllocError;
 
 /// What a record tells of a node or a data extent beside its references (on-disk format, EXTENT_ITEM and METADATA_ITEM).
 #[derive(Clone, Copy, Debug, PartialEq, Eq)]
@@ -21,4 +24,16 @@ pub struct Kept {
     pub full: bool,
     /// The references to it.
     pub references: RefList,
+}
+
+impl Clone for Kept {
+    ghost is_clone = { λ kept copy. copy ≡ kept };
+
+    fn clone(&self) -> Result<Kept, AllocError> {
+        Ok(Kept {
+            what: self.what,
+            full: self.full,
+            references: self.references.clone()?,
+        })
+    }
 }

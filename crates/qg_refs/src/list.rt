@@ -7,7 +7,7 @@ use crate::place::{index_of, place_of};
 use qg_items::Reference;
 use qg_num::NoMemory;
 use smallvec::SmallVec;
-use std::alloc::Global;
+use std::alloc::{AllocError, Global};
 use std::marker::Model;
 
 /// The references to one node or extent, each with its count (on-disk format, "backreferences"). A contract sees them ascending,
@@ -136,6 +136,16 @@ impl RefList {
     {
         Ok(RefList {
             counts: SmallVec::from_slice(alloc, self.counts.as_slice())?,
+        })
+    }
+}
+
+impl Clone for RefList {
+    ghost is_clone = { λ list copy. copy ≡ list };
+
+    fn clone(&self) -> Result<RefList, AllocError> {
+        Ok(RefList {
+            counts: SmallVec::from_slice(*self.counts.allocator(), self.counts.as_slice())?,
         })
     }
 }

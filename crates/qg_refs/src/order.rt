@@ -1,6 +1,6 @@
 // The order of references.
 ghost use Rattle.std.specs.Prelude.{◌≡◌};
-ghost use Rattle.qg_state.specs.Record.{same_reference};
+ghost use Rattle.qg_image.specs.Record.{same_reference};
 ghost use Rattle.qg_refs.specs.Order.{rank_of, precedes};
 
 use qg_items::Reference;

@@ -1,7 +1,7 @@
 // The rule on the root tree.
 ghost use Rattle.std.specs.Prelude.{◌≡◌};
 ghost use Rattle.qg_image.specs.Table.{has_key, value_at};
-ghost use Rattle.qg_verdict.specs.Verdict.{are_roots};
+ghost use Rattle.qg_image.specs.Verdict.{are_roots};
 
 use qg_image::RootPart;
 use qg_items::RootItem;
@@ -9,7 +9,7 @@ use qg_items::tree::{EXTENT_TREE, TOP_LEVEL};
 use qg_num::RootId;
 
 /// Whether the trees that must be there are (rule `root`).
-#[tactic(auto, unfolding(qg_verdict::specs::Verdict::are_roots))]
+#[tactic(auto, unfolding(qg_image::specs::Verdict::are_roots))]
 pub fn are_roots(parts: &[RootPart]) -> bool
     ensures { result ≡ are_roots parts.now }
 {

@@ -4,3 +4,4 @@ pub mod Lines
 pub mod ReadLine
 pub mod Reading
 pub mod Added
+pub mod ReportText

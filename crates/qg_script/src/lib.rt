@@ -10,6 +10,7 @@ mod next;
 mod numbers;
 mod parse;
 mod reply;
+mod report;
 mod text;
 mod words;
 
@@ -20,4 +21,5 @@ pub use line::Line;
 pub use next::next_line;
 pub use parse::parse_line;
 pub use reply::{write_no_line, write_reply};
+pub use report::{write_sound, write_summary};
 pub use text::Text;

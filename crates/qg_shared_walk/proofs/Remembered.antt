@@ -20,11 +20,11 @@ use Rattle.qg_super.specs.Places.{capacity}
 use Rattle.qg_image.specs.IsShaped.{is_shaped}
 use Rattle.qg_super.specs.declared.superblock.Super.{Super}
 use Rattle.qg_file_parts.specs.Rows.{Tells}
-use Rattle.qg_state.proofs.Contained.{contains_cases, contains_here, contains_later, none_contained}
+use Rattle.qg_image.proofs.Contained.{contains_cases, contains_here, contains_later, none_contained}
 use Rattle.qg_gathered.proofs.Distinct.{distinct_both, distinct_none, distinct_with}
-use Rattle.qg_verdict.specs.declared.tree.Tree.TheVariants.{Files}
-use Rattle.qg_verdict.specs.declared.expected.Expected.{Expected}
-use Rattle.qg_verdict.specs.Walk.{next_key, node_found}
+use Rattle.qg_image.specs.declared.tree.Tree.TheVariants.{Files}
+use Rattle.qg_image.specs.declared.expected.Expected.{Expected}
+use Rattle.qg_image.specs.Walk.{next_key, node_found}
 use Rattle.qg_walk.specs.Added.{AreSpaced}
 use Rattle.qg_walk.specs.Standing.{IsJudged, expected_below, levels_below}
 use Rattle.qg_walk.proofs.Failures.{level_within}

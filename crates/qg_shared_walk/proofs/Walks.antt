@@ -14,11 +14,11 @@ use Rattle.qg_node.specs.Nodes.{header_of, own_items, own_keys, own_pointers, us
 use Rattle.qg_super.specs.declared.superblock.Super.{Super}
 use Rattle.qg_super.specs.Places.{capacity}
 use Rattle.qg_image.specs.IsShaped.{is_first, is_shaped}
-use Rattle.qg_verdict.specs.declared.failure.Failure.{Failure}
-use Rattle.qg_verdict.specs.declared.tree.Tree.TheVariants.{Files}
-use Rattle.qg_verdict.specs.declared.expected.Expected.{Expected}
-use Rattle.qg_verdict.specs.Failure.{first_failure, unless}
-use Rattle.qg_verdict.specs.Walk.{ends_before, found_failure, is_item_of, next_key, node_failure, node_found, pointers_failure, shape_failure, walk_failure, way_failure}
+use Rattle.qg_image.specs.declared.failure.Failure.{Failure}
+use Rattle.qg_image.specs.declared.tree.Tree.TheVariants.{Files}
+use Rattle.qg_image.specs.declared.expected.Expected.{Expected}
+use Rattle.qg_image.specs.Failure.{first_failure, unless}
+use Rattle.qg_image.specs.Walk.{ends_before, found_failure, is_item_of, next_key, node_failure, node_found, pointers_failure, shape_failure, walk_failure, way_failure}
 use Rattle.qg_walk.specs.Added.{AreSpaced, is_from, is_to}
 use Rattle.qg_walk.specs.Standing.{expected_below, form_failure}
 use Rattle.qg_walk.proofs.Failures.{neither, none_of_two, walk-inner, walk-passed}

@@ -20,11 +20,11 @@ use Rattle.qg_image.specs.ItemMeaning.{file_part}
 use Rattle.qg_parts.specs.Keys.{file_key}
 use Rattle.qg_parts.proofs.Keys.{files_ascending}
 use Rattle.qg_file_parts.specs.Rows.{Tells}
-use Rattle.qg_state.proofs.Contained.{contains_cases, none_contained}
-use Rattle.qg_verdict.specs.declared.tree.Tree.TheVariants.{Files}
-use Rattle.qg_verdict.specs.declared.expected.Expected.{Expected}
-use Rattle.qg_verdict.specs.ImageState.{level_in}
-use Rattle.qg_verdict.specs.Walk.{ends_before, is_told, next_key, node_failure, node_found, walk_failure}
+use Rattle.qg_image.proofs.Contained.{contains_cases, none_contained}
+use Rattle.qg_image.specs.declared.tree.Tree.TheVariants.{Files}
+use Rattle.qg_image.specs.declared.expected.Expected.{Expected}
+use Rattle.qg_image.specs.ImageState.{level_in}
+use Rattle.qg_image.specs.Walk.{ends_before, is_told, next_key, node_failure, node_found, walk_failure}
 use Rattle.qg_walk.specs.Added.{AreSpaced, Below as BelowAddress, HasAdded, below_node, below_pointers}
 use Rattle.qg_walk.specs.Standing.{IsJudged, expected_below, form_failure}
 use Rattle.qg_walk.proofs.Failures.{walk-inner, walk-leaf}

@@ -18,15 +18,15 @@ use Rattle.qg_image.specs.ItemMeaning.{file_part}
 use Rattle.qg_image.specs.FilesOf.{are_files, file_parts}
 use Rattle.qg_parts.specs.Keys.{file_key}
 use Rattle.qg_file_parts.specs.Rows.{Tells}
-use Rattle.qg_state.proofs.Contained.{contains_cases, contains_here, contains_later, none_contained}
-use Rattle.qg_verdict.specs.declared.failure.Failure.{Failure}
-use Rattle.qg_verdict.specs.declared.failure.Failure.TheVariants.{Broken}
-use Rattle.qg_verdict.specs.declared.tree.Tree.TheVariants.{Files}
-use Rattle.qg_verdict.specs.declared.expected.Expected.{Expected}
-use Rattle.qg_verdict.specs.Failure.{first_failure, unless}
-use Rattle.qg_verdict.specs.ImageState.{items_of_root, nodes_of_root}
-use Rattle.qg_verdict.specs.Verdict.{subvolume_failure}
-use Rattle.qg_verdict.specs.Walk.{deepest, root_told, tree_failure}
+use Rattle.qg_image.proofs.Contained.{contains_cases, contains_here, contains_later, none_contained}
+use Rattle.qg_image.specs.declared.failure.Failure.{Failure}
+use Rattle.qg_image.specs.declared.failure.Failure.TheVariants.{Broken}
+use Rattle.qg_image.specs.declared.tree.Tree.TheVariants.{Files}
+use Rattle.qg_image.specs.declared.expected.Expected.{Expected}
+use Rattle.qg_image.specs.Failure.{first_failure, unless}
+use Rattle.qg_image.specs.ImageState.{items_of_root, nodes_of_root}
+use Rattle.qg_image.specs.Verdict.{subvolume_failure}
+use Rattle.qg_image.specs.Walk.{deepest, root_told, tree_failure}
 use Rattle.qg_walk.specs.declared.fault.OpenFault.{OpenFault}
 use Rattle.qg_walk.specs.Fault.{TellsFailure, failure_of}
 use Rattle.qg_walk.specs.IsWalk.{IsWalk}

@@ -9,8 +9,8 @@ use Rattle.qg_image.specs.declared.part.FilePart.{FilePart}
 use Rattle.qg_image.specs.IsShaped.{is_shaped, same_key}
 use Rattle.qg_parts.specs.Keys.{file_key}
 use Rattle.qg_file_parts.specs.Rows.{Tells}
-use Rattle.qg_verdict.specs.declared.expected.Expected.{Expected}
-use Rattle.qg_verdict.specs.Walk.{is_told}
+use Rattle.qg_image.specs.declared.expected.Expected.{Expected}
+use Rattle.qg_image.specs.Walk.{is_told}
 use Rattle.qg_walk.specs.Added.{is_to}
 use Rattle.qg_shared_walk.specs.declared.digest.Below.{Below}
 use Rattle.qg_shared_walk.specs.declared.digest.Digest.{Digest}

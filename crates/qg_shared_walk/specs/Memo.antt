@@ -10,8 +10,8 @@ use Rattle.qg_node.specs.declared.pointer.Pointer.{Pointer}
 use Rattle.qg_node.specs.declared.node.Node.{Node}
 use Rattle.qg_node.specs.Nodes.{header_of}
 use Rattle.qg_super.specs.declared.superblock.Super.{Super}
-use Rattle.qg_verdict.specs.declared.expected.Expected.{Expected}
-use Rattle.qg_verdict.specs.Walk.{next_key, node_found}
+use Rattle.qg_image.specs.declared.expected.Expected.{Expected}
+use Rattle.qg_image.specs.Walk.{next_key, node_found}
 use Rattle.qg_shared_walk.specs.declared.digest.Below.{Below}
 use Rattle.qg_shared_walk.specs.declared.digest.Digest.{Digest}
 use Rattle.qg_shared_walk.specs.Digests.{IsDigestOf, ends_by, fits}

@@ -1,7 +1,7 @@
 -- How a walk that may pass nodes by answers (this project's own).
 use Rattle.std.specs.Prelude.{◌≡◌, List, Option, None, IfSome, Result, Ok, Err}
 use Rattle.qg_node.specs.declared.node.Node.{Node}
-use Rattle.qg_verdict.specs.declared.failure.Failure.{Failure}
+use Rattle.qg_image.specs.declared.failure.Failure.{Failure}
 use Rattle.qg_walk.specs.declared.fault.OpenFault.{OpenFault}
 use Rattle.qg_walk.specs.Fault.{failure_of}
 use Rattle.qg_shared_walk.specs.declared.unkept.Unkept.{Unkept}

@@ -1,13 +1,13 @@
 // What is kept of a node below which all is well.
 ghost use Rattle.std.specs.Prelude.{◌≡◌, ◌-◌, length, map, slice_get};
 ghost use Rattle.qg_node.specs.Nodes.{own_keys};
-ghost use Rattle.qg_verdict.specs.Walk.{is_told};
+ghost use Rattle.qg_image.specs.Walk.{is_told};
 ghost use Rattle.qg_shared_walk.specs.Digests.{HasBehind, IsDigestOf, begins_by, ends_by, fits, has_shape};
 
 use qg_file_parts::FileRow;
+use qg_image::Expected;
 use qg_node::{Keyed, Node};
 use qg_num::{Generation, Key};
-use qg_verdict::Expected;
 use qg_walk::{is_root_shaped, takes_a_quarter};
 
 /// What is kept of the items below a node (this project's own).

@@ -6,9 +6,9 @@ ghost use Rattle.qg_num.specs.declared.rule.Rule.TheVariants as rule;
 ghost use Rattle.qg_node.specs.Nodes.{is_ascending};
 ghost use Rattle.qg_parts.specs.Keys.{file_key};
 ghost use Rattle.qg_file_parts.specs.Rows.{Tells};
-ghost use Rattle.qg_verdict.specs.declared.tree.Tree.TheVariants.{Files};
-ghost use Rattle.qg_verdict.specs.Failure.{unless};
-ghost use Rattle.qg_verdict.specs.Walk.{is_item_of};
+ghost use Rattle.qg_image.specs.declared.tree.Tree.TheVariants.{Files};
+ghost use Rattle.qg_image.specs.Failure.{unless};
+ghost use Rattle.qg_image.specs.Walk.{is_item_of};
 ghost use Rattle.qg_walk.specs.Fault.{FailsAs};
 ghost use Rattle.qg_shared_walk.specs.Wells.{IsLeafRead};
 

@@ -12,8 +12,8 @@ use Rattle.qg_super.specs.declared.sizes.Sizes.{Sizes}
 use Rattle.qg_super.proofs.Served.{SizesFit-is_served}
 use Rattle.qg_image.specs.ItemMeaning.{is_subvolume_number}
 use Rattle.qg_image.specs.Table.{value_at, with_value}
-use Rattle.qg_state.specs.State.{Placed, State, has_subvolume, next_generation, node_at}
-use Rattle.qg_state.specs.Reach.{level_of}
+use Rattle.qg_image.specs.State.{Placed, State, has_subvolume, next_generation, node_at}
+use Rattle.qg_image.specs.Reach.{level_of}
 use Rattle.qg_machine.specs.GroupChange.{new_group, with_group}
 use Rattle.qg_machine.specs.Step.{CreatesSubvolume, empty_leaf}
 use Rattle.qg_machine.specs.Refusals.{root_level}

@@ -10,8 +10,8 @@ use Rattle.qg_items.specs.declared.extent.Reference.{Reference}
 use Rattle.qg_super.specs.Places.{is_slot}
 use Rattle.qg_super.specs.declared.sizes.Sizes.{Sizes}
 use Rattle.qg_image.specs.Table.{value_at}
-use Rattle.qg_state.specs.State.{Placed, State}
-use Rattle.qg_state.specs.Owed.{Owing}
+use Rattle.qg_image.specs.State.{Placed, State}
+use Rattle.qg_image.specs.Owed.{Owing}
 use Rattle.qg_cow.specs.Children.{way_to}
 use Rattle.qg_blocks.specs.Told.{told}
 use Rattle.qg_ground.specs.declared.ground.Ground.{Ground}

@@ -15,12 +15,12 @@ use Rattle.qg_super.specs.declared.superblock.Super.{Super}
 use Rattle.qg_image.specs.Below.{inner_pointers, items_below, joined, leaf_items}
 use Rattle.qg_image.specs.IsShaped.{is_shaped}
 use Rattle.qg_image.specs.ItemMeaning.{is_subvolume_number}
-use Rattle.qg_verdict.specs.declared.expected.Expected.{Expected}
-use Rattle.qg_verdict.specs.declared.failure.Failure.{Failure}
-use Rattle.qg_verdict.specs.declared.tree.Tree.TheVariants.{Files}
-use Rattle.qg_verdict.specs.Failure.{first_failure, unless}
-use Rattle.qg_verdict.specs.Among.{found_there}
-use Rattle.qg_verdict.specs.Walk.{found_failure, is_item_of, node_failure, pointers_failure, root_expected, shape_failure, walk_failure, way_failure}
+use Rattle.qg_image.specs.declared.expected.Expected.{Expected}
+use Rattle.qg_image.specs.declared.failure.Failure.{Failure}
+use Rattle.qg_image.specs.declared.tree.Tree.TheVariants.{Files}
+use Rattle.qg_image.specs.Failure.{first_failure, unless}
+use Rattle.qg_image.specs.Among.{found_there}
+use Rattle.qg_image.specs.Walk.{found_failure, is_item_of, node_failure, pointers_failure, root_expected, shape_failure, walk_failure, way_failure}
 use Rattle.qg_machine.specs.Step.{copy_of}
 use Rattle.qg_walk.proofs.Failures.{kept-none, neither}
 use Rattle.qg_descent.specs.Tree.{found_in}

@@ -13,16 +13,16 @@ use Rattle.qg_image.specs.FilesOf.{are_files, files_of}
 use Rattle.qg_image.specs.IsShaped.{is_shaped}
 use Rattle.qg_image.specs.ItemMeaning.{is_subvolume_number, when}
 use Rattle.qg_image.specs.Table.{keys_of, value_at}
-use Rattle.qg_state.specs.Owed.{homeless, owed_by_node}
-use Rattle.qg_state.specs.Reach.{level_of}
-use Rattle.qg_state.specs.State.{Placed, State, Subvolume, layout_of, next_generation, node_at}
-use Rattle.qg_state.proofs.Contained.{none_contained}
-use Rattle.qg_verdict.specs.declared.failure.Failure.{Failure}
-use Rattle.qg_verdict.specs.declared.tree.Tree.TheVariants.{Files}
-use Rattle.qg_verdict.specs.Among.{found_there}
-use Rattle.qg_verdict.specs.Failure.{unless}
-use Rattle.qg_verdict.specs.ItemsUnder.{is_way, nodes_of}
-use Rattle.qg_verdict.specs.Walk.{found_failure, is_item_of, node_failure, pointers_failure, root_expected, shape_failure, walk_failure, way_failure}
+use Rattle.qg_image.specs.Owed.{homeless, owed_by_node}
+use Rattle.qg_image.specs.Reach.{level_of}
+use Rattle.qg_image.specs.State.{Placed, State, Subvolume, layout_of, next_generation, node_at}
+use Rattle.qg_image.proofs.Contained.{none_contained}
+use Rattle.qg_image.specs.declared.failure.Failure.{Failure}
+use Rattle.qg_image.specs.declared.tree.Tree.TheVariants.{Files}
+use Rattle.qg_image.specs.Among.{found_there}
+use Rattle.qg_image.specs.Failure.{unless}
+use Rattle.qg_image.specs.ItemsUnder.{is_way, nodes_of}
+use Rattle.qg_image.specs.Walk.{found_failure, is_item_of, node_failure, pointers_failure, root_expected, shape_failure, walk_failure, way_failure}
 use Rattle.qg_machine.specs.Layout.{IsTreeOf, IsWhole, super_to_come}
 use Rattle.qg_machine.specs.Layout.{found_in as found_by}
 use Rattle.qg_machine.specs.Step.{CreatesSubvolume, empty_leaf}

@@ -15,15 +15,15 @@ use Rattle.qg_node.specs.Nodes.{ascends_from, header_of, is_ascending, own_keys,
 use Rattle.qg_items.specs.declared.extent.Reference.{Reference}
 use Rattle.qg_super.specs.declared.superblock.Super.{Super}
 use Rattle.qg_image.specs.IsShaped.{is_first, is_shaped}
-use Rattle.qg_state.specs.Owed.{Owing, owed_to_child}
-use Rattle.qg_state.specs.Record.{same_reference}
-use Rattle.qg_state.proofs.Contained.{contains_cases, contains_here, contains_later, none_contained}
-use Rattle.qg_verdict.specs.declared.expected.Expected.{Expected}
-use Rattle.qg_verdict.specs.declared.failure.Failure.{Failure}
-use Rattle.qg_verdict.specs.declared.tree.Tree.{Tree}
-use Rattle.qg_verdict.specs.Failure.{first_failure}
-use Rattle.qg_verdict.specs.Among.{found_there}
-use Rattle.qg_verdict.specs.Walk.{found_failure, node_failure, pointers_failure, shape_failure, walk_failure, way_failure}
+use Rattle.qg_image.specs.Owed.{Owing, owed_to_child}
+use Rattle.qg_image.specs.Record.{same_reference}
+use Rattle.qg_image.proofs.Contained.{contains_cases, contains_here, contains_later, none_contained}
+use Rattle.qg_image.specs.declared.expected.Expected.{Expected}
+use Rattle.qg_image.specs.declared.failure.Failure.{Failure}
+use Rattle.qg_image.specs.declared.tree.Tree.{Tree}
+use Rattle.qg_image.specs.Failure.{first_failure}
+use Rattle.qg_image.specs.Among.{found_there}
+use Rattle.qg_image.specs.Walk.{found_failure, node_failure, pointers_failure, shape_failure, walk_failure, way_failure}
 use Rattle.qg_walk.specs.Standing.{expected_below}
 use Rattle.qg_walk.proofs.Failures.{neither}
 use Rattle.qg_walk.proofs.KeyRanges.{ascending_behind, less_trans, not_less_itself, same_key-true}

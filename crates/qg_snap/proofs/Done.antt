@@ -13,10 +13,10 @@ use Rattle.qg_items.specs.declared.extent.Reference.{Reference}
 use Rattle.qg_super.specs.declared.superblock.Super.{Super}
 use Rattle.qg_image.specs.ItemMeaning.{is_subvolume_number}
 use Rattle.qg_image.specs.Table.{value_at, with_value}
-use Rattle.qg_state.specs.State.{Placed, State, Subvolume, has_subvolume, layout_of, next_generation, node_at}
-use Rattle.qg_state.specs.Reach.{level_of}
-use Rattle.qg_verdict.specs.declared.expected.Expected.{Expected}
-use Rattle.qg_verdict.specs.declared.tree.Tree.TheVariants.{Files}
+use Rattle.qg_image.specs.State.{Placed, State, Subvolume, has_subvolume, layout_of, next_generation, node_at}
+use Rattle.qg_image.specs.Reach.{level_of}
+use Rattle.qg_image.specs.declared.expected.Expected.{Expected}
+use Rattle.qg_image.specs.declared.tree.Tree.TheVariants.{Files}
 use Rattle.qg_machine.specs.GroupChange.{inherited}
 use Rattle.qg_machine.specs.Step.{Snapshots, copy_of}
 use Rattle.qg_machine.specs.Refusals.{root_level}

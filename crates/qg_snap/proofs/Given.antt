@@ -4,7 +4,7 @@ use Rattle.std.specs.Prelude.{Err, IsErrAnd, Ok, Option, Result, unwrap_or}
 use Rattle.qg_num.specs.declared.fault.BlockFault.{BlockFault}
 use Rattle.qg_blocks.specs.Told.{BreaksNone}
 use Rattle.qg_ground.specs.Tellings.{Telling}
-use Rattle.qg_state.specs.Owed.{Owing}
+use Rattle.qg_image.specs.Owed.{Owing}
 use Rattle.qg_refs.specs.declared.kept.What.{What}
 use Rattle.qg_refs.specs.Book.{Adds, Book, what_in}
 use Rattle.qg_tree_refs.specs.declared.tree_refs.TreeRefs.{TreeRefs}

@@ -7,8 +7,8 @@ use Rattle.qg_items.specs.declared.extent.Reference.{Reference}
 use Rattle.qg_node.specs.declared.node.Node.{Node}
 use Rattle.qg_node.specs.NodeText.{IsNode}
 use Rattle.qg_super.specs.Places.{capacity}
-use Rattle.qg_state.specs.Owed.{Owing}
-use Rattle.qg_state.specs.Record.{Record, record_bytes}
+use Rattle.qg_image.specs.Owed.{Owing}
+use Rattle.qg_image.specs.Record.{Record, record_bytes}
 use Rattle.qg_cow.specs.Children.{keyed_children}
 use Rattle.qg_ground.specs.Tellings.Telling.{Made}
 use Rattle.qg_refs.specs.declared.kept.Kept.{Kept}

@@ -8,9 +8,9 @@ use Rattle.qg_node.specs.NodeText.{IsNode}
 use Rattle.qg_super.specs.declared.sizes.Sizes.{Sizes}
 use Rattle.qg_items.specs.declared.extent.Reference.{Reference}
 use Rattle.qg_super.specs.Places.{is_run, is_slot}
-use Rattle.qg_state.specs.declared.element.Element.{Element}
-use Rattle.qg_state.specs.Owed.{Owing, owed_by_node}
-use Rattle.qg_state.specs.State.{Committed, State}
+use Rattle.qg_image.specs.declared.element.Element.{Element}
+use Rattle.qg_image.specs.Owed.{Owing, owed_by_node}
+use Rattle.qg_image.specs.State.{Committed, State}
 use Rattle.qg_machine.specs.Layout.{IsTreeOf}
 use Rattle.qg_cow.specs.Children.{way_to}
 use Rattle.qg_blocks.specs.Told.{told}

@@ -9,12 +9,12 @@ use Rattle.qg_node.specs.declared.node.Node.{Node}
 use Rattle.qg_node.specs.Nodes.{header_of}
 use Rattle.qg_super.specs.declared.sizes.Sizes.{Sizes}
 use Rattle.qg_image.specs.Table.{keys_of, value_at, with_value}
-use Rattle.qg_state.specs.declared.element.Element.{Element}
-use Rattle.qg_state.specs.Owed.{homeless}
-use Rattle.qg_state.specs.Reach.{is_among, level_of, reach, reach_of, reach_of_root, reach_under, reaches}
-use Rattle.qg_state.specs.State.{Placed, State, Subvolume, layout_of, node_at}
-use Rattle.qg_verdict.specs.declared.tree.Tree.TheVariants.{Files}
-use Rattle.qg_verdict.specs.Walk.{deepest, node_failure, root_expected}
+use Rattle.qg_image.specs.declared.element.Element.{Element}
+use Rattle.qg_image.specs.Owed.{homeless}
+use Rattle.qg_image.specs.Reach.{is_among, level_of, reach, reach_of, reach_of_root, reach_under, reaches}
+use Rattle.qg_image.specs.State.{Placed, State, Subvolume, layout_of, node_at}
+use Rattle.qg_image.specs.declared.tree.Tree.TheVariants.{Files}
+use Rattle.qg_image.specs.Walk.{deepest, node_failure, root_expected}
 use Rattle.qg_machine.specs.Layout.{IsTreeOf, IsWhole, super_to_come}
 use Rattle.qg_files.proofs.Ascending.{Ascends-increasing, ascends-with_value, increasing-Ascends}
 use Rattle.qg_descent.specs.Tree.{Reaches}

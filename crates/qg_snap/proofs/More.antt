@@ -8,10 +8,10 @@ use Rattle.qg_node.specs.Nodes.{header_of}
 use Rattle.qg_super.specs.declared.superblock.Super.{Super}
 use Rattle.qg_image.specs.declared.file.File.{File}
 use Rattle.qg_image.specs.Table.{keys_of, value_at, with_value}
-use Rattle.qg_state.specs.declared.element.Element.{Element}
-use Rattle.qg_state.specs.Owed.{Owing, owed_by_node, owed_count}
-use Rattle.qg_state.specs.Reach.{extent_of}
-use Rattle.qg_state.specs.State.{Placed, State, Subvolume, layout_of, next_generation}
+use Rattle.qg_image.specs.declared.element.Element.{Element}
+use Rattle.qg_image.specs.Owed.{Owing, owed_by_node, owed_count}
+use Rattle.qg_image.specs.Reach.{extent_of}
+use Rattle.qg_image.specs.State.{Placed, State, Subvolume, layout_of, next_generation}
 use Rattle.qg_machine.specs.Layout.{IsTreeOf, super_to_come}
 use Rattle.qg_cow.specs.Children.{way_to}
 use Rattle.qg_refs.specs.Book.{AgreesWithOwed, Book, count_at}

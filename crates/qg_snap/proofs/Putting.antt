@@ -10,8 +10,8 @@ use Rattle.qg_super.specs.declared.sizes.Sizes.{Sizes}
 use Rattle.qg_super.proofs.Served.{SizesFit-is_served}
 use Rattle.qg_super.proofs.Slots.{slot_ends}
 use Rattle.qg_image.specs.ItemMeaning.{is_subvolume_number}
-use Rattle.qg_state.specs.Owed.{Owing}
-use Rattle.qg_state.specs.State.{Placed, State, node_at}
+use Rattle.qg_image.specs.Owed.{Owing}
+use Rattle.qg_image.specs.State.{Placed, State, node_at}
 use Rattle.qg_cow.specs.Children.{way_to}
 use Rattle.qg_space.specs.Holding.{is_free_slot}
 use Rattle.qg_ground.specs.declared.ground.Ground.{Ground}

@@ -11,12 +11,12 @@ use Rattle.qg_items.specs.declared.extent.Reference.{Reference}
 use Rattle.qg_super.specs.declared.sizes.Sizes.{Sizes}
 use Rattle.qg_super.specs.Places.{is_slot}
 use Rattle.qg_image.specs.Table.{keys_of, value_at}
-use Rattle.qg_state.specs.declared.element.Element.{Element}
-use Rattle.qg_state.specs.Owed.{Owing, owed, owed_by_node}
-use Rattle.qg_state.specs.Reach.{extent_of, is_among, is_reached, level_of, own_elements, pieces_of, pointers_at, reach, reach_of, reach_of_root, reach_under, reaches}
-use Rattle.qg_state.specs.Space.{is_free_slot}
-use Rattle.qg_state.specs.State.{Layout, Placed, State, layout_of, node_at}
-use Rattle.qg_state.proofs.Contained.{contains_cases, contains_here, contains_later, none_contained}
+use Rattle.qg_image.specs.declared.element.Element.{Element}
+use Rattle.qg_image.specs.Owed.{Owing, owed, owed_by_node}
+use Rattle.qg_image.specs.Reach.{extent_of, is_among, is_reached, level_of, own_elements, pieces_of, pointers_at, reach, reach_of, reach_of_root, reach_under, reaches}
+use Rattle.qg_image.specs.Space.{is_free_slot}
+use Rattle.qg_image.specs.State.{Layout, Placed, State, layout_of, node_at}
+use Rattle.qg_image.proofs.Contained.{contains_cases, contains_here, contains_later, none_contained}
 use Rattle.qg_machine.specs.Layout.{IsReached}
 use Rattle.qg_cow.specs.Children.{way_to}
 use Rattle.qg_space.specs.Holding.{has_slot}

@@ -16,10 +16,10 @@ use Rattle.qg_image.specs.declared.part.FilePart.{FilePart}
 use Rattle.qg_image.specs.declared.part.FilePart.TheVariants.{Inode, PieceOf}
 use Rattle.qg_image.specs.ItemMeaning.{file_part}
 use Rattle.qg_image.specs.Table.{value_at}
-use Rattle.qg_state.specs.Owed.{Owing, homeless, owed_by_node, owed_by_part, owed_to_child, reference_offset}
-use Rattle.qg_state.specs.State.{Placed, State, layout_of, node_at}
-use Rattle.qg_state.proofs.Contained.{contains_cases, none_contained}
-use Rattle.qg_verdict.specs.declared.tree.Tree.TheVariants.{Files}
+use Rattle.qg_image.specs.Owed.{Owing, homeless, owed_by_node, owed_by_part, owed_to_child, reference_offset}
+use Rattle.qg_image.specs.State.{Placed, State, layout_of, node_at}
+use Rattle.qg_image.proofs.Contained.{contains_cases, none_contained}
+use Rattle.qg_image.specs.declared.tree.Tree.TheVariants.{Files}
 use Rattle.qg_machine.specs.Layout.{IsWhole, super_to_come}
 use Rattle.qg_cow.specs.Children.{keyed_children, shared_children, way_to, with_header}
 use Rattle.qg_refs.specs.Book.{AgreesWithOwed, Book, count_at}

@@ -11,14 +11,14 @@ use Rattle.qg_node.specs.Nodes.{header_of}
 use Rattle.qg_image.specs.Below.{items_below}
 use Rattle.qg_image.specs.ItemMeaning.{is_subvolume_number, when}
 use Rattle.qg_image.specs.Table.{keys_of, value_at, with_value}
-use Rattle.qg_state.specs.declared.element.Element.{Element}
-use Rattle.qg_state.specs.Owed.{homeless, owed_by_node}
-use Rattle.qg_state.specs.Reach.{level_of}
-use Rattle.qg_state.specs.State.{Placed, State, Subvolume, layout_of, next_generation, node_at}
-use Rattle.qg_verdict.specs.declared.failure.Failure.{Failure}
-use Rattle.qg_verdict.specs.declared.tree.Tree.TheVariants.{Files}
-use Rattle.qg_verdict.specs.ItemsUnder.{is_way, nodes_of}
-use Rattle.qg_verdict.specs.Walk.{deepest, root_expected, walk_failure, way_failure}
+use Rattle.qg_image.specs.declared.element.Element.{Element}
+use Rattle.qg_image.specs.Owed.{homeless, owed_by_node}
+use Rattle.qg_image.specs.Reach.{level_of}
+use Rattle.qg_image.specs.State.{Placed, State, Subvolume, layout_of, next_generation, node_at}
+use Rattle.qg_image.specs.declared.failure.Failure.{Failure}
+use Rattle.qg_image.specs.declared.tree.Tree.TheVariants.{Files}
+use Rattle.qg_image.specs.ItemsUnder.{is_way, nodes_of}
+use Rattle.qg_image.specs.Walk.{deepest, root_expected, walk_failure, way_failure}
 use Rattle.qg_machine.specs.Layout.{IsTreeOf, IsWhole, found_in, super_to_come}
 use Rattle.qg_machine.specs.Step.{Snapshots, copy_of}
 use Rattle.qg_cow.specs.Children.{keyed_children}

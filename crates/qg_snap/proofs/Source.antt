@@ -10,13 +10,13 @@ use Rattle.qg_super.specs.declared.superblock.Super.{Super}
 use Rattle.qg_super.specs.declared.sizes.Sizes.{Sizes}
 use Rattle.qg_image.specs.IsShaped.{is_shaped}
 use Rattle.qg_image.specs.Table.{value_at}
-use Rattle.qg_state.specs.Reach.{level_of}
-use Rattle.qg_state.specs.State.{Placed, State, Subvolume, has_subvolume, node_at}
-use Rattle.qg_verdict.specs.declared.failure.Failure.{Failure}
-use Rattle.qg_verdict.specs.declared.tree.Tree.TheVariants.{Files}
-use Rattle.qg_verdict.specs.Failure.{first_failure}
-use Rattle.qg_verdict.specs.Among.{found_there}
-use Rattle.qg_verdict.specs.Walk.{deepest, found_failure, is_generation, node_failure, pointers_failure, root_expected, shape_failure, walk_failure, way_failure}
+use Rattle.qg_image.specs.Reach.{level_of}
+use Rattle.qg_image.specs.State.{Placed, State, Subvolume, has_subvolume, node_at}
+use Rattle.qg_image.specs.declared.failure.Failure.{Failure}
+use Rattle.qg_image.specs.declared.tree.Tree.TheVariants.{Files}
+use Rattle.qg_image.specs.Failure.{first_failure}
+use Rattle.qg_image.specs.Among.{found_there}
+use Rattle.qg_image.specs.Walk.{deepest, found_failure, is_generation, node_failure, pointers_failure, root_expected, shape_failure, walk_failure, way_failure}
 use Rattle.qg_machine.specs.Layout.{IsReached, IsTreeOf, IsWhole, found_in, super_to_come}
 use Rattle.qg_machine.specs.Refusals.{root_level}
 use Rattle.qg_walk.specs.Standing.{form_failure}

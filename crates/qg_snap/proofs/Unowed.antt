@@ -15,11 +15,11 @@ use Rattle.qg_image.specs.declared.part.FilePart.{FilePart}
 use Rattle.qg_image.specs.declared.part.FilePart.TheVariants.{Inode, PieceOf}
 use Rattle.qg_image.specs.ItemMeaning.{file_part}
 use Rattle.qg_image.specs.Table.{keys_of, value_at}
-use Rattle.qg_state.specs.Owed.{Owing, homeless, owed, owed_by_node, owed_by_part, owed_count, owed_to_child}
-use Rattle.qg_state.specs.Reach.{is_among, reach, reach_of, reaches}
-use Rattle.qg_state.specs.Record.{same_reference}
-use Rattle.qg_state.specs.State.{Layout, Placed}
-use Rattle.qg_state.proofs.Contained.{contains_cases, contains_here, contains_later, none_contained}
+use Rattle.qg_image.specs.Owed.{Owing, homeless, owed, owed_by_node, owed_by_part, owed_count, owed_to_child}
+use Rattle.qg_image.specs.Reach.{is_among, reach, reach_of, reaches}
+use Rattle.qg_image.specs.Record.{same_reference}
+use Rattle.qg_image.specs.State.{Layout, Placed}
+use Rattle.qg_image.proofs.Contained.{contains_cases, contains_here, contains_later, none_contained}
 use Rattle.qg_cow.specs.Children.{way_to}
 use Rattle.qg_refs.proofs.RankOrder.{same_reference_is}
 use Rattle.qg_home.proofs.Reaching.{value_of_entry}

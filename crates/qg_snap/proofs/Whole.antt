@@ -8,13 +8,13 @@ use Rattle.qg_super.specs.declared.superblock.Super.{Super}
 use Rattle.qg_image.specs.Below.{items_below}
 use Rattle.qg_image.specs.FilesOf.{files_of}
 use Rattle.qg_image.specs.ItemMeaning.{when}
-use Rattle.qg_state.specs.Reach.{level_of}
-use Rattle.qg_state.specs.State.{State, Subvolume, next_generation, node_at}
-use Rattle.qg_verdict.specs.declared.failure.Failure.{Failure}
-use Rattle.qg_verdict.specs.declared.tree.Tree.TheVariants.{Files}
-use Rattle.qg_verdict.specs.Among.{found_there}
-use Rattle.qg_verdict.specs.ItemsUnder.{is_way, items_under, nodes_of}
-use Rattle.qg_verdict.specs.Walk.{deepest, node_failure, root_expected, walk_failure, way_failure}
+use Rattle.qg_image.specs.Reach.{level_of}
+use Rattle.qg_image.specs.State.{State, Subvolume, next_generation, node_at}
+use Rattle.qg_image.specs.declared.failure.Failure.{Failure}
+use Rattle.qg_image.specs.declared.tree.Tree.TheVariants.{Files}
+use Rattle.qg_image.specs.Among.{found_there}
+use Rattle.qg_image.specs.ItemsUnder.{is_way, items_under, nodes_of}
+use Rattle.qg_image.specs.Walk.{deepest, node_failure, root_expected, walk_failure, way_failure}
 use Rattle.qg_machine.specs.Layout.{IsTreeOf, found_in, super_to_come}
 use Rattle.qg_descent.specs.Tree.{Reaches}
 use Rattle.qg_descent.proofs.BranchFrames.{reach-top}

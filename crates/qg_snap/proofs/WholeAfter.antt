@@ -9,10 +9,10 @@ use Rattle.qg_node.specs.Nodes.{header_of}
 use Rattle.qg_node.specs.NodeText.{IsNode}
 use Rattle.qg_super.specs.declared.sizes.Sizes.{Sizes}
 use Rattle.qg_image.specs.Table.{keys_of, value_at}
-use Rattle.qg_state.specs.Owed.{homeless}
-use Rattle.qg_state.specs.Reach.{is_among, is_reached, reach, reach_of, reaches}
-use Rattle.qg_state.specs.State.{Placed, State, Subvolume, layout_of, node_at}
-use Rattle.qg_state.proofs.Contained.{contains_cases, contains_here, contains_later, none_contained}
+use Rattle.qg_image.specs.Owed.{homeless}
+use Rattle.qg_image.specs.Reach.{is_among, is_reached, reach, reach_of, reaches}
+use Rattle.qg_image.specs.State.{Placed, State, Subvolume, layout_of, node_at}
+use Rattle.qg_image.proofs.Contained.{contains_cases, contains_here, contains_later, none_contained}
 use Rattle.qg_machine.specs.Layout.{IsReached, IsTreeOf, IsWhole}
 use Rattle.qg_files.proofs.Ascending.{all-with_value}
 use Rattle.qg_home.proofs.Reaching.{entry_of_value}

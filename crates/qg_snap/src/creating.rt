@@ -5,7 +5,7 @@ ghost use Rattle.qg_device.specs.History.{Event};
 ghost use Rattle.qg_node.specs.Fits.{HeaderFits};
 ghost use Rattle.qg_node.specs.Nodes.{header_of};
 ghost use Rattle.qg_image.specs.ItemMeaning.{is_subvolume_number};
-ghost use Rattle.qg_state.specs.State.{State as MachineState, has_subvolume};
+ghost use Rattle.qg_image.specs.State.{State as MachineState, has_subvolume};
 ghost use Rattle.qg_machine.specs.Step.{CreatesSubvolume};
 ghost use Rattle.qg_machine.specs.Step.{empty_leaf as machine_leaf};
 ghost use Rattle.qg_blocks.specs.Told.{BreaksNone};

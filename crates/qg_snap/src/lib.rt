@@ -9,6 +9,3 @@ mod snapshots;
 
 pub use creating::create;
 pub use snapshots::snapshot;
-
-#[cfg(test)]
-mod tests;

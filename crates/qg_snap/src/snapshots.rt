@@ -4,7 +4,7 @@ ghost use Rattle.qg_device.specs.Cause.{HasCause};
 ghost use Rattle.qg_device.specs.History.{Event};
 ghost use Rattle.qg_image.specs.ItemMeaning.{is_subvolume_number};
 ghost use Rattle.qg_super.specs.Places.{capacity};
-ghost use Rattle.qg_state.specs.State.{State as MachineState, has_subvolume};
+ghost use Rattle.qg_image.specs.State.{State as MachineState, has_subvolume};
 ghost use Rattle.qg_machine.specs.Step.{Snapshots};
 ghost use Rattle.qg_blocks.specs.Told.{BreaksNone};
 ghost use Rattle.qg_space.specs.Holding.{free_slots, is_free_slot};

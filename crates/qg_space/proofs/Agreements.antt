@@ -9,9 +9,9 @@ use Rattle.std.proofs.lemmas.List.Sums.{sum_by-cons}
 use Rattle.qg_super.specs.declared.sizes.Sizes.{Sizes}
 use Rattle.qg_super.specs.Places.{is_run, is_slot, slot_at, sector_at}
 use Rattle.qg_image.specs.Table.{value_at, has_key, keys_of}
-use Rattle.qg_state.specs.State.{State}
-use Rattle.qg_state.specs.Space.{present_extents, overlaps, least}
-use Rattle.qg_state.specs.Space as state_space
+use Rattle.qg_image.specs.State.{State}
+use Rattle.qg_image.specs.Space.{present_extents, overlaps, least}
+use Rattle.qg_image.specs.Space as state_space
 use Rattle.qg_space.specs.Holding.{Holding, is_clear, first_clear, is_free_run, first_run, is_free_slot, free_slots}
 use Rattle.qg_space.specs.Agreement.{IsHoldingOf}
 use Rattle.qg_space.proofs.Least.{least_alike}

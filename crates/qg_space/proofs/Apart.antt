@@ -6,8 +6,8 @@ use Rattle.std.proofs.lemmas.Bool.{and_parts, and_left, and_right, or_parts, cas
 use Rattle.qg_super.specs.declared.sizes.Sizes.{Sizes}
 use Rattle.qg_super.specs.Places.{is_run}
 use Rattle.qg_super.proofs.Runs.{WholeRun-is_run}
-use Rattle.qg_state.specs.declared.element.Element.{Element}
-use Rattle.qg_state.specs.Space.{overlaps}
+use Rattle.qg_image.specs.declared.element.Element.{Element}
+use Rattle.qg_image.specs.Space.{overlaps}
 use Rattle.qg_space.specs.Run.{Run}
 use Rattle.qg_space.specs.Holding.{with_run, is_that_run}
 use Rattle.qg_space.specs.Lying.{extents_of, present_of, end_of, LieApart}

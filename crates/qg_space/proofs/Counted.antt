@@ -11,9 +11,9 @@ use Rattle.std.proofs.lemmas.List.Sums.{sum_by-cons}
 use Rattle.qg_super.specs.Places.{slots_begin, slot_at, is_slot, is_served}
 use Rattle.qg_super.proofs.Slots.{IsSlotAt-is_slot}
 use Rattle.qg_image.specs.Table.{with_number}
-use Rattle.qg_state.specs.declared.element.Element.{Element}
-use Rattle.qg_state.specs.Space.{least}
-use Rattle.qg_state.proofs.Contained.{contains_here, contains_later, contains_cases}
+use Rattle.qg_image.specs.declared.element.Element.{Element}
+use Rattle.qg_image.specs.Space.{least}
+use Rattle.qg_image.proofs.Contained.{contains_here, contains_later, contains_cases}
 use Rattle.qg_space.specs.Holding.{Holding, is_free_slot, first_slot, free_slots, without_slot}
 use Rattle.qg_space.proofs.Least.{none_passes}
 use Rattle.qg_space.proofs.Marks.{SlotsFit-is_served, slots_apart}

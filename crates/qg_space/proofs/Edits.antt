@@ -9,8 +9,8 @@ use Rattle.std.proofs.lemmas.List.Elements.{filter-append}
 use Rattle.qg_super.specs.declared.sizes.Sizes.{Sizes}
 use Rattle.qg_super.specs.Places.{data_begin, is_run, is_served}
 use Rattle.qg_super.proofs.Runs.{WholeRun-is_run}
-use Rattle.qg_state.specs.declared.element.Element.{Element}
-use Rattle.qg_state.specs.Space.{overlaps}
+use Rattle.qg_image.specs.declared.element.Element.{Element}
+use Rattle.qg_image.specs.Space.{overlaps}
 use Rattle.qg_space.specs.Run.{Run, FitsRun}
 use Rattle.qg_space.specs.Holding.{is_clear, with_run, without_run, is_that_run}
 use Rattle.qg_space.specs.Lying.{extents_of, present_of, held_of, end_of, with_held, LieApart}

@@ -6,8 +6,8 @@ use Rattle.std.specs.Option.{option_map}
 use Rattle.std.proofs.lemmas.Bool.{and_from, eqb-true, false_from_ne_true, true≢false}
 use Rattle.std.proofs.lemmas.Option.{none-some}
 use Rattle.qg_super.specs.Places.{is_run, is_slot, slot_at, sector_at}
-use Rattle.qg_state.specs.declared.element.Element.{Element}
-use Rattle.qg_state.specs.Space.{overlaps, least}
+use Rattle.qg_image.specs.declared.element.Element.{Element}
+use Rattle.qg_image.specs.Space.{overlaps, least}
 use Rattle.qg_space.specs.Holding.{Holding, is_clear, first_clear, is_free_run, first_run, is_free_slot, first_slot}
 use Rattle.qg_space.proofs.Least.{least_passes}
 use Rattle.qg_space.proofs.Members.{one_passes}

@@ -13,8 +13,8 @@ use Rattle.qg_super.specs.declared.sizes.Sizes.{Sizes}
 use Rattle.qg_super.specs.Places.{slot_at, is_slot}
 use Rattle.qg_super.proofs.Slots.{is_slot-slot_at}
 use Rattle.qg_image.specs.Table.{with_number}
-use Rattle.qg_state.specs.declared.element.Element.{Element}
-use Rattle.qg_state.specs.Space.{least}
+use Rattle.qg_image.specs.declared.element.Element.{Element}
+use Rattle.qg_image.specs.Space.{least}
 use Rattle.qg_space.specs.Run.{Run}
 use Rattle.qg_space.specs.declared.slots.Slot.{Slot}
 use Rattle.qg_space.specs.Holding.{Holding, nothing_held, is_free_slot, first_slot, free_slots, has_slot, without_slot}

@@ -6,7 +6,7 @@ use Rattle.std.proofs.lemmas.List.{take-take, take_more, take-map, take-set, tak
 use Rattle.qg_super.specs.declared.sizes.Sizes.{Sizes}
 use Rattle.qg_super.specs.Places.{data_begin}
 use Rattle.qg_super.proofs.Runs.{WholeRun, WholeRun-is_run}
-use Rattle.qg_state.specs.declared.element.Element.{Element}
+use Rattle.qg_image.specs.declared.element.Element.{Element}
 use Rattle.qg_space.specs.Run.{Run}
 use Rattle.qg_space.specs.Lying.{extents_of, end_of, end_of_last, ArePacked, IsFront, SameBefore, LieApart}
 

@@ -8,8 +8,8 @@ use Rattle.std.proofs.lemmas.List.{drop_more, drop_all}
 use Rattle.qg_super.specs.declared.sizes.Sizes.{Sizes}
 use Rattle.qg_super.specs.Places.{data_begin, sector, sector_at, total_bytes, is_run}
 use Rattle.qg_super.proofs.Runs.{WholeRun, WholeRun-is_run, is_run-WholeRun}
-use Rattle.qg_state.specs.declared.element.Element.{Element}
-use Rattle.qg_state.specs.Space.{overlaps}
+use Rattle.qg_image.specs.declared.element.Element.{Element}
+use Rattle.qg_image.specs.Space.{overlaps}
 use Rattle.qg_space.specs.Run.{Run}
 use Rattle.qg_space.specs.Holding.{is_clear, first_clear}
 use Rattle.qg_space.specs.Lying.{extents_of, end_of, end_of_last, ArePacked, IsFront, LieApart}

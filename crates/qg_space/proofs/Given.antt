@@ -10,7 +10,7 @@ use Rattle.std.proofs.lemmas.List.Folds.{list_any-append}
 use Rattle.qg_super.specs.declared.sizes.Sizes.{Sizes}
 use Rattle.qg_super.specs.Places.{data_begin}
 use Rattle.qg_super.proofs.Runs.{WholeRun-is_run}
-use Rattle.qg_state.specs.declared.element.Element.{Element}
+use Rattle.qg_image.specs.declared.element.Element.{Element}
 use Rattle.qg_space.specs.Run.{Run}
 use Rattle.qg_space.specs.Holding.{is_one_of, is_that_run, without_runs}
 use Rattle.qg_space.specs.Lying.{present_of, held_of, end_of, given_back, is_used, LieApart}

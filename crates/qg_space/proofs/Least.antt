@@ -2,7 +2,7 @@
 use Rattle.std.proofs.Common.{◌≡◌, ℕ, zero, suc, ◌+◌, ◌<◌, ◌≤◌, Bool, true, false, Some, None, refl, sym, ap, subst, ◌∙◌, arith, inl, inr}
 use Rattle.std.proofs.lemmas.Bool.{cases_Bool, cases_eq}
 use Rattle.std.proofs.lemmas.Option.{none-some}
-use Rattle.qg_state.specs.Space.{least}
+use Rattle.qg_image.specs.Space.{least}
 
 least_here : (test : ℕ → Bool) (from count : ℕ) → test from ≡ true → least test from (suc count) ≡ Some from
 unfolding least

@@ -3,7 +3,7 @@ use Rattle.std.proofs.Common.{◌≡◌, ◌≢◌, ℕ, inl, inr, ◌+◌, ◌<
 use Rattle.std.proofs.lemmas.List.{take_more, length-map, map-append, get_or_default}
 use Rattle.std.proofs.lemmas.Bool.{cases_lt}
 use Rattle.qg_super.specs.Places.{data_begin}
-use Rattle.qg_state.specs.declared.element.Element.{Element}
+use Rattle.qg_image.specs.declared.element.Element.{Element}
 use Rattle.qg_space.specs.Run.{Run}
 use Rattle.qg_space.specs.Lying.{extents_of, run_of_both, end_of, end_of_last, ArePacked, IsFront}
 use Rattle.qg_space.proofs.Fronts.{one_more_packed}

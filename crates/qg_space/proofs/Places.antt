@@ -7,8 +7,8 @@ use Rattle.qg_super.specs.Places.{data_begin, is_run, is_served, sector}
 use Rattle.qg_super.proofs.Runs.{WholeRun-is_run}
 use Rattle.qg_super.proofs.Served.{SizesFit-is_served}
 use Rattle.qg_space.specs.Run.{FitsRun}
-use Rattle.qg_state.specs.declared.element.Element.{Element}
-use Rattle.qg_state.specs.Space.{overlaps}
+use Rattle.qg_image.specs.declared.element.Element.{Element}
+use Rattle.qg_image.specs.Space.{overlaps}
 use Rattle.qg_space.specs.Lying.{end_of}
 
 -- a run ends at a sector's begin

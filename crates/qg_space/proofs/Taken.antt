@@ -9,8 +9,8 @@ use Rattle.std.proofs.lemmas.List.Sums.{count_by-le-length, sum_by-cons}
 use Rattle.qg_super.specs.declared.sizes.Sizes.{Sizes}
 use Rattle.qg_super.specs.Places.{data_begin, is_slot, sector, slot_at, total_bytes}
 use Rattle.qg_super.proofs.Runs.{WholeRun-is_run}
-use Rattle.qg_state.specs.declared.element.Element.{Element}
-use Rattle.qg_state.specs.Counts.{bytes_of}
+use Rattle.qg_image.specs.declared.element.Element.{Element}
+use Rattle.qg_image.specs.Counts.{bytes_of}
 use Rattle.qg_space.specs.Run.{Run}
 use Rattle.qg_space.specs.declared.slots.Slot.{Slot}
 use Rattle.qg_space.specs.Holding.{AscendApart, Holding, has_slot, taken_slots}

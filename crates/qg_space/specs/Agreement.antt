@@ -2,9 +2,9 @@
 use Rattle.std.specs.Prelude.{◌≡◌, ℕ, ◌↔◌}
 use Rattle.std.specs.List.{Contains}
 use Rattle.qg_image.specs.Table.{keys_of}
-use Rattle.qg_state.specs.declared.element.Element.{Element}
-use Rattle.qg_state.specs.State.{State}
-use Rattle.qg_state.specs.Space.{present_extents}
+use Rattle.qg_image.specs.declared.element.Element.{Element}
+use Rattle.qg_image.specs.State.{State}
+use Rattle.qg_image.specs.Space.{present_extents}
 use Rattle.qg_space.specs.Holding.{Holding}
 
 -- what is held is what the files and the layout of a state name, and what its last commit holds

@@ -5,8 +5,8 @@ use Rattle.std.specs.List.{list_any, filter, count_by, range_with_len}
 use Rattle.std.specs.Option.{option_map}
 use Rattle.qg_super.specs.declared.sizes.Sizes.{Sizes}
 use Rattle.qg_super.specs.Places.{is_run, is_slot, slot_at, sector_at}
-use Rattle.qg_state.specs.declared.element.Element.{Element}
-use Rattle.qg_state.specs.Space.{overlaps, least}
+use Rattle.qg_image.specs.declared.element.Element.{Element}
+use Rattle.qg_image.specs.Space.{overlaps, least}
 
 -- the runs and the node slots that the present state holds, and those that the last commit holds. Each list ascends
 pub record Holding : Type 0 where

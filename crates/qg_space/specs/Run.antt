@@ -1,7 +1,7 @@
 -- A run of whole sectors, and what holds it (this project's own). Addresses and lengths are in bytes.
 use Rattle.std.specs.Prelude.{◌≡◌, ◌-◌, ◌/◌, ◌%◌, ◌^◌, ◌<◌, ◌≤◌, Bool}
 use Rattle.qg_super.specs.Places.{data_begin, sector}
-use Rattle.qg_state.specs.declared.element.Element.{Element}
+use Rattle.qg_image.specs.declared.element.Element.{Element}
 
 -- where a run lies, and whether the present state and the last commit hold it
 pub record Run : Type 0 where

@@ -2,8 +2,8 @@
 ghost use Rattle.std.specs.Prelude.{◌≡◌};
 ghost use Rattle.qg_space.specs.Run.{FitsRun};
 
+use qg_image::Element;
 use qg_num::Address;
-use qg_state::Element;
 use qg_super::{DATA_BEGIN, SECTOR};
 use std::marker::Model;
 

@@ -4,15 +4,15 @@ ghost use Rattle.std.specs.List.{All, AllWithin, Contains, filter, list_any};
 ghost use Rattle.std.specs.List.Sorted.{IsNonDecreasingBy};
 ghost use Rattle.qg_super.specs.declared.sizes.Sizes.{Sizes};
 ghost use Rattle.qg_super.specs.Places.{is_served, data_begin, sector};
-ghost use Rattle.qg_state.specs.declared.element.Element.{Element};
-ghost use Rattle.qg_state.specs.Counts.{bytes_of};
+ghost use Rattle.qg_image.specs.declared.element.Element.{Element};
+ghost use Rattle.qg_image.specs.Counts.{bytes_of};
 ghost use Rattle.qg_space.specs.Run.{Run};
 ghost use Rattle.qg_space.specs.Holding.{AscendApart, is_clear, first_clear, is_that_run, with_run, without_run, without_runs};
 ghost use Rattle.qg_space.specs.Lying.{LieApart, extents_of, present_of, held_of, given_back, is_used, with_held, run_of_both, end_of_last, IsFront, SameBefore};
 
 use crate::run::Run;
+use qg_image::Element;
 use qg_num::{Address, Sequence};
-use qg_state::Element;
 use qg_super::{DATA_BEGIN, Sizes};
 use std::alloc::{AllocError, Global};
 

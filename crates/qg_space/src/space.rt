@@ -3,7 +3,7 @@ ghost use Rattle.std.specs.Prelude.{◌≡◌, ◌*◌, ◌<◌, ◌≤◌, ◌=
 ghost use Rattle.std.specs.List.{All, Contains, IsDistinct, list_all};
 ghost use Rattle.qg_super.specs.Places.{data_begin, is_served, is_slot, sector, slot_at};
 ghost use Rattle.qg_image.specs.Table.{with_number};
-ghost use Rattle.qg_state.specs.Counts.{bytes_of};
+ghost use Rattle.qg_image.specs.Counts.{bytes_of};
 ghost use Rattle.qg_space.specs.Holding.{nothing_held, AscendApart, is_free_run, first_run, has_run, with_run, without_run, without_runs, is_free_slot, first_slot, free_list, free_slots, has_slot, taken_slots, without_slot};
 
 use crate::run::Run;
@@ -15,8 +15,8 @@ use crate::slots::{
     Slot, address_of, commit_slots, count_present, count_unused, first_unused, first_unused_slots,
     number_of, unused_slots,
 };
+use qg_image::Element;
 use qg_num::{Address, NoMemory, Sequence};
-use qg_state::Element;
 use qg_super::{SECTOR, Sizes};
 use std::alloc::Global;
 use std::marker::Model;

@@ -15,10 +15,10 @@ use Rattle.qg_super.specs.Places.{first_place, is_served, is_slot, second_place,
 use Rattle.qg_super.specs.SuperText.{super_text}
 use Rattle.qg_super.proofs.SuperTexts.{length-super_text}
 use Rattle.qg_image.specs.Below.{items_below}
-use Rattle.qg_state.specs.Owed.{owed_count}
-use Rattle.qg_state.specs.Reach.{extent_of}
-use Rattle.qg_state.specs.State.{Layout, Placed}
-use Rattle.qg_verdict.specs.declared.tree.Tree.TheVariants.{Files}
+use Rattle.qg_image.specs.Owed.{owed_count}
+use Rattle.qg_image.specs.Reach.{extent_of}
+use Rattle.qg_image.specs.State.{Layout, Placed}
+use Rattle.qg_image.specs.declared.tree.Tree.TheVariants.{Files}
 use Rattle.qg_blocks.specs.Standing.{has_slot, standing}
 use Rattle.qg_blocks.specs.Told.{IsBacked, fresh_at}
 use Rattle.qg_blocks.specs.Writing.{Keeps}

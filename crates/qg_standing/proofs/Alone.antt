@@ -7,8 +7,8 @@ use Rattle.qg_items.specs.declared.root.RootItem.{RootItem}
 use Rattle.qg_items.specs.declared.tree.TheConstants.{TOP_LEVEL}
 use Rattle.qg_super.specs.declared.superblock.Super.{Super}
 use Rattle.qg_image.specs.Table.{has_key, keys_of}
-use Rattle.qg_state.proofs.Contained.{contains_cases, contains_here, none_contained}
-use Rattle.qg_verdict.specs.ImageState.{roots_in, subvolume_roots}
+use Rattle.qg_image.proofs.Contained.{contains_cases, contains_here, none_contained}
+use Rattle.qg_image.specs.ImageState.{roots_in, subvolume_roots}
 use Rattle.qg_descent.specs.Tree.{Root}
 use Rattle.qg_fs_tree.specs.declared.fs_tree.FsTree.{FsTree}
 use Rattle.qg_standing.specs.Committing.{IsCommitted, for_generation}

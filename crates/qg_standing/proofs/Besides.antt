@@ -7,7 +7,7 @@ use Rattle.std.proofs.lemmas.Bool.{and_parts, eq-eqb, true≢false}
 use Rattle.std.proofs.lemmas.List.{take_all}
 use Rattle.std.proofs.lemmas.List.Elements.{Contains-append_left, Contains-append_right, Contains-append_cases}
 use Rattle.qg_image.specs.Table.{with_number}
-use Rattle.qg_state.proofs.Contained.{none_contained, contains_here, contains_cases}
+use Rattle.qg_image.proofs.Contained.{none_contained, contains_here, contains_cases}
 use Rattle.qg_space.specs.Holding.{Holding, has_slot, is_free_slot, without_slot}
 use Rattle.qg_super.specs.Places.{is_slot}
 use Rattle.qg_space.proofs.Firsts.{is_free_slot-clear}

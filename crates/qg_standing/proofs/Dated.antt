@@ -9,8 +9,8 @@ use Rattle.std.proofs.lemmas.List.Sums.{AllPass-from_list_all}
 use Rattle.qg_image.specs.declared.part.ExtentPart.{ExtentPart}
 use Rattle.qg_image.specs.declared.part.ExtentPart.TheVariants.{DataRecord, NodeRecord, Referenced}
 use Rattle.qg_image.specs.ItemMeaning.{extent_part_stamps}
-use Rattle.qg_state.specs.Owed.{is_record, part_address}
-use Rattle.qg_verdict.specs.Walk.{are_by}
+use Rattle.qg_image.specs.Owed.{is_record, part_address}
+use Rattle.qg_image.specs.Walk.{are_by}
 use Rattle.qg_refs.specs.declared.kept.What.{What}
 use Rattle.qg_refs.specs.Book.{Book, what_in}
 use Rattle.qg_extents.specs.Told.{IsTold, parts_at, the_only, what_told}

@@ -11,12 +11,12 @@ use Rattle.qg_node.specs.declared.item.Item.{Item}
 use Rattle.qg_node.specs.declared.node.Node.{Node}
 use Rattle.qg_node.specs.Nodes.{header_of, own_items}
 use Rattle.qg_items.specs.declared.extent.Reference.{Reference}
-use Rattle.qg_state.specs.declared.element.Element.{Element}
-use Rattle.qg_state.specs.Owed.{owed_count}
-use Rattle.qg_state.specs.State.{Placed}
-use Rattle.qg_state.proofs.Contained.{contains_cases, contains_here}
+use Rattle.qg_image.specs.declared.element.Element.{Element}
+use Rattle.qg_image.specs.Owed.{owed_count}
+use Rattle.qg_image.specs.State.{Placed}
+use Rattle.qg_image.proofs.Contained.{contains_cases, contains_here}
 use Rattle.qg_home.proofs.Reaching.{value_of_entry}
-use Rattle.qg_verdict.specs.declared.tree.Tree.TheVariants.{Files}
+use Rattle.qg_image.specs.declared.tree.Tree.TheVariants.{Files}
 use Rattle.qg_blocks.specs.Told.{fresh_at}
 use Rattle.qg_ground.specs.Land.{IsDrafted}
 use Rattle.qg_refs.specs.declared.kept.What.{What}

@@ -8,9 +8,9 @@ use Rattle.qg_node.specs.declared.node.Node.TheVariants.{Leaf, Inner}
 use Rattle.qg_node.specs.Nodes.{header_of}
 use Rattle.qg_super.specs.declared.superblock.Super.{Super}
 use Rattle.qg_image.specs.IsShaped.{is_shaped}
-use Rattle.qg_verdict.specs.declared.expected.Expected.{Expected}
-use Rattle.qg_verdict.specs.declared.tree.Tree.{Tree}
-use Rattle.qg_verdict.specs.Walk.{is_generation, is_told, root_expected}
+use Rattle.qg_image.specs.declared.expected.Expected.{Expected}
+use Rattle.qg_image.specs.declared.tree.Tree.{Tree}
+use Rattle.qg_image.specs.Walk.{is_generation, is_told, root_expected}
 use Rattle.qg_walk.specs.Standing.{form_failure}
 use Rattle.qg_descent.specs.Branch.{IsBranch, IsMember}
 use Rattle.qg_descent.specs.Tree.{IsTree, Reaches, found_in}

@@ -11,7 +11,7 @@ use Rattle.qg_node.specs.declared.node.Node.{Node}
 use Rattle.qg_node.specs.declared.node.Node.TheVariants.{Leaf, Inner}
 use Rattle.qg_node.specs.Nodes.{own_pointers}
 use Rattle.qg_image.specs.Below.{inner_pointers, joined, leaf_items, nodes_below}
-use Rattle.qg_state.proofs.Contained.{contains_cases, contains_here, contains_later, none_contained}
+use Rattle.qg_image.proofs.Contained.{contains_cases, contains_here, contains_later, none_contained}
 use Rattle.qg_descent.specs.Tree.{Reaches}
 
 -- ---- lists under pointers

@@ -20,14 +20,14 @@ use Rattle.qg_super.specs.SuperText.{sizes_of}
 use Rattle.qg_image.specs.Below.{items_below, nodes_below}
 use Rattle.qg_image.specs.ItemMeaning.{is_subvolume_number, when}
 use Rattle.qg_image.specs.Table.{keys_of, value_at}
-use Rattle.qg_state.proofs.Contained.{contains_cases, contains_here, contains_later}
+use Rattle.qg_image.proofs.Contained.{contains_cases, contains_here, contains_later}
 use Rattle.qg_home.proofs.Reaching.{entry_of_value, value_of_entry}
 use Rattle.qg_owed.proofs.Filters.{contains_kept, kept_contains}
-use Rattle.qg_verdict.specs.declared.failure.Failure.{Failure}
-use Rattle.qg_verdict.specs.declared.tree.Tree.TheVariants.{Files}
-use Rattle.qg_verdict.specs.ImageState.{addresses_of, items_of_root, level_in, nodes_of_root, roots_in, subvolume_roots}
-use Rattle.qg_verdict.specs.ItemsUnder.{is_way, items_under, nodes_of as found_nodes}
-use Rattle.qg_verdict.specs.Walk.{deepest, is_owner, node_found, root_expected, root_told, tree_failure}
+use Rattle.qg_image.specs.declared.failure.Failure.{Failure}
+use Rattle.qg_image.specs.declared.tree.Tree.TheVariants.{Files}
+use Rattle.qg_image.specs.ImageState.{addresses_of, items_of_root, level_in, nodes_of_root, roots_in, subvolume_roots}
+use Rattle.qg_image.specs.ItemsUnder.{is_way, items_under, nodes_of as found_nodes}
+use Rattle.qg_image.specs.Walk.{deepest, is_owner, node_found, root_expected, root_told, tree_failure}
 use Rattle.qg_walk.proofs.Failures.{IsPassed, walk-passed}
 use Rattle.qg_blocks.specs.Held.{Draft}
 use Rattle.qg_blocks.specs.Told.{IsBacked, fresh_at}

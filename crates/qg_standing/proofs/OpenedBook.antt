@@ -19,15 +19,15 @@ use Rattle.qg_super.specs.SuperText.{sizes_of}
 use Rattle.qg_super.proofs.Runs.{is_run-WholeRun}
 use Rattle.qg_image.specs.Table.{value_at}
 use Rattle.qg_image.specs.declared.file.File.{File}
-use Rattle.qg_state.specs.declared.element.Element.{Element}
-use Rattle.qg_state.specs.Owed.{layout_extents, owed_count}
-use Rattle.qg_state.specs.Reach.{extent_of, is_among, level_of, pieces_of, reaches}
-use Rattle.qg_state.specs.Space.{present_extents}
-use Rattle.qg_state.specs.State.{Layout, Placed, Subvolume, layout_of, node_at}
-use Rattle.qg_state.proofs.Contained.{contains_cases, contains_here, contains_later, none_contained}
-use Rattle.qg_verdict.specs.declared.tree.Tree.TheVariants.{Files}
-use Rattle.qg_verdict.specs.ImageState.{extent_parts, items_of_root, roots_in, state_in, subvolume_in, subvolume_roots, subvolumes_in}
-use Rattle.qg_verdict.specs.Verdict.{extent_set}
+use Rattle.qg_image.specs.declared.element.Element.{Element}
+use Rattle.qg_image.specs.Owed.{layout_extents, owed_count}
+use Rattle.qg_image.specs.Reach.{extent_of, is_among, level_of, pieces_of, reaches}
+use Rattle.qg_image.specs.Space.{present_extents}
+use Rattle.qg_image.specs.State.{Layout, Placed, Subvolume, layout_of, node_at}
+use Rattle.qg_image.proofs.Contained.{contains_cases, contains_here, contains_later, none_contained}
+use Rattle.qg_image.specs.declared.tree.Tree.TheVariants.{Files}
+use Rattle.qg_image.specs.ImageState.{extent_parts, items_of_root, roots_in, state_in, subvolume_in, subvolume_roots, subvolumes_in}
+use Rattle.qg_image.specs.Verdict.{extent_set}
 use Rattle.qg_reach.proofs.Distinct.{apart_same}
 use Rattle.qg_reach.proofs.ExtentSets.{extent_set_same}
 use Rattle.qg_reach.proofs.SlotRule.{slot_below}

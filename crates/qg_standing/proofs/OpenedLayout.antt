@@ -11,9 +11,9 @@ use Rattle.qg_super.specs.declared.sizes.Sizes.{Sizes}
 use Rattle.qg_super.specs.declared.superblock.Super.{Super}
 use Rattle.qg_image.specs.Table.{keys_of, value_at}
 use Rattle.qg_image.specs.declared.part.ExtentPart.{ExtentPart}
-use Rattle.qg_state.specs.State.{Layout, Placed, Subvolume, layout_of, node_at}
-use Rattle.qg_state.proofs.Contained.{contains_here, contains_later}
-use Rattle.qg_verdict.specs.ImageState.{extent_parts, roots_in, state_in, subvolume_in, subvolume_roots, subvolumes_in}
+use Rattle.qg_image.specs.State.{Layout, Placed, Subvolume, layout_of, node_at}
+use Rattle.qg_image.proofs.Contained.{contains_here, contains_later}
+use Rattle.qg_image.specs.ImageState.{extent_parts, roots_in, state_in, subvolume_in, subvolume_roots, subvolumes_in}
 use Rattle.qg_reach.proofs.Layouts.{AgreeByAddress, layout_by, layout_in-nodes}
 use Rattle.qg_home.proofs.Reaching.{entry_of_value, value_of_entry}
 use Rattle.qg_owed.proofs.NumberSets.{same_ascending}

@@ -13,10 +13,10 @@ use Rattle.qg_items.specs.declared.tree.TheConstants.{TOP_LEVEL}
 use Rattle.qg_super.specs.declared.sizes.Sizes.{Sizes}
 use Rattle.qg_super.specs.declared.superblock.Super.{Super}
 use Rattle.qg_super.specs.Places.{is_slot}
-use Rattle.qg_state.specs.Owed.{owed_count}
-use Rattle.qg_state.proofs.Contained.{contains_later}
-use Rattle.qg_verdict.specs.declared.tree.Tree.TheVariants.{Files}
-use Rattle.qg_verdict.specs.ImageState.{extent_parts, items_of_root, roots_in, subvolume_roots}
+use Rattle.qg_image.specs.Owed.{owed_count}
+use Rattle.qg_image.proofs.Contained.{contains_later}
+use Rattle.qg_image.specs.declared.tree.Tree.TheVariants.{Files}
+use Rattle.qg_image.specs.ImageState.{extent_parts, items_of_root, roots_in, subvolume_roots}
 use Rattle.qg_blocks.specs.Told.{fresh_at}
 use Rattle.qg_space.specs.Holding.{has_slot}
 use Rattle.qg_space.proofs.Members.{Contains-has_slot}

@@ -11,10 +11,10 @@ use Rattle.qg_image.specs.Table.{value_at}
 use Rattle.qg_image.specs.declared.part.ExtentPart.{ExtentPart}
 use Rattle.qg_image.specs.declared.part.ExtentPart.TheVariants.{DataRecord, NodeRecord, Referenced}
 use Rattle.qg_image.specs.ItemMeaning.{some_passes}
-use Rattle.qg_state.specs.declared.element.Element.{Element}
-use Rattle.qg_state.specs.State.{Layout, Placed}
-use Rattle.qg_state.specs.Owed.{Agrees, What, agrees_at, are_references, is_record, is_recorded_once, layout_extents, node_flags, owed_to, reference_told, what_at}
-use Rattle.qg_state.specs.Owed.What.{Data, Block}
+use Rattle.qg_image.specs.declared.element.Element.{Element}
+use Rattle.qg_image.specs.State.{Layout, Placed}
+use Rattle.qg_image.specs.Owed.{Agrees, What, agrees_at, are_references, is_record, is_recorded_once, layout_extents, node_flags, owed_to, reference_told, what_at}
+use Rattle.qg_image.specs.Owed.What.{Data, Block}
 use Rattle.qg_refs.specs.declared.kept.What.{What as Known}
 use Rattle.qg_refs.specs.Book.{Book, full_in, what_in}
 use Rattle.qg_extents.specs.Told.{IsTold, parts_at, tells_full, the_only, what_told}

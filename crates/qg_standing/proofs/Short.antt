@@ -17,8 +17,8 @@ use Rattle.qg_image.specs.FilesOf.{is_file_item}
 use Rattle.qg_image.specs.ItemMeaning.{◌orelse◌, file_part, file_part_stamps, is_keyed, piece_told, some_passes, when}
 use Rattle.qg_image.specs.declared.part.FilePart.{FilePart}
 use Rattle.qg_image.specs.declared.part.FilePart.TheVariants.{Inode, PieceOf}
-use Rattle.qg_verdict.specs.declared.tree.Tree.TheVariants.{Files}
-use Rattle.qg_verdict.specs.Walk.{is_item_of}
+use Rattle.qg_image.specs.declared.tree.Tree.TheVariants.{Files}
+use Rattle.qg_image.specs.Walk.{is_item_of}
 
 some_when : {A : Type 0} (b : Bool) (x : A) → is_some (then_some b x) ≡ true → b ≡ true
 some_when true x is = refl

@@ -13,15 +13,15 @@ use Rattle.qg_image.specs.declared.file.File.{File}
 use Rattle.qg_image.specs.FilesOf.{files_of}
 use Rattle.qg_image.specs.ItemMeaning.{extent_part_stamps}
 use Rattle.qg_image.specs.Table.{has_key, keys_of}
-use Rattle.qg_state.specs.declared.element.Element.{Element}
-use Rattle.qg_state.specs.Owed.{Agrees, homeless}
-use Rattle.qg_state.specs.Space.{present_extents}
-use Rattle.qg_state.specs.State.{layout_of}
-use Rattle.qg_verdict.specs.declared.tree.Tree.TheVariants.{Files}
-use Rattle.qg_verdict.specs.ImageState.{addresses_of, extent_parts, items_of_root, level_in, nodes_of_root, roots_in, state_in, subvolume_roots}
-use Rattle.qg_verdict.specs.ItemsUnder.{items_under, nodes_under}
-use Rattle.qg_verdict.specs.Verdict.{extent_set, space_failure}
-use Rattle.qg_verdict.specs.Walk.{are_by, is_item_of, node_found, root_told, tree_failure}
+use Rattle.qg_image.specs.declared.element.Element.{Element}
+use Rattle.qg_image.specs.Owed.{Agrees, homeless}
+use Rattle.qg_image.specs.Space.{present_extents}
+use Rattle.qg_image.specs.State.{layout_of}
+use Rattle.qg_image.specs.declared.tree.Tree.TheVariants.{Files}
+use Rattle.qg_image.specs.ImageState.{addresses_of, extent_parts, items_of_root, level_in, nodes_of_root, roots_in, state_in, subvolume_roots}
+use Rattle.qg_image.specs.ItemsUnder.{items_under, nodes_under}
+use Rattle.qg_image.specs.Verdict.{extent_set, space_failure}
+use Rattle.qg_image.specs.Walk.{are_by, is_item_of, node_found, root_told, tree_failure}
 use Rattle.qg_blocks.specs.Held.{nothing_fresh, slots_of}
 use Rattle.qg_descent.specs.Tree.{Root}
 use Rattle.qg_extents.specs.Table.{book_of}

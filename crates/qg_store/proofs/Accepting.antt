@@ -3,8 +3,8 @@ use Rattle.std.proofs.Common.{◌≡◌, ℕ, ◌+◌, ◌≤◌, true, List, Op
 use Rattle.qg_device.specs.History.{Event}
 use Rattle.qg_node.specs.NodeText.{IsNodeSize}
 use Rattle.qg_image.specs.Table.{has_key}
-use Rattle.qg_state.specs.State.{State}
-use Rattle.qg_verdict.specs.Verdict.{longest_extent}
+use Rattle.qg_image.specs.State.{State}
+use Rattle.qg_image.specs.Verdict.{longest_extent}
 use Rattle.qg_machine.specs.Refusals.{over_limit}
 use Rattle.qg_groups.specs.declared.judging.Judged.{Judged}
 use Rattle.qg_groups.specs.declared.judging.Judged.TheVariants.{Path}

@@ -13,11 +13,11 @@ use Rattle.qg_super.specs.declared.superblock.Super.{Super}
 use Rattle.qg_super.specs.SuperText.{is_super, sizes_of}
 use Rattle.qg_image.specs.ItemMeaning.{is_subvolume_number}
 use Rattle.qg_image.specs.Table.{has_key, keys_of, with_value}
-use Rattle.qg_state.specs.declared.quota.Group.{Group}
-use Rattle.qg_state.specs.declared.quota.Quota.{Quota}
-use Rattle.qg_state.specs.Members.{hierarchy_of, id_of_group, level_of_group}
-use Rattle.qg_state.proofs.Contained.{contains_cases, contains_here, contains_later, none_contained}
-use Rattle.qg_verdict.specs.Verdict.{is_group_number, most_groups, most_relations, most_subvolumes}
+use Rattle.qg_image.specs.declared.quota.Group.{Group}
+use Rattle.qg_image.specs.declared.quota.Quota.{Quota}
+use Rattle.qg_image.specs.Members.{hierarchy_of, id_of_group, level_of_group}
+use Rattle.qg_image.proofs.Contained.{contains_cases, contains_here, contains_later, none_contained}
+use Rattle.qg_image.specs.Verdict.{is_group_number, most_groups, most_relations, most_subvolumes}
 use Rattle.qg_machine.specs.Refusals.{refuse}
 use Rattle.qg_reach.proofs.Layouts.{value_at-with_other, value_at-with_same}
 use Rattle.qg_ground.specs.Land.{IsDrafted}

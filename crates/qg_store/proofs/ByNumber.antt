@@ -13,10 +13,10 @@ use Rattle.qg_device.specs.History.{Event}
 use Rattle.qg_image.specs.declared.file.File.{File}
 use Rattle.qg_image.specs.Table.{keys_of, value_at}
 use Rattle.qg_home.proofs.Reaching.{value_of_entry}
-use Rattle.qg_state.specs.Record.{Record}
-use Rattle.qg_state.specs.Reach.{level_of}
-use Rattle.qg_state.specs.State.{State, Subvolume, layout_of, next_generation, node_at}
-use Rattle.qg_state.proofs.Contained.{contains_here, contains_later}
+use Rattle.qg_image.specs.Record.{Record}
+use Rattle.qg_image.specs.Reach.{level_of}
+use Rattle.qg_image.specs.State.{State, Subvolume, layout_of, next_generation, node_at}
+use Rattle.qg_image.proofs.Contained.{contains_here, contains_later}
 use Rattle.qg_contents.specs.Written.{items_of_file}
 use Rattle.qg_machine.specs.Refusals.{root_level}
 use Rattle.qg_owed.proofs.NumberSets.{same_ascending}

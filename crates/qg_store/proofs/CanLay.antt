@@ -21,12 +21,12 @@ use Rattle.qg_items.specs.declared.tree.TheConstants.{TOP_LEVEL}
 use Rattle.qg_super.specs.Places.{capacity}
 use Rattle.qg_image.specs.ItemMeaning.{is_subvolume_number}
 use Rattle.qg_image.specs.Table.{has_key, keys_of, value_at}
-use Rattle.qg_state.specs.declared.quota.Group.{Group}
-use Rattle.qg_state.specs.declared.quota.Quota.{Quota}
-use Rattle.qg_state.specs.Need.{nodes_filled}
-use Rattle.qg_state.specs.Members.{hierarchy_of}
-use Rattle.qg_state.proofs.Contained.{contains_here, contains_later}
-use Rattle.qg_verdict.specs.Verdict.{is_group_number}
+use Rattle.qg_image.specs.declared.quota.Group.{Group}
+use Rattle.qg_image.specs.declared.quota.Quota.{Quota}
+use Rattle.qg_image.specs.Need.{nodes_filled}
+use Rattle.qg_image.specs.Members.{hierarchy_of}
+use Rattle.qg_image.proofs.Contained.{contains_here, contains_later}
+use Rattle.qg_image.specs.Verdict.{is_group_number}
 use Rattle.qg_hier.specs.Groups.{IsSound}
 use Rattle.qg_reach.proofs.Members.{contains_map, one_mapped}
 use Rattle.qg_home.proofs.Reaching.{value_of_entry}

@@ -6,8 +6,8 @@ use Rattle.qg_num.specs.declared.command.Command.TheVariants.{Clone}
 use Rattle.qg_num.specs.declared.piece.Piece.{Piece}
 use Rattle.qg_image.specs.declared.file.File.{File}
 use Rattle.qg_image.specs.Table.{value_at}
-use Rattle.qg_state.specs.State.{State, Subvolume, file_at}
-use Rattle.qg_verdict.specs.Verdict.{longest_extent}
+use Rattle.qg_image.specs.State.{State, Subvolume, file_at}
+use Rattle.qg_image.specs.Verdict.{longest_extent}
 use Rattle.qg_machine.specs.FileChange.{file_change, pieces_meeting, pieces_or_none}
 use Rattle.qg_extents.specs.Table.{IsTable}
 use Rattle.qg_home.proofs.Reaching.{entry_of_value}

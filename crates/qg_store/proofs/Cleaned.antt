@@ -4,8 +4,8 @@ use Rattle.std.specs.List.{flat_map}
 use Rattle.std.proofs.lemmas.List.Sorted.{IsPermutation-refl}
 use Rattle.qg_device.specs.History.{Event}
 use Rattle.qg_node.specs.declared.node.Node.{Node}
-use Rattle.qg_state.specs.Record.{Record}
-use Rattle.qg_state.specs.State.{State}
+use Rattle.qg_image.specs.Record.{Record}
+use Rattle.qg_image.specs.State.{State}
 use Rattle.qg_contents.specs.Written.{items_of_file}
 use Rattle.qg_blocks.specs.Held.{Held}
 use Rattle.qg_descent.specs.Way.{HasRead}

@@ -7,7 +7,7 @@ use Rattle.qg_num.specs.declared.refusal.Refusal.{Refusal}
 use Rattle.qg_super.specs.declared.sizes.Sizes.{Sizes}
 use Rattle.qg_image.specs.declared.file.File.{File}
 use Rattle.qg_image.specs.Table.{has_key, value_at}
-use Rattle.qg_state.specs.State.{State, Subvolume}
+use Rattle.qg_image.specs.State.{State, Subvolume}
 use Rattle.qg_machine.specs.FileChange.{pieces_meeting}
 use Rattle.qg_machine.specs.Refusals.{over_limit}
 use Rattle.qg_space.specs.Holding.{free_slots}

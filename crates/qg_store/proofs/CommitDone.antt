@@ -1,20 +1,25 @@
 -- A commit that was written is one of the machine, and what is left is kept of the state that it comes to. All in bytes.
-use Rattle.std.proofs.Common.{◌≡◌, ◌≤◌, ℕ, Bool, true, false, List, [], ◌∷◌, length, map, Option, Some, cond, refl, sym, ap, subst, ◌∙◌}
-use Rattle.std.proofs.Common.{arith}
-use Rattle.std.specs.Prelude.{◌==◌}
+use Rattle.std.proofs.Common.{◌≡◌, ◌≤◌, ℕ, Bool, true, false, List, [], ◌∷◌, length, map, get_or, Option, Some, cond}
+use Rattle.std.proofs.Common.{arith, refl, sym, ap, subst, ◌∙◌}
+use Rattle.std.specs.Prelude.{◌==◌, All}
 use Rattle.std.specs.List.{flat_map}
 use Rattle.std.specs.Option.{option_map}
+use Rattle.std.proofs.lemmas.List.Elements.{Contains-get_or}
 use Rattle.qg_device.specs.History.{Event, content}
+use Rattle.qg_node.specs.declared.node.Node.{Node}
+use Rattle.qg_node.specs.Nodes.{header_of}
+use Rattle.qg_node.specs.NodeText.{IsNode}
 use Rattle.qg_super.specs.declared.sizes.Sizes.{Sizes}
-use Rattle.qg_super.specs.Places.{total_bytes}
+use Rattle.qg_super.specs.Places.{is_slot, total_bytes}
 use Rattle.qg_super.specs.SuperText.{sizes_of}
 use Rattle.qg_image.specs.Table.{value_at}
-use Rattle.qg_state.specs.declared.quota.Quota.{Quota}
-use Rattle.qg_state.specs.Record.{Record}
-use Rattle.qg_state.specs.State.{State, Subvolume}
+use Rattle.qg_image.specs.declared.quota.Quota.{Quota}
+use Rattle.qg_image.specs.Record.{Record}
+use Rattle.qg_image.specs.State.{State, Subvolume}
 use Rattle.qg_machine.specs.Step.{Commits}
 use Rattle.qg_contents.specs.Written.{items_of_file}
 use Rattle.qg_blocks.specs.Held.{Draft, nothing_fresh}
+use Rattle.qg_crashes.specs.Slots.{IsInSlot}
 use Rattle.qg_commit.specs.Calls.{MadeFront, commit_calls}
 use Rattle.qg_exchange.specs.Named.{named}
 use Rattle.qg_descent.specs.Tree.{Root}
@@ -23,6 +28,8 @@ use Rattle.qg_other_trees.specs.declared.laying.OtherTrees.{OtherTrees}
 use Rattle.qg_other_trees.specs.Sound.{committed}
 use Rattle.qg_tree_commit.specs.Holds.{with_tree_commit}
 use Rattle.qg_tree_commit.specs.Writing.{IsLaying, nodes_written}
+use Rattle.qg_tree_commit.proofs.AllNodes.{written-lies, written-sizes}
+use Rattle.qg_tree_commit.proofs.Subvolume.{fresh-AreWritable, given-slot}
 use Rattle.qg_fs_laws.specs.Keeping.{quota_laid}
 use Rattle.qg_fs_laws.specs.Committing.{AreRootsNow, IsSoundCommit, LaysTree}
 use Rattle.qg_fs_laws.specs.Committing as kept_by
@@ -111,8 +118,32 @@ module _ (old : Kept) (plan : Plan) (trees : OtherTrees) (events : List Event) (
   pub commits : Commits state state_now
   commits = sound.machine
 
+  -- its superblock is of the image's sizes, and its nodes lie in slots
+  abbrev nodes : List Node
+  nodes = nodes_written old.fs.land.blocks.draft trees
+
+  are-sizes : sizes_of trees.superblock ≡ old.fs.land.space.sizes
+  are-sizes =
+      written-sizes old.fs.land.space.sizes old.fs.tree.next plan.roots old.fs.refs.refs quota_then plan.slots
+      old.fs.land.blocks.draft trees laying (fresh-AreWritable old.fs fits.fitted.drafted)
+      (given-slot old.fs plan.slots so.is.free)
+
+  in-slots : All (IsInSlot trees.superblock) (nodes_written old.fs.land.blocks.draft trees)
+  in-slots = λ k any below.
+      let node = get_or nodes k any in
+      let lies = written-lies old.fs.land.space.sizes old.fs.tree.next plan.roots old.fs.refs.refs quota_then plan.slots
+      old.fs.land.blocks.draft trees laying (fresh-AreWritable old.fs fits.fitted.drafted)
+      (given-slot old.fs plan.slots so.is.free) node (Contains-get_or nodes k any below) in
+      record {
+        node_of_format = subst (λ (s : Sizes). IsNode s.nodesize node) (sym are-sizes) lies.formed;
+        slot = subst (λ (s : Sizes). is_slot s (header_of node).address ≡ true) (sym are-sizes) lies.slot;
+      }
+
   pub brings : BringsTo state.held state_now events trees.superblock (nodes_written old.fs.land.blocks.draft trees)
   brings = record {
+    superblock = laying.superblock;
+    sizes = are-sizes ∙ sym keeps.keeps.laid.sizes;
+    in_slots = in-slots;
     written = sound.written;
     committed = record { stands = sound.is.stands; counted = sound.counted };
   }

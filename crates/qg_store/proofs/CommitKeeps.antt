@@ -12,8 +12,8 @@ use Rattle.qg_super.specs.declared.superblock.Super.{Super}
 use Rattle.qg_super.specs.Places.{total_bytes}
 use Rattle.qg_super.specs.SuperText.{is_super, sizes_of}
 use Rattle.qg_image.specs.Table.{keys_of}
-use Rattle.qg_state.specs.declared.quota.Quota.{Quota}
-use Rattle.qg_state.specs.State.{State}
+use Rattle.qg_image.specs.declared.quota.Quota.{Quota}
+use Rattle.qg_image.specs.State.{State}
 use Rattle.qg_reach.proofs.Members.{one_mapped}
 use Rattle.qg_blocks.specs.Held.{Held}
 use Rattle.qg_commit.specs.Calls.{IsReadBack}

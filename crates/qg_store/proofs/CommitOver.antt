@@ -10,8 +10,8 @@ use Rattle.qg_node.specs.declared.item.Item.{Item}
 use Rattle.qg_super.specs.declared.sizes.Sizes.{Sizes}
 use Rattle.qg_super.specs.Places.{total_bytes}
 use Rattle.qg_super.specs.SuperText.{sizes_of}
-use Rattle.qg_state.specs.Record.{Record}
-use Rattle.qg_state.specs.State.{State}
+use Rattle.qg_image.specs.Record.{Record}
+use Rattle.qg_image.specs.State.{State}
 use Rattle.qg_contents.specs.Written.{items_of_file}
 use Rattle.qg_blocks.specs.Held.{Held}
 use Rattle.qg_blocks.specs.Told.{IsBacked, fresh_at}

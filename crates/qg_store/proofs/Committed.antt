@@ -13,9 +13,9 @@ use Rattle.qg_super.specs.declared.sizes.Sizes.{Sizes}
 use Rattle.qg_super.specs.declared.superblock.Super.{Super}
 use Rattle.qg_super.specs.Places.{capacity}
 use Rattle.qg_super.specs.SuperText.{sizes_of}
-use Rattle.qg_state.specs.Need.{nodes_filled}
-use Rattle.qg_state.specs.Record.{records_bytes, same_record}
-use Rattle.qg_state.specs.State.{State}
+use Rattle.qg_image.specs.Need.{nodes_filled}
+use Rattle.qg_image.specs.Record.{records_bytes, same_record}
+use Rattle.qg_image.specs.State.{State}
 use Rattle.qg_machine.specs.Refusals.{is_pending, last_generation, no_generation, refusal, refuse}
 use Rattle.qg_machine.specs.Step.{Commits, CommitsPending}
 use Rattle.qg_machine.specs.Step as machine

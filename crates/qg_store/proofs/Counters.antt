@@ -10,11 +10,11 @@ use Rattle.qg_super.specs.Places.{data_begin, sector}
 use Rattle.qg_super.specs.SuperText.{sizes_of}
 use Rattle.qg_super.proofs.Runs.{WholeRun-is_run}
 use Rattle.qg_super.proofs.Served.{SizesFit-is_served, SuperFits-is_super}
-use Rattle.qg_state.specs.declared.element.Element.{Element}
-use Rattle.qg_state.specs.Owed.{layout_extents}
-use Rattle.qg_state.specs.Record.{Record}
-use Rattle.qg_state.specs.State.{State, layout_of}
-use Rattle.qg_state.proofs.Contained.{contains_cases, contains_here, none_contained}
+use Rattle.qg_image.specs.declared.element.Element.{Element}
+use Rattle.qg_image.specs.Owed.{layout_extents}
+use Rattle.qg_image.specs.Record.{Record}
+use Rattle.qg_image.specs.State.{State, layout_of}
+use Rattle.qg_image.proofs.Contained.{contains_cases, contains_here, none_contained}
 use Rattle.qg_reach.specs.Sets.{HaveSame}
 use Rattle.qg_reach.proofs.Members.{one_mapped}
 use Rattle.qg_extents.specs.Table.{IsTable}

@@ -14,12 +14,12 @@ use Rattle.qg_node.specs.Nodes.{header_of}
 use Rattle.qg_items.specs.declared.tree.TheConstants.{EXTENT_TREE, QUOTA_TREE}
 use Rattle.qg_image.specs.declared.file.File.{File}
 use Rattle.qg_image.specs.Table.{has_key, keys_of, value_at, with_value, without_key}
-use Rattle.qg_state.specs.declared.quota.Quota.{Quota}
-use Rattle.qg_state.specs.Need.{held_records, quota_records}
-use Rattle.qg_state.specs.Record.{Record, RootOf}
-use Rattle.qg_state.specs.Space.{is_free_slot}
-use Rattle.qg_state.specs.State.{Accepted, Committed, Placed, State, Subvolume, next_generation}
-use Rattle.qg_state.proofs.Contained.{contains_cases, contains_later, none_contained}
+use Rattle.qg_image.specs.declared.quota.Quota.{Quota}
+use Rattle.qg_image.specs.Need.{held_records, quota_records}
+use Rattle.qg_image.specs.Record.{Record, RootOf}
+use Rattle.qg_image.specs.Space.{is_free_slot}
+use Rattle.qg_image.specs.State.{Accepted, Committed, Placed, State, Subvolume, next_generation}
+use Rattle.qg_image.proofs.Contained.{contains_cases, contains_later, none_contained}
 use Rattle.qg_rules.specs.Writable.{IsFileBy, IsWritableFile}
 use Rattle.qg_machine.specs.Step.{CreatesSubvolume, empty_leaf}
 use Rattle.qg_reach.proofs.Layouts.{value_at-with_other, value_at-with_same}

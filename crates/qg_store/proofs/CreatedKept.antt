@@ -14,7 +14,7 @@ use Rattle.qg_super.specs.Places.{capacity, total_bytes}
 use Rattle.qg_super.specs.SuperText.{sizes_of}
 use Rattle.qg_image.specs.declared.file.File.{File}
 use Rattle.qg_image.specs.Table.{keys_of, value_at}
-use Rattle.qg_state.specs.State.{Accepted, State, Subvolume, has_subvolume, next_generation}
+use Rattle.qg_image.specs.State.{Accepted, State, Subvolume, has_subvolume, next_generation}
 use Rattle.qg_machine.specs.GroupChange.{new_group, with_group}
 use Rattle.qg_machine.specs.Refusals.{number_to_come}
 use Rattle.qg_machine.specs.Step.{CreatesSubvolume, empty_leaf}

@@ -7,9 +7,9 @@ use Rattle.std.proofs.lemmas.Bool.{cond-true}
 use Rattle.qg_device.specs.History.{Event}
 use Rattle.qg_node.specs.declared.node.Node.{Node}
 use Rattle.qg_image.specs.Table.{value_at, without_key}
-use Rattle.qg_state.specs.Reach.{level_of}
-use Rattle.qg_state.specs.Record.{Record}
-use Rattle.qg_state.specs.State.{Placed, State, Subvolume, node_at}
+use Rattle.qg_image.specs.Reach.{level_of}
+use Rattle.qg_image.specs.Record.{Record}
+use Rattle.qg_image.specs.State.{Placed, State, Subvolume, node_at}
 use Rattle.qg_machine.specs.Layout.{IsTreeOf}
 use Rattle.qg_machine.specs.Step.{deleted}
 use Rattle.qg_extents.specs.Table.{IsTable}

@@ -17,12 +17,12 @@ use Rattle.qg_super.specs.declared.superblock.Super.{Super}
 use Rattle.qg_super.specs.Places.{capacity, total_bytes}
 use Rattle.qg_super.specs.SuperText.{sizes_of}
 use Rattle.qg_image.specs.Table.{has_key, keys_of, value_at, without_key}
-use Rattle.qg_state.specs.Record.{Record, RootOf}
-use Rattle.qg_state.specs.State.{State, Subvolume}
+use Rattle.qg_image.specs.Record.{Record, RootOf}
+use Rattle.qg_image.specs.State.{State, Subvolume}
 use Rattle.qg_machine.specs.Refusals.{nodes_reached}
 use Rattle.qg_machine.specs.Step.{deleted}
 use Rattle.qg_home.proofs.Reaching.{entry_of_value}
-use Rattle.qg_state.proofs.Contained.{contains_cases, contains_later}
+use Rattle.qg_image.proofs.Contained.{contains_cases, contains_later}
 use Rattle.qg_space.specs.Holding.{free_slots}
 use Rattle.qg_space.proofs.Members.{contains_filter}
 use Rattle.qg_blocks.specs.Told.{IsBacked, fresh_at}

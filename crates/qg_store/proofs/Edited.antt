@@ -8,7 +8,7 @@ use Rattle.qg_num.specs.declared.refusal.Refusal.{Refusal}
 use Rattle.qg_super.specs.Places.{total_bytes}
 use Rattle.qg_super.specs.SuperText.{sizes_of}
 use Rattle.qg_image.specs.Table.{keys_of}
-use Rattle.qg_state.specs.State.{Accepted}
+use Rattle.qg_image.specs.State.{Accepted}
 use Rattle.qg_descent.specs.Tree.{Root}
 use Rattle.qg_fs_tree.specs.declared.fs_tree.FsTree.{FsTree}
 use Rattle.qg_fs_tree.specs.Standing.{AreNumbered, CanTurn, trees_of}

@@ -11,8 +11,8 @@ use Rattle.qg_super.specs.declared.superblock.Super.{Super}
 use Rattle.qg_super.specs.SuperText.{is_super, sizes_of}
 use Rattle.qg_image.specs.ItemMeaning.{is_subvolume_number}
 use Rattle.qg_image.specs.Table.{has_key, keys_of, without_key}
-use Rattle.qg_state.specs.declared.quota.Quota.{Quota}
-use Rattle.qg_state.proofs.Contained.{contains_cases, contains_later}
+use Rattle.qg_image.specs.declared.quota.Quota.{Quota}
+use Rattle.qg_image.proofs.Contained.{contains_cases, contains_later}
 use Rattle.qg_space.proofs.Members.{contains_filter, filter_contains}
 use Rattle.qg_ground.specs.Land.{IsDrafted}
 use Rattle.qg_descent.specs.Tree.{Root}

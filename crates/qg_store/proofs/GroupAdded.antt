@@ -8,11 +8,11 @@ use Rattle.std.proofs.Math.Nat.{add-mul, mul-le-mul_left}
 use Rattle.qg_super.specs.declared.superblock.Super.{Super}
 use Rattle.qg_super.specs.Places.{capacity}
 use Rattle.qg_image.specs.Table.{value_at, with_value}
-use Rattle.qg_state.specs.declared.quota.Group.{Group}
-use Rattle.qg_state.specs.declared.quota.Quota.{Quota}
-use Rattle.qg_state.specs.Members.{hierarchy_of}
-use Rattle.qg_state.specs.Need.{nodes_filled}
-use Rattle.qg_state.specs.State.{Accepted}
+use Rattle.qg_image.specs.declared.quota.Group.{Group}
+use Rattle.qg_image.specs.declared.quota.Quota.{Quota}
+use Rattle.qg_image.specs.Members.{hierarchy_of}
+use Rattle.qg_image.specs.Need.{nodes_filled}
+use Rattle.qg_image.specs.State.{Accepted}
 use Rattle.qg_machine.specs.GroupChange.{inherited, limits_of, new_group, with_group}
 use Rattle.qg_hier.specs.Groups.{IsSound}
 use Rattle.qg_limits.specs.Limit.{SameHeld}

@@ -11,11 +11,11 @@ use Rattle.std.proofs.lemmas.List.Kept.{AllPairs-from_increasing}
 use Rattle.std.proofs.lemmas.Option.{get_or_from_slice_get, none-some, same_Some, slice_get-get_or, slice_get-map, slice_get_within}
 use Rattle.qg_num.specs.declared.counters.Counters.{Counters}
 use Rattle.qg_image.specs.Table.{keys_of}
-use Rattle.qg_state.specs.declared.quota.Group.{Group}
-use Rattle.qg_state.specs.declared.quota.Quota.{Quota}
-use Rattle.qg_state.specs.Counts.{direct_count}
-use Rattle.qg_state.specs.Members.{hierarchy_of, level_of_group}
-use Rattle.qg_state.specs.State.{Layout, State, layout_of}
+use Rattle.qg_image.specs.declared.quota.Group.{Group}
+use Rattle.qg_image.specs.declared.quota.Quota.{Quota}
+use Rattle.qg_image.specs.Counts.{direct_count}
+use Rattle.qg_image.specs.Members.{hierarchy_of, level_of_group}
+use Rattle.qg_image.specs.State.{Layout, State, layout_of}
 use Rattle.qg_home.proofs.Listed.{at_read, index_of}
 use Rattle.qg_reach.proofs.Members.{one_mapped}
 use Rattle.qg_direct.specs.Direct.{AreGroupCounts}

@@ -9,10 +9,10 @@ use Rattle.qg_node.specs.declared.node.Node.{Node}
 use Rattle.qg_super.specs.Places.{is_slot}
 use Rattle.qg_image.specs.Below.{items_below}
 use Rattle.qg_image.specs.Table.{has_key, value_at, with_value}
-use Rattle.qg_state.specs.Reach.{level_of}
-use Rattle.qg_state.specs.Record.{Record}
-use Rattle.qg_state.specs.Space.{is_free_slot}
-use Rattle.qg_state.specs.State.{Placed, State, Subvolume, next_generation, node_at}
+use Rattle.qg_image.specs.Reach.{level_of}
+use Rattle.qg_image.specs.Record.{Record}
+use Rattle.qg_image.specs.Space.{is_free_slot}
+use Rattle.qg_image.specs.State.{Placed, State, Subvolume, next_generation, node_at}
 use Rattle.qg_rules.specs.Writable.{IsFileBy}
 use Rattle.qg_contents.specs.Written.{items_of_file}
 use Rattle.qg_machine.specs.Refusals.{root_level}

@@ -8,7 +8,7 @@ use Rattle.qg_num.specs.declared.command.Command.TheVariants.{Write, Clone, Trun
 use Rattle.qg_num.specs.declared.refusal.Refusal.{Refusal}
 use Rattle.qg_image.specs.declared.file.File.{File}
 use Rattle.qg_image.specs.Table.{value_at}
-use Rattle.qg_state.specs.State.{Committed, State, Subvolume}
+use Rattle.qg_image.specs.State.{Committed, State, Subvolume}
 use Rattle.qg_machine.specs.FileChange.{FileChange, file_change}
 use Rattle.qg_machine.specs.Refusals.{is_pending, refusal}
 use Rattle.qg_machine.specs.Run.{Turn}

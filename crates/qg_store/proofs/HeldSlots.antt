@@ -5,7 +5,7 @@ use Rattle.std.specs.List.{Contains, filter, list_all}
 use Rattle.std.proofs.lemmas.Bool.{cases_Bool, not-true, not_from_false, true≢false}
 use Rattle.std.proofs.lemmas.List.Elements.{All-filter, Contains-append_cases, Contains-append_left, Contains-append_right}
 use Rattle.std.proofs.lemmas.List.Sums.{AllPass-from_list_all, list_all-from_AllPass}
-use Rattle.qg_state.proofs.Contained.{none_contained}
+use Rattle.qg_image.proofs.Contained.{none_contained}
 use Rattle.qg_space.specs.Holding.{Holding, has_slot}
 use Rattle.qg_space.proofs.Members.{Contains-has_slot, contains_filter, filter_contains}
 use Rattle.qg_store.specs.Slots.{ChangesSlots}

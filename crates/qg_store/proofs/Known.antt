@@ -8,7 +8,7 @@ use Rattle.qg_super.specs.declared.sizes.Sizes.{Sizes}
 use Rattle.qg_image.specs.declared.file.File.{File}
 use Rattle.qg_image.specs.ItemMeaning.{some_passes}
 use Rattle.qg_image.specs.Table.{has_key, value_at}
-use Rattle.qg_state.specs.State.{State, Subvolume, file_at, files_in_sub, has_subvolume}
+use Rattle.qg_image.specs.State.{State, Subvolume, file_at, files_in_sub, has_subvolume}
 use Rattle.qg_machine.specs.Refusals.{most_pending, no_file, no_source, no_sub, refuse, too_many_pending}
 use Rattle.qg_store.specs.declared.kept.Kept.{Kept}
 use Rattle.qg_store.specs.Keeping.{IsFitted, IsKeptOf}

@@ -3,8 +3,8 @@ use Rattle.std.proofs.Common.{◌≡◌, ℕ, ◌≤◌, List, Option, sym, subs
 use Rattle.std.specs.Prelude.{All}
 use Rattle.std.specs.List.{flat_map}
 use Rattle.qg_device.specs.History.{Event}
-use Rattle.qg_state.specs.Record.{Record}
-use Rattle.qg_state.specs.State.{State}
+use Rattle.qg_image.specs.Record.{Record}
+use Rattle.qg_image.specs.State.{State}
 use Rattle.qg_contents.specs.Written.{items_of_file}
 use Rattle.qg_refs.specs.declared.kept.Kept.{Kept as Reference}
 use Rattle.qg_extents.specs.Table.{IsTable}

@@ -5,8 +5,8 @@ use Rattle.qg_device.specs.History.{Event}
 use Rattle.qg_node.specs.NodeText.{IsNodeSize}
 use Rattle.qg_super.specs.declared.sizes.Sizes.{Sizes}
 use Rattle.qg_image.specs.declared.file.File.{File}
-use Rattle.qg_state.specs.Need.{file_copies, nodes_filled}
-use Rattle.qg_state.specs.State.{Accepted, State}
+use Rattle.qg_image.specs.Need.{file_copies, nodes_filled}
+use Rattle.qg_image.specs.State.{Accepted, State}
 use Rattle.qg_space.specs.Holding.{free_slots}
 use Rattle.qg_extents.specs.Table.{IsTable}
 use Rattle.qg_heavier.specs.Heavier.{BookGetsHeavier, edit_bytes, name_new_bytes}

@@ -72,3 +72,6 @@ pub mod OpenedFits
 pub mod Owned
 pub mod OwnersNow
 pub mod OnOff
+pub mod LastCommits
+pub mod Chained
+pub mod Outlived

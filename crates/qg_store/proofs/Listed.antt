@@ -9,7 +9,7 @@ use Rattle.qg_num.specs.declared.refusal.Refusal.TheVariants as why
 use Rattle.qg_image.specs.declared.file.File.{File}
 use Rattle.qg_image.specs.ItemMeaning.{first_some}
 use Rattle.qg_image.specs.Table.{has_key, value_at}
-use Rattle.qg_state.specs.State.{State, file_at}
+use Rattle.qg_image.specs.State.{State, file_at}
 use Rattle.qg_machine.specs.Refusals.{no_file, refusal, refuse}
 use Rattle.qg_machine.specs.Step.{Step, file_told}
 use Rattle.qg_machine.specs.Step as machine

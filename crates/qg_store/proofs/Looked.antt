@@ -15,9 +15,9 @@ use Rattle.qg_super.proofs.Served.{SizesFit-is_served, SuperFits-is_super}
 use Rattle.qg_image.specs.declared.file.File.{File}
 use Rattle.qg_image.specs.ItemMeaning.{is_subvolume_number}
 use Rattle.qg_image.specs.Table.{keys_of}
-use Rattle.qg_state.specs.Record.{Record}
-use Rattle.qg_state.specs.State.{State, Subvolume}
-use Rattle.qg_state.proofs.Contained.{contains_here}
+use Rattle.qg_image.specs.Record.{Record}
+use Rattle.qg_image.specs.State.{State, Subvolume}
+use Rattle.qg_image.proofs.Contained.{contains_here}
 use Rattle.qg_contents.specs.Written.{items_of_file}
 use Rattle.qg_contents.proofs.FileTree.{file_items-told}
 use Rattle.qg_blocks.specs.Held.{Draft, Held, nothing_fresh}

@@ -8,8 +8,8 @@ use Rattle.qg_items.specs.declared.tree.TheConstants.{TOP_LEVEL}
 use Rattle.qg_groups.specs.Tracked.{quota_of}
 use Rattle.qg_image.specs.ItemMeaning.{is_subvolume_number}
 use Rattle.qg_image.specs.Table.{keys_of, value_at, with_value}
-use Rattle.qg_state.specs.Record.{Record}
-use Rattle.qg_state.specs.State.{Layout, State, Subvolume, layout_of}
+use Rattle.qg_image.specs.Record.{Record}
+use Rattle.qg_image.specs.State.{Layout, State, Subvolume, layout_of}
 use Rattle.qg_reach.proofs.Layouts.{value_at-with_other, value_at-with_same}
 use Rattle.qg_descent.specs.Tree.{Root}
 use Rattle.qg_forest.proofs.Snapshotted.{root_entry}

@@ -12,10 +12,10 @@ use Rattle.std.proofs.lemmas.List.Sums.{fold-append}
 use Rattle.qg_items.specs.declared.tree.TheConstants.{FIRST_FREE, TOP_LEVEL}
 use Rattle.qg_image.specs.ItemMeaning.{is_subvolume_number}
 use Rattle.qg_image.specs.Table.{keys_of}
-use Rattle.qg_state.specs.declared.quota.Quota.{Quota}
-use Rattle.qg_state.specs.Members.{level_of_group, next_subvolume}
-use Rattle.qg_state.proofs.Contained.{contains_cases, none_contained}
-use Rattle.qg_verdict.specs.Verdict.{most_relations}
+use Rattle.qg_image.specs.declared.quota.Quota.{Quota}
+use Rattle.qg_image.specs.Members.{level_of_group, next_subvolume}
+use Rattle.qg_image.proofs.Contained.{contains_cases, none_contained}
+use Rattle.qg_image.specs.Verdict.{most_relations}
 use Rattle.qg_space.proofs.Members.{contains_filter}
 use Rattle.qg_groups.specs.Changing.{pairs_in}
 use Rattle.qg_check.specs.Editable.{AreGroupsOf}

@@ -9,7 +9,7 @@ use Rattle.qg_num.specs.declared.command.Command.{Command}
 use Rattle.qg_num.specs.declared.command.Command.TheVariants.{Commit}
 use Rattle.qg_num.specs.declared.fault.BlockFault.{BlockFault}
 use Rattle.qg_num.specs.declared.refusal.Refusal.{Refusal}
-use Rattle.qg_state.specs.State.{State}
+use Rattle.qg_image.specs.State.{State}
 use Rattle.qg_machine.specs.Refusals.{refusal}
 use Rattle.qg_machine.specs.Step as machine
 use Rattle.qg_store.specs.declared.kept.Kept.{Kept}

@@ -12,15 +12,15 @@ use Rattle.qg_super.specs.Places.{is_served, total_bytes}
 use Rattle.qg_super.specs.SuperText.{is_super, sizes_of}
 use Rattle.qg_image.specs.declared.file.File.{File}
 use Rattle.qg_image.specs.Table.{value_at}
-use Rattle.qg_state.specs.declared.element.Element.{Element}
-use Rattle.qg_state.specs.Space.{present_extents}
-use Rattle.qg_state.specs.State.{Accepted, State, Subvolume}
-use Rattle.qg_state.proofs.Contained.{contains_cases, none_contained}
-use Rattle.qg_verdict.specs.declared.tree.Tree.TheVariants.{Files}
-use Rattle.qg_verdict.specs.ImageState.{addresses_of, extent_parts, nodes_of_root, quota_in, roots_in, state_in}
-use Rattle.qg_verdict.specs.ImageState.{subvolume_in, subvolume_roots, subvolumes_in, super_of}
-use Rattle.qg_verdict.specs.StateOf.{StateOf}
-use Rattle.qg_verdict.specs.Verdict.{extent_set}
+use Rattle.qg_image.specs.declared.element.Element.{Element}
+use Rattle.qg_image.specs.Space.{present_extents}
+use Rattle.qg_image.specs.State.{Accepted, State, Subvolume}
+use Rattle.qg_image.proofs.Contained.{contains_cases, none_contained}
+use Rattle.qg_image.specs.declared.tree.Tree.TheVariants.{Files}
+use Rattle.qg_image.specs.ImageState.{addresses_of, extent_parts, nodes_of_root, quota_in, roots_in, state_in}
+use Rattle.qg_image.specs.ImageState.{subvolume_in, subvolume_roots, subvolumes_in, super_of}
+use Rattle.qg_image.specs.StateOf.{StateOf}
+use Rattle.qg_image.specs.Verdict.{extent_set}
 use Rattle.qg_reach.specs.Sets.{HaveSame}
 use Rattle.qg_reach.proofs.ExtentSets.{extent_set_same}
 use Rattle.qg_reach.proofs.Members.{contains_map}

@@ -12,10 +12,10 @@ use Rattle.std.proofs.lemmas.List.Kept.{AllPairs-from_increasing, IsStrictlyIncr
 use Rattle.std.proofs.lemmas.Option.{get_or_from_slice_get, same_Some, slice_get-map, slice_get_within}
 use Rattle.qg_num.specs.declared.piece.Piece.{Piece}
 use Rattle.qg_image.specs.Table.{keys_of}
-use Rattle.qg_state.specs.declared.element.Element.{Element}
-use Rattle.qg_state.specs.Reach.{extent_of, is_among, own_elements, owners, pieces_of, reach, reaches}
-use Rattle.qg_state.specs.State.{Layout, Placed, node_at}
-use Rattle.qg_state.proofs.Contained.{contains_cases, contains_here, none_contained}
+use Rattle.qg_image.specs.declared.element.Element.{Element}
+use Rattle.qg_image.specs.Reach.{extent_of, is_among, own_elements, owners, pieces_of, reach, reaches}
+use Rattle.qg_image.specs.State.{Layout, Placed, node_at}
+use Rattle.qg_image.proofs.Contained.{contains_cases, contains_here, none_contained}
 use Rattle.qg_reach.proofs.Members.{contains_map, one_mapped}
 use Rattle.qg_owed.proofs.NumberSets.{same_ascending}
 use Rattle.qg_gathered.proofs.Sorted.{ascends_of}

@@ -7,9 +7,9 @@ use Rattle.qg_num.specs.declared.answer.Answer.TheVariants as answer
 use Rattle.qg_num.specs.declared.command.Command.TheVariants.{Owners}
 use Rattle.qg_num.specs.declared.refusal.Refusal.{Refusal}
 use Rattle.qg_image.specs.Table.{keys_of}
-use Rattle.qg_state.specs.Reach.{owners}
-use Rattle.qg_state.specs.Record.{Record}
-use Rattle.qg_state.specs.State.{Placed, State, Subvolume, layout_of}
+use Rattle.qg_image.specs.Reach.{owners}
+use Rattle.qg_image.specs.Record.{Record}
+use Rattle.qg_image.specs.State.{Placed, State, Subvolume, layout_of}
 use Rattle.qg_machine.specs.Refusals.{refusal}
 use Rattle.qg_machine.specs.Step as machine
 use Rattle.qg_extents.specs.Table.{IsTable}

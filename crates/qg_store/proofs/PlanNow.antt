@@ -4,10 +4,10 @@ use Rattle.std.specs.List.Sorted.{IsNonDecreasingBy, IsPermutation}
 use Rattle.qg_device.specs.History.{Event}
 use Rattle.qg_num.specs.declared.counters.Counters.{Counters}
 use Rattle.qg_image.specs.Table.{keys_of}
-use Rattle.qg_state.specs.Record.{Record}
-use Rattle.qg_state.specs.declared.quota.Quota.{Quota}
-use Rattle.qg_state.specs.Members.{hierarchy_of}
-use Rattle.qg_state.specs.State.{State, layout_of}
+use Rattle.qg_image.specs.Record.{Record}
+use Rattle.qg_image.specs.declared.quota.Quota.{Quota}
+use Rattle.qg_image.specs.Members.{hierarchy_of}
+use Rattle.qg_image.specs.State.{State, layout_of}
 use Rattle.qg_extents.specs.Table.{IsTable}
 use Rattle.qg_descent.specs.Tree.{Root}
 use Rattle.qg_direct.specs.Direct.{AreGroupCounts}

@@ -13,11 +13,11 @@ use Rattle.qg_num.specs.declared.refusal.Refusal.TheVariants as why
 use Rattle.qg_items.specs.declared.tree.TheConstants.{TOP_LEVEL}
 use Rattle.qg_image.specs.ItemMeaning.{first_some}
 use Rattle.qg_image.specs.Table.{has_key, keys_of}
-use Rattle.qg_state.specs.declared.quota.Quota.{Quota}
-use Rattle.qg_state.specs.Members.{level_of_group, next_subvolume}
-use Rattle.qg_state.specs.Need.{nodes_filled, structural_need}
-use Rattle.qg_state.specs.State.{State, is_quota_on}
-use Rattle.qg_verdict.specs.Verdict.{most_groups, most_relations, most_subvolumes}
+use Rattle.qg_image.specs.declared.quota.Quota.{Quota}
+use Rattle.qg_image.specs.Members.{level_of_group, next_subvolume}
+use Rattle.qg_image.specs.Need.{nodes_filled, structural_need}
+use Rattle.qg_image.specs.State.{State, is_quota_on}
+use Rattle.qg_image.specs.Verdict.{most_groups, most_relations, most_subvolumes}
 use Rattle.qg_machine.specs.Refusals.{groups_of, last_generation, no_commit, no_nodes, no_parents, no_sub, number_to_come}
 use Rattle.qg_machine.specs.Refusals.{pairs_of, refusal, refuse, structural_copies, too_many_subvolumes}
 use Rattle.qg_hier.specs.Groups.{has_number}

@@ -11,8 +11,8 @@ use Rattle.qg_image.specs.declared.file.File.{File}
 use Rattle.qg_image.specs.FilesOf.{is_aligned}
 use Rattle.qg_image.specs.ItemMeaning.{first_some, some_passes}
 use Rattle.qg_image.specs.Table.{has_key, value_at}
-use Rattle.qg_state.specs.State.{State, has_subvolume}
-use Rattle.qg_verdict.specs.Verdict.{longest_extent}
+use Rattle.qg_image.specs.State.{State, has_subvolume}
+use Rattle.qg_image.specs.Verdict.{longest_extent}
 use Rattle.qg_contents.specs.Written.{inode_of}
 use Rattle.qg_machine.specs.Refusals.{most_pending, no_align, no_far, no_file, no_source, no_sub, refuse, share_a_byte}
 use Rattle.qg_machine.specs.Refusals.{too_many_pending}

@@ -21,11 +21,11 @@ use Rattle.qg_super.specs.Places.{capacity, total_bytes}
 use Rattle.qg_super.specs.SuperText.{sizes_of}
 use Rattle.qg_image.specs.ItemMeaning.{is_subvolume_number}
 use Rattle.qg_image.specs.Table.{has_key, keys_of}
-use Rattle.qg_state.specs.declared.quota.Group.{Group}
-use Rattle.qg_state.specs.declared.quota.Quota.{Quota}
-use Rattle.qg_state.specs.Members.{hierarchy_of, id_of_group, level_of_group}
-use Rattle.qg_state.specs.State.{Accepted, State, next_generation}
-use Rattle.qg_verdict.specs.Verdict.{is_group_number, most_groups}
+use Rattle.qg_image.specs.declared.quota.Group.{Group}
+use Rattle.qg_image.specs.declared.quota.Quota.{Quota}
+use Rattle.qg_image.specs.Members.{hierarchy_of, id_of_group, level_of_group}
+use Rattle.qg_image.specs.State.{Accepted, State, next_generation}
+use Rattle.qg_image.specs.Verdict.{is_group_number, most_groups}
 use Rattle.qg_machine.specs.GroupChange.{new_group, quota_for, same_pair, with_limit}
 use Rattle.qg_machine.specs.Refusals.{refuse}
 use Rattle.qg_machine.specs.Step.{DoesStructural}

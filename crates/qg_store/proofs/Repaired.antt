@@ -9,8 +9,8 @@ use Rattle.qg_super.specs.Places.{first_place, is_served, second_place, total_by
 use Rattle.qg_super.specs.SuperText.{is_super, same_super, sizes_of}
 use Rattle.qg_super.proofs.Served.{SuperFits-is_super}
 use Rattle.qg_image.specs.declared.file.File.{File}
-use Rattle.qg_state.specs.State.{State, Subvolume}
-use Rattle.qg_state.proofs.Contained.{contains_later}
+use Rattle.qg_image.specs.State.{State, Subvolume}
+use Rattle.qg_image.proofs.Contained.{contains_later}
 use Rattle.qg_contents.specs.Written.{items_of_file}
 use Rattle.qg_blocks.specs.Writing.{Keeps}
 use Rattle.qg_blocks.proofs.Written.{Keeps-then}

@@ -10,11 +10,11 @@ use Rattle.std.proofs.lemmas.List.Elements.{All-contains}
 use Rattle.qg_device.specs.History.{Event}
 use Rattle.qg_image.specs.ItemMeaning.{is_subvolume_number}
 use Rattle.qg_image.specs.Table.{has_key, keys_of}
-use Rattle.qg_state.specs.declared.quota.Quota.{Quota}
-use Rattle.qg_state.specs.Limits.{over}
-use Rattle.qg_state.specs.Members.{hierarchy_of, is_below}
-use Rattle.qg_state.specs.Record.{Record}
-use Rattle.qg_state.specs.State.{Accepted, State}
+use Rattle.qg_image.specs.declared.quota.Quota.{Quota}
+use Rattle.qg_image.specs.Limits.{over}
+use Rattle.qg_image.specs.Members.{hierarchy_of, is_below}
+use Rattle.qg_image.specs.Record.{Record}
+use Rattle.qg_image.specs.State.{Accepted, State}
 use Rattle.qg_machine.specs.Refusals.{over_limit}
 use Rattle.qg_hier.specs.Groups.{IsSound, groups_above, has_number}
 use Rattle.qg_hier.proofs.Chains.{below_itself, below_last}

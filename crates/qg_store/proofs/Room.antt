@@ -2,7 +2,7 @@
 use Rattle.std.proofs.Common.{◌≡◌, ℕ, ◌+◌, ◌-◌, ◌*◌, ◌/◌, ◌<◌, ◌≤◌, arith}
 use Rattle.std.proofs.Math.Nat.{lt_of_mul-lt-mul_left, mul-div-le}
 use Rattle.qg_super.specs.Places.{capacity}
-use Rattle.qg_state.specs.Need.{nodes_filled}
+use Rattle.qg_image.specs.Need.{nodes_filled}
 
 -- ---- nodes that bytes fill
 

@@ -10,8 +10,8 @@ use Rattle.std.proofs.lemmas.Option.{none-some, same_Some}
 use Rattle.qg_device.specs.History.{Event}
 use Rattle.qg_items.specs.declared.root.RootItem.{RootItem}
 use Rattle.qg_image.specs.Table.{keys_of, value_at}
-use Rattle.qg_state.specs.Record.{Record}
-use Rattle.qg_state.specs.State.{Placed, State}
+use Rattle.qg_image.specs.Record.{Record}
+use Rattle.qg_image.specs.State.{Placed, State}
 use Rattle.qg_contents.specs.Written.{items_of_file}
 use Rattle.qg_exchange.specs.Named.{named}
 use Rattle.qg_extents.specs.Table.{IsTable}

@@ -5,8 +5,8 @@ use Rattle.std.proofs.lemmas.Bool.{eqb-true}
 use Rattle.qg_device.specs.History.{Event}
 use Rattle.qg_super.specs.Places.{sector}
 use Rattle.qg_image.specs.FilesOf.{is_aligned}
-use Rattle.qg_state.specs.State.{State}
-use Rattle.qg_state.specs.Space as present
+use Rattle.qg_image.specs.State.{State}
+use Rattle.qg_image.specs.Space as present
 use Rattle.qg_space.specs.Holding.{Holding, first_run, is_free_run}
 use Rattle.qg_space.proofs.Firsts.{is_free_run-first}
 use Rattle.qg_extents.specs.Table.{IsTable}

@@ -5,9 +5,9 @@ use Rattle.std.specs.List.{Contains}
 use Rattle.std.proofs.lemmas.Bool.{and_parts}
 use Rattle.qg_super.specs.declared.sizes.Sizes.{Sizes}
 use Rattle.qg_super.specs.Places.{data_begin, is_run}
-use Rattle.qg_state.specs.declared.element.Element.{Element}
-use Rattle.qg_state.proofs.Contained.{contains_here}
-use Rattle.qg_verdict.specs.Verdict.{is_extent, longest_extent, space_failure}
+use Rattle.qg_image.specs.declared.element.Element.{Element}
+use Rattle.qg_image.proofs.Contained.{contains_here}
+use Rattle.qg_image.specs.Verdict.{is_extent, longest_extent, space_failure}
 use Rattle.qg_reach.specs.Fits.{first_fits}
 use Rattle.qg_reach.proofs.SpaceRule.{Keeps-space, ends_by_later, member_fits}
 use Rattle.qg_space.specs.Holding.{AscendApart}

@@ -7,8 +7,8 @@ use Rattle.qg_num.specs.declared.answer.Answer.TheVariants.{Refused, Shown}
 use Rattle.qg_num.specs.declared.command.Command.TheVariants.{Show}
 use Rattle.qg_num.specs.declared.refusal.Refusal.{Refusal}
 use Rattle.qg_num.specs.declared.refusal.Refusal.TheVariants as why
-use Rattle.qg_state.specs.declared.quota.Quota.{Quota}
-use Rattle.qg_state.specs.State.{State}
+use Rattle.qg_image.specs.declared.quota.Quota.{Quota}
+use Rattle.qg_image.specs.State.{State}
 use Rattle.qg_machine.specs.Refusals.{refusal, refuse}
 use Rattle.qg_machine.specs.Step.{rows_of}
 use Rattle.qg_machine.specs.Step as machine

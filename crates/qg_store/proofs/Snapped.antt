@@ -12,8 +12,8 @@ use Rattle.qg_image.specs.declared.file.File.{File}
 use Rattle.qg_image.specs.Below.{items_below}
 use Rattle.qg_image.specs.ItemMeaning.{is_subvolume_number}
 use Rattle.qg_image.specs.Table.{with_value}
-use Rattle.qg_state.specs.Space.{is_free_slot}
-use Rattle.qg_state.specs.State.{Placed, State, Subvolume, next_generation}
+use Rattle.qg_image.specs.Space.{is_free_slot}
+use Rattle.qg_image.specs.State.{Placed, State, Subvolume, next_generation}
 use Rattle.qg_machine.specs.Step.{Snapshots, copy_of}
 use Rattle.qg_descent.specs.Tree.{Reaches, Root}
 use Rattle.qg_snap.proofs.CopyWalked.{copy-items}

@@ -18,8 +18,8 @@ use Rattle.qg_super.specs.declared.superblock.Super.{Super}
 use Rattle.qg_super.specs.Places.{capacity, total_bytes}
 use Rattle.qg_super.specs.SuperText.{sizes_of}
 use Rattle.qg_image.specs.Table.{keys_of, value_at, with_value}
-use Rattle.qg_state.specs.Record.{Record}
-use Rattle.qg_state.specs.State.{Accepted, Placed, State, Subvolume, next_generation}
+use Rattle.qg_image.specs.Record.{Record}
+use Rattle.qg_image.specs.State.{Accepted, Placed, State, Subvolume, next_generation}
 use Rattle.qg_machine.specs.GroupChange.{inherited}
 use Rattle.qg_machine.specs.Refusals.{number_to_come}
 use Rattle.qg_machine.specs.Step.{Snapshots, copy_of}

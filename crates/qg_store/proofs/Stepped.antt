@@ -16,12 +16,12 @@ use Rattle.qg_super.specs.declared.sizes.Sizes.{Sizes}
 use Rattle.qg_image.specs.declared.file.File.{File}
 use Rattle.qg_image.specs.ItemMeaning.{is_subvolume_number}
 use Rattle.qg_image.specs.Table.{keys_of, value_at, with_value}
-use Rattle.qg_state.specs.declared.quota.Quota.{Quota}
-use Rattle.qg_state.specs.Members.{hierarchy_of}
-use Rattle.qg_state.specs.Need.{file_copies, held_records, nodes_filled, weight}
-use Rattle.qg_state.specs.Record.{Record}
-use Rattle.qg_state.specs.State.{Accepted, Committed, State, Subvolume}
-use Rattle.qg_state.specs.Space as present
+use Rattle.qg_image.specs.declared.quota.Quota.{Quota}
+use Rattle.qg_image.specs.Members.{hierarchy_of}
+use Rattle.qg_image.specs.Need.{file_copies, held_records, nodes_filled, weight}
+use Rattle.qg_image.specs.Record.{Record}
+use Rattle.qg_image.specs.State.{Accepted, Committed, State, Subvolume}
+use Rattle.qg_image.specs.Space as present
 use Rattle.qg_machine.specs.FileChange.{FileChange, file_change}
 use Rattle.qg_machine.specs.Layout.{CopiesOnWrite}
 use Rattle.qg_machine.specs.Refusals.{change_copies, change_need, no_nodes_for, refusal, refuse, root_level}

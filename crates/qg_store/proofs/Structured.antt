@@ -10,7 +10,7 @@ use Rattle.qg_num.specs.declared.command.Command.TheVariants.{Delete, Snap, SubC
 use Rattle.qg_num.specs.declared.command.Command.TheVariants as command
 use Rattle.qg_num.specs.declared.refusal.Refusal.{Refusal}
 use Rattle.qg_super.specs.declared.superblock.Super.{Super}
-use Rattle.qg_state.specs.State.{Committed, State}
+use Rattle.qg_image.specs.State.{Committed, State}
 use Rattle.qg_machine.specs.Refusals.{is_pending, nodes_reached, refusal}
 use Rattle.qg_machine.specs.Step.{Changes, Commits, CommitsPending, DoesStructural}
 use Rattle.qg_machine.specs.Step as machine

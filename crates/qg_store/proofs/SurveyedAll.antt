@@ -9,8 +9,8 @@ use Rattle.qg_device.specs.History.{Event}
 use Rattle.qg_super.specs.declared.sizes.Sizes.{Sizes}
 use Rattle.qg_super.specs.Places.{slot_at}
 use Rattle.qg_image.specs.Table.{keys_of}
-use Rattle.qg_state.specs.Record.{Record}
-use Rattle.qg_state.specs.State.{Placed, State}
+use Rattle.qg_image.specs.Record.{Record}
+use Rattle.qg_image.specs.State.{Placed, State}
 use Rattle.qg_contents.specs.Written.{items_of_file}
 use Rattle.qg_extents.specs.Table.{IsTable}
 use Rattle.qg_exchange.specs.Named.{named}

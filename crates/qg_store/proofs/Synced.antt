@@ -5,7 +5,7 @@ use Rattle.qg_node.specs.declared.node.Node.{Node}
 use Rattle.qg_super.specs.declared.superblock.Super.{Super}
 use Rattle.qg_super.specs.Places.{first_place, second_place}
 use Rattle.qg_super.specs.SuperText.{super_text}
-use Rattle.qg_state.specs.State.{Committed, State}
+use Rattle.qg_image.specs.State.{Committed, State}
 use Rattle.qg_commit.specs.Calls.{with_nodes, with_commit}
 use Rattle.qg_commit.proofs.Moments.{synced-with_commit}
 use Rattle.qg_store.specs.Making.{AreSynced, Makes}

@@ -7,7 +7,7 @@ use Rattle.std.specs.Option.{option_map}
 use Rattle.std.proofs.lemmas.Bool.{cases_Bool, cond-false, cond-true, eq-eqb}
 use Rattle.std.proofs.lemmas.List.Elements.{All-contains, Contains-get_or}
 use Rattle.qg_image.specs.Table.{has_key, keys_of, value_at, with_value}
-use Rattle.qg_state.proofs.Contained.{contains_cases, contains_here, contains_later, none_contained}
+use Rattle.qg_image.proofs.Contained.{contains_cases, contains_here, contains_later, none_contained}
 use Rattle.qg_files.proofs.Ascending.{Ascends-increasing}
 use Rattle.qg_home.proofs.Reaching.{entry_of_value}
 use Rattle.qg_forest.proofs.Changed.{value-each}

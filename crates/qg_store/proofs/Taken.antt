@@ -9,7 +9,7 @@ use Rattle.std.proofs.lemmas.List.Elements.{All-contains, Contains-append_left, 
 use Rattle.std.proofs.lemmas.List.Sums.{AllPass-from_list_all}
 use Rattle.qg_image.specs.Table.{with_number}
 use Rattle.qg_super.specs.Places.{is_slot}
-use Rattle.qg_state.proofs.Contained.{none_contained, contains_here, contains_cases}
+use Rattle.qg_image.proofs.Contained.{none_contained, contains_here, contains_cases}
 use Rattle.qg_space.specs.Holding.{Holding, has_slot, is_free_slot, without_slot}
 use Rattle.qg_space.proofs.Firsts.{is_free_slot-clear}
 use Rattle.qg_space.proofs.Members.{Contains-has_slot, Contains-with_number, Contains-without_slot}

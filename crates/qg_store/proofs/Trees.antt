@@ -5,10 +5,10 @@ use Rattle.std.specs.List.{Contains, filter, flat_map}
 use Rattle.std.proofs.lemmas.Bool.{cond-false, cond-true, eq-eqb, ne_eqb}
 use Rattle.qg_device.specs.History.{Event}
 use Rattle.qg_image.specs.Table.{keys_of, with_value, without_key}
-use Rattle.qg_state.specs.Record.{Record}
-use Rattle.qg_state.specs.Reach.{level_of}
-use Rattle.qg_state.specs.State.{State, Subvolume, next_generation, node_at}
-use Rattle.qg_state.proofs.Contained.{contains_cases, contains_here, contains_later}
+use Rattle.qg_image.specs.Record.{Record}
+use Rattle.qg_image.specs.Reach.{level_of}
+use Rattle.qg_image.specs.State.{State, Subvolume, next_generation, node_at}
+use Rattle.qg_image.proofs.Contained.{contains_cases, contains_here, contains_later}
 use Rattle.qg_machine.specs.Refusals.{root_level}
 use Rattle.qg_contents.specs.Written.{items_of_file}
 use Rattle.qg_ground.specs.declared.ground.Ground.{Ground}

@@ -12,11 +12,11 @@ use Rattle.qg_num.specs.declared.answer.Answer.{Answer}
 use Rattle.qg_num.specs.declared.fault.BlockFault.{BlockFault}
 use Rattle.qg_image.specs.Table.{has_key, keys_of, value_at}
 use Rattle.qg_image.specs.declared.file.File.{File}
-use Rattle.qg_state.specs.Record.{Record}
-use Rattle.qg_state.specs.State.{State, Subvolume}
-use Rattle.qg_state.proofs.Contained.{contains_cases, contains_later}
-use Rattle.qg_verdict.specs.declared.tree.Tree.TheVariants.{Files}
-use Rattle.qg_verdict.specs.Walk.{is_owner}
+use Rattle.qg_image.specs.Record.{Record}
+use Rattle.qg_image.specs.State.{State, Subvolume}
+use Rattle.qg_image.proofs.Contained.{contains_cases, contains_later}
+use Rattle.qg_image.specs.declared.tree.Tree.TheVariants.{Files}
+use Rattle.qg_image.specs.Walk.{is_owner}
 use Rattle.qg_rules.specs.Writable.{IsFileBy}
 use Rattle.qg_contents.specs.Written.{items_of_file}
 use Rattle.qg_blocks.specs.Held.{nothing_fresh}

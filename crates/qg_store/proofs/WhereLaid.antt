@@ -11,7 +11,7 @@ use Rattle.std.proofs.lemmas.List.Sums.{list_all-from_AllPass}
 use Rattle.qg_node.specs.declared.node.Node.{Node}
 use Rattle.qg_items.specs.declared.root.RootItem.{RootItem}
 use Rattle.qg_super.specs.declared.sizes.Sizes.{Sizes}
-use Rattle.qg_state.specs.declared.quota.Quota.{Quota}
+use Rattle.qg_image.specs.declared.quota.Quota.{Quota}
 use Rattle.qg_space.specs.Holding.{Holding, is_free_slot}
 use Rattle.qg_refs.specs.declared.kept.Kept.{Kept}
 use Rattle.qg_tree.specs.Row.{address_of}

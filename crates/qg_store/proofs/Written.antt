@@ -8,9 +8,9 @@ use Rattle.qg_num.specs.declared.refusal.Refusal.{Refusal}
 use Rattle.qg_num.specs.declared.refusal.Refusal.TheVariants as why
 use Rattle.qg_super.specs.declared.sizes.Sizes.{Sizes}
 use Rattle.qg_image.specs.declared.file.File.{File}
-use Rattle.qg_state.specs.State.{State}
-use Rattle.qg_state.specs.Space.{first_run}
-use Rattle.qg_verdict.specs.Verdict.{longest_extent}
+use Rattle.qg_image.specs.State.{State}
+use Rattle.qg_image.specs.Space.{first_run}
+use Rattle.qg_image.specs.Verdict.{longest_extent}
 use Rattle.qg_machine.specs.FileChange.{pieces_meeting}
 use Rattle.qg_machine.specs.Refusals.{over_limit}
 use Rattle.qg_space.specs.Holding.{free_slots}

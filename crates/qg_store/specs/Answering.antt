@@ -6,8 +6,8 @@ use Rattle.qg_num.specs.declared.answer.Answer.TheVariants as answer
 use Rattle.qg_num.specs.declared.command.Command.{Command}
 use Rattle.qg_num.specs.declared.command.Command.TheVariants.{Commit, Delete, Snap, SubCreate}
 use Rattle.qg_num.specs.declared.refusal.Refusal.TheVariants as why
-use Rattle.qg_state.specs.declared.quota.Quota.{Quota}
-use Rattle.qg_state.specs.State.{State}
+use Rattle.qg_image.specs.declared.quota.Quota.{Quota}
+use Rattle.qg_image.specs.State.{State}
 use Rattle.qg_machine.specs.Refusals.{refusal}
 use Rattle.qg_machine.specs.Step.{Step, rows_of}
 use Rattle.qg_groups.specs.Changing.{is_group_command}

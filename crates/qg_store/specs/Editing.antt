@@ -6,8 +6,8 @@ use Rattle.qg_num.specs.declared.refusal.Refusal.{Refusal}
 use Rattle.qg_num.specs.declared.refusal.Refusal.TheVariants as why
 use Rattle.qg_image.specs.FilesOf.{is_aligned}
 use Rattle.qg_image.specs.ItemMeaning.{first_some}
-use Rattle.qg_state.specs.State.{State}
-use Rattle.qg_verdict.specs.Verdict.{longest_extent}
+use Rattle.qg_image.specs.State.{State}
+use Rattle.qg_image.specs.Verdict.{longest_extent}
 use Rattle.qg_machine.specs.Refusals.{no_align, no_far, no_file, no_source, no_sub, refuse, share_a_byte, too_many_pending}
 use Rattle.qg_space.specs.Holding.{free_slots}
 use Rattle.qg_store.specs.declared.kept.Kept.{Kept}

@@ -9,10 +9,10 @@ use Rattle.qg_super.specs.SuperText.{is_super, sizes_of}
 use Rattle.qg_image.specs.declared.file.File.{File}
 use Rattle.qg_image.specs.ItemMeaning.{is_subvolume_number}
 use Rattle.qg_image.specs.Table.{has_key, keys_of}
-use Rattle.qg_state.specs.Need.{file_copies, nodes_filled}
-use Rattle.qg_state.specs.Record.{Record}
-use Rattle.qg_state.specs.State.{Accepted, State, Subvolume}
-use Rattle.qg_verdict.specs.Verdict.{longest_extent, most_subvolumes}
+use Rattle.qg_image.specs.Need.{file_copies, nodes_filled}
+use Rattle.qg_image.specs.Record.{Record}
+use Rattle.qg_image.specs.State.{Accepted, State, Subvolume}
+use Rattle.qg_image.specs.Verdict.{longest_extent, most_subvolumes}
 use Rattle.qg_blocks.specs.Held.{nothing_fresh}
 use Rattle.qg_blocks.specs.Told.{IsBacked}
 use Rattle.qg_space.specs.Holding.{free_slots}

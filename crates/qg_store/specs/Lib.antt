@@ -10,3 +10,4 @@ pub mod Structural
 pub mod Planning
 pub mod Opened
 pub mod Owning
+pub mod Crashes

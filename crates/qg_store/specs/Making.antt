@@ -1,6 +1,5 @@
 -- What commits do to a disk (this project's own).
-use Rattle.std.specs.Prelude.{◌≡◌, ℕ, List, [], ◌∷◌, Option, Some}
-use Rattle.std.specs.List.{All}
+use Rattle.std.specs.Prelude.{◌≡◌, ℕ, All, IsTrue, List, [], ◌∷◌, Option, Some}
 use Rattle.std.specs.List.Sorted.{IsPermutation}
 use Rattle.qg_device.specs.History.{Event, Moment, content}
 use Rattle.qg_num.specs.declared.answer.Answer.{Answer}
@@ -9,28 +8,27 @@ use Rattle.qg_num.specs.declared.command.Command.{Command}
 use Rattle.qg_num.specs.declared.command.Command.TheVariants as command
 use Rattle.qg_node.specs.declared.node.Node.{Node}
 use Rattle.qg_super.specs.declared.superblock.Super.{Super}
-use Rattle.qg_state.specs.declared.quota.Quota.{Quota}
-use Rattle.qg_state.specs.Counts.{direct_count}
-use Rattle.qg_state.specs.Members.{hierarchy_of}
-use Rattle.qg_state.specs.State.{Committed, State, layout_of}
+use Rattle.qg_super.specs.SuperText.{is_super, sizes_of}
+use Rattle.qg_image.specs.State.{Committed, State}
 use Rattle.qg_machine.specs.Step.{Changes, Commits, CommitsPending, Step}
 use Rattle.qg_machine.specs.Written.{new_nodes}
-use Rattle.qg_verdict.specs.StateOf.{StateOf}
+use Rattle.qg_image.specs.StateOf.{StateOf}
+use Rattle.qg_crashes.specs.Counted.{AreDirect}
+use Rattle.qg_crashes.specs.Slots.{IsInSlot}
 use Rattle.qg_commit.specs.Calls.{MadeFront, commit_calls, with_commit}
-
--- each group's stored counters are its direct counts
-abbrev pub AreCounted : State → Type 0
-AreCounted state = (quota : Quota) → state.quota ≡ Some quota
-    → All (λ entry. entry.1.counters ≡ direct_count (layout_of state) (hierarchy_of quota) entry.0) quota.groups
 
 -- an image is sound, stands for a committed state, and stores the direct count of each of its groups
 pub record IsCommitted (state : State) (image : List ℕ) : Type 0 where
   pub stands : StateOf image state
-  pub counted : AreCounted state
+  pub counted : AreDirect state
 
--- These are the superblock and the nodes of a commit that comes to a state, where so much was held before: the nodes are those of the state
--- that were not held, in some order. Once all the commit's calls are made, the disk holds the state.
+-- These are the superblock and the nodes of a commit that comes to a state, where so much was held before. The superblock may be written and is
+-- of the state's sizes; each node lies in a slot; and the nodes are those of the state that were not held, in some order. Once all the commit's
+-- calls are made, the disk holds the state.
 pub record BringsTo (held : Committed) (state : State) (before : List Event) (super : Super) (nodes : List Node) : Type 0 where
+  pub superblock : IsTrue (is_super super)
+  pub sizes : sizes_of super ≡ state.sizes
+  pub in_slots : All (IsInSlot super) nodes
   pub written : IsPermutation nodes (new_nodes held state)
   pub committed : IsCommitted state (content (with_commit super nodes before))
 

@@ -9,7 +9,7 @@ use Rattle.qg_node.specs.declared.node.Node.{Node}
 use Rattle.qg_items.specs.declared.root.RootItem.{RootItem}
 use Rattle.qg_super.specs.declared.superblock.Super.{Super}
 use Rattle.qg_image.specs.Table.{keys_of}
-use Rattle.qg_state.specs.State.{State}
+use Rattle.qg_image.specs.State.{State}
 use Rattle.qg_machine.specs.Step.{Commits}
 use Rattle.qg_refs.specs.declared.kept.What.{What}
 use Rattle.qg_refs.specs.declared.kept.Kept.{Kept as Reference}

@@ -1,7 +1,7 @@
 -- Which ranges a command may edit (this project's own). Positions and lengths are in bytes.
 use Rattle.std.specs.Prelude.{ℕ, ◌+◌, ◌<◌, ◌≤◌, IsTrue}
 use Rattle.qg_image.specs.FilesOf.{is_aligned, largest_size}
-use Rattle.qg_verdict.specs.Verdict.{longest_extent}
+use Rattle.qg_image.specs.Verdict.{longest_extent}
 
 -- a range of whole sectors, one at least, that ends by the largest size
 pub record IsRange (off len : ℕ) : Type 0 where

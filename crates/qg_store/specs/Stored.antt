@@ -1,5 +1,5 @@
 -- A store as its callers see it (this project's own).
-use Rattle.std.specs.Prelude.{◌≡◌, ◌⊎◌, ◌+◌, ◌<◌, Bool, true, false, List, Option, None, Some, Result, Ok, Err, IsTrue}
+use Rattle.std.specs.Prelude.{◌≡◌, ◌⊎◌, ℕ, ◌+◌, ◌<◌, ◌≤◌, Bool, true, false, List, Option, None, Some, Result, Ok, Err, IsTrue}
 use Rattle.qg_device.specs.History.{Event}
 use Rattle.qg_num.specs.declared.answer.Answer.{Answer}
 use Rattle.qg_num.specs.declared.command.Command.{Command}
@@ -9,8 +9,9 @@ use Rattle.qg_num.specs.declared.fault.BlockFault.TheVariants as fault
 use Rattle.qg_num.specs.declared.fault.Stop.{Stop}
 use Rattle.qg_num.specs.declared.fault.Stop.TheVariants.{NoMemory, Disk, Image, Aborted}
 use Rattle.qg_super.specs.declared.sizes.Sizes.{Sizes}
+use Rattle.qg_super.specs.Places.{total_bytes}
 use Rattle.qg_super.specs.SuperText.{sizes_of}
-use Rattle.qg_state.specs.State.{State}
+use Rattle.qg_image.specs.State.{State}
 use Rattle.qg_blocks.specs.Told.{IsBacked}
 use Rattle.qg_store.specs.declared.kept.Kept.{Kept}
 use Rattle.qg_store.specs.Answering.{comes_to_disk, is_structural}
@@ -49,6 +50,19 @@ pub record ComesToDisk (store : Stored) (command : Command) : Type 0 where
 -- the sizes of its image
 abbrev pub sizes_stored : Stored → Sizes
 sizes_stored store = sizes_of store.kept.superblock
+
+-- a store has not stopped, its disk, where that tells, is as the store left it, and its disk of so many bytes has all of its image
+pub record IsReady (store : Stored) (history : Option (List Event)) (size : ℕ) : Type 0 where
+  pub running : store.stopped ≡ None
+  pub backed : IsStoreOver store history
+  pub long : total_bytes (sizes_stored store) ≤ size
+
+-- A store goes on over a disk of so many bytes, before and now: that, where it tells, is as the store left it, and is no shorter; and the sizes of
+-- the store's image stay
+pub record GoesOn (old new : Stored) (history : Option (List Event)) (before now : ℕ) : Type 0 where
+  pub backed : IsStoreOver new history
+  pub sizes : sizes_stored new ≡ sizes_stored old
+  pub no_less : before ≤ now
 
 -- The last commit is the first of the two that a structural command makes: something was pending, and is committed, as
 -- the next generation. A disk that tells what it held was given all calls of that commit, and of the second some or none

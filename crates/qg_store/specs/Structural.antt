@@ -9,9 +9,9 @@ use Rattle.qg_num.specs.declared.refusal.Refusal.{Refusal}
 use Rattle.qg_num.specs.declared.refusal.Refusal.TheVariants as why
 use Rattle.qg_image.specs.ItemMeaning.{first_some}
 use Rattle.qg_image.specs.Table.{has_key, keys_of}
-use Rattle.qg_state.specs.Members.{next_subvolume}
-use Rattle.qg_state.specs.State.{State}
-use Rattle.qg_verdict.specs.Verdict.{most_groups, most_relations, most_subvolumes}
+use Rattle.qg_image.specs.Members.{next_subvolume}
+use Rattle.qg_image.specs.State.{State}
+use Rattle.qg_image.specs.Verdict.{most_groups, most_relations, most_subvolumes}
 use Rattle.qg_machine.specs.Refusals.{last_generation, refuse}
 use Rattle.qg_machine.specs.Step.{Changes, CommitsPending}
 use Rattle.qg_limits.specs.Limit.{SameHeld}

@@ -5,7 +5,7 @@ ghost use Rattle.qg_device.specs.History.{Event};
 ghost use Rattle.qg_num.specs.declared.command.Command.TheVariants.{Clone};
 ghost use Rattle.qg_image.specs.FilesOf.{inodes_end, least_inode};
 ghost use Rattle.qg_image.specs.Table.{value_at};
-ghost use Rattle.qg_state.specs.State.{State, Subvolume};
+ghost use Rattle.qg_image.specs.State.{State, Subvolume};
 ghost use Rattle.qg_blocks.specs.Told.{BreaksNone};
 ghost use Rattle.qg_files.specs.Apart.{AreApart};
 ghost use Rattle.qg_file_items.specs.Pieces.{pieces_met};

@@ -7,8 +7,8 @@ ghost use Rattle.qg_num.specs.declared.command.Command.TheVariants.{Commit};
 ghost use Rattle.qg_num.specs.declared.piece.Piece.{Piece};
 ghost use Rattle.qg_node.specs.declared.item.Item.{Item};
 ghost use Rattle.qg_super.specs.SuperText.{sizes_of};
-ghost use Rattle.qg_state.specs.Record.{Record};
-ghost use Rattle.qg_state.specs.State.{State};
+ghost use Rattle.qg_image.specs.Record.{Record};
+ghost use Rattle.qg_image.specs.State.{State};
 ghost use Rattle.qg_blocks.specs.Told.{BreaksNone, IsBacked, fresh_at};
 ghost use Rattle.qg_blocks.specs.Writing.{AreWritten};
 ghost use Rattle.qg_commit.specs.Calls.{IsReadBack};
@@ -30,10 +30,10 @@ use crate::planning::{Plan, plan_of};
 use qg_blocks::Blocks;
 use qg_disk::Disk;
 use qg_groups::QuotaState;
+use qg_image::Quota;
 use qg_num::{Address, Answer, BlockFault, NoMemory, Refusal, Steps};
 use qg_other_trees::{OtherTrees, Told};
 use qg_standing::committed;
-use qg_state::Quota;
 use std::sync::ledger::Ledger;
 
 /// The greatest committed generation that a commit may meet.

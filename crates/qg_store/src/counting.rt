@@ -4,10 +4,10 @@ ghost use Rattle.std.specs.List.Sorted.{IsStrictlyIncreasing};
 ghost use Rattle.qg_device.specs.Cause.{HasCause};
 ghost use Rattle.qg_device.specs.History.{Event};
 ghost use Rattle.qg_image.specs.Table.{keys_of};
-ghost use Rattle.qg_state.specs.declared.quota.Quota.{Quota};
-ghost use Rattle.qg_state.specs.Members.{hierarchy_of, level_of_group};
-ghost use Rattle.qg_state.specs.Record.{Record};
-ghost use Rattle.qg_state.specs.State.{State, layout_of};
+ghost use Rattle.qg_image.specs.declared.quota.Quota.{Quota};
+ghost use Rattle.qg_image.specs.Members.{hierarchy_of, level_of_group};
+ghost use Rattle.qg_image.specs.Record.{Record};
+ghost use Rattle.qg_image.specs.State.{State, layout_of};
 ghost use Rattle.qg_blocks.specs.Told.{BreaksNone};
 ghost use Rattle.qg_direct.specs.Direct.{AreGroupCounts};
 ghost use Rattle.qg_direct.specs.Surveyed.{surveyed_of};
@@ -25,11 +25,11 @@ use qg_descent::Tree;
 use qg_direct::{Surveyed, group_counts};
 use qg_disk::Disk;
 use qg_groups::QuotaState;
+use qg_image::{Group, Quota};
 use qg_num::{
     Address, BlockFault, Counters, Generation, GroupId, NoMemory, RootId, Sequence, Steps,
 };
 use qg_other_trees::stamp_after;
-use qg_state::{Group, Quota};
 use std::alloc::{AllocError, Global};
 use std::sync::ledger::Ledger;
 

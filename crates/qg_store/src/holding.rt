@@ -3,13 +3,13 @@ ghost use Rattle.std.specs.Prelude.{◌≡◌, ◌++◌, ◌↔◌, ℕ, None, n
 ghost use Rattle.std.specs.List.{Contains, filter, list_all};
 ghost use Rattle.qg_super.specs.Places.{is_served, is_slot};
 ghost use Rattle.qg_super.specs.SuperText.{sizes_of};
-ghost use Rattle.qg_verdict.specs.Verdict.{space_failure};
+ghost use Rattle.qg_image.specs.Verdict.{space_failure};
 ghost use Rattle.qg_space.specs.Holding.{has_slot};
 
 use crate::slots::{give_slots, take_slots};
+use qg_image::Element;
 use qg_num::{Address, NoMemory, Sequence};
 use qg_space::Space;
-use qg_state::Element;
 use qg_super::Super;
 use std::alloc::Global;
 

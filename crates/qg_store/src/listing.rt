@@ -3,7 +3,7 @@ ghost use Rattle.std.specs.Prelude.{◌≡◌, [], List, Some, IfOk};
 ghost use Rattle.qg_device.specs.Cause.{HasCause};
 ghost use Rattle.qg_device.specs.History.{Event};
 ghost use Rattle.qg_num.specs.declared.command.Command.TheVariants.{Ls};
-ghost use Rattle.qg_state.specs.State.{State};
+ghost use Rattle.qg_image.specs.State.{State};
 ghost use Rattle.qg_blocks.specs.Told.{BreaksNone};
 ghost use Rattle.qg_store.specs.Answering.{Answered};
 ghost use Rattle.qg_store.specs.Editing.{HasLooked};

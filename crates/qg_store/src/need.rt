@@ -1,7 +1,7 @@
 // The slots that a command needs.
 ghost use Rattle.std.specs.Prelude.{◌≡◌, ◌+◌, ◌*◌, ◌^◌, ◌≤◌, IfNone, IfOk, Some};
 ghost use Rattle.qg_node.specs.NodeText.{IsNodeSize};
-ghost use Rattle.qg_state.specs.Need.{nodes_filled};
+ghost use Rattle.qg_image.specs.Need.{nodes_filled};
 ghost use Rattle.qg_extents.specs.Table.{IsTable};
 ghost use Rattle.qg_space.specs.Holding.{free_slots};
 ghost use Rattle.qg_groups.specs.Tracked.{quota_of};

@@ -3,8 +3,8 @@ ghost use Rattle.std.specs.Prelude.{◌≡◌, ◌≢◌, ◌+◌, ◌^◌, ◌<
 ghost use Rattle.std.specs.List.{HoldsAt, filter, fold};
 ghost use Rattle.qg_image.specs.ItemMeaning.{is_subvolume_number};
 ghost use Rattle.qg_image.specs.Table.{keys_of};
-ghost use Rattle.qg_state.specs.Members.{level_of_group};
-ghost use Rattle.qg_verdict.specs.Verdict.{most_groups, most_relations, most_subvolumes};
+ghost use Rattle.qg_image.specs.Members.{level_of_group};
+ghost use Rattle.qg_image.specs.Verdict.{most_groups, most_relations, most_subvolumes};
 ghost use Rattle.qg_groups.specs.Changing.{groups_in, pairs_in};
 ghost use Rattle.qg_groups.specs.Tracked.{quota_of};
 ghost use Rattle.qg_store.specs.Keeping.{IsFitted};
@@ -12,8 +12,8 @@ ghost use Rattle.qg_store.specs.Structural.{number_next};
 
 use crate::kept::Kept;
 use qg_groups::QuotaState;
+use qg_image::Group;
 use qg_num::{Generation, GroupId, RootId};
-use qg_state::Group;
 
 /// The most subvolumes, and the most groups, that an image can have.
 const MOST_SUBVOLUMES: usize = 4096;

@@ -4,8 +4,8 @@ ghost use Rattle.std.specs.List.{Contains};
 ghost use Rattle.qg_device.specs.Cause.{HasCause};
 ghost use Rattle.qg_device.specs.History.{Event};
 ghost use Rattle.qg_image.specs.Table.{keys_of};
-ghost use Rattle.qg_state.specs.Record.{Record};
-ghost use Rattle.qg_state.specs.State.{State};
+ghost use Rattle.qg_image.specs.Record.{Record};
+ghost use Rattle.qg_image.specs.State.{State};
 ghost use Rattle.qg_blocks.specs.Told.{BreaksNone};
 ghost use Rattle.qg_extents.specs.Table.{IsTable};
 ghost use Rattle.qg_space.specs.Holding.{free_slots};
@@ -29,9 +29,9 @@ use crate::surveying::trees_by_number;
 use qg_descent::Tree;
 use qg_disk::Disk;
 use qg_extents::Extents;
+use qg_image::Quota;
 use qg_items::RootItem;
 use qg_num::{Address, BlockFault, Generation, RootId, Rule, Sequence, Steps};
-use qg_state::Quota;
 use std::sync::ledger::Ledger;
 
 /// The subvolumes' ROOT_ITEMs by number, and quota, none while it is off, as a commit is to store them; and free slots in

@@ -4,7 +4,7 @@ ghost use Rattle.qg_num.specs.declared.refusal.Refusal.TheVariants as why;
 ghost use Rattle.qg_image.specs.FilesOf.{is_aligned, largest_size};
 ghost use Rattle.qg_image.specs.ItemMeaning.{first_some};
 ghost use Rattle.qg_machine.specs.Refusals.{most_pending, no_align, no_far, refuse, share_a_byte};
-ghost use Rattle.qg_verdict.specs.Verdict.{longest_extent};
+ghost use Rattle.qg_image.specs.Verdict.{longest_extent};
 ghost use Rattle.qg_store.specs.Ranges.{IsClonable, IsWritable};
 
 use qg_num::{Ino, Refusal, RootId};

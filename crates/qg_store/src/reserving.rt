@@ -2,8 +2,8 @@
 ghost use Rattle.std.specs.Prelude.{◌≡◌, ◌+◌, ◌^◌, ◌<◌, ◌≤◌, ℕ, ◌∷◌, All, IfOk, IfSome, IsTrue, List, OnOk, Option};
 ghost use Rattle.qg_device.specs.History.{Event};
 ghost use Rattle.qg_image.specs.Table.{has_key};
-ghost use Rattle.qg_state.specs.Record.{Record};
-ghost use Rattle.qg_state.specs.State.{Accepted, State};
+ghost use Rattle.qg_image.specs.Record.{Record};
+ghost use Rattle.qg_image.specs.State.{Accepted, State};
 ghost use Rattle.qg_machine.specs.Refusals.{over_limit};
 ghost use Rattle.qg_extents.specs.Table.{IsTable};
 ghost use Rattle.qg_groups.specs.Judging.{IfPath};

@@ -6,7 +6,7 @@ ghost use Rattle.qg_num.specs.declared.command.Command.TheVariants.{Truncate};
 ghost use Rattle.qg_num.specs.declared.refusal.Refusal.TheVariants as why;
 ghost use Rattle.qg_image.specs.FilesOf.{is_aligned, largest_size};
 ghost use Rattle.qg_image.specs.ItemMeaning.{first_some};
-ghost use Rattle.qg_state.specs.State.{State};
+ghost use Rattle.qg_image.specs.State.{State};
 ghost use Rattle.qg_machine.specs.Refusals.{most_pending, no_far, refuse};
 ghost use Rattle.qg_blocks.specs.Told.{BreaksNone};
 ghost use Rattle.qg_store.specs.Answering.{Answered, is_unchanging};

@@ -5,8 +5,8 @@ ghost use Rattle.qg_groups.specs.Tracked.{quota_of};
 ghost use Rattle.qg_store.specs.Answering.{shown};
 
 use qg_groups::QuotaState;
+use qg_image::Group;
 use qg_num::{Answer, GroupId, NoMemory, Refusal, Row, Rows};
-use qg_state::Group;
 use std::alloc::{AllocError, Global};
 
 /// The stored counters and limits of all groups, ascending by number; or that quota is off.

@@ -8,17 +8,19 @@ ghost use Rattle.qg_num.specs.Fault.{stop_of};
 ghost use Rattle.qg_super.specs.Places.{total_bytes};
 ghost use Rattle.qg_super.specs.SuperText.{sizes_of};
 ghost use Rattle.qg_grammar.specs.ScriptText.{is_in_grammar};
-ghost use Rattle.qg_state.specs.State.{State};
-ghost use Rattle.qg_verdict.specs.StateOf.{StateOf};
-ghost use Rattle.qg_verdict.specs.Verdict.{verdict};
+ghost use Rattle.qg_image.specs.State.{State};
+ghost use Rattle.qg_image.specs.StateOf.{StateOf};
+ghost use Rattle.qg_image.specs.Verdict.{verdict};
 ghost use Rattle.qg_blocks.specs.Told.{BreaksNone};
 ghost use Rattle.qg_walk.specs.Fault.{TellsFailure};
-ghost use Rattle.qg_commit.specs.Opened.{IsOpened, IsOpening};
+ghost use Rattle.qg_crashes.specs.Outcomes.{Rests};
+ghost use Rattle.qg_commit.specs.Opened.{IsOpened, IsOpening, OutlivesCrashes};
 ghost use Rattle.qg_commit.specs.Opening.{IsUntouched};
 ghost use Rattle.qg_store.specs.Answering.{AnswersOn, IsDoneSoFar, comes_to_disk, is_unchanging};
+ghost use Rattle.qg_store.specs.Crashes.{IsLastCommit, OutlivesCommand};
 ghost use Rattle.qg_store.specs.Editing.{HasLooked};
 ghost use Rattle.qg_store.specs.Keeping.{IsKept, IsKeptOf};
-ghost use Rattle.qg_store.specs.Stored.{ComesToDisk, IsStoreOf, IsStoreOver, IsUnchanged, KnowsLast, RunsOrStops, is_of_image, sizes_stored};
+ghost use Rattle.qg_store.specs.Stored.{ComesToDisk, GoesOn, IsReady, IsStoreOf, IsStoreOver, IsUnchanged, KnowsLast, RunsOrStops, is_of_image, sizes_stored};
 
 use crate::cloning::clone;
 use crate::committing::commit;
@@ -76,10 +78,13 @@ impl Store {
         ensures touches { (events : List Event) → D.history disk.old ≡ Some events
             → IsOpening events (D.history disk.new) }
 
+        // What a crash leaves since the first sync stands for the state that the image stood for; before it, it leaves
+        // what it could as the call began. An opened image rests in that state.
+        ensures crashes { (events : List Event) → D.history disk.old ≡ Some events
+            → OutlivesCrashes events (D.history disk.new) result }
+
         // Over any disk.
-        ensures running { IfOk result (λ store. store.stopped ≡ None) }
-        ensures backed { IfOk result (λ store. IsStoreOver store (D.history disk.new)) }
-        ensures long { IfOk result (λ store. total_bytes (sizes_stored store) ≤ D.size disk.new) }
+        ensures ready { IfOk result (λ store. IsReady store (D.history disk.new) (D.size disk.new)) }
         ensures cause { HasCause OpenFault.Disk (D.faults disk.old) (D.faults disk.new) result }
     {
         let image = open(alloc, disk)?;
@@ -121,6 +126,13 @@ impl Store {
             → D.history disk.old ≡ Some events
             → IfErr result (λ stop. is_of_image stop ≡ false) }
 
+        // Where the disk rested in the last commit, what a crash leaves since then stands for that, or for one that the
+        // command makes, whatever is answered. Once the command is answered, the disk rests in the last one again.
+        ensures crashes { (state committed : State) (events : List Event)
+            → IsStoreOf self.old state (D.history disk.old) → D.history disk.old ≡ Some events
+            → Rests committed events → IsLastCommit committed state
+            → OutlivesCommand state command.now committed events (D.history disk.new) result self.new.kept }
+
         // Over any disk. What is refused or asked changes nothing but clean nodes and which tree is at hand, and only a
         // commit of something, or a structural command, comes to the disk.
         ensures unchanged { IfOk result (λ answer. IsTrue (is_unchanging answer)
@@ -132,8 +144,7 @@ impl Store {
         ensures stops { RunsOrStops result command.now self.old self.new (D.history disk.old) (D.history disk.new) }
         ensures cause { HasCause Stop.Disk (D.faults disk.old) (D.faults disk.new) result }
 
-        ensures backed { IsStoreOver self.new (D.history disk.new) }
-        ensures sizes { (sizes_stored self.new ≡ sizes_stored self.old) × (D.size disk.old ≤ D.size disk.new) }
+        ensures goes_on { GoesOn self.old self.new (D.history disk.new) (D.size disk.old) (D.size disk.new) }
         ensures counts { looks.new ≡ looks.old }
     {
         if let Some(cause) = self.stopped {

@@ -2,8 +2,8 @@
 ghost use Rattle.std.specs.Prelude.{◌≡◌, ℕ, List, Option, IsTrue};
 ghost use Rattle.qg_device.specs.History.{Event};
 ghost use Rattle.qg_image.specs.Table.{has_key};
-ghost use Rattle.qg_state.specs.Record.{Record};
-ghost use Rattle.qg_state.specs.State.{State};
+ghost use Rattle.qg_image.specs.Record.{Record};
+ghost use Rattle.qg_image.specs.State.{State};
 ghost use Rattle.qg_store.specs.Keeping.{IsFitted, IsKept, IsKeptWith, SameButClean};
 
 use crate::kept::Kept;

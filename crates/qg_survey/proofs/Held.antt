@@ -7,9 +7,9 @@ use Rattle.std.specs.List.Sorted.{IsStrictlySortedBy}
 use Rattle.std.specs.Ordering.{nat_cmp}
 use Rattle.qg_device.specs.History.{Event}
 use Rattle.qg_image.specs.Table.{keys_of, value_at}
-use Rattle.qg_state.specs.State.{Placed, State, Subvolume, next_generation, node_at}
-use Rattle.qg_state.specs.Reach.{level_of}
-use Rattle.qg_state.proofs.Contained.{contains_here, contains_later}
+use Rattle.qg_image.specs.State.{Placed, State, Subvolume, next_generation, node_at}
+use Rattle.qg_image.specs.Reach.{level_of}
+use Rattle.qg_image.proofs.Contained.{contains_here, contains_later}
 use Rattle.qg_reach.proofs.Members.{contains_map}
 use Rattle.qg_machine.specs.Layout.{IsTreeOf}
 use Rattle.qg_machine.specs.Refusals.{root_level}

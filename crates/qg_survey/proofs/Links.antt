@@ -13,14 +13,14 @@ use Rattle.qg_node.specs.Nodes.{header_of, own_pointers}
 use Rattle.qg_node.specs.declared.item.Item.{Item}
 use Rattle.qg_super.specs.declared.superblock.Super.{Super}
 use Rattle.qg_image.specs.Table.{has_key, keys_of, value_at}
-use Rattle.qg_state.specs.declared.element.Element.{Element}
-use Rattle.qg_state.specs.Owed.{layout_extents}
-use Rattle.qg_state.specs.Reach.{is_among, level_of}
-use Rattle.qg_state.specs.State.{Placed, State, Subvolume, layout_of, node_at}
-use Rattle.qg_state.proofs.Contained.{none_contained}
+use Rattle.qg_image.specs.declared.element.Element.{Element}
+use Rattle.qg_image.specs.Owed.{layout_extents}
+use Rattle.qg_image.specs.Reach.{is_among, level_of}
+use Rattle.qg_image.specs.State.{Placed, State, Subvolume, layout_of, node_at}
+use Rattle.qg_image.proofs.Contained.{none_contained}
 use Rattle.qg_reach.specs.Sets.{HaveSame}
 use Rattle.qg_reach.proofs.Members.{contains_map, one_mapped}
-use Rattle.qg_verdict.specs.declared.tree.Tree.TheVariants.{Files}
+use Rattle.qg_image.specs.declared.tree.Tree.TheVariants.{Files}
 use Rattle.qg_machine.specs.Layout.{IsTreeOf, super_to_come}
 use Rattle.qg_ground.specs.declared.ground.Ground.{Ground}
 use Rattle.qg_ground.specs.Land.{IsGround}

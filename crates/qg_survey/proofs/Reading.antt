@@ -13,8 +13,8 @@ use Rattle.qg_node.specs.declared.node.Node.TheVariants.{Leaf, Inner}
 use Rattle.qg_node.specs.NodeText.{IsLevelled}
 use Rattle.qg_node.specs.Nodes.{header_of, own_pointers}
 use Rattle.qg_image.specs.Table.{value_at}
-use Rattle.qg_state.specs.State.{Placed, State, node_at}
-use Rattle.qg_state.proofs.Contained.{none_contained}
+use Rattle.qg_image.specs.State.{Placed, State, node_at}
+use Rattle.qg_image.proofs.Contained.{none_contained}
 use Rattle.qg_reach.proofs.Members.{contains_map}
 use Rattle.qg_direct.specs.Surveyed.{surveyed_of}
 use Rattle.qg_direct.specs.declared.surveyed.Surveyed.{Surveyed}

@@ -14,10 +14,10 @@ use Rattle.qg_node.specs.NodeText.{IsLevelled}
 use Rattle.qg_node.specs.Nodes.{header_of, own_pointers}
 use Rattle.qg_super.specs.declared.superblock.Super.{Super}
 use Rattle.qg_image.specs.Table.{value_at}
-use Rattle.qg_state.specs.State.{Placed, State, node_at}
-use Rattle.qg_state.proofs.Contained.{none_contained, contains_cases, contains_here, contains_later}
+use Rattle.qg_image.specs.State.{Placed, State, node_at}
+use Rattle.qg_image.proofs.Contained.{none_contained, contains_cases, contains_here, contains_later}
 use Rattle.qg_reach.proofs.Members.{one_mapped}
-use Rattle.qg_verdict.specs.declared.tree.Tree.TheVariants.{Files}
+use Rattle.qg_image.specs.declared.tree.Tree.TheVariants.{Files}
 use Rattle.qg_machine.specs.Layout.{super_to_come}
 use Rattle.qg_walk.proofs.Failures.{IsFormed-form}
 use Rattle.qg_blocks.specs.Held.{Draft, Held}

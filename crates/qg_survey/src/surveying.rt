@@ -4,7 +4,7 @@ ghost use Rattle.std.specs.BTreeMap.{Updates};
 ghost use Rattle.std.specs.Ordering.{nat_cmp};
 ghost use Rattle.qg_device.specs.Cause.{HasCause};
 ghost use Rattle.qg_device.specs.History.{Event};
-ghost use Rattle.qg_state.specs.State.{State as MachineState, next_generation};
+ghost use Rattle.qg_image.specs.State.{State as MachineState, next_generation};
 ghost use Rattle.qg_blocks.specs.Told.{BreaksNone};
 ghost use Rattle.qg_extents.specs.Table.{book_of};
 ghost use Rattle.qg_direct.specs.Surveyed.{surveyed_of};

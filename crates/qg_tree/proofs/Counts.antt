@@ -4,7 +4,7 @@ use Rattle.std.proofs.Math.Nat.{mul-le-mul_left, le_of_mul-le-mul_left}
 use Rattle.std.proofs.lemmas.Bool.{cases_lt}
 use Rattle.qg_node.specs.NodeText.{IsNodeSize}
 use Rattle.qg_super.specs.Places.{capacity}
-use Rattle.qg_state.specs.Need.{nodes_filled}
+use Rattle.qg_image.specs.Need.{nodes_filled}
 
 pub wide : (nodesize : ℕ) → IsNodeSize nodesize → 4096 ≤ nodesize
 wide nodesize size = elim size [ inl e ↦ omega arith | inr e ↦ omega arith ]

@@ -12,12 +12,12 @@ use Rattle.qg_node.specs.declared.node.Node.{Node}
 use Rattle.qg_node.specs.declared.node.Node.TheVariants.{Leaf, Inner}
 use Rattle.qg_node.specs.Nodes.{header_of, own_pointers}
 use Rattle.qg_image.specs.Below.{leaf_items, inner_pointers, joined, items_below}
-use Rattle.qg_verdict.specs.declared.failure.Failure.{Failure}
-use Rattle.qg_verdict.specs.Failure.{first_failure}
-use Rattle.qg_verdict.specs.ItemsUnder.{nodes_of}
-use Rattle.qg_verdict.specs.declared.expected.Expected.{Expected}
-use Rattle.qg_verdict.specs.Walk.{found_failure, next_key, pointers_failure, walk_failure}
-use Rattle.qg_verdict.specs.Among.{node_among, found_there, found_among}
+use Rattle.qg_image.specs.declared.failure.Failure.{Failure}
+use Rattle.qg_image.specs.Failure.{first_failure}
+use Rattle.qg_image.specs.ItemsUnder.{nodes_of}
+use Rattle.qg_image.specs.declared.expected.Expected.{Expected}
+use Rattle.qg_image.specs.Walk.{found_failure, next_key, pointers_failure, walk_failure}
+use Rattle.qg_image.specs.Among.{node_among, found_there, found_among}
 use Rattle.qg_tree.specs.Row.{address_of}
 
 -- ---- the nodes

@@ -12,7 +12,7 @@ use Rattle.qg_num.specs.declared.key.Key.{Key}
 use Rattle.qg_node.specs.declared.node.Node.{Node}
 use Rattle.qg_node.specs.Nodes.{own_keys, ascends_from, is_ascending}
 use Rattle.qg_image.specs.IsShaped.{same_key, is_first}
-use Rattle.qg_verdict.specs.Walk.{begins_at, ends_before}
+use Rattle.qg_image.specs.Walk.{begins_at, ends_before}
 use Rattle.qg_tree.specs.Row.{first_key}
 
 pub key_cmp_total : IsTotalOrder key_cmp

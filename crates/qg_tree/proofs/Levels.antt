@@ -12,11 +12,11 @@ use Rattle.qg_node.specs.declared.node.Node.TheVariants.{Leaf, Inner}
 use Rattle.qg_node.specs.Nodes.{own_items, own_keys, own_pointers, is_ascending}
 use Rattle.qg_image.specs.IsShaped.{is_shaped}
 use Rattle.qg_image.specs.Below.{items_below}
-use Rattle.qg_verdict.specs.declared.failure.Failure.{Failure}
-use Rattle.qg_verdict.specs.declared.expected.Expected.{Expected}
-use Rattle.qg_verdict.specs.Walk.{pointers_failure, walk_failure}
+use Rattle.qg_image.specs.declared.failure.Failure.{Failure}
+use Rattle.qg_image.specs.declared.expected.Expected.{Expected}
+use Rattle.qg_image.specs.Walk.{pointers_failure, walk_failure}
 use Rattle.qg_tree.specs.Build.{IsMadeFor}
-use Rattle.qg_verdict.specs.Among.{node_among, found_among}
+use Rattle.qg_image.specs.Among.{node_among, found_among}
 use Rattle.qg_tree.specs.Row.{pointer_to, address_of, IsRowNode, IsRow}
 use Rattle.qg_tree.proofs.Frame.{Judge, AreFound, Keeps-append, AllByRecursion-append, all_under_kept, all_walked_kept, joined-append}
 use Rattle.qg_tree.proofs.Passing.{Accepts, inners_pass_below, leaves_pass_below}

@@ -14,11 +14,11 @@ use Rattle.qg_node.specs.Nodes.{header_of, own_items, own_keys, own_pointers, us
 use Rattle.qg_super.specs.declared.superblock.Super.{Super}
 use Rattle.qg_super.specs.Places.{capacity}
 use Rattle.qg_image.specs.IsShaped.{is_shaped}
-use Rattle.qg_verdict.specs.declared.failure.Failure.{Failure}
-use Rattle.qg_verdict.specs.Failure.{first_failure, unless}
-use Rattle.qg_verdict.specs.declared.tree.Tree.{Tree}
-use Rattle.qg_verdict.specs.declared.expected.Expected.{Expected}
-use Rattle.qg_verdict.specs.Walk.{begins_at, ends_before, found_failure, is_generation, is_item_of, is_owner, is_told, next_key, node_failure, pointers_failure, root_expected, shape_failure, way_failure}
+use Rattle.qg_image.specs.declared.failure.Failure.{Failure}
+use Rattle.qg_image.specs.Failure.{first_failure, unless}
+use Rattle.qg_image.specs.declared.tree.Tree.{Tree}
+use Rattle.qg_image.specs.declared.expected.Expected.{Expected}
+use Rattle.qg_image.specs.Walk.{begins_at, ends_before, found_failure, is_generation, is_item_of, is_owner, is_told, next_key, node_failure, pointers_failure, root_expected, shape_failure, way_failure}
 use Rattle.qg_tree.specs.Build.{Allows}
 use Rattle.qg_tree.specs.Row.{first_key, pointer_to, address_of, IsRowNode, IsFull}
 use Rattle.qg_tree.proofs.Keys.{HasKeys, begins_itself, ends_there, first_itself, ascending_back, ascending_front}

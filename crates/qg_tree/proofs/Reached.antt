@@ -12,7 +12,7 @@ use Rattle.qg_node.specs.declared.node.Node.TheVariants.{Leaf, Inner}
 use Rattle.qg_node.specs.Nodes.{own_pointers}
 use Rattle.qg_image.specs.Below.{leaf_items, inner_pointers, joined, nodes_below}
 use Rattle.qg_tree.specs.Build.{Reaches}
-use Rattle.qg_verdict.specs.Among.{node_among}
+use Rattle.qg_image.specs.Among.{node_among}
 use Rattle.qg_tree.specs.Row.{pointer_to, address_of, IsRowNode}
 use Rattle.qg_tree.proofs.Frame.{AreFound, Keeps, Keeps-append, both, joined-append, joined_kept}
 

@@ -12,11 +12,11 @@ use Rattle.qg_node.specs.declared.node.Node.TheVariants.{Leaf, Inner}
 use Rattle.qg_node.specs.Nodes.{own_items, own_keys, own_pointers, ascends_from, is_ascending}
 use Rattle.qg_image.specs.IsShaped.{is_shaped}
 use Rattle.qg_image.specs.Below.{joined, items_below}
-use Rattle.qg_verdict.specs.declared.failure.Failure.{Failure}
-use Rattle.qg_verdict.specs.declared.expected.Expected.{Expected}
-use Rattle.qg_verdict.specs.Walk.{pointers_failure, root_expected, walk_failure}
+use Rattle.qg_image.specs.declared.failure.Failure.{Failure}
+use Rattle.qg_image.specs.declared.expected.Expected.{Expected}
+use Rattle.qg_image.specs.Walk.{pointers_failure, root_expected, walk_failure}
 use Rattle.qg_tree.specs.Build.{IsMadeFor}
-use Rattle.qg_verdict.specs.Among.{node_among, found_there, found_among}
+use Rattle.qg_image.specs.Among.{node_among, found_there, found_among}
 use Rattle.qg_tree.specs.Row.{first_key, pointer_to, address_of, IsRowNode, IsFull}
 use Rattle.qg_tree.proofs.Keys.{HasKeys, firsts_ascend, ascending_back, ascending_front}
 use Rattle.qg_tree.proofs.Frame.{Judge, AreFound, AllByRecursion-back, AllByRecursion-weaker, IsDistinct-front, all_found}

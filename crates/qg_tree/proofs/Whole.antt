@@ -15,14 +15,14 @@ use Rattle.qg_super.specs.declared.superblock.Super.{Super}
 use Rattle.qg_super.specs.Places.{capacity}
 use Rattle.qg_image.specs.Below.{items_below}
 use Rattle.qg_image.specs.ItemMeaning.{when}
-use Rattle.qg_state.specs.Need.{nodes_filled}
-use Rattle.qg_verdict.specs.declared.failure.Failure.{Failure}
-use Rattle.qg_verdict.specs.ItemsUnder.{is_way, items_under, nodes_of}
-use Rattle.qg_verdict.specs.declared.tree.Tree.{Tree}
-use Rattle.qg_verdict.specs.declared.expected.Expected.{Expected}
-use Rattle.qg_verdict.specs.Walk.{deepest, is_item_of, node_failure, root_expected, shape_failure, walk_failure, way_failure}
+use Rattle.qg_image.specs.Need.{nodes_filled}
+use Rattle.qg_image.specs.declared.failure.Failure.{Failure}
+use Rattle.qg_image.specs.ItemsUnder.{is_way, items_under, nodes_of}
+use Rattle.qg_image.specs.declared.tree.Tree.{Tree}
+use Rattle.qg_image.specs.declared.expected.Expected.{Expected}
+use Rattle.qg_image.specs.Walk.{deepest, is_item_of, node_failure, root_expected, shape_failure, walk_failure, way_failure}
 use Rattle.qg_tree.specs.Build.{IsBuilt, IsOneLeaf}
-use Rattle.qg_verdict.specs.Among.{node_among, found_among}
+use Rattle.qg_image.specs.Among.{node_among, found_among}
 use Rattle.qg_tree.specs.Row.{pointer_to, IsRow, PutsRow}
 use Rattle.qg_tree.proofs.Counts.{IsCounted, counted_leaves, counted_inners, fewer_above, most_on, room_above, wide}
 use Rattle.qg_tree.proofs.Frame.{Keeps-found, under_kept}

@@ -12,13 +12,13 @@ use Rattle.qg_node.specs.Fits.{NodeFits}
 use Rattle.qg_super.specs.declared.superblock.Super.{Super}
 use Rattle.qg_super.specs.Places.{capacity}
 use Rattle.qg_image.specs.Below.{items_below, nodes_below}
-use Rattle.qg_state.specs.Need.{nodes_filled}
-use Rattle.qg_verdict.specs.declared.failure.Failure.{Failure}
-use Rattle.qg_verdict.specs.declared.failure.Failure.TheVariants.{Broken}
-use Rattle.qg_verdict.specs.declared.tree.Tree.{Tree}
-use Rattle.qg_verdict.specs.Walk.{is_owner, is_generation, is_item_of, node_failure, shape_failure, walk_failure, deepest, root_expected}
-use Rattle.qg_verdict.specs.ItemsUnder.{items_under}
-use Rattle.qg_verdict.specs.Among.{node_among, found_among}
+use Rattle.qg_image.specs.Need.{nodes_filled}
+use Rattle.qg_image.specs.declared.failure.Failure.{Failure}
+use Rattle.qg_image.specs.declared.failure.Failure.TheVariants.{Broken}
+use Rattle.qg_image.specs.declared.tree.Tree.{Tree}
+use Rattle.qg_image.specs.Walk.{is_owner, is_generation, is_item_of, node_failure, shape_failure, walk_failure, deepest, root_expected}
+use Rattle.qg_image.specs.ItemsUnder.{items_under}
+use Rattle.qg_image.specs.Among.{node_among, found_among}
 
 -- the node is one of the format, whose numbers fit their fields, with this owner and generation
 pub record IsMadeFor (nodesize owner generation : ℕ) (node : Node) : Type 0 where

@@ -3,7 +3,7 @@ ghost use Rattle.std.specs.Prelude.{◌≡◌, ◌==◌, ◌<◌, ◌≤◌, ◌
 ghost use Rattle.std.specs.List.{All, IsDistinct};
 ghost use Rattle.qg_node.specs.Nodes.{is_ascending, items_bytes};
 ghost use Rattle.qg_node.specs.NodeText.{IsNodeSize};
-ghost use Rattle.qg_state.specs.Need.{nodes_filled};
+ghost use Rattle.qg_image.specs.Need.{nodes_filled};
 ghost use Rattle.qg_tree.specs.Build.{IsBuilt};
 
 use crate::row::{Level, put_row};

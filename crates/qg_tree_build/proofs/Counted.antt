@@ -12,7 +12,7 @@ use Rattle.qg_node.specs.declared.pointer.Pointer.{Pointer}
 use Rattle.qg_node.specs.declared.node.Node.{Node}
 use Rattle.qg_node.specs.declared.node.Node.TheVariants.{Leaf, Inner}
 use Rattle.qg_image.specs.Below.{inner_pointers, joined, leaf_items, nodes_below}
-use Rattle.qg_verdict.specs.Among.{node_among}
+use Rattle.qg_image.specs.Among.{node_among}
 use Rattle.qg_tree.specs.Build.{Reaches}
 use Rattle.qg_tree.specs.Row.{address_of}
 use Rattle.qg_tree.proofs.Frame.{Keeps, both}

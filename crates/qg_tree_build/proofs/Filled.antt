@@ -1,7 +1,7 @@
 -- How many nodes items fill.
 use Rattle.std.proofs.Common.{ℕ, ◌+◌, ◌*◌, ◌-◌, ◌≤◌, ◌<◌, ◌^◌, arith, inl, inr}
 use Rattle.qg_node.specs.NodeText.{IsNodeSize}
-use Rattle.qg_state.specs.Need.{nodes_filled}
+use Rattle.qg_image.specs.Need.{nodes_filled}
 
 -- items that fill few nodes are light
 pub filled-light : (nodesize bytes : ℕ) → IsNodeSize nodesize → 5 * nodes_filled nodesize bytes + 1 ≤ 16128

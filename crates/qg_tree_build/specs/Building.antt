@@ -5,11 +5,11 @@ use Rattle.qg_device.specs.History.{Event}
 use Rattle.qg_node.specs.declared.item.Item.{Item}
 use Rattle.qg_node.specs.declared.node.Node.{Node}
 use Rattle.qg_node.specs.Nodes.{is_ascending, items_bytes}
-use Rattle.qg_state.specs.Need.{nodes_filled}
+use Rattle.qg_image.specs.Need.{nodes_filled}
 use Rattle.qg_blocks.specs.Told.{fresh_at, told}
 use Rattle.qg_space.specs.Holding.{free_slots, is_free_slot}
-use Rattle.qg_verdict.specs.declared.tree.Tree.{Tree}
-use Rattle.qg_verdict.specs.Walk.{deepest, is_owner}
+use Rattle.qg_image.specs.declared.tree.Tree.{Tree}
+use Rattle.qg_image.specs.Walk.{deepest, is_owner}
 use Rattle.qg_ground.specs.declared.ground.Ground.{Ground}
 use Rattle.qg_ground.specs.Tellings.Telling.{Made}
 use Rattle.qg_descent.specs.Tree.{Reaches, Root}

@@ -8,3 +8,4 @@ pub mod OnDisk
 pub mod NewNodes
 pub mod Calls
 pub mod Laying
+pub mod Crashing

@@ -17,12 +17,12 @@ use Rattle.qg_items.specs.declared.root.RootItem.{RootItem}
 use Rattle.qg_super.specs.Places.{is_slot}
 use Rattle.qg_super.proofs.Served.{SizesFit-is_served}
 use Rattle.qg_image.specs.Table.{keys_of}
-use Rattle.qg_state.specs.State.{Committed, Placed, State}
-use Rattle.qg_state.proofs.Contained.{contains_here, contains_later}
+use Rattle.qg_image.specs.State.{Committed, Placed, State}
+use Rattle.qg_image.proofs.Contained.{contains_here, contains_later}
 use Rattle.qg_space.proofs.Members.{contains_filter, filter_contains, one_passes, passes_one}
 use Rattle.qg_machine.specs.Written.{is_held_by, new_nodes}
 use Rattle.qg_home.proofs.Reaching.{entry_of_value, value_of_entry}
-use Rattle.qg_state.specs.declared.quota.Quota.{Quota}
+use Rattle.qg_image.specs.declared.quota.Quota.{Quota}
 use Rattle.qg_refs.specs.declared.kept.Kept.{Kept}
 use Rattle.qg_refs.specs.Book.{full_in}
 use Rattle.qg_extents.specs.Table.{IsTable, book_of}

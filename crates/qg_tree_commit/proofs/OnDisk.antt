@@ -14,11 +14,11 @@ use Rattle.qg_items.specs.declared.root.RootItem.{RootItem}
 use Rattle.qg_super.specs.declared.sizes.Sizes.{Sizes}
 use Rattle.qg_super.specs.Places.{is_served, total_bytes}
 use Rattle.qg_super.specs.SuperText.{sizes_of}
-use Rattle.qg_state.specs.State.{Placed}
-use Rattle.qg_state.proofs.Contained.{contains_cases, none_contained}
-use Rattle.qg_verdict.specs.Walk.{node_found}
+use Rattle.qg_image.specs.State.{Placed}
+use Rattle.qg_image.proofs.Contained.{contains_cases, none_contained}
+use Rattle.qg_image.specs.Walk.{node_found}
 use Rattle.qg_home.proofs.Reaching.{value_of_entry}
-use Rattle.qg_state.specs.declared.quota.Quota.{Quota}
+use Rattle.qg_image.specs.declared.quota.Quota.{Quota}
 use Rattle.qg_refs.specs.declared.kept.Kept.{Kept}
 use Rattle.qg_blocks.specs.Standing.{standing}
 use Rattle.qg_blocks.specs.Told.{IsBacked, IsNodeAt, fresh_at, told}

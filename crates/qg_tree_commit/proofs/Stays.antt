@@ -15,8 +15,8 @@ use Rattle.qg_super.specs.SuperText.{sizes_of, super_text}
 use Rattle.qg_super.proofs.Served.{SizesFit-is_served}
 use Rattle.qg_super.proofs.Slots.{IsSlotAt-is_slot, slot_ends}
 use Rattle.qg_super.proofs.SuperTexts.{length-super_text}
-use Rattle.qg_state.proofs.Contained.{contains_here, contains_later}
-use Rattle.qg_verdict.specs.Walk.{node_found}
+use Rattle.qg_image.proofs.Contained.{contains_here, contains_later}
+use Rattle.qg_image.specs.Walk.{node_found}
 use Rattle.qg_tree.specs.Row.{address_of}
 use Rattle.qg_blocks.specs.Held.{slots_of}
 use Rattle.qg_blocks.specs.Standing.{has_slot, standing}

@@ -1,3 +1,4 @@
 pub mod Writing
 pub mod Holds
+pub mod Crashing
 pub mod Laws

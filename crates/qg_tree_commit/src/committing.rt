@@ -1,11 +1,13 @@
 // A commit.
-ghost use Rattle.std.specs.Prelude.{◌≡◌, ◌⊎◌, ◌≤◌, List, Some, All, IfOk, IfErr, IsTrue};
+ghost use Rattle.std.specs.Prelude.{◌≡◌, ◌⊎◌, ◌≤◌, ◌∷◌, List, Some, All, IfOk, IfErr, IsTrue};
 ghost use Rattle.std.specs.Option.{option_map};
 ghost use Rattle.qg_device.specs.Cause.{HasCause};
-ghost use Rattle.qg_device.specs.History.{Event};
+ghost use Rattle.qg_device.specs.History.{Event, Synced, content};
 ghost use Rattle.qg_super.specs.Places.{is_slot, total_bytes};
+ghost use Rattle.qg_image.specs.State.{State};
 ghost use Rattle.qg_commit.specs.Calls.{IsReadBack, with_commit};
 ghost use Rattle.qg_other_trees.specs.Trees.{CanBeLaid};
+ghost use Rattle.qg_tree_commit.specs.Crashing.{IsFound, LeavesTrees};
 ghost use Rattle.qg_tree_commit.specs.Writing.{AreWritable, IsLayingOf, StopsLaying, fresh_nodes, nodes_written};
 
 use crate::write::write_all;
@@ -46,6 +48,13 @@ pub fn commit<D: Disk>(
     ensures stopped { (events : List Event) → D.history disk.old ≡ Some events
         → IfErr result (λ fault.
         StopsLaying sizes next told.now slots.now blocks.now.draft events (D.history disk.new)) }
+
+    // Whatever a crash leaves since it began, over a disk that had made sure of an older state: that state, or the new
+    // superblock over all that the whole commit does; the latter alone once the first superblock was made sure of.
+    ensures crashes { (before after : List Event) (state : State) → D.history disk.old ≡ Some (Synced ∷ before)
+        → D.history disk.new ≡ Some after → IsFound state sizes next slots.now blocks.now.draft (content before)
+        → (after ≡ Synced ∷ before)
+        ⊎ LeavesTrees state sizes next told.now slots.now blocks.now.draft before after }
 
     // Over any disk.
     ensures no_less { D.size disk.old ≤ D.size disk.new }

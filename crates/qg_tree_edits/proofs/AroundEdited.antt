@@ -17,7 +17,7 @@ use Rattle.qg_super.specs.declared.superblock.Super.{Super}
 use Rattle.qg_image.specs.IsShaped.{same_key}
 use Rattle.qg_shape.proofs.Ascending.{all_behind, are_equal, ascending_round, ascending_tail_of, greater, less_trans}
 use Rattle.qg_shape.proofs.Sides.{back-all, front-all}
-use Rattle.qg_verdict.specs.declared.tree.Tree.{Tree}
+use Rattle.qg_image.specs.declared.tree.Tree.{Tree}
 use Rattle.qg_walk.specs.Standing.{expected_below, form_failure}
 use Rattle.qg_walk.proofs.KeyRanges.{list_all-both, list_all-weaker, same_key-true}
 use Rattle.qg_blocks.specs.Told.{told}

@@ -25,8 +25,8 @@ use Rattle.qg_super.specs.Places.{capacity, is_slot, slot_at, slots_begin}
 use Rattle.qg_super.proofs.Served.{SizesFit-is_served}
 use Rattle.qg_super.proofs.Slots.{IsSlotAt-is_slot}
 use Rattle.qg_image.specs.IsShaped.{is_shaped}
-use Rattle.qg_verdict.specs.declared.tree.Tree.{Tree}
-use Rattle.qg_verdict.specs.Walk.{root_expected}
+use Rattle.qg_image.specs.declared.tree.Tree.{Tree}
+use Rattle.qg_image.specs.Walk.{root_expected}
 use Rattle.qg_blocks.specs.Standing.{has_slot, standing}
 use Rattle.qg_blocks.specs.Told.{fresh_at, told, told_or}
 use Rattle.qg_blocks.proofs.Stands.{HasSlot-has_slot}

@@ -10,7 +10,7 @@ use Rattle.qg_node.specs.declared.node.Node.{Node}
 use Rattle.qg_node.specs.declared.node.Node.TheVariants.{Leaf, Inner}
 use Rattle.qg_node.specs.Nodes.{is_ascending}
 use Rattle.qg_super.specs.declared.superblock.Super.{Super}
-use Rattle.qg_verdict.specs.declared.tree.Tree.{Tree}
+use Rattle.qg_image.specs.declared.tree.Tree.{Tree}
 use Rattle.qg_shape.specs.Filled.{HasShortBodies}
 use Rattle.qg_blocks.specs.Told.{fresh_at, told}
 use Rattle.qg_ground.specs.declared.ground.Ground.{Ground}

@@ -21,7 +21,7 @@ use Rattle.qg_shape.specs.Filled.{IsFilled}
 use Rattle.qg_shape.specs.Pointing.{pointer_to}
 use Rattle.qg_shape.proofs.Ascending.{all_behind, ascending_round}
 use Rattle.qg_shape.proofs.Sides.{is_shaped-pointer_to}
-use Rattle.qg_verdict.specs.declared.tree.Tree.{Tree}
+use Rattle.qg_image.specs.declared.tree.Tree.{Tree}
 use Rattle.qg_blocks.specs.Told.{fresh_at, held_at, told}
 use Rattle.qg_blocks.proofs.Telling.{fresh-held}
 use Rattle.qg_ground.specs.declared.ground.Ground.{Ground}

@@ -11,9 +11,9 @@ use Rattle.qg_shape.specs.Filled.{IsFilled}
 use Rattle.qg_shape.specs.Outcomes.{IsSplit}
 use Rattle.qg_shape.specs.Parts.{with_items}
 use Rattle.qg_super.specs.declared.superblock.Super.{Super}
-use Rattle.qg_verdict.specs.declared.expected.Expected.{Expected}
-use Rattle.qg_verdict.specs.declared.tree.Tree.{Tree}
-use Rattle.qg_verdict.specs.Walk.{is_generation, is_owner}
+use Rattle.qg_image.specs.declared.expected.Expected.{Expected}
+use Rattle.qg_image.specs.declared.tree.Tree.{Tree}
+use Rattle.qg_image.specs.Walk.{is_generation, is_owner}
 use Rattle.qg_blocks.specs.Told.{fresh_at, told}
 use Rattle.qg_space.specs.Holding.{Holding, is_free_slot}
 use Rattle.qg_ground.specs.declared.ground.Ground.{Ground}

@@ -14,7 +14,7 @@ use Rattle.qg_node.specs.NodeText.{IsNodeSize}
 use Rattle.qg_super.specs.declared.superblock.Super.{Super}
 use Rattle.qg_super.specs.Places.{capacity}
 use Rattle.qg_image.specs.IsShaped.{is_first}
-use Rattle.qg_verdict.specs.declared.tree.Tree.{Tree}
+use Rattle.qg_image.specs.declared.tree.Tree.{Tree}
 use Rattle.qg_tree_edits.specs.First.{items_of, leaves, leaves_behind, leaves_joined, leaves_under, pointers_of}
 use Rattle.qg_descent.specs.Tree.{Reaches}
 use Rattle.qg_descent.specs.Branch.{AreBranches, IsBranch, IsPointed}

@@ -5,8 +5,8 @@ use Rattle.qg_device.specs.History.{Event, content}
 use Rattle.qg_num.specs.declared.fault.BlockFault.{BlockFault}
 use Rattle.qg_num.specs.declared.fault.BlockFault.TheVariants.{NoMemory, Disk, Image}
 use Rattle.qg_num.specs.declared.rule.Rule.{Rule}
-use Rattle.qg_verdict.specs.declared.expected.Expected.{Expected}
-use Rattle.qg_verdict.specs.declared.tree.Tree.{Tree}
+use Rattle.qg_image.specs.declared.expected.Expected.{Expected}
+use Rattle.qg_image.specs.declared.tree.Tree.{Tree}
 use Rattle.qg_blocks.specs.Told.{BreaksNone, found}
 use Rattle.qg_ground.specs.declared.ground.Ground.{Ground}
 use Rattle.qg_edit.specs.Answering.{AnswersBy}

@@ -12,7 +12,7 @@ use Rattle.qg_shape.specs.Filled.{HasShortBodies}
 use Rattle.qg_shape.proofs.Sides.{back-all, front-all}
 use Rattle.qg_edit.specs.Outcome.{IsInFront}
 use Rattle.qg_super.specs.declared.superblock.Super.{Super}
-use Rattle.qg_verdict.specs.declared.tree.Tree.{Tree}
+use Rattle.qg_image.specs.declared.tree.Tree.{Tree}
 use Rattle.qg_blocks.specs.Told.{fresh_at, told}
 use Rattle.qg_space.specs.Holding.{is_free_slot}
 use Rattle.qg_ground.specs.declared.ground.Ground.{Ground}

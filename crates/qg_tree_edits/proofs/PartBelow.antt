@@ -29,8 +29,8 @@ use Rattle.qg_super.specs.Places.{capacity}
 use Rattle.qg_image.specs.IsShaped.{is_first, is_shaped, same_key}
 use Rattle.qg_shape.specs.Places.{LeadsTo}
 use Rattle.qg_shape.proofs.Sides.{back-all, front-all}
-use Rattle.qg_verdict.specs.declared.expected.Expected.{Expected}
-use Rattle.qg_verdict.specs.declared.tree.Tree.{Tree}
+use Rattle.qg_image.specs.declared.expected.Expected.{Expected}
+use Rattle.qg_image.specs.declared.tree.Tree.{Tree}
 use Rattle.qg_walk.specs.Added.{is_from, is_to}
 use Rattle.qg_walk.specs.Standing.{expected_below, form_failure}
 use Rattle.qg_walk.proofs.KeyRanges.{less_upto, list_all-weaker}

@@ -8,7 +8,7 @@ use Rattle.qg_num.specs.declared.fault.BlockFault.TheVariants.{NoMemory, Disk, I
 use Rattle.qg_node.specs.declared.pointer.Pointer.{Pointer}
 use Rattle.qg_node.specs.declared.node.Node.{Node}
 use Rattle.qg_node.specs.Nodes.{header_of}
-use Rattle.qg_verdict.specs.declared.tree.Tree.{Tree}
+use Rattle.qg_image.specs.declared.tree.Tree.{Tree}
 use Rattle.qg_blocks.specs.Told.{BreaksNone, fresh_at}
 use Rattle.qg_space.specs.Holding.{free_slots}
 use Rattle.qg_ground.specs.declared.ground.Ground.{Ground}

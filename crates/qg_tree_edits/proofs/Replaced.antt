@@ -13,9 +13,9 @@ use Rattle.qg_node.specs.Nodes.{is_ascending}
 use Rattle.qg_super.specs.declared.sizes.Sizes.{Sizes}
 use Rattle.qg_blocks.specs.Told.{told}
 use Rattle.qg_space.specs.Holding.{is_free_slot}
-use Rattle.qg_verdict.specs.declared.expected.Expected.{Expected}
-use Rattle.qg_verdict.specs.declared.tree.Tree.{Tree}
-use Rattle.qg_verdict.specs.Walk.{root_expected}
+use Rattle.qg_image.specs.declared.expected.Expected.{Expected}
+use Rattle.qg_image.specs.declared.tree.Tree.{Tree}
+use Rattle.qg_image.specs.Walk.{root_expected}
 use Rattle.qg_ground.specs.declared.ground.Ground.{Ground}
 use Rattle.qg_ground.specs.Land.{IsDrafted, Rests}
 use Rattle.qg_ground.specs.Tellings.{Telling}

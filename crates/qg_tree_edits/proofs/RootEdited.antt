@@ -15,7 +15,7 @@ use Rattle.qg_super.specs.declared.superblock.Super.{Super}
 use Rattle.qg_super.specs.Places.{capacity}
 use Rattle.qg_image.specs.IsShaped.{is_shaped}
 use Rattle.qg_shape.specs.Pointing.{pointer_to}
-use Rattle.qg_verdict.specs.declared.tree.Tree.{Tree}
+use Rattle.qg_image.specs.declared.tree.Tree.{Tree}
 use Rattle.qg_descent.specs.Tree.{IsTree}
 use Rattle.qg_descent.specs.Branch.{AreBranches, IsBranch, IsMember}
 use Rattle.qg_tree_edits.specs.Editing.{HoldInstead, alone}

@@ -6,7 +6,7 @@ use Rattle.qg_num.specs.declared.key.Key.{Key}
 use Rattle.qg_node.specs.declared.item.Item.{Item}
 use Rattle.qg_node.specs.declared.pointer.Pointer.{Pointer}
 use Rattle.qg_node.specs.declared.node.Node.{Node}
-use Rattle.qg_verdict.specs.declared.tree.Tree.{Tree}
+use Rattle.qg_image.specs.declared.tree.Tree.{Tree}
 use Rattle.qg_blocks.specs.Told.{told}
 use Rattle.qg_space.specs.Holding.{Holding, is_free_slot}
 use Rattle.qg_ground.specs.declared.ground.Ground.{Ground}

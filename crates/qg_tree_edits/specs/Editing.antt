@@ -18,9 +18,9 @@ use Rattle.qg_image.specs.Below.{items_below}
 use Rattle.qg_blocks.specs.Lending.{with_fresh}
 use Rattle.qg_blocks.specs.Told.{IsBacked, IsNodeAt, fresh_at, told}
 use Rattle.qg_space.specs.Holding.{free_slots, is_free_slot}
-use Rattle.qg_verdict.specs.declared.expected.Expected.{Expected}
-use Rattle.qg_verdict.specs.declared.tree.Tree.{Tree}
-use Rattle.qg_verdict.specs.Walk.{is_owner, walk_failure}
+use Rattle.qg_image.specs.declared.expected.Expected.{Expected}
+use Rattle.qg_image.specs.declared.tree.Tree.{Tree}
+use Rattle.qg_image.specs.Walk.{is_owner, walk_failure}
 use Rattle.qg_walk.specs.Standing.{expected_below, form_failure}
 use Rattle.qg_ground.specs.declared.ground.Ground.{Ground}
 use Rattle.qg_ground.specs.Changes.{Makes}

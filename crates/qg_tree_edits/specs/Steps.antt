@@ -17,8 +17,8 @@ use Rattle.qg_super.specs.declared.superblock.Super.{Super}
 use Rattle.qg_shape.specs.Filled.{HasShortBodies, IsThin}
 use Rattle.qg_blocks.specs.Told.{BreaksNone, fresh_at, told}
 use Rattle.qg_space.specs.Holding.{free_slots}
-use Rattle.qg_verdict.specs.declared.expected.Expected.{Expected}
-use Rattle.qg_verdict.specs.declared.tree.Tree.{Tree}
+use Rattle.qg_image.specs.declared.expected.Expected.{Expected}
+use Rattle.qg_image.specs.declared.tree.Tree.{Tree}
 use Rattle.qg_ground.specs.declared.ground.Ground.{Ground}
 use Rattle.qg_ground.specs.Changes.{IsOwnedBy}
 use Rattle.qg_ground.specs.Land.{Rests}

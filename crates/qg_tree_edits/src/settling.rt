@@ -8,7 +8,7 @@ ghost use Rattle.qg_node.specs.declared.node.Header.{Header as HeaderValue};
 ghost use Rattle.qg_node.specs.Nodes.{own_pointers};
 ghost use Rattle.qg_node.specs.NodeText.{IsNode, IsNodeSize};
 ghost use Rattle.qg_super.specs.declared.superblock.Super.{Super as SuperValue};
-ghost use Rattle.qg_verdict.specs.declared.tree.Tree.{Tree as TreeValue};
+ghost use Rattle.qg_image.specs.declared.tree.Tree.{Tree as TreeValue};
 ghost use Rattle.qg_shape.specs.Filled.{IsThin};
 ghost use Rattle.qg_shape.specs.Parts.{IsInner};
 ghost use Rattle.qg_blocks.specs.Told.{fresh_at};

@@ -13,8 +13,8 @@ use Rattle.qg_node.specs.Nodes.{header_of, own_items, own_pointers}
 use Rattle.qg_items.specs.declared.extent.Reference.TheVariants.{KeyedBlock}
 use Rattle.qg_image.specs.Table.{with_number}
 use Rattle.qg_image.specs.ItemMeaning.{file_part}
-use Rattle.qg_state.specs.State.{Placed}
-use Rattle.qg_state.specs.Owed.{Owing, owed_by_node, owed_by_part, owed_to_child}
+use Rattle.qg_image.specs.State.{Placed}
+use Rattle.qg_image.specs.Owed.{Owing, owed_by_node, owed_by_part, owed_to_child}
 use Rattle.qg_cow.specs.declared.cases.Edits.{Edits}
 use Rattle.qg_cow.specs.declared.cases.Edits.TheVariants.{ShareOld, AddKeyed, TurnKeyed, TakeOver}
 use Rattle.qg_cow.specs.declared.cases.Leaving.{Leaving}

@@ -6,7 +6,7 @@ use Rattle.qg_node.specs.declared.node.Node.{Node}
 use Rattle.qg_node.specs.declared.node.Node.TheVariants.{Leaf, Inner}
 use Rattle.qg_node.specs.Nodes.{header_of, own_items, own_pointers}
 use Rattle.qg_image.specs.ItemMeaning.{file_part}
-use Rattle.qg_state.specs.Owed.{owed_by_node, owed_by_part, owed_to_child}
+use Rattle.qg_image.specs.Owed.{owed_by_node, owed_by_part, owed_to_child}
 use Rattle.qg_cow.specs.Children.{keyed_children}
 
 -- what a node would owe under its header with another owner

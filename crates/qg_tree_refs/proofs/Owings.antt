@@ -16,7 +16,7 @@ use Rattle.qg_items.specs.declared.extent.Reference.TheVariants.{KeyedBlock, Sha
 use Rattle.qg_image.specs.declared.part.FilePart.{FilePart}
 use Rattle.qg_image.specs.declared.part.FilePart.TheVariants.{Inode, PieceOf}
 use Rattle.qg_image.specs.ItemMeaning.{file_part}
-use Rattle.qg_state.specs.Owed.{Owing, owed_by_node, owed_by_part, owed_to_child}
+use Rattle.qg_image.specs.Owed.{Owing, owed_by_node, owed_by_part, owed_to_child}
 use Rattle.qg_cow.specs.Children.{keyed_children, shared_children}
 use Rattle.qg_refs.specs.Book.{Book, count_at}
 use Rattle.qg_tree_refs.specs.Exchange.{IsKnown, those_at, times}

@@ -10,8 +10,8 @@ use Rattle.qg_node.specs.Nodes.{header_of}
 use Rattle.qg_items.specs.declared.extent.Reference.{Reference}
 use Rattle.qg_items.specs.declared.extent.Reference.TheVariants.{KeyedBlock}
 use Rattle.qg_image.specs.Table.{with_number}
-use Rattle.qg_state.specs.State.{Placed}
-use Rattle.qg_state.specs.Owed.{Owing}
+use Rattle.qg_image.specs.State.{Placed}
+use Rattle.qg_image.specs.Owed.{Owing}
 use Rattle.qg_cow.specs.declared.cases.Edits.{Edits}
 use Rattle.qg_cow.specs.declared.cases.Edits.TheVariants.{ShareOld, AddKeyed, TurnKeyed, TakeOver}
 use Rattle.qg_cow.specs.Children.{keyed_children, shared_children, way_to}

@@ -9,8 +9,8 @@ use Rattle.std.proofs.lemmas.List.{get_or-map, length-map, take_more, map-append
 use Rattle.std.proofs.lemmas.List.Sums.{sum_by-cons, sum_by-append}
 use Rattle.std.proofs.lemmas.List.Elements.{filter_map-append}
 use Rattle.qg_items.specs.declared.extent.Reference.{Reference}
-use Rattle.qg_state.specs.Record.{same_reference}
-use Rattle.qg_state.specs.Owed.{Owing}
+use Rattle.qg_image.specs.Record.{same_reference}
+use Rattle.qg_image.specs.Owed.{Owing}
 use Rattle.qg_refs.proofs.RankOrder.{same_itself}
 use Rattle.qg_owed.specs.declared.owing.Owing.{Owing as Listed}
 use Rattle.qg_owed.specs.Told.{owing_told, owings_told}

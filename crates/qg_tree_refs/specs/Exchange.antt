@@ -4,8 +4,8 @@ use Rattle.std.specs.Prelude.{◌==◌, if◌then◌else◌}
 use Rattle.std.specs.List.{All, count_by, filter_map}
 use Rattle.qg_items.specs.declared.extent.Reference.{Reference}
 use Rattle.std.specs.Option.{option_or}
-use Rattle.qg_state.specs.Record.{same_reference}
-use Rattle.qg_state.specs.Owed.{Owing}
+use Rattle.qg_image.specs.Record.{same_reference}
+use Rattle.qg_image.specs.Owed.{Owing}
 use Rattle.qg_cow.specs.Children.{way_to}
 use Rattle.qg_refs.specs.declared.kept.What.{What}
 use Rattle.qg_refs.specs.declared.kept.Kept.{Kept}

@@ -2,7 +2,7 @@
 use Rattle.std.specs.Prelude.{◌≡◌, ⊤, ℕ, ◌-◌, Bool, false, ◌&&◌, not, List, [], ◌∷◌, length, Option, Some, None, ◌==◌, nat_lt, if◌then◌else◌, unwrap_or}
 use Rattle.qg_node.specs.declared.node.Node.{Node}
 use Rattle.qg_node.specs.Nodes.{header_of}
-use Rattle.qg_state.specs.State.{Placed}
+use Rattle.qg_image.specs.State.{Placed}
 use Rattle.qg_cow.specs.declared.cases.Edits.{Edits}
 use Rattle.qg_cow.specs.declared.cases.Edits.TheVariants.{ShareOld, AddKeyed, TurnKeyed, TakeOver}
 use Rattle.qg_cow.specs.declared.cases.Leaving.{Leaving}

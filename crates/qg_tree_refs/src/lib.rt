@@ -13,6 +13,3 @@ mod tree_refs;
 
 pub use book::let_go;
 pub use tree_refs::TreeRefs;
-
-#[cfg(test)]
-mod tests;

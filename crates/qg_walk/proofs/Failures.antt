@@ -14,11 +14,11 @@ use Rattle.qg_node.specs.declared.node.Node.{Node}
 use Rattle.qg_node.specs.declared.node.Node.TheVariants.{Leaf, Inner}
 use Rattle.qg_node.specs.Nodes.{header_of, own_items, own_keys, own_pointers}
 use Rattle.qg_super.specs.declared.superblock.Super.{Super}
-use Rattle.qg_verdict.specs.declared.failure.Failure.{Failure}
-use Rattle.qg_verdict.specs.declared.tree.Tree.{Tree}
-use Rattle.qg_verdict.specs.declared.expected.Expected.{Expected}
-use Rattle.qg_verdict.specs.Failure.{first_failure, unless}
-use Rattle.qg_verdict.specs.Walk.{begins_at, deepest, ends_before, found_failure, is_generation, is_item_of, is_owner, is_told, node_failure, pointers_failure, shape_failure, walk_failure, way_failure}
+use Rattle.qg_image.specs.declared.failure.Failure.{Failure}
+use Rattle.qg_image.specs.declared.tree.Tree.{Tree}
+use Rattle.qg_image.specs.declared.expected.Expected.{Expected}
+use Rattle.qg_image.specs.Failure.{first_failure, unless}
+use Rattle.qg_image.specs.Walk.{begins_at, deepest, ends_before, found_failure, is_generation, is_item_of, is_owner, is_told, node_failure, pointers_failure, shape_failure, walk_failure, way_failure}
 use Rattle.qg_walk.specs.declared.fault.OpenFault.{OpenFault}
 use Rattle.qg_walk.specs.declared.fault.OpenFault.TheVariants.{Disk}
 use Rattle.qg_walk.specs.Fault.{FailsAs, TellsFailure, failure_of}

@@ -9,8 +9,8 @@ use Rattle.qg_node.specs.Reading.{node_read}
 use Rattle.qg_super.specs.declared.superblock.Super.{Super}
 use Rattle.qg_super.specs.Places.{is_slot}
 use Rattle.qg_super.specs.SuperText.{sizes_of}
-use Rattle.qg_verdict.specs.declared.failure.Failure.TheVariants.{Broken}
-use Rattle.qg_verdict.specs.Walk.{node_found, read_there}
+use Rattle.qg_image.specs.declared.failure.Failure.TheVariants.{Broken}
+use Rattle.qg_image.specs.Walk.{node_found, read_there}
 
 pub node_found-no_slot : (super : Super) (image : List ℕ) (address : ℕ) → is_slot (sizes_of super) address ≡ false
     → node_found super image address ≡ Err (Broken rule.Slot address)

@@ -20,12 +20,12 @@ use Rattle.qg_super.specs.declared.superblock.Super.{Super}
 use Rattle.qg_super.specs.Places.{is_slot}
 use Rattle.qg_super.specs.SuperText.{sizes_of}
 use Rattle.qg_image.specs.Below.{items_below, joined, nodes_below}
-use Rattle.qg_verdict.specs.declared.tree.Tree.{Tree}
-use Rattle.qg_verdict.specs.declared.expected.Expected.{Expected}
-use Rattle.qg_verdict.specs.Failure.{unless}
-use Rattle.qg_verdict.specs.Walk.{is_item_of, next_key, node_found}
-use Rattle.qg_verdict.specs.ItemsUnder.{nodes_of}
-use Rattle.qg_verdict.specs.ImageState.{level_in}
+use Rattle.qg_image.specs.declared.tree.Tree.{Tree}
+use Rattle.qg_image.specs.declared.expected.Expected.{Expected}
+use Rattle.qg_image.specs.Failure.{unless}
+use Rattle.qg_image.specs.Walk.{is_item_of, next_key, node_found}
+use Rattle.qg_image.specs.ItemsUnder.{nodes_of}
+use Rattle.qg_image.specs.ImageState.{level_in}
 use Rattle.qg_walk.specs.declared.fault.OpenFault.{OpenFault}
 use Rattle.qg_walk.specs.Fault.{FailsAs}
 use Rattle.qg_walk.specs.Standing.{IsJudged}

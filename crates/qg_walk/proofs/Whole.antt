@@ -11,13 +11,13 @@ use Rattle.qg_node.specs.declared.node.Node.{Node}
 use Rattle.qg_node.specs.Nodes.{header_of, own_items, own_pointers}
 use Rattle.qg_super.specs.declared.superblock.Super.{Super}
 use Rattle.qg_super.specs.SuperText.{sizes_of}
-use Rattle.qg_verdict.specs.declared.failure.Failure.{Failure}
-use Rattle.qg_verdict.specs.declared.tree.Tree.{Tree}
-use Rattle.qg_verdict.specs.declared.expected.Expected.{Expected}
-use Rattle.qg_verdict.specs.Failure.{unless}
-use Rattle.qg_verdict.specs.Walk.{deepest, found_failure, is_item_of, node_failure, node_found, pointers_failure, shape_failure, tree_failure, walk_failure, way_failure}
-use Rattle.qg_verdict.specs.ItemsUnder.{is_way, items_under, nodes_under}
-use Rattle.qg_verdict.specs.ImageState.{level_in, tree_items, tree_nodes}
+use Rattle.qg_image.specs.declared.failure.Failure.{Failure}
+use Rattle.qg_image.specs.declared.tree.Tree.{Tree}
+use Rattle.qg_image.specs.declared.expected.Expected.{Expected}
+use Rattle.qg_image.specs.Failure.{unless}
+use Rattle.qg_image.specs.Walk.{deepest, found_failure, is_item_of, node_failure, node_found, pointers_failure, shape_failure, tree_failure, walk_failure, way_failure}
+use Rattle.qg_image.specs.ItemsUnder.{is_way, items_under, nodes_under}
+use Rattle.qg_image.specs.ImageState.{level_in, tree_items, tree_nodes}
 use Rattle.qg_walk.specs.IsWalk.{IsWalk}
 use Rattle.qg_walk.specs.Added.{below_node, Found, HasAdded}
 use Rattle.qg_walk.specs.Held.{AreHeld, AreInSlots}

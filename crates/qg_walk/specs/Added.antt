@@ -14,10 +14,10 @@ use Rattle.qg_super.specs.declared.superblock.Super.{Super}
 use Rattle.qg_super.specs.Places.{is_slot}
 use Rattle.qg_super.specs.SuperText.{sizes_of}
 use Rattle.qg_image.specs.Below.{items_below, joined, nodes_below}
-use Rattle.qg_verdict.specs.declared.tree.Tree.{Tree}
-use Rattle.qg_verdict.specs.Walk.{ends_before, is_item_of, next_key, node_found}
-use Rattle.qg_verdict.specs.ItemsUnder.{nodes_of}
-use Rattle.qg_verdict.specs.ImageState.{level_in}
+use Rattle.qg_image.specs.declared.tree.Tree.{Tree}
+use Rattle.qg_image.specs.Walk.{ends_before, is_item_of, next_key, node_found}
+use Rattle.qg_image.specs.ItemsUnder.{nodes_of}
+use Rattle.qg_image.specs.ImageState.{level_in}
 use Rattle.qg_walk.specs.declared.walked.Walked.{Walked}
 
 -- ---- ranges of keys

@@ -2,8 +2,8 @@
 use Rattle.std.specs.Prelude.{◌≡◌, Option, Some, None, IfSome, Result, Ok, Err}
 use Rattle.qg_disk.specs.declared.fault.DiskFault.{DiskFault}
 use Rattle.qg_disk.specs.declared.fault.DiskFault.TheVariants as disk
-use Rattle.qg_verdict.specs.declared.failure.Failure.{Failure}
-use Rattle.qg_verdict.specs.declared.failure.Failure.TheVariants as failure
+use Rattle.qg_image.specs.declared.failure.Failure.{Failure}
+use Rattle.qg_image.specs.declared.failure.Failure.TheVariants as failure
 use Rattle.qg_walk.specs.declared.fault.OpenFault.{OpenFault}
 use Rattle.qg_walk.specs.declared.fault.OpenFault.TheVariants.{Broken, Differs, Disk, NoMemory}
 

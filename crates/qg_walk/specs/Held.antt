@@ -6,8 +6,8 @@ use Rattle.qg_node.specs.declared.node.Node.{Node}
 use Rattle.qg_node.specs.Nodes.{header_of}
 use Rattle.qg_super.specs.declared.sizes.Sizes.{Sizes}
 use Rattle.qg_super.specs.Places.{is_slot}
-use Rattle.qg_verdict.specs.declared.tree.Tree.{Tree}
-use Rattle.qg_verdict.specs.Walk.{is_item_of}
+use Rattle.qg_image.specs.declared.tree.Tree.{Tree}
+use Rattle.qg_image.specs.Walk.{is_item_of}
 
 -- each of some items, which the tree may hold in an image of this generation, says one of the parts, in their order
 pub record AreHeld {P : Type 0} (tree : Tree) (meaning : Item → Option P) (generation : ℕ) (parts : List P) : Type 0 where

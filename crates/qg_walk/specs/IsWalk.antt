@@ -5,11 +5,11 @@ use Rattle.qg_bytes.specs.Fields.{IsBytes}
 use Rattle.qg_node.specs.declared.item.Item.{Item}
 use Rattle.qg_node.specs.declared.node.Node.{Node}
 use Rattle.qg_super.specs.declared.superblock.Super.{Super}
-use Rattle.qg_verdict.specs.declared.tree.Tree.{Tree}
-use Rattle.qg_verdict.specs.declared.expected.Expected.{Expected}
-use Rattle.qg_verdict.specs.Walk.{is_item_of, node_found, tree_failure}
-use Rattle.qg_verdict.specs.ItemsUnder.{items_under, nodes_under}
-use Rattle.qg_verdict.specs.ImageState.{level_in, tree_items, tree_nodes}
+use Rattle.qg_image.specs.declared.tree.Tree.{Tree}
+use Rattle.qg_image.specs.declared.expected.Expected.{Expected}
+use Rattle.qg_image.specs.Walk.{is_item_of, node_found, tree_failure}
+use Rattle.qg_image.specs.ItemsUnder.{items_under, nodes_under}
+use Rattle.qg_image.specs.ImageState.{level_in, tree_items, tree_nodes}
 
 -- In an image the walk of a tree meets no failure. What was found is what the tree's items say, from left to right, and what is kept of its
 -- nodes, each before those below it

@@ -8,11 +8,11 @@ use Rattle.qg_node.specs.NodeText.{IsNode}
 use Rattle.qg_super.specs.declared.superblock.Super.{Super}
 use Rattle.qg_super.specs.Places.{is_slot}
 use Rattle.qg_super.specs.SuperText.{sizes_of}
-use Rattle.qg_verdict.specs.declared.failure.Failure.{Failure}
-use Rattle.qg_verdict.specs.declared.tree.Tree.{Tree}
-use Rattle.qg_verdict.specs.declared.expected.Expected.{Expected}
-use Rattle.qg_verdict.specs.Failure.{first_failure}
-use Rattle.qg_verdict.specs.Walk.{next_key, way_failure, shape_failure, deepest}
+use Rattle.qg_image.specs.declared.failure.Failure.{Failure}
+use Rattle.qg_image.specs.declared.tree.Tree.{Tree}
+use Rattle.qg_image.specs.declared.expected.Expected.{Expected}
+use Rattle.qg_image.specs.Failure.{first_failure}
+use Rattle.qg_image.specs.Walk.{next_key, way_failure, shape_failure, deepest}
 
 -- what is expected of the node of a level that a pointer leads to: the pointer's generation and key, and the next key on the way, that of
 -- the pointer behind it, if there is one

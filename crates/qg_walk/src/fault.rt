@@ -4,8 +4,8 @@ ghost use Rattle.qg_walk.specs.Fault.{failure_of, fault_of_disk};
 ghost use Rattle.qg_walk.specs.declared.fault.OpenFault.TheVariants as opening;
 
 use qg_disk::DiskFault;
+use qg_image::Failure;
 use qg_num::{Address, GroupId, NoMemory, Rule, Which};
-use qg_verdict::Failure;
 use std::alloc::{AllocError, AllocFailed};
 use thiserror::Error;
 

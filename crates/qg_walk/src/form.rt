@@ -3,15 +3,15 @@ ghost use Rattle.std.specs.Prelude.{◌≡◌, ◌≤◌, ◌*◌, ◌&&◌, ℕ
 ghost use Rattle.qg_node.specs.Nodes.{is_ascending, own_keys, used_bytes};
 ghost use Rattle.qg_super.specs.Places.{capacity};
 ghost use Rattle.qg_image.specs.IsShaped.{is_first, is_shaped};
-ghost use Rattle.qg_verdict.specs.Walk.{begins_at, ends_before, is_told, is_generation, next_key};
+ghost use Rattle.qg_image.specs.Walk.{begins_at, ends_before, is_told, is_generation, next_key};
 ghost use Rattle.qg_walk.specs.Standing.{expected_below, form_failure};
 
 use crate::keys;
+use qg_image::{Expected, Failure};
 use qg_node::{HEADER_BYTES, Node, Pointer};
 use qg_num::{Address, Generation, Key, Rule};
 use qg_parts::TreePart;
 use qg_super::Super;
-use qg_verdict::{Expected, Failure};
 
 /// What is expected of the node of a level that a pointer leads to. `others` are the pointers behind it, `to` the next key on the way
 /// to its own node.
@@ -39,7 +39,7 @@ fn next_key(to: Option<Key>, pointers: &[Pointer]) -> Option<Key>
 /// The first of the rules from `depth` to `shape` that a node breaks, which lies at an address in bytes.
 ///
 /// Of the superblock they ask the generation, which no node's is past, and the bytes of a node.
-#[tactic(auto, unfolding(qg_verdict::specs::Walk::way_failure))]
+#[tactic(auto, unfolding(qg_image::specs::Walk::way_failure))]
 pub fn form_failure<P: TreePart>(
     superblock: &Super,
     expected: &Expected,

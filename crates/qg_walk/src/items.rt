@@ -3,8 +3,8 @@ ghost use Rattle.std.specs.Prelude.{◌≡◌, ◌++◌, All, OnOk, IsErrOf};
 ghost use Rattle.std.specs.List.{list_all};
 ghost use Rattle.qg_bytes.specs.Fields.{IsBytes};
 ghost use Rattle.qg_num.specs.declared.rule.Rule.TheVariants as rule;
-ghost use Rattle.qg_verdict.specs.Failure.{unless};
-ghost use Rattle.qg_verdict.specs.Walk.{is_item_of};
+ghost use Rattle.qg_image.specs.Failure.{unless};
+ghost use Rattle.qg_image.specs.Walk.{is_item_of};
 ghost use Rattle.qg_walk.specs.Fault.{FailsAs};
 ghost use Rattle.qg_walk.specs.Added.{AddsSaid};
 

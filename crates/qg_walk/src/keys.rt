@@ -2,7 +2,7 @@
 ghost use Rattle.std.specs.Prelude.{◌≡◌, ◌&&◌, map, IsTrue};
 ghost use Rattle.qg_node.specs.Nodes.{is_ascending};
 ghost use Rattle.qg_image.specs.IsShaped.{is_first};
-ghost use Rattle.qg_verdict.specs.Walk.{begins_at, ends_before};
+ghost use Rattle.qg_image.specs.Walk.{begins_at, ends_before};
 
 use qg_node::Keyed;
 use qg_num::Key;

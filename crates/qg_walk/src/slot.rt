@@ -4,8 +4,8 @@ ghost use Rattle.qg_device.specs.Cause.{HasCause};
 ghost use Rattle.qg_device.specs.History.{Event, content};
 ghost use Rattle.qg_super.specs.Places.{is_served, total_bytes};
 ghost use Rattle.qg_super.specs.SuperText.{sizes_of};
-ghost use Rattle.qg_verdict.specs.Walk.{node_found};
-ghost use Rattle.qg_verdict.specs.Failure.{rule_of};
+ghost use Rattle.qg_image.specs.Walk.{node_found};
+ghost use Rattle.qg_image.specs.Failure.{rule_of};
 ghost use Rattle.qg_walk.specs.Fault.{FindsAs};
 ghost use Rattle.qg_walk.specs.Standing.{StandsAt};
 

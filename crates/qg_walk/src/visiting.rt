@@ -5,7 +5,7 @@ ghost use Rattle.qg_device.specs.History.{Event, content};
 ghost use Rattle.qg_node.specs.declared.node.Node.{Node as NodeValue};
 ghost use Rattle.qg_super.specs.Places.{is_served, total_bytes};
 ghost use Rattle.qg_super.specs.SuperText.{sizes_of};
-ghost use Rattle.qg_verdict.specs.Walk.{node_found};
+ghost use Rattle.qg_image.specs.Walk.{node_found};
 ghost use Rattle.qg_walk.specs.Fault.{FailsAs};
 ghost use Rattle.qg_walk.specs.Standing.{IsJudged, standing_failure};
 
@@ -13,11 +13,11 @@ use crate::form::form_failure;
 use crate::slot::node_at;
 use crate::{NodeList, OpenFault};
 use qg_disk::Disk;
+use qg_image::Expected;
 use qg_node::Node;
 use qg_num::Address;
 use qg_parts::TreePart;
 use qg_super::Super;
-use qg_verdict::Expected;
 use std::alloc::Global;
 
 /// Reads the node at an address, judges it by all rules but those on its items, and keeps what is wanted of it.

@@ -4,7 +4,7 @@ ghost use Rattle.qg_device.specs.Cause.{HasCause};
 ghost use Rattle.qg_device.specs.History.{Event, content};
 ghost use Rattle.qg_super.specs.Places.{is_served, total_bytes};
 ghost use Rattle.qg_super.specs.SuperText.{sizes_of};
-ghost use Rattle.qg_verdict.specs.Walk.{node_failure, node_found, pointers_failure, tree_failure, walk_failure};
+ghost use Rattle.qg_image.specs.Walk.{node_failure, node_found, pointers_failure, tree_failure, walk_failure};
 ghost use Rattle.qg_parts.specs.Said.{AreSaid};
 ghost use Rattle.qg_walk.specs.Fault.{FailsAs, TellsFailure};
 ghost use Rattle.qg_walk.specs.Held.{AreHeld, AreInSlots};
@@ -17,11 +17,11 @@ use crate::items::add_said;
 use crate::visiting::visit;
 use crate::{NodeList, OpenFault, Walked};
 use qg_disk::Disk;
+use qg_image::Expected;
 use qg_node::{Node, Pointer};
 use qg_num::Address;
 use qg_parts::{PartList, TreePart};
 use qg_super::Super;
-use qg_verdict::Expected;
 use std::alloc::Global;
 
 /// Reads the tree under a root: each node once, judged by all rules in their order before those below it (this project's own).

@@ -7,8 +7,8 @@ use Rattle.std.proofs.lemmas.Bool.{and_from, and_parts, cases_Bool, cond-false, 
 use Rattle.std.proofs.lemmas.Bool.{false_from_ne_true, or_left, true≢false}
 use Rattle.std.proofs.lemmas.List.Folds.{list_any-append}
 use Rattle.std.proofs.lemmas.List.Sums.{sum_by-cons}
-use Rattle.qg_state.specs.Record.{Record, RootOf, ExtentOf, NodeOf, ReferenceTo, Status, InfoOf, LimitOf, RelationOf}
-use Rattle.qg_state.specs.Record.{distinct_records, record_bytes, records_bytes, same_record, same_reference}
+use Rattle.qg_image.specs.Record.{Record, RootOf, ExtentOf, NodeOf, ReferenceTo, Status, InfoOf, LimitOf, RelationOf}
+use Rattle.qg_image.specs.Record.{distinct_records, record_bytes, records_bytes, same_record, same_reference}
 use Rattle.qg_weighed.specs.Laws.{is_among}
 use Rattle.qg_refs.proofs.RankOrder.{same_itself, same_reference_is}
 

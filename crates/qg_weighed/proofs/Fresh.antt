@@ -13,13 +13,13 @@ use Rattle.qg_items.specs.declared.extent.Reference.{Reference}
 use Rattle.qg_super.specs.declared.sizes.Sizes.{Sizes}
 use Rattle.qg_image.specs.ItemMeaning.{file_part}
 use Rattle.qg_image.specs.Table.{value_at}
-use Rattle.qg_state.specs.declared.element.Element.{Element}
-use Rattle.qg_state.specs.Owed.{is_nothing, layout_extents, owed, owed_by_node, owed_count, what_at}
-use Rattle.qg_state.specs.Reach.{pieces_of}
-use Rattle.qg_state.specs.Record.{ExtentOf, NodeOf}
-use Rattle.qg_state.specs.State.{Layout, Placed, layout_of}
-use Rattle.qg_state.proofs.Contained.{none_contained}
-use Rattle.qg_verdict.specs.IsFresh.{fresh_leaf, fresh_state}
+use Rattle.qg_image.specs.declared.element.Element.{Element}
+use Rattle.qg_image.specs.Owed.{is_nothing, layout_extents, owed, owed_by_node, owed_count, what_at}
+use Rattle.qg_image.specs.Reach.{pieces_of}
+use Rattle.qg_image.specs.Record.{ExtentOf, NodeOf}
+use Rattle.qg_image.specs.State.{Layout, Placed, layout_of}
+use Rattle.qg_image.proofs.Contained.{none_contained}
+use Rattle.qg_image.specs.IsFresh.{fresh_leaf, fresh_state}
 use Rattle.qg_refs.specs.declared.kept.What.{What}
 use Rattle.qg_refs.specs.declared.kept.Kept.{Kept}
 use Rattle.qg_refs.specs.Book.{what_in}

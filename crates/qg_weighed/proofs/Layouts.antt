@@ -12,13 +12,13 @@ use Rattle.std.proofs.lemmas.Option.{none-some, same_Some}
 use Rattle.qg_node.specs.Nodes.{header_of}
 use Rattle.qg_items.specs.declared.extent.Reference.{Reference}
 use Rattle.qg_image.specs.Table.{value_at}
-use Rattle.qg_state.specs.declared.element.Element.{Element}
-use Rattle.qg_state.specs.Need.{extent_records}
-use Rattle.qg_state.specs.Owed.{Owing, is_nothing, layout_extents, owed, owed_count, what_at}
-use Rattle.qg_state.specs.Record.{Record, RootOf, ExtentOf, NodeOf, ReferenceTo, Status, InfoOf, LimitOf, RelationOf}
-use Rattle.qg_state.specs.Record.{same_record, same_reference}
-use Rattle.qg_state.specs.State.{Layout, Placed}
-use Rattle.qg_state.proofs.Contained.{contains_cases, contains_here, contains_later, none_contained}
+use Rattle.qg_image.specs.declared.element.Element.{Element}
+use Rattle.qg_image.specs.Need.{extent_records}
+use Rattle.qg_image.specs.Owed.{Owing, is_nothing, layout_extents, owed, owed_count, what_at}
+use Rattle.qg_image.specs.Record.{Record, RootOf, ExtentOf, NodeOf, ReferenceTo, Status, InfoOf, LimitOf, RelationOf}
+use Rattle.qg_image.specs.Record.{same_record, same_reference}
+use Rattle.qg_image.specs.State.{Layout, Placed}
+use Rattle.qg_image.proofs.Contained.{contains_cases, contains_here, contains_later, none_contained}
 use Rattle.qg_home.proofs.Reaching.{entry_of_value, value_of_entry}
 use Rattle.qg_refs.specs.declared.counted.Counted.{Counted}
 use Rattle.qg_refs.specs.declared.kept.What.{What}

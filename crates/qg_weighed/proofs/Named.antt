@@ -12,9 +12,9 @@ use Rattle.qg_image.specs.declared.part.ExtentPart.{ExtentPart}
 use Rattle.qg_image.specs.declared.part.QuotaPart.{QuotaPart}
 use Rattle.qg_image.specs.declared.part.QuotaPart.TheVariants as part
 use Rattle.qg_image.specs.ItemMeaning.{extent_part, first_some, is_keyed, quota_part, root_part, when}
-use Rattle.qg_state.specs.Need.{held_records}
-use Rattle.qg_state.specs.Record.{Record, RootOf, extent_record, quota_record, record_named, same_record}
-use Rattle.qg_state.specs.State.{State}
+use Rattle.qg_image.specs.Need.{held_records}
+use Rattle.qg_image.specs.Record.{Record, RootOf, extent_record, quota_record, record_named, same_record}
+use Rattle.qg_image.specs.State.{State}
 use Rattle.qg_refs.specs.declared.kept.Kept.{Kept}
 use Rattle.qg_extents.specs.Table.{IsTable}
 use Rattle.qg_extents.specs.Written.{parts_of_book}

@@ -9,13 +9,13 @@ use Rattle.qg_items.specs.declared.tree.TheConstants.{EXTENT_TREE, QUOTA_TREE}
 use Rattle.qg_image.specs.Table.{keys_of}
 use Rattle.qg_image.specs.declared.part.ExtentPart.{ExtentPart}
 use Rattle.qg_image.specs.declared.part.ExtentPart.TheVariants.{DataRecord, NodeRecord, Referenced}
-use Rattle.qg_state.specs.declared.element.Element.{Element}
-use Rattle.qg_state.specs.declared.quota.Quota.{Quota}
-use Rattle.qg_state.specs.Need.{extent_records, quota_records, root_records}
-use Rattle.qg_state.specs.Owed.{Owing, layout_extents, owed}
-use Rattle.qg_state.specs.Record.{Record, RootOf, ExtentOf, NodeOf, ReferenceTo, Status, InfoOf, LimitOf, RelationOf}
-use Rattle.qg_state.specs.Record.{extent_record, same_record}
-use Rattle.qg_state.specs.State.{Layout, Placed, State}
+use Rattle.qg_image.specs.declared.element.Element.{Element}
+use Rattle.qg_image.specs.declared.quota.Quota.{Quota}
+use Rattle.qg_image.specs.Need.{extent_records, quota_records, root_records}
+use Rattle.qg_image.specs.Owed.{Owing, layout_extents, owed}
+use Rattle.qg_image.specs.Record.{Record, RootOf, ExtentOf, NodeOf, ReferenceTo, Status, InfoOf, LimitOf, RelationOf}
+use Rattle.qg_image.specs.Record.{extent_record, same_record}
+use Rattle.qg_image.specs.State.{Layout, Placed, State}
 use Rattle.qg_refs.specs.declared.kept.Kept.{Kept}
 use Rattle.qg_extents.specs.Written.{parts_of_book}
 use Rattle.qg_weighed.specs.Laws.{is_among, is_of_extents}

@@ -9,13 +9,13 @@ use Rattle.qg_items.specs.declared.extent.Reference.{Reference}
 use Rattle.qg_super.specs.declared.sizes.Sizes.{Sizes}
 use Rattle.qg_image.specs.ItemMeaning.{extent_part}
 use Rattle.qg_image.specs.Table.{keys_of, value_at}
-use Rattle.qg_state.specs.declared.element.Element.{Element}
-use Rattle.qg_state.specs.Need.{extent_records, held_records, quota_records, root_records, weight}
-use Rattle.qg_state.specs.Owed.{is_nothing, layout_extents, owed_count, what_at}
-use Rattle.qg_state.specs.Record.{Record, RootOf, ExtentOf, NodeOf, ReferenceTo, Status, InfoOf, LimitOf, RelationOf}
-use Rattle.qg_state.specs.Record.{records_bytes, same_record}
-use Rattle.qg_state.specs.State.{Layout, Placed, State, layout_of}
-use Rattle.qg_verdict.specs.IsFresh.{fresh_state}
+use Rattle.qg_image.specs.declared.element.Element.{Element}
+use Rattle.qg_image.specs.Need.{extent_records, held_records, quota_records, root_records, weight}
+use Rattle.qg_image.specs.Owed.{is_nothing, layout_extents, owed_count, what_at}
+use Rattle.qg_image.specs.Record.{Record, RootOf, ExtentOf, NodeOf, ReferenceTo, Status, InfoOf, LimitOf, RelationOf}
+use Rattle.qg_image.specs.Record.{records_bytes, same_record}
+use Rattle.qg_image.specs.State.{Layout, Placed, State, layout_of}
+use Rattle.qg_image.specs.IsFresh.{fresh_state}
 use Rattle.qg_refs.specs.declared.kept.Kept.{Kept}
 use Rattle.qg_refs.specs.Book.{AgreesWithOwed, Book, what_in}
 use Rattle.qg_extents.specs.Fresh.{fresh_table}

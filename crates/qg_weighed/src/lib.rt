@@ -8,6 +8,3 @@ mod whole;
 
 pub use laws::weight_law;
 pub use weighed::Weighed;
-
-#[cfg(test)]
-mod tests;

@@ -37,7 +37,7 @@ impl Weighed {
     pub fn new(refs: Extents) -> Result<Weighed, NoMemory>
         ensures { IfOk result (λ weighed. weighed ≡ record { refs = refs; held = refs }) }
     {
-        let held = refs.copy(refs.allocator())?;
+        let held = refs.clone()?;
         let bytes = table_bytes(refs.table())?;
         Ok(Weighed { refs, held, bytes })
     }
@@ -139,7 +139,7 @@ impl Weighed {
         ensures ok { OnOk result (self.new.held ≡ self.old.refs) }
         ensures err { OnErr result (self.new ≡ self.old) }
     {
-        let held = self.refs.copy(self.refs.allocator())?;
+        let held = self.refs.clone()?;
         let bytes = table_bytes(self.refs.table())?;
         self.held = held;
         self.bytes = bytes;

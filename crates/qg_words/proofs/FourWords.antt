@@ -1,9 +1,9 @@
 -- Words one by one.
-use Rattle.std.proofs.Common.{Option, Some, None, ◌≡◌, ℕ, ◌≤◌, ◌<◌, List, [], ◌∷◌, length, get_or, sym, ◌∙◌, refl, arith, String, Global}
+use Rattle.std.proofs.Common.{Option, Some, None, ◌≡◌, ℕ, ◌^◌, ◌≤◌, ◌<◌, List, [], ◌∷◌, length, get_or, sym, ◌∙◌, refl, arith, String, Global}
 use Rattle.std.specs.Prelude.{string_bytes, codes, IfSome, IfNone}
 use Rattle.std.specs.Fmt.{decimal}
 use Rattle.qg_super.specs.declared.sizes.Sizes.{Sizes}
-use Rattle.qg_words.specs.Words.{SizesFit, AskForImage, texts}
+use Rattle.qg_words.specs.Words.{SizesFit, AskForImage, AskForLines, texts}
 
 -- a word at a place, and its text
 pub record IsWord (words : List (String Global)) (place : ℕ) (word : String Global) (text : List ℕ) : Type 0 where
@@ -17,6 +17,19 @@ pub one_text :
 one_text {words = []} some few a = absurd (omega arith)
 one_text {words = w ∷ []} some few a = rw a.text_is (rw a.stands refl)
 one_text {words = w ∷ x ∷ words} some few a = absurd (omega arith)
+
+-- the texts of three words
+pub three_texts :
+    {words : List (String Global)} {a b c : String Global} {ta tb tc : List ℕ}
+    → 3 ≤ length words → length words < 4
+    → IsWord words 0 a ta → IsWord words 1 b tb → IsWord words 2 c tc
+    → texts words ≡ ta ∷ tb ∷ tc ∷ []
+three_texts {words = []} some few a b c = absurd (omega arith)
+three_texts {words = w ∷ []} some few a b c = absurd (omega arith)
+three_texts {words = w ∷ x ∷ []} some few a b c = absurd (omega arith)
+three_texts {words = w ∷ x ∷ y ∷ []} some few a b c =
+    rw a.text_is (rw b.text_is (rw c.text_is (rw a.stands (rw b.stands (rw c.stands refl)))))
+three_texts {words = w ∷ x ∷ y ∷ z ∷ words} some few a b c = absurd (omega arith)
 
 -- the texts of four words
 pub four_texts :
@@ -69,3 +82,37 @@ pub none-found :
     → IfNone result ((sizes : Sizes) → AskForImage words sizes → ⊥)
 none-found None are none = no_image are none
 none-found (Some sizes) are none = tt
+
+-- ---- a seed and a count
+
+-- what is read of the last two of three words is what the three ask for
+pub lines-found :
+    (result : Option (ℕ × ℕ)) {words : List (List ℕ)} {name seed count : List ℕ}
+    → words ≡ name ∷ seed ∷ count ∷ [] → name ≡ codes "gen" → IfSome result (λ pair. (pair.0 < 2 ^ 64) × (pair.1 < 2 ^ 64))
+    → IfSome result (λ pair. (seed ≡ decimal pair.0) × (count ≡ decimal pair.1))
+    → IfSome result (λ pair. AskForLines words pair.0 pair.1)
+lines-found None are named fits found = tt
+lines-found (Some pair) are named fits found =
+    record { seed_fits = fits.0; count_fits = fits.1; are = are ∙ rw named (rw found.0 (rw found.1 refl)) }
+
+-- the last two are no such numbers
+abbrev pub SpellNoPair : List ℕ → List ℕ → Type 0
+SpellNoPair seed count = (a b : ℕ) → a < 2 ^ 64 → b < 2 ^ 64 → seed ≡ decimal a → count ≡ decimal b → ⊥
+
+-- where they are none, the three ask for no lines
+no_lines :
+    {words : List (List ℕ)} {name seed count : List ℕ}
+    → words ≡ name ∷ seed ∷ count ∷ [] → SpellNoPair seed count → (a b : ℕ) → AskForLines words a b → ⊥
+no_lines {words} {name} {seed} {count} are none a b ask =
+    let same = sym are ∙ ask.are in
+    let first : seed ≡ decimal a = cc in
+    let second : count ≡ decimal b = cc in
+    none a b ask.seed_fits ask.count_fits first second
+
+-- and where nothing is read they ask for none
+pub lines-none :
+    (result : Option (ℕ × ℕ)) {words : List (List ℕ)} {name seed count : List ℕ}
+    → words ≡ name ∷ seed ∷ count ∷ [] → IfNone result (SpellNoPair seed count)
+    → IfNone result ((a b : ℕ) → AskForLines words a b → ⊥)
+lines-none None are none = no_lines are none
+lines-none (Some pair) are none = tt

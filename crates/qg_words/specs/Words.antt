@@ -4,7 +4,7 @@ use Rattle.std.specs.Fmt.{decimal}
 use Rattle.std.specs.declared.alloc.Global.{Global}
 use Rattle.qg_super.specs.declared.sizes.Sizes.{Sizes}
 use Rattle.qg_words.specs.declared.form.Form.{Form}
-use Rattle.qg_words.specs.declared.form.Form.TheVariants.{Mkfs, Run}
+use Rattle.qg_words.specs.declared.form.Form.TheVariants.{Mkfs, Run, Check, Generate}
 
 -- the text of each word
 abbrev pub texts : List (String Global) → List (List ℕ)
@@ -29,12 +29,28 @@ pub record AskForImage (words : List (List ℕ)) (sizes : Sizes) : Type 0 where
 abbrev pub run_words : List (List ℕ)
 run_words = codes "run" ∷ []
 
+-- the word that asks what an image is
+abbrev pub check_words : List (List ℕ)
+check_words = codes "check" ∷ []
+
+-- the words that ask for the generator's lines of a seed, so many, the numbers in decimal without leading zeros
+abbrev pub generate_words : ℕ → ℕ → List (List ℕ)
+generate_words seed count = codes "gen" ∷ decimal seed ∷ decimal count ∷ []
+
+-- the words ask for such lines; the numbers have 64 bits
+pub record AskForLines (words : List (List ℕ)) (seed count : ℕ) : Type 0 where
+  pub seed_fits : seed < 2 ^ 64
+  pub count_fits : count < 2 ^ 64
+  pub are : words ≡ generate_words seed count
+
 -- the words ask for this
 abbrev pub AskFor : List (List ℕ) → Form → Type 0
 AskFor words (Mkfs sizes) = AskForImage words sizes
 AskFor words Run = words ≡ run_words
+AskFor words Check = words ≡ check_words
+AskFor words (Generate seed count) = AskForLines words seed count
 
--- the words are those of a form: so far there are these two
+-- the words are those of one of these four forms
 pub record HaveForm (words : List (List ℕ)) : Type 0 where
   pub form : Form
   pub ask : AskFor words form

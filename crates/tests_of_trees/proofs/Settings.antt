@@ -12,7 +12,7 @@ use Rattle.qg_space.specs.Holding.{free_slots}
 use Rattle.qg_blocks.specs.Held.{Draft, Held, nothing_fresh}
 use Rattle.qg_blocks.specs.Told.{IsBacked}
 use Rattle.qg_image.specs.ItemMeaning.{is_subvolume_number}
-use Rattle.qg_verdict.specs.declared.tree.Tree.TheVariants.{Files}
+use Rattle.qg_image.specs.declared.tree.Tree.TheVariants.{Files}
 use Rattle.qg_ground.specs.declared.ground.Ground.{Ground}
 use Rattle.qg_ground.specs.Land.{IsDrafted, IsGround, Rests}
 use Rattle.qg_ground.proofs.Editing.{ArePlaced-drafted}

@@ -44,7 +44,7 @@ pub struct Setting<D: Disk + Drop, L: Ledger> {
 impl<D: Disk + Drop, L: Ledger> Model for Setting<D, L> {
     ghost use Rattle.std.specs.Prelude.{◌≡◌, ◌<◌, ⊤};
     ghost use Rattle.qg_blocks.specs.Held.{slots_of};
-    ghost use Rattle.qg_verdict.specs.declared.tree.Tree.TheVariants.{Files};
+    ghost use Rattle.qg_image.specs.declared.tree.Tree.TheVariants.{Files};
     ghost use Rattle.qg_tree_edits.specs.Editing.{CanMake, IsEditable};
 
     ghost Value = { ⊤ };

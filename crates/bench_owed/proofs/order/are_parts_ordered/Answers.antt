@@ -2,7 +2,7 @@ use Rattle.std.proofs.Common.{◌-◌, ◌≤◌, sym, ◌∙◌, arith}
 use Rattle.std.proofs.lemmas.List.Elements.{pair_read}
 use Rattle.std.proofs.lemmas.List.Sorted.{all_adjacent_more, IsNonDecreasingBy-from_all_adjacent}
 use Rattle.qg_image.specs.declared.part.ExtentPart.{ExtentPart}
-use Rattle.qg_state.specs.Owed.{part_address}
+use Rattle.qg_image.specs.Owed.{part_address}
 use Rattle.bench_owed.proofs.Rising.{not_less}
 use Rattle.bench_owed.proofs.order.are_parts_ordered.Goals as goal
 

@@ -1,6 +1,6 @@
 use Rattle.std.proofs.Common.{◌≤◌}
 use Rattle.std.specs.List.{AllAdjacentBelow}
-use Rattle.qg_state.specs.Owed.{part_address}
+use Rattle.qg_image.specs.Owed.{part_address}
 use Rattle.bench_owed.proofs.order.are_parts_ordered.Given as goal
 
 abbrev pub invariant-loop-i : goal.invariant-loop-i

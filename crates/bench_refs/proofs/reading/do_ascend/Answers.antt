@@ -4,7 +4,7 @@ use Rattle.std.proofs.lemmas.Bool.Decides.{nat_tests}
 use Rattle.std.proofs.lemmas.List.Elements.{pair_read}
 use Rattle.std.proofs.lemmas.List.Sorted.{all_adjacent_more, IsNonDecreasingBy-from_all_adjacent}
 use Rattle.qg_image.specs.declared.part.ExtentPart.{ExtentPart}
-use Rattle.qg_state.specs.Owed.{part_address}
+use Rattle.qg_image.specs.Owed.{part_address}
 use Rattle.bench_refs.proofs.reading.do_ascend.Goals as goal
 
 not_less : (a b : ℕ) → is_lt (nat_cmp a b) ≡ false → b ≤ a

@@ -1,5 +1,5 @@
 use Rattle.std.proofs.Common.{◌≡◌, sym, ◌∙◌}
-use Rattle.qg_verdict.specs.Verdict.{space_failure}
+use Rattle.qg_image.specs.Verdict.{space_failure}
 use Rattle.qg_walk.specs.declared.fault.OpenFault.TheVariants.{Disk}
 use Rattle.qg_walk.proofs.Failures.{TellsFailure-of, told-no_disk}
 use Rattle.qg_check.proofs.counts.judge_extents.Goals as goal

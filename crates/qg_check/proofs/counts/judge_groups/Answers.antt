@@ -1,6 +1,6 @@
 use Rattle.std.proofs.Common.{◌≡◌, ◌∙◌, get_or}
 use Rattle.qg_num.specs.declared.counters.Counters.{Counters}
-use Rattle.qg_verdict.specs.Verdict.{group_failure}
+use Rattle.qg_image.specs.Verdict.{group_failure}
 use Rattle.qg_walk.specs.declared.fault.OpenFault.TheVariants.{Disk}
 use Rattle.qg_walk.proofs.Failures.{TellsFailure-of, told-no_disk}
 use Rattle.qg_check.proofs.Counters.{counted_at, judged_so, HaveJudged-none, HaveJudged-more, HaveJudged-found, HaveJudged-all}

@@ -1,8 +1,8 @@
 use Rattle.std.proofs.Common.{◌≡◌}
 use Rattle.qg_image.specs.Table.{keys_of}
-use Rattle.qg_state.specs.Members.{Hierarchy}
-use Rattle.qg_state.specs.State.{Layout}
-use Rattle.qg_verdict.specs.Verdict.{group_failure}
+use Rattle.qg_image.specs.Members.{Hierarchy}
+use Rattle.qg_image.specs.State.{Layout}
+use Rattle.qg_image.specs.Verdict.{group_failure}
 use Rattle.qg_direct.specs.Direct.{AreGroupCounts}
 use Rattle.qg_check.proofs.Counters.{HaveJudged}
 use Rattle.qg_check.proofs.counts.judge_groups.Given as goal

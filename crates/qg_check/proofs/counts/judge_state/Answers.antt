@@ -1,10 +1,10 @@
 use Rattle.std.proofs.Common.{ℕ, List, map, length, sym, ap, subst, ◌∙◌}
 use Rattle.qg_num.specs.declared.counters.Counters.{Counters}
 use Rattle.qg_image.specs.Table.{keys_of}
-use Rattle.qg_state.specs.declared.quota.Group.{Group}
-use Rattle.qg_state.specs.Members.{Hierarchy, hierarchy_of}
-use Rattle.qg_verdict.specs.Failure.{first_failure}
-use Rattle.qg_verdict.specs.Verdict.{group_failure}
+use Rattle.qg_image.specs.declared.quota.Group.{Group}
+use Rattle.qg_image.specs.Members.{Hierarchy, hierarchy_of}
+use Rattle.qg_image.specs.Failure.{first_failure}
+use Rattle.qg_image.specs.Verdict.{group_failure}
 use Rattle.qg_direct.specs.Direct.{AreGroupCounts}
 use Rattle.qg_check.proofs.Counters.{as_many, counts_judged}
 use Rattle.qg_check.proofs.Staging.{fails_same}

@@ -1,199 +1,25 @@
-use Rattle.std.proofs.Common.{◌≡◌, ℕ, true, List, ◌++◌, map, Option, refl, sym, ap, ◌∙◌, subst}
-use Rattle.std.specs.Prelude.{IfSome}
-use Rattle.std.specs.List.{list_all}
-use Rattle.std.specs.List.Sorted.{IsNonDecreasingBy, IsStrictlyIncreasing}
-use Rattle.std.specs.Option.{option_map}
-use Rattle.std.proofs.lemmas.List.Sums.{list_all-from_AllPass}
-use Rattle.qg_num.specs.declared.rule.Rule.TheVariants as rule
-use Rattle.qg_super.specs.Places.{is_slot}
-use Rattle.qg_super.specs.SuperText.{sizes_of}
-use Rattle.qg_image.specs.declared.part.ExtentPart.{ExtentPart}
-use Rattle.qg_state.specs.Owed.{part_address}
-use Rattle.qg_state.specs.State.{layout_of}
-use Rattle.qg_verdict.specs.declared.failure.Failure.TheVariants.{Broken}
-use Rattle.qg_verdict.specs.ImageState.{state_in}
-use Rattle.qg_reach.specs.Sets.{HaveSame}
-use Rattle.qg_extents.specs.Table.{book_of}
-use Rattle.qg_extents.specs.Told.{IsTold, records_failure}
-use Rattle.qg_direct.specs.declared.surveyed.Surveyed.{Surveyed}
-use Rattle.qg_gathered.specs.Gathered.{root_at}
-use Rattle.qg_groups.specs.declared.state.QuotaState.{QuotaState}
-use Rattle.qg_groups.specs.Tracked.{IsTracked}
-use Rattle.qg_check.proofs.Judging.{AreNamedBy, agrees-recorded, all_at_home, book-owed, book-told, extents-read, parts-read}
-use Rattle.qg_check.proofs.Staging.{tells_same, fails_handed}
-use Rattle.qg_check.proofs.StateRead.{kept_read}
-use Rattle.qg_check.proofs.Together.{bytes_small, counts_told, gathered_slices, numbers_up, references_told, roots_lowest, same_space, space_told}
-use Rattle.qg_check.proofs.Together.{surveyed_moved, surveyed_slots, together_kept}
+use Rattle.std.proofs.Common.{sym, subst}
+use Rattle.qg_check.specs.Trees.{AreFitParts}
+use Rattle.qg_check.specs.declared.trees.ExtentTree.{ExtentTree}
+use Rattle.qg_check.proofs.Staging.{fails_handed, fails_kept}
 use Rattle.qg_check.proofs.judge.judge_trees.Goals as goal
 
--- ---- where extents lie
+pub keep-requires-clause-parts : goal.keep-requires-clause-parts
+keep-requires-clause-parts c =
+    subst (λ (tree : ExtentTree). AreFitParts c.args.superblock.generation tree.parts) (sym c.in_ok-judged.ensures.judged.extents) c.requires.parts
 
-pub returns-in_err-judge_extents-clause-failure : goal.returns-in_err-judge_extents-clause-failure
-returns-in_err-judge_extents-clause-failure c = λ bytes are.
-    let super = c.args.superblock in
-    let extents = c.in_ok-extents.extents in
-    let fault = c.in_err-judge_extents.field-0.0 in
-    let same = same_space (sizes_of super) c.sizes-sizes.result extents c.as_slice.result.now c.sizes-sizes.ensures c.as_slice.ensures in
-    fails_handed c.from_residual-in_err-judge_extents.result fault _ c.from_residual-in_err-judge_extents.ensures.1
-    (space_told super bytes c.args.read are c.requires.served extents c.in_ok-extents.ensures fault (tells_same fault same c.in_err-judge_extents.ensures.failure))
-
--- ---- references
-
-pub judge_recorded-requires-clause-roots : goal.judge_recorded-requires-clause-roots
-judge_recorded-requires-clause-roots c =
-    numbers_up c.args.superblock.generation c.args.read.trees.subvolumes c.as_slice-3.result.now
-    (c.as_slice-3.ensures.value ∙ c.in_ok-roots.ensures ∙ ap (map root_at) c.as_slice-2.ensures) c.requires.subvolumes
-
-pub judge_recorded-requires-clause-parts : goal.judge_recorded-requires-clause-parts
-judge_recorded-requires-clause-parts c = subst (λ (parts : List ExtentPart). IsNonDecreasingBy part_address parts) (sym c.as_slice-5.ensures) c.requires.parts.ordered
-
-pub returns-in_err-surveyed-clause-failure : goal.returns-in_err-surveyed-clause-failure
-returns-in_err-surveyed-clause-failure c = λ bytes are.
-    let super = c.args.superblock in
-    let read = c.args.read in
-    let extents = c.in_ok-extents.extents in
-    let named : AreNamedBy read.nodes extents = c.in_ok-extents.ensures in
-    let served = c.requires.served in
-    let fault = c.in_err-surveyed.field-0.0 in
-    let space = same_space (sizes_of super) c.sizes-sizes.result extents c.as_slice.result.now c.sizes-sizes.ensures c.as_slice.ensures ∙ c.in_ok-judge_extents.ensures.failure in
-    let roots = c.as_slice-3.ensures.value ∙ c.in_ok-roots.ensures ∙ ap (map root_at) c.as_slice-2.ensures in
-    let gathered = gathered_slices super bytes read are served extents named space c.as_slice-4.result.now c.as_slice-5.result.now c.as_slice-4.ensures c.as_slice-5.ensures in
-    fails_handed c.from_residual-in_err-surveyed.result fault _ c.from_residual-in_err-surveyed.ensures.1
-    (references_told super bytes read are served extents named space fault (c.in_err-surveyed.ensures.failure super bytes read.trees.subvolumes roots gathered))
-
--- ---- counts
-
-pub judge_counts-requires-clause-lowest : goal.judge_counts-requires-clause-lowest
-judge_counts-requires-clause-lowest c =
-    roots_lowest c.args.superblock.generation c.args.read.trees.subvolumes c.as_slice-6.result.now
-    (c.as_slice-6.ensures.value ∙ c.in_ok-roots.ensures ∙ ap (map root_at) c.as_slice-2.ensures) c.requires.subvolumes
-
-pub judge_counts-requires-clause-nodes : goal.judge_counts-requires-clause-nodes
-judge_counts-requires-clause-nodes c =
-    subst (λ (those : List Surveyed). IsStrictlyIncreasing (map (λ node. node.linked.address) those)) (sym c.as_slice-7.ensures.value) c.in_ok-surveyed.ensures.ascending
-
-pub judge_counts-requires-clause-small : goal.judge_counts-requires-clause-small
-judge_counts-requires-clause-small c =
-    let sizes = sizes_of c.args.superblock in
-    let extents = c.in_ok-extents.extents in
-    let those = c.in_ok-surveyed.surveyed.items in
-    let space = same_space sizes c.sizes-sizes.result extents c.as_slice.result.now c.sizes-sizes.ensures c.as_slice.ensures ∙ c.in_ok-judge_extents.ensures.failure in
-    let slots = surveyed_slots sizes c.args.read.nodes those c.requires.slots c.in_ok-surveyed.ensures.same in
-    let small = bytes_small sizes those extents c.requires.served slots c.in_ok-surveyed.ensures.ascending space in
-    rw (c.as_slice-7.ensures.value, c.as_slice-8.ensures) small
-
-pub judge_counts-requires-clause-tracked : goal.judge_counts-requires-clause-tracked
-judge_counts-requires-clause-tracked c = subst (λ (state : Option QuotaState). IfSome state IsTracked) (sym c.parted-apart.ensures.quota) c.requires.tracked
-
-pub returns-in_err-judge_counts-clause-failure : goal.returns-in_err-judge_counts-clause-failure
-returns-in_err-judge_counts-clause-failure c = λ bytes are.
-    let super = c.args.superblock in
-    let read = c.args.read in
-    let layout = layout_of (state_in super bytes) in
-    let extents = c.in_ok-extents.extents in
-    let named : AreNamedBy read.nodes extents = c.in_ok-extents.ensures in
-    let served = c.requires.served in
-    let fault = c.in_err-judge_counts.field-0.0 in
-    let space = same_space (sizes_of super) c.sizes-sizes.result extents c.as_slice.result.now c.sizes-sizes.ensures c.as_slice.ensures ∙ c.in_ok-judge_extents.ensures.failure in
-    let roots = c.as_slice-3.ensures.value ∙ c.in_ok-roots.ensures ∙ ap (map root_at) c.as_slice-2.ensures in
-    let gathered = gathered_slices super bytes read are served extents named space c.as_slice-4.result.now c.as_slice-5.result.now c.as_slice-4.ensures c.as_slice-5.ensures in
-    let none = c.in_ok-surveyed.ensures.failure super bytes read.trees.subvolumes roots gathered in
-    let surveyed = surveyed_moved layout c.as_slice-3.result.now c.as_slice-6.result.now c.in_ok-surveyed.surveyed.items c.as_slice-7.result.now super.nodesize
-    c.as_slice-4.result.now c.as_slice-8.result.now (c.as_slice-6.ensures.value ∙ sym c.as_slice-3.ensures.value) c.as_slice-7.ensures.value
-    (c.as_slice-8.ensures ∙ sym c.as_slice-4.ensures) (c.in_ok-surveyed.ensures.surveyed super bytes read.trees.subvolumes roots gathered) in
-    fails_handed c.from_residual-in_err-judge_counts.result fault _ c.from_residual-in_err-judge_counts.ensures.1
-    (counts_told super bytes read are served extents named space none c.parted-apart.result.quota c.parted-apart.ensures.quota fault (c.in_err-judge_counts.ensures.failure layout surveyed))
-
--- ---- the book
-
-pub read_book-requires : goal.read_book-requires
-read_book-requires c = subst (λ (parts : List ExtentPart). IsNonDecreasingBy part_address parts) (sym c.as_slice-9.ensures) c.requires.parts.ordered
-
-pub returns-in_err-book-clause-failure : goal.returns-in_err-book-clause-failure
-returns-in_err-book-clause-failure c = λ bytes are.
-    let super = c.args.superblock in
-    let read = c.args.read in
-    let layout = layout_of (state_in super bytes) in
-    let extents = c.in_ok-extents.extents in
-    let named : AreNamedBy read.nodes extents = c.in_ok-extents.ensures in
-    let served = c.requires.served in
-    let fault = c.in_err-book.field-0.0 in
-    let space = same_space (sizes_of super) c.sizes-sizes.result extents c.as_slice.result.now c.sizes-sizes.ensures c.as_slice.ensures ∙ c.in_ok-judge_extents.ensures.failure in
-    let roots = c.as_slice-3.ensures.value ∙ c.in_ok-roots.ensures ∙ ap (map root_at) c.as_slice-2.ensures in
-    let gathered = gathered_slices super bytes read are served extents named space c.as_slice-4.result.now c.as_slice-5.result.now c.as_slice-4.ensures c.as_slice-5.ensures in
-    let none = c.in_ok-surveyed.ensures.failure super bytes read.trees.subvolumes roots gathered in
-    let surveyed = surveyed_moved layout c.as_slice-3.result.now c.as_slice-6.result.now c.in_ok-surveyed.surveyed.items c.as_slice-7.result.now super.nodesize
-    c.as_slice-4.result.now c.as_slice-8.result.now (c.as_slice-6.ensures.value ∙ sym c.as_slice-3.ensures.value) c.as_slice-7.ensures.value
-    (c.as_slice-8.ensures ∙ sym c.as_slice-4.ensures) (c.in_ok-surveyed.ensures.surveyed super bytes read.trees.subvolumes roots gathered) in
-    let whole = together_kept super bytes read are served extents named space none c.parted-apart.result.quota c.parted-apart.ensures.quota
-    (c.in_ok-judge_counts.ensures.failure layout surveyed) in
-    let sound = ap records_failure c.as_slice-9.ensures ∙ book-told super bytes read are served extents named space none c.requires.parts.few in
-    fails_handed c.from_residual-in_err-book.result fault _ c.from_residual-in_err-book.ensures.1
-    (tells_same fault (whole ∙ sym (ap (option_map (Broken rule.Refs)) sound)) c.in_err-book.ensures.failure)
-
--- ---- the end of the function
+pub returns-in_err-judged-clause-failure : goal.returns-in_err-judged-clause-failure
+returns-in_err-judged-clause-failure c = λ bytes are.
+    fails_handed c.from_residual.result c.in_err-judged.field-0.0 _ c.from_residual.ensures.1 (c.in_err-judged.ensures.failure bytes are)
 
 pub returns-clause-failure : goal.returns-clause-failure
 returns-clause-failure c = λ bytes are.
-    let super = c.args.superblock in
-    let read = c.args.read in
-    let layout = layout_of (state_in super bytes) in
-    let extents = c.in_ok-extents.extents in
-    let named : AreNamedBy read.nodes extents = c.in_ok-extents.ensures in
-    let served = c.requires.served in
-    let space = same_space (sizes_of super) c.sizes-sizes.result extents c.as_slice.result.now c.sizes-sizes.ensures c.as_slice.ensures ∙ c.in_ok-judge_extents.ensures.failure in
-    let roots = c.as_slice-3.ensures.value ∙ c.in_ok-roots.ensures ∙ ap (map root_at) c.as_slice-2.ensures in
-    let gathered = gathered_slices super bytes read are served extents named space c.as_slice-4.result.now c.as_slice-5.result.now c.as_slice-4.ensures c.as_slice-5.ensures in
-    let none = c.in_ok-surveyed.ensures.failure super bytes read.trees.subvolumes roots gathered in
-    let surveyed = surveyed_moved layout c.as_slice-3.result.now c.as_slice-6.result.now c.in_ok-surveyed.surveyed.items c.as_slice-7.result.now super.nodesize
-    c.as_slice-4.result.now c.as_slice-8.result.now (c.as_slice-6.ensures.value ∙ sym c.as_slice-3.ensures.value) c.as_slice-7.ensures.value
-    (c.as_slice-8.ensures ∙ sym c.as_slice-4.ensures) (c.in_ok-surveyed.ensures.surveyed super bytes read.trees.subvolumes roots gathered) in
-    together_kept super bytes read are served extents named space none c.parted-apart.result.quota c.parted-apart.ensures.quota
-    (c.in_ok-judge_counts.ensures.failure layout surveyed)
+    let none = c.in_ok-judged.ensures.failure bytes are in
+    fails_kept c.keep.result _ none (c.keep.ensures.sound bytes c.args.read are c.in_ok-judged.ensures.judged none)
 
 pub returns-clause-image : goal.returns-clause-image
 returns-clause-image c = λ bytes are.
-    let super = c.args.superblock in
-    let read = c.args.read in
-    let layout = layout_of (state_in super bytes) in
-    let extents = c.in_ok-extents.extents in
-    let named : AreNamedBy read.nodes extents = c.in_ok-extents.ensures in
-    let served = c.requires.served in
-    let space = same_space (sizes_of super) c.sizes-sizes.result extents c.as_slice.result.now c.sizes-sizes.ensures c.as_slice.ensures ∙ c.in_ok-judge_extents.ensures.failure in
-    let roots = c.as_slice-3.ensures.value ∙ c.in_ok-roots.ensures ∙ ap (map root_at) c.as_slice-2.ensures in
-    let gathered = gathered_slices super bytes read are served extents named space c.as_slice-4.result.now c.as_slice-5.result.now c.as_slice-4.ensures c.as_slice-5.ensures in
-    let none = c.in_ok-surveyed.ensures.failure super bytes read.trees.subvolumes roots gathered in
-    let lie = c.in_ok-nodes.ensures ∙ ap (map (λ (node : Surveyed). node.linked.address)) c.as_slice-10.ensures.value in
-    let parts = parts-read super bytes read are served extents named space in
-    let book = subst (λ (parts : List ExtentPart). IsTold super.nodesize parts (book_of c.in_ok-book.book)) c.as_slice-9.ensures c.in_ok-book.ensures.told in
-    kept_read super bytes read _ are (record {
-      same = refl;
-      roots = refl;
-      quota = c.parted-apart.ensures.quota;
-      others = c.in_ok-others.ensures ∙ ap (λ (list : List ℕ). c.args.read.trees.nodes ++ c.args.read.extents.nodes ++ list) c.parted-apart.ensures.nodes;
-      nodes = subst (λ (list : List ℕ). HaveSame list (map (λ node. node.linked.address) read.nodes.nodes.items)) (sym lie) c.in_ok-surveyed.ensures.same;
-      ascending = subst IsStrictlyIncreasing (sym lie) c.in_ok-surveyed.ensures.ascending;
-      extents = extents-read super bytes read are extents named;
-      recorded = subst (λ (parts : List ExtentPart). IsTold super.nodesize parts (book_of c.in_ok-book.book)) parts book;
-      owed = book-owed super bytes read are served extents named space none (book_of c.in_ok-book.book) book;
-      agrees = agrees-recorded super bytes read are served extents named space none;
-      home = all_at_home super bytes layout none;
-    })
+    c.keep.ensures.image bytes c.args.read are c.in_ok-judged.ensures.judged (c.in_ok-judged.ensures.failure bytes are)
 
 pub returns-clause-keeps : goal.returns-clause-keeps
-returns-clause-keeps c =
-    let sizes = sizes_of c.args.superblock in
-    let extents = c.in_ok-extents.extents in
-    let those = c.in_ok-surveyed.surveyed.items in
-    let slots = surveyed_slots sizes c.args.read.nodes those c.requires.slots c.in_ok-surveyed.ensures.same in
-    let lie = c.in_ok-nodes.ensures ∙ ap (map (λ (node : Surveyed). node.linked.address)) c.as_slice-10.ensures.value in
-    record {
-      roots = refl;
-      quota = c.parted-apart.ensures.quota;
-      others = c.in_ok-others.ensures ∙ ap (λ (list : List ℕ). c.args.read.trees.nodes ++ c.args.read.extents.nodes ++ list) c.parted-apart.ensures.nodes;
-      nodes = subst (λ (list : List ℕ). list_all (is_slot sizes) list ≡ true) (sym lie)
-          (list_all-from_AllPass (is_slot sizes) (map (λ (node : Surveyed). node.linked.address) those) slots);
-      space = same_space sizes c.sizes-sizes.result extents c.as_slice.result.now c.sizes-sizes.ensures c.as_slice.ensures ∙ c.in_ok-judge_extents.ensures.failure;
-      book = subst (λ (parts : List ExtentPart). IsTold c.args.superblock.nodesize parts (book_of c.in_ok-book.book)) c.as_slice-9.ensures c.in_ok-book.ensures.told;
-      table = c.in_ok-book.ensures.table;
-    }
+returns-clause-keeps c = c.keep.ensures.keeps c.args.read c.in_ok-judged.ensures.judged c.requires.slots

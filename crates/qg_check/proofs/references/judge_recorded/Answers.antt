@@ -1,7 +1,7 @@
 use Rattle.std.proofs.Common.{◌≡◌, map, sym, ap, subst, ◌∙◌}
-use Rattle.qg_state.specs.State.{layout_of}
-use Rattle.qg_verdict.specs.ImageState.{state_in}
-use Rattle.qg_verdict.specs.Verdict.{references_failure}
+use Rattle.qg_image.specs.State.{layout_of}
+use Rattle.qg_image.specs.ImageState.{state_in}
+use Rattle.qg_image.specs.Verdict.{references_failure}
 use Rattle.qg_walk.specs.declared.fault.OpenFault.TheVariants.{Disk}
 use Rattle.qg_walk.proofs.Failures.{TellsFailure-of, told-no_disk}
 use Rattle.std.specs.List.Sorted.{IsStrictlyIncreasing}

@@ -1,7 +1,7 @@
 use Rattle.std.proofs.Common.{ap, subst}
 use Rattle.std.specs.Option.{option_map}
 use Rattle.qg_num.specs.declared.rule.Rule.TheVariants as rule
-use Rattle.qg_verdict.specs.declared.failure.Failure.TheVariants.{Broken}
+use Rattle.qg_image.specs.declared.failure.Failure.TheVariants.{Broken}
 use Rattle.qg_extents.specs.declared.fault.RefsFault.{RefsFault}
 use Rattle.qg_extents.specs.Told.{IsFault}
 use Rattle.qg_check.proofs.references.opening_fault.Goals as goal

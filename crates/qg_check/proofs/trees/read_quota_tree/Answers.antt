@@ -4,13 +4,13 @@ use Rattle.qg_image.specs.Table.{keys_of}
 use Rattle.qg_image.specs.declared.part.QuotaPart.{QuotaPart}
 use Rattle.qg_image.specs.ItemMeaning.{quota_part}
 use Rattle.qg_super.specs.SuperText.{sizes_of}
-use Rattle.qg_state.specs.declared.quota.Quota.{Quota}
-use Rattle.qg_state.specs.Members.{hierarchy_of}
+use Rattle.qg_image.specs.declared.quota.Quota.{Quota}
+use Rattle.qg_image.specs.Members.{hierarchy_of}
 use Rattle.qg_hier.specs.Groups.{IsSound}
-use Rattle.qg_verdict.specs.declared.tree.Tree.TheVariants.{Quotas}
-use Rattle.qg_verdict.specs.ImageState.{quota_parts, quota_told}
-use Rattle.qg_verdict.specs.declared.expected.Expected.{Expected}
-use Rattle.qg_verdict.specs.Walk.{tree_failure}
+use Rattle.qg_image.specs.declared.tree.Tree.TheVariants.{Quotas}
+use Rattle.qg_image.specs.ImageState.{quota_parts, quota_told}
+use Rattle.qg_image.specs.declared.expected.Expected.{Expected}
+use Rattle.qg_image.specs.Walk.{tree_failure}
 use Rattle.qg_walk.specs.Fault.{TellsFailure}
 use Rattle.qg_walk.specs.Held.{AreHeld, AreAddressesOf}
 use Rattle.qg_walk.specs.IsWalk.{IsWalk}

@@ -1,8 +1,8 @@
 use Rattle.std.proofs.Common.{Option, None, sym, ap, ◌∙◌, subst}
 use Rattle.qg_device.specs.History.{content}
 use Rattle.qg_items.specs.declared.root.RootItem.{RootItem}
-use Rattle.qg_verdict.specs.ImageState.{roots_in}
-use Rattle.qg_verdict.specs.Verdict.{quota_failure}
+use Rattle.qg_image.specs.ImageState.{roots_in}
+use Rattle.qg_image.specs.Verdict.{quota_failure}
 use Rattle.qg_check.specs.Trees.{AreNamed, IsQuotaTreeOf}
 use Rattle.qg_check.proofs.Staging.{fails_handed, tells_same}
 use Rattle.qg_check.proofs.trees.read_quotas.Goals as goal

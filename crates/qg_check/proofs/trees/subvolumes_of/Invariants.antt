@@ -1,5 +1,5 @@
 use Rattle.std.proofs.Common.{◌≡◌, take}
-use Rattle.qg_verdict.specs.ImageState.{subvolume_roots}
+use Rattle.qg_image.specs.ImageState.{subvolume_roots}
 use Rattle.qg_check.proofs.trees.subvolumes_of.Given as goal
 
 abbrev pub invariant-loop-part : goal.invariant-loop-part

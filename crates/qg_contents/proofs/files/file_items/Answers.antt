@@ -5,8 +5,8 @@ use Rattle.qg_node.specs.declared.item.Item.{Item}
 use Rattle.qg_node.specs.Fits.{ItemFits}
 use Rattle.qg_node.specs.Nodes.{is_ascending, items_bytes}
 use Rattle.qg_image.specs.FilesOf.{files_of}
-use Rattle.qg_verdict.specs.declared.tree.Tree.TheVariants.{Files}
-use Rattle.qg_verdict.specs.Walk.{is_item_of}
+use Rattle.qg_image.specs.declared.tree.Tree.TheVariants.{Files}
+use Rattle.qg_image.specs.Walk.{is_item_of}
 use Rattle.qg_contents.proofs.FileTree.{file_items-told, file_items-of_tree, file_items-ascending, file_items-short, file_items-fit, file_items-bytes}
 use Rattle.qg_contents.proofs.files.file_items.Goals as goal
 

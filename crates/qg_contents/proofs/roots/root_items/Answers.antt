@@ -5,8 +5,8 @@ use Rattle.qg_node.specs.declared.item.Item.{Item}
 use Rattle.qg_node.specs.Fits.{ItemFits}
 use Rattle.qg_node.specs.Nodes.{is_ascending, items_bytes}
 use Rattle.qg_image.specs.ItemMeaning.{root_part}
-use Rattle.qg_verdict.specs.declared.tree.Tree.TheVariants.{Roots}
-use Rattle.qg_verdict.specs.Walk.{is_item_of}
+use Rattle.qg_image.specs.declared.tree.Tree.TheVariants.{Roots}
+use Rattle.qg_image.specs.Walk.{is_item_of}
 use Rattle.qg_contents.proofs.RootTree.{roots-told, roots-allowed, roots-ascending, roots-short, roots-fit, roots-bytes}
 use Rattle.qg_contents.proofs.roots.root_items.Goals as goal
 

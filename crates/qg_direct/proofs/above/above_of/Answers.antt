@@ -1,5 +1,5 @@
 use Rattle.std.proofs.Common.{ℕ, ◌≡◌, ◌+◌, List, sym, subst}
-use Rattle.qg_state.specs.Members.{is_member, level_of_group}
+use Rattle.qg_image.specs.Members.{is_member, level_of_group}
 use Rattle.qg_home.proofs.Listed.{at_read}
 use Rattle.qg_direct.specs.Above.{ArePlaces}
 use Rattle.qg_direct.proofs.GroupsAbove.{MembershipsFirst, memberships_none, memberships_more, memberships_all}

@@ -1,7 +1,7 @@
 use Rattle.std.proofs.Common.{ℕ, List, sym, subst, ◌∙◌}
 use Rattle.std.specs.List.Sorted.{IsStrictlyIncreasing}
 use Rattle.std.proofs.lemmas.Map.Keys.{IsStrictlyIncreasing-from_sorted}
-use Rattle.qg_state.specs.Members.{is_member}
+use Rattle.qg_image.specs.Members.{is_member}
 use Rattle.qg_hier.specs.Groups.{groups_above, has_number}
 use Rattle.qg_hier.proofs.Agreements.{above_ascends}
 use Rattle.qg_direct.specs.Above.{ArePlaces}

@@ -6,7 +6,7 @@ use Rattle.std.specs.declared.vec.Vec.{Vec}
 use Rattle.std.specs.declared.alloc.Global.{Global}
 use Rattle.std.proofs.lemmas.List.{length-map}
 use Rattle.qg_num.specs.declared.counters.Counters.{Counters}
-use Rattle.qg_state.specs.Counts.{bytes_of}
+use Rattle.qg_image.specs.Counts.{bytes_of}
 use Rattle.qg_counted.specs.declared.counting.Portion.{Portion}
 use Rattle.qg_counted.specs.Portions.{bytes_where}
 use Rattle.qg_counted.specs.Groups.{AreWithin, counted_for, is_above}

@@ -1,6 +1,6 @@
 use Rattle.std.proofs.Common.{rules}
 use Rattle.std.proofs.lemmas.List.Sorted.{answers_always}
-use Rattle.qg_state.specs.declared.element.Element.{Element}
+use Rattle.qg_image.specs.declared.element.Element.{Element}
 use Rattle.qg_home.specs.Places.{StandsAt, AreOthers}
 use Rattle.qg_home.proofs.Ascending.{searched_absent, there_if_some, absent_if_none}
 use Rattle.qg_direct.proofs.Noting.{searched}

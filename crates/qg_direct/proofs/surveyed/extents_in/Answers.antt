@@ -4,7 +4,7 @@ use Rattle.std.specs.Option.{option_and_then}
 use Rattle.qg_num.specs.declared.piece.Piece.{Piece}
 use Rattle.qg_node.specs.declared.item.Item.{Item}
 use Rattle.qg_image.specs.ItemMeaning.{file_part}
-use Rattle.qg_state.specs.Reach.{piece_of_part}
+use Rattle.qg_image.specs.Reach.{piece_of_part}
 use Rattle.qg_direct.proofs.Pieces.{named_some, named_none}
 use Rattle.qg_direct.proofs.surveyed.extents_in.Goals as goal
 use Rattle.qg_direct.proofs.surveyed.extents_in.Goals.{in-Some+in_ok-push, in_default}

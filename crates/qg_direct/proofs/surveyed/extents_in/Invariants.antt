@@ -2,7 +2,7 @@ use Rattle.std.proofs.Common.{◌≡◌, map, take}
 use Rattle.std.specs.List.{filter_map}
 use Rattle.std.specs.Option.{option_and_then}
 use Rattle.qg_image.specs.ItemMeaning.{file_part}
-use Rattle.qg_state.specs.Reach.{piece_of_part}
+use Rattle.qg_image.specs.Reach.{piece_of_part}
 use Rattle.qg_direct.proofs.surveyed.extents_in.Given as goal
 
 abbrev pub invariant-loop-item : goal.invariant-loop-item

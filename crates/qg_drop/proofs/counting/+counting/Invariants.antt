@@ -1,5 +1,5 @@
 use Rattle.std.proofs.Common.{◌≡◌, ◌+◌, ◌*◌, ◌-◌, ◌^◌, ◌<◌, ◌≤◌, All, Some, length, min}
-use Rattle.qg_state.specs.State.{State}
+use Rattle.qg_image.specs.State.{State}
 use Rattle.qg_descent.specs.Way.{HasRead, IsReadable}
 use Rattle.qg_drop.specs.Counting.{LeadsToBranch, TellsNodes, ways_reached}
 use Rattle.qg_drop.proofs.counting.+counting.Given as goal

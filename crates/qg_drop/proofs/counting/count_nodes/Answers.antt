@@ -1,7 +1,7 @@
 use Rattle.std.proofs.Common.{◌≡◌, ℕ, ◌^◌, ◌-◌, Some, None, arith, sym, ap, ◌∙◌, min}
 use Rattle.std.proofs.lemmas.Result.{IfOk-weaker}
-use Rattle.qg_verdict.specs.declared.expected.Expected.{Expected}
-use Rattle.qg_verdict.specs.Walk.{root_expected}
+use Rattle.qg_image.specs.declared.expected.Expected.{Expected}
+use Rattle.qg_image.specs.Walk.{root_expected}
 use Rattle.qg_machine.specs.Refusals.{nodes_reached, root_level}
 use Rattle.qg_ground.proofs.Editing.{ArePlaced-drafted}
 use Rattle.qg_descent.specs.Tree.{Root}

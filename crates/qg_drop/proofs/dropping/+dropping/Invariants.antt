@@ -1,6 +1,6 @@
 use Rattle.std.proofs.Common.{◌≡◌, ℕ, ◌+◌, ◌*◌, ◌≤◌, Bool, All, Some, length}
 use Rattle.qg_super.specs.Places.{capacity}
-use Rattle.qg_state.specs.State.{State}
+use Rattle.qg_image.specs.State.{State}
 use Rattle.qg_tree_edits.specs.Editing.{IsEditable}
 use Rattle.qg_drop.specs.Dropping.{AreParts, HoldsPartly, KnowsNoMore, RestsButRuns}
 use Rattle.qg_drop.proofs.Stepping.{Went}

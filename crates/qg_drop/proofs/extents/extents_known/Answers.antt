@@ -1,6 +1,6 @@
 use Rattle.std.proofs.Common.{◌++◌, Global, Option, Vec, append-nil, sym, ap, ◌∙◌}
 use Rattle.std.specs.Prelude.{option_to_list}
-use Rattle.qg_state.specs.declared.element.Element.{Element}
+use Rattle.qg_image.specs.declared.element.Element.{Element}
 use Rattle.qg_extents.specs.Table.{book_of}
 use Rattle.qg_drop.proofs.Naming.{known-more}
 use Rattle.qg_drop.proofs.extents.extents_known.Goals as goal

@@ -3,7 +3,7 @@ use Rattle.std.specs.List.{All, Contains}
 use Rattle.std.proofs.lemmas.List.Elements.{All-contains, All-push}
 use Rattle.std.specs.Prelude.{IsTrue}
 use Rattle.qg_super.specs.Places.{is_run}
-use Rattle.qg_state.specs.declared.element.Element.{Element}
+use Rattle.qg_image.specs.declared.element.Element.{Element}
 use Rattle.qg_extents.specs.Table.{book_of}
 use Rattle.qg_drop.specs.Dropping.{without_references}
 use Rattle.qg_drop.proofs.Naming.{gone-here, gone-more, gone-same, has-run, lacks-run, whole-bytes}

@@ -5,8 +5,8 @@ use Rattle.std.proofs.lemmas.Option.{same_Some}
 use Rattle.qg_node.specs.declared.node.Node.{Node}
 use Rattle.qg_super.proofs.Served.{SizesFit-is_served}
 use Rattle.qg_super.specs.Places.{is_run}
-use Rattle.qg_state.specs.declared.element.Element.{Element}
-use Rattle.qg_state.specs.Owed.{owed_by_node}
+use Rattle.qg_image.specs.declared.element.Element.{Element}
+use Rattle.qg_image.specs.Owed.{owed_by_node}
 use Rattle.qg_space.specs.Holding.{Holding, free_slots}
 use Rattle.qg_ground.specs.declared.ground.Ground.{Ground}
 use Rattle.qg_refs.specs.declared.kept.Kept.{Kept}

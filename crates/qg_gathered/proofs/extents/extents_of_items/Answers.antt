@@ -1,5 +1,5 @@
 use Rattle.std.proofs.Common.{List, ◌∷◌, [], ◌++◌, ap, sym, ◌∙◌}
-use Rattle.qg_state.specs.declared.element.Element.{Element}
+use Rattle.qg_image.specs.declared.element.Element.{Element}
 use Rattle.qg_gathered.proofs.Naming.{named_more, named_none}
 use Rattle.qg_gathered.proofs.extents.extents_of_items.Goals as goal
 use Rattle.qg_gathered.proofs.extents.extents_of_items.Goals.{in-Some+in_ok-push, in_default}

@@ -1,6 +1,6 @@
 use Rattle.std.proofs.Common.{◌≡◌, map, take}
 use Rattle.std.specs.List.{filter_map}
-use Rattle.qg_state.specs.Reach.{extent_of}
+use Rattle.qg_image.specs.Reach.{extent_of}
 use Rattle.qg_gathered.proofs.Naming.{item_piece}
 use Rattle.qg_gathered.proofs.extents.extents_of_items.Given as goal
 

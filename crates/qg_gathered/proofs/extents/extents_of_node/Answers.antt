@@ -1,5 +1,5 @@
 use Rattle.std.proofs.Common.{rules}
-use Rattle.qg_state.specs.Reach.{pieces_of}
+use Rattle.qg_image.specs.Reach.{pieces_of}
 use Rattle.qg_gathered.proofs.extents.extents_of_node.Goals as goal
 
 pub returns-in-Leaf : goal.returns-in-Leaf

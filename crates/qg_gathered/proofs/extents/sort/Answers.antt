@@ -2,8 +2,8 @@ use Rattle.std.proofs.Common.{◌≡◌, ◌+◌, ◌∙◌, get_or, arith, rule
 use Rattle.std.specs.Ordering.{is_lt, ordering_then, nat_cmp}
 use Rattle.std.proofs.lemmas.List.Sorted.{answers_always}
 use Rattle.std.proofs.lemmas.Bool.Decides.{nat_tests}
-use Rattle.qg_state.specs.declared.element.Element.{Element}
-use Rattle.qg_verdict.specs.Verdict.{is_before}
+use Rattle.qg_image.specs.declared.element.Element.{Element}
+use Rattle.qg_image.specs.Verdict.{is_before}
 use Rattle.qg_gathered.proofs.extents.sort.Goals as goal
 
 by_key : (a b : Element) → is_before a b ≡ is_lt (ordering_then (nat_cmp a.address b.address) (nat_cmp a.bytes b.bytes))

@@ -1,8 +1,8 @@
 use Rattle.std.proofs.Common.{ℕ, List, ◌++◌, map, sym, ap, subst, ◌∙◌}
 use Rattle.std.specs.List.Sorted.{IsStrictlyIncreasing}
-use Rattle.qg_state.specs.Owed.{Owing as OwedReference}
-use Rattle.qg_state.specs.State.{layout_of}
-use Rattle.qg_verdict.specs.ImageState.{state_in}
+use Rattle.qg_image.specs.Owed.{Owing as OwedReference}
+use Rattle.qg_image.specs.State.{layout_of}
+use Rattle.qg_image.specs.ImageState.{state_in}
 use Rattle.qg_home.specs.declared.linked.Linked.{Linked}
 use Rattle.qg_direct.specs.Surveyed.{links_in}
 use Rattle.qg_owed.specs.declared.thing.Thing.{Thing}

@@ -1,5 +1,5 @@
 use Rattle.std.proofs.Common.{ℕ, List, ap, ◌∙◌}
-use Rattle.qg_state.specs.Members.{Hierarchy}
+use Rattle.qg_image.specs.Members.{Hierarchy}
 use Rattle.qg_hier.specs.Faults.{assign_fault}
 use Rattle.qg_hier.specs.Groups.{assigned}
 use Rattle.qg_groups.proofs.Agreed.{only-memory}

@@ -1,6 +1,6 @@
 use Rattle.std.proofs.Common.{ℕ, List, ap, ◌∙◌}
 use Rattle.qg_image.specs.Table.{with_number}
-use Rattle.qg_state.specs.Members.{Hierarchy}
+use Rattle.qg_image.specs.Members.{Hierarchy}
 use Rattle.qg_groups.proofs.Agreed.{free-create, keys-next, only-memory}
 use Rattle.qg_groups.proofs.building.unrelated.Goals as goal
 

@@ -2,7 +2,7 @@ use Rattle.std.proofs.Common.{ℕ, rules}
 use Rattle.std.specs.Prelude.{nat_lt}
 use Rattle.std.proofs.lemmas.Bool.{ltb-true, ltb-false}
 use Rattle.std.proofs.lemmas.List.Sorted.{IsPartitionedBy-ltb, IsPartitionPoint-from_clause}
-use Rattle.qg_state.specs.declared.quota.Group.{Group}
+use Rattle.qg_image.specs.declared.quota.Group.{Group}
 use Rattle.qg_groups.proofs.Tables.{numbers-rise}
 use Rattle.qg_groups.proofs.groups.place_of.Goals as goal
 

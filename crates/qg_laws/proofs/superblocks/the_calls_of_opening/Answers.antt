@@ -1,4 +1,4 @@
-use Rattle.qg_laws.proofs.OpeningCalls.{opening_repairs}
+use Rattle.qg_commit.proofs.OpeningCalls.{opening_repairs}
 use Rattle.qg_laws.proofs.superblocks.the_calls_of_opening.Goals as goal
 
 pub returns : goal.returns

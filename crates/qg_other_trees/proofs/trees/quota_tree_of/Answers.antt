@@ -1,7 +1,7 @@
 use Rattle.std.proofs.Common.{◌+◌, ◌*◌, ◌≤◌, length, sym, subst, arith}
 use Rattle.std.specs.Prelude.{Option, Some, None, IfSome}
-use Rattle.qg_state.specs.Need.{nodes_filled}
-use Rattle.qg_state.specs.declared.quota.Quota.{Quota}
+use Rattle.qg_image.specs.Need.{nodes_filled}
+use Rattle.qg_image.specs.declared.quota.Quota.{Quota}
 use Rattle.qg_quota.specs.Writable.{AreWritableQuota}
 use Rattle.qg_other_trees.specs.Trees.{AreEnough, IsQuotaTreeOf, most_nodes, quota_tree_bytes, quota_trees}
 use Rattle.qg_other_trees.proofs.Enough.{most_filled}

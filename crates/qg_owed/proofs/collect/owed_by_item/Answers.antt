@@ -4,7 +4,7 @@ use Rattle.std.specs.Option.{option_map}
 use Rattle.std.proofs.lemmas.Bool.{eq-eqb, ne_eqb}
 use Rattle.qg_items.specs.declared.kind.TheConstants.{EXTENT_DATA}
 use Rattle.qg_image.specs.declared.part.FilePart.TheVariants.{PieceOf}
-use Rattle.qg_state.specs.Owed.{owed_by_part}
+use Rattle.qg_image.specs.Owed.{owed_by_part}
 use Rattle.qg_owed.proofs.Collecting.{other_owes, piece_owes}
 use Rattle.qg_owed.proofs.collect.owed_by_item.Goals as goal
 

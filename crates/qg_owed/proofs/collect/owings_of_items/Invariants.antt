@@ -1,7 +1,7 @@
 use Rattle.std.proofs.Common.{◌≡◌, ◌++◌, take}
 use Rattle.std.specs.List.{flat_map}
 use Rattle.qg_image.specs.ItemMeaning.{file_part}
-use Rattle.qg_state.specs.Owed.{owed_by_part}
+use Rattle.qg_image.specs.Owed.{owed_by_part}
 use Rattle.qg_owed.specs.Told.{owings_told}
 use Rattle.qg_owed.proofs.collect.owings_of_items.Given as goal
 

@@ -1,5 +1,5 @@
 use Rattle.std.proofs.Common.{rules}
-use Rattle.qg_state.specs.Owed.{owed_by_node}
+use Rattle.qg_image.specs.Owed.{owed_by_node}
 use Rattle.qg_owed.proofs.collect.owings_of_node.Goals as goal
 
 pub returns : goal.returns

@@ -1,5 +1,5 @@
 use Rattle.std.proofs.Common.{◌≡◌, ◌++◌, map, take}
-use Rattle.qg_state.specs.Owed.{owed_to_child}
+use Rattle.qg_image.specs.Owed.{owed_to_child}
 use Rattle.qg_owed.specs.Told.{owings_told}
 use Rattle.qg_owed.proofs.collect.owings_of_pointers.Given as goal
 

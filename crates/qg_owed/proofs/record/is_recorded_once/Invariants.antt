@@ -1,7 +1,7 @@
 use Rattle.std.proofs.Common.{◌≡◌, take}
 use Rattle.std.specs.List.{filter}
 use Rattle.std.specs.Option.{option_to_list}
-use Rattle.qg_state.specs.Owed.{is_record}
+use Rattle.qg_image.specs.Owed.{is_record}
 use Rattle.qg_owed.proofs.record.is_recorded_once.Given as goal
 
 abbrev pub invariant-loop-part : goal.invariant-loop-part

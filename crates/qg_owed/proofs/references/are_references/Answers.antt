@@ -1,6 +1,6 @@
 use Rattle.std.proofs.Common.{◌+◌, refl, sym, ap, subst, ◌∙◌, arith, drop, length}
 use Rattle.std.proofs.lemmas.List.{length-drop}
-use Rattle.qg_state.specs.Owed.{are_references}
+use Rattle.qg_image.specs.Owed.{are_references}
 use Rattle.qg_owed.specs.Judged.{counts_told}
 use Rattle.qg_owed.proofs.InOrder.{Up, up_by, up_drop}
 use Rattle.qg_owed.proofs.Rounds.{tail_front}

@@ -1,5 +1,5 @@
 use Rattle.std.proofs.Common.{◌≡◌, ◌≤◌, drop, length}
-use Rattle.qg_state.specs.Owed.{are_references}
+use Rattle.qg_image.specs.Owed.{are_references}
 use Rattle.qg_owed.specs.Judged.{counts_told}
 use Rattle.qg_owed.proofs.InOrder.{Up}
 use Rattle.qg_owed.proofs.references.are_references.Given as goal

@@ -1,6 +1,6 @@
 use Rattle.std.proofs.Common.{◌≡◌, take}
 use Rattle.std.specs.List.{filter_map}
-use Rattle.qg_state.specs.Owed.{reference_told}
+use Rattle.qg_image.specs.Owed.{reference_told}
 use Rattle.qg_owed.specs.Judged.{counts_told}
 use Rattle.qg_owed.proofs.references.put_told.Given as goal
 

@@ -2,7 +2,9 @@ use Rattle.std.proofs.Common.{inl, inr, refl, sym, subst, ◌∙◌, arith}
 use Rattle.std.proofs.lemmas.Option.{none-some}
 use Rattle.qg_device.specs.History.{content}
 use Rattle.qg_walk.specs.Fault.{TellsFailure}
+use Rattle.qg_program.proofs.Left.{leaves-unopened, rests-told}
 use Rattle.qg_program.proofs.Judged.{follows-unopened, looked-unsound, state-sound, untouched-judged}
+use Rattle.qg_program.proofs.Replied.{failure-put}
 use Rattle.qg_program.proofs.run.run.Goals as goal
 
 pub returns-in-Ok-clause-follows : goal.returns-in-Ok-clause-follows
@@ -15,6 +17,21 @@ pub returns-in-Err-clause-follows : goal.returns-in-Err-clause-follows
 returns-in-Err-clause-follows g c = λ events input state told source stands.
     let silent = c.refuse.ensures.silent (subst (TellsFailure c.in-Err.fault) stands.sound (c.in-Err.ensures.refused events told)) in
     follows-unopened c.refuse.result state input silent.0 (c.open.ensures.touches events told) silent.1
+
+pub returns-in-Ok-clause-crashes : goal.returns-in-Ok-clause-crashes
+returns-in-Ok-clause-crashes g c = λ events after state told now stands.
+    let opens = c.in-Ok.ensures.repaired events told in
+    let outlives = c.open.ensures.crashes events told in
+    let rests = rw c.in-Ok.is at outlives.rests state stands in
+    c.answer_lines.ensures.crashes state events _ after (c.in-Ok.ensures.opened events state told stands)
+    (record { super = opens.super; chosen = opens.chosen; repaired = refl }) opens.repaired now stands (rests-told _ _ state opens.repaired rests)
+
+pub returns-in-Err-clause-crashes : goal.returns-in-Err-clause-crashes
+returns-in-Err-clause-crashes g c = λ events after state told now stands.
+    let silent = c.refuse.ensures.silent (subst (TellsFailure c.in-Err.fault) stands.sound (c.in-Err.ensures.refused events told)) in
+    let outlives = c.open.ensures.crashes events told in
+    leaves-unopened state events after _ _ (outlives.crashes after state now stands) (λ image left. outlives.early after image now left) _ silent.1
+    c.refuse.result silent.0
 
 pub returns-in-Err-clause-unsound : goal.returns-in-Err-clause-unsound
 returns-in-Err-clause-unsound g c = λ events told image sound.
@@ -53,3 +70,6 @@ returns-in-Ok-clause-causes g c =
       sink = causes.sink;
       disk = λ is. let rose = causes.disk is in omega (arith, rose, c.open.ensures.cause.later);
     }
+
+pub returns-in-Err-clause-told : goal.returns-in-Err-clause-told
+returns-in-Err-clause-told g c = λ is. failure-put _ _ (c.refuse.ensures.told is)

@@ -1,6 +1,6 @@
 use Rattle.std.proofs.Common.{ℕ, List, ◌++◌, ap, ◌∙◌}
 use Rattle.qg_grammar.specs.FailureText.{broken_text}
-use Rattle.qg_verdict.specs.declared.failure.Failure.TheVariants.{Broken}
+use Rattle.qg_image.specs.declared.failure.Failure.TheVariants.{Broken}
 use Rattle.qg_program.proofs.session.end_of.Goals as goal
 
 pub returns-in-Image-clause-told : goal.returns-in-Image-clause-told

@@ -1,12 +1,13 @@
-use Rattle.std.proofs.Common.{Ok, Err, refl, ap, ◌∙◌, arith}
-use Rattle.qg_program.proofs.Answered.{answered-none, answered-more, answered-all, answered-failed, counted-none, counted-on, taken-by, taken-whole, within-none}
+use Rattle.std.proofs.Common.{Ok, Err, ap, ◌∙◌, arith}
+use Rattle.qg_program.proofs.Answered.{answered-none, answered-more, answered-all, answered-failed, counted-none, counted-on, pending-none, taken-by, taken-whole, within-none}
+use Rattle.qg_program.proofs.Left.{leaves-all, leaves-failed}
 use Rattle.qg_program.proofs.Replied.{failure-behind, replies-more, replies-none}
 use Rattle.qg_program.proofs.turn.answer_lines.Goals as goal
 
 pub loop-text-init : goal.loop-text-init
 loop-text-init g c = record {
   ready = c.requires.ready;
-  answered = λ state opened input stands known told. answered-none state input opened _ _ _ _ (rw (c.new-feed.ensures, told) refl) stands known;
+  answered = λ state opened stands known. answered-none state _ opened _ _ _ _ (rw c.new-feed.ensures (pending-none _)) stands known;
   stands = λ is. is;
   replied = replies-none _;
   counted = rw c.new-feed.ensures (counted-none _);
@@ -19,9 +20,9 @@ loop-text-init g c = record {
 pub loop-text-preserved : goal.loop-text-preserved
 loop-text-preserved g c = record {
   ready = rw c.in-Ok-true.is at c.turn.ensures.ready;
-  answered = λ state opened input stands known told.
-      let so_far = c.loop-text.invariant.answered state opened input stands known told in
-      answered-more _ so_far (rw c.in-Ok-true.field-0-test at c.in-Ok-true.ensures.ok so_far.present so_far.events so_far.left so_far.stands so_far.known so_far.told);
+  answered = λ state opened stands known.
+      let so_far = c.loop-text.invariant.answered state opened stands known in
+      answered-more _ so_far (rw c.in-Ok-true.field-0-test at c.in-Ok-true.ensures.ok so_far.present so_far.events so_far.stands so_far.known);
   stands = λ is. rw c.in-Ok-true.is at c.turn.ensures.stands (c.loop-text.invariant.stands is);
   replied = replies-more _ _ _ c.loop-text.invariant.replied (rw c.in-Ok-true.is at c.turn.ensures.puts.replied);
   counted = counted-on _ _ _ _ _ c.loop-text.invariant.counted c.turn.ensures.takes.counted;
@@ -33,9 +34,15 @@ loop-text-preserved g c = record {
 
 pub returns-in-Ok-false-clause-follows : goal.returns-in-Ok-false-clause-follows
 returns-in-Ok-false-clause-follows g c = λ state events opened input stands opens known told.
-    let so_far = c.loop-text.invariant.answered state opened input stands known told in
-    answered-all _ c.turn.new.session.store so_far opens
-    (rw c.in-Ok-false.field-0-test at c.in-Ok-false.ensures.ok so_far.present so_far.events so_far.left so_far.stands so_far.known so_far.told)
+    let so_far = c.loop-text.invariant.answered state opened stands known in
+    answered-all input _ c.turn.new.session.store so_far told opens
+    (rw c.in-Ok-false.field-0-test at c.in-Ok-false.ensures.ok so_far.present so_far.events so_far.stands so_far.known)
+
+pub returns-in-Ok-false-clause-crashes : goal.returns-in-Ok-false-clause-crashes
+returns-in-Ok-false-clause-crashes g c = λ state events opened after stands opens known now sound rests.
+    let so_far = c.loop-text.invariant.answered state opened stands known in
+    leaves-all _ c.turn.new.session.store so_far (record { opens = opens; stands = sound; rests = rests }) now
+    (rw c.in-Ok-false.field-0-test at c.in-Ok-false.ensures.ok so_far.present so_far.events so_far.stands so_far.known)
 
 pub returns-in-Ok-false-clause-takes : goal.returns-in-Ok-false-clause-takes
 returns-in-Ok-false-clause-takes g c =
@@ -52,11 +59,19 @@ returns-in-Ok-false-clause-causes g c = record {
 
 pub returns-in-Err-clause-follows : goal.returns-in-Err-clause-follows
 returns-in-Err-clause-follows g c = λ state events opened input stands opens known told.
-    let so_far = c.loop-text.invariant.answered state opened input stands known told in
+    let so_far = c.loop-text.invariant.answered state opened stands known in
     let counted = counted-on _ _ _ _ _ c.loop-text.invariant.counted c.turn.ensures.takes.counted in
-    answered-failed _ c.turn.new.feed _ c.turn.new.session.store _ _ so_far opens (record { counted = rw told at counted; within = c.turn.ensures.takes.within })
+    answered-failed _ input c.turn.new.feed _ c.turn.new.session.store _ _ so_far told opens (record { counted = rw told at counted; within = c.turn.ensures.takes.within })
     (λ is. c.turn.ensures.takes.too_long (c.in-Err.is ∙ ap Err is))
-    (c.in-Err.ensures.err so_far.present so_far.events so_far.left so_far.stands so_far.known so_far.told)
+    (c.in-Err.ensures.err so_far.present so_far.events so_far.stands so_far.known)
+
+pub returns-in-Err-clause-crashes : goal.returns-in-Err-clause-crashes
+returns-in-Err-clause-crashes g c = λ state events opened after stands opens known now sound rests.
+    let so_far = c.loop-text.invariant.answered state opened stands known in
+    let counted = counted-on _ _ _ _ _ c.loop-text.invariant.counted c.turn.ensures.takes.counted in
+    leaves-failed _ c.turn.new.feed _ c.turn.new.session.store so_far (record { opens = opens; stands = sound; rests = rests }) now counted
+    c.turn.ensures.takes.within (λ is. c.turn.ensures.takes.too_long (c.in-Err.is ∙ ap Err is))
+    (c.in-Err.ensures.err so_far.present so_far.events so_far.stands so_far.known)
 
 pub returns-in-Err-clause-takes : goal.returns-in-Err-clause-takes
 returns-in-Err-clause-takes g c =

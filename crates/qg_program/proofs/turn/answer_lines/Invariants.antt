@@ -1,21 +1,21 @@
-use Rattle.std.proofs.Common.{◌≡◌, ◌≤◌, List, ℕ, Some}
+use Rattle.std.proofs.Common.{◌≡◌, ◌≤◌, List, Some}
 use Rattle.qg_device.specs.History.{Event}
 use Rattle.qg_script.specs.Feeding.{IsWithinLimit, most_to_come}
 use Rattle.qg_script.specs.Lines.{CountsTaken, pending}
-use Rattle.qg_state.specs.State.{State}
-use Rattle.qg_store.specs.Stored.{IsStoreOf}
+use Rattle.qg_image.specs.State.{State}
+use Rattle.qg_store.specs.Stored.{IsReady, IsStoreOf}
 use Rattle.qg_program.specs.Putting.{PutsReplies}
-use Rattle.qg_program.specs.Turning.{IsReady, StandsOver}
+use Rattle.qg_program.specs.Turning.{StandsOver}
 use Rattle.qg_program.proofs.Answered.{HasAnswered}
 use Rattle.qg_program.proofs.turn.answer_lines.Given as goal
 
 abbrev pub invariant-loop-text : goal.invariant-loop-text
 invariant-loop-text g l = record {
   ready : IsReady l.session.store (g.D.Disk.history l.disk) (g.D.Disk.size l.disk);
-  answered : (state : State) (opened : List Event) (input : List ℕ) → IsStoreOf l.initial.session.store state (g.D.Disk.history l.initial.disk)
-      → g.D.Disk.history l.initial.disk ≡ Some opened → g.S.Source.bytes_left l.initial.source ≡ Some input
-      → HasAnswered state input opened (pending l.feed (g.S.Source.bytes_left l.source)) l.session.store (g.D.Disk.history l.disk)
-      (g.K.Sink.bytes_held l.initial.sink) (g.K.Sink.bytes_held l.sink);
+  answered : (state : State) (opened : List Event) → IsStoreOf l.initial.session.store state (g.D.Disk.history l.initial.disk)
+      → g.D.Disk.history l.initial.disk ≡ Some opened
+      → HasAnswered state (g.S.Source.bytes_left l.initial.source) opened (pending l.feed (g.S.Source.bytes_left l.source)) l.session.store
+      (g.D.Disk.history l.disk) (g.K.Sink.bytes_held l.initial.sink) (g.K.Sink.bytes_held l.sink);
   stands : StandsOver l.initial.session.store (g.D.Disk.history l.initial.disk) → StandsOver l.session.store (g.D.Disk.history l.disk);
   replied : PutsReplies (g.K.Sink.bytes_held l.initial.sink) (g.K.Sink.bytes_held l.sink);
   counted : CountsTaken (g.S.Source.bytes_left l.initial.source) (g.S.Source.bytes_left l.source) 0 l.feed.taken;

@@ -4,7 +4,7 @@ use Rattle.qg_num.specs.declared.rule.Rule.{Rule}
 use Rattle.qg_node.specs.Nodes.{is_ascending}
 use Rattle.qg_image.specs.declared.part.QuotaPart.{QuotaPart}
 use Rattle.qg_parts.specs.Keys.{quota_key}
-use Rattle.qg_verdict.specs.ImageState.{quota_told}
+use Rattle.qg_image.specs.ImageState.{quota_told}
 use Rattle.qg_quota.specs.Quota.{quota_rule, IfRule}
 use Rattle.qg_quota.proofs.RuleOrder.{parts-ascend, read-parts, rule-of-none, rule-of-parts}
 use Rattle.qg_quota.proofs.state.from_items.Goals as goal

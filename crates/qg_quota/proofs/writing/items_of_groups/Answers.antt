@@ -3,7 +3,7 @@ use Rattle.std.specs.Prelude.{All}
 use Rattle.std.proofs.lemmas.List.{append-nil, take_all}
 use Rattle.std.proofs.lemmas.List.Elements.{All-more, All-nil}
 use Rattle.qg_node.specs.declared.item.Item.{Item}
-use Rattle.qg_state.specs.declared.quota.Group.{Group}
+use Rattle.qg_image.specs.declared.quota.Group.{Group}
 use Rattle.qg_quota.specs.Writable.{CountersFit, LimitsFit}
 use Rattle.qg_quota.specs.Written.{item_of_info, item_of_limit, item_of_status}
 use Rattle.qg_quota.proofs.Items.{item-put}

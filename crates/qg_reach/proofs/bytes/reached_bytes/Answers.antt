@@ -2,7 +2,7 @@ use Rattle.std.proofs.Common.{length, ap, arith}
 use Rattle.std.proofs.Math.Nat.{mul-le-mul_left}
 use Rattle.std.proofs.lemmas.List.Sums.{sum_by_more_le}
 use Rattle.qg_super.proofs.Served.{SizesFit-is_served}
-use Rattle.qg_state.specs.declared.element.Element.{Element}
+use Rattle.qg_image.specs.declared.element.Element.{Element}
 use Rattle.qg_reach.proofs.SpaceRule.{bytes_fit}
 use Rattle.qg_reach.proofs.SlotRule.{slots_few}
 use Rattle.qg_reach.proofs.bytes.reached_bytes.Goals as goal

@@ -1,5 +1,5 @@
 use Rattle.std.proofs.Common.{◌≡◌, ◌+◌, ◌*◌, length, take}
-use Rattle.qg_state.specs.Counts.{bytes_of}
+use Rattle.qg_image.specs.Counts.{bytes_of}
 use Rattle.qg_reach.proofs.bytes.reached_bytes.Given as goal
 
 abbrev pub invariant-loop-extent : goal.invariant-loop-extent

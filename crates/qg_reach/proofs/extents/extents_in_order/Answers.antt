@@ -5,9 +5,9 @@ use Rattle.std.proofs.lemmas.Grind.{flat_map-append}
 use Rattle.std.proofs.lemmas.List.{drop_more, take-append-drop}
 use Rattle.qg_num.specs.declared.piece.Piece.{Piece}
 use Rattle.qg_image.specs.declared.file.File.{File}
-use Rattle.qg_state.specs.declared.element.Element.{Element}
-use Rattle.qg_state.specs.Reach.{extent_of}
-use Rattle.qg_verdict.specs.Verdict.{extent_set}
+use Rattle.qg_image.specs.declared.element.Element.{Element}
+use Rattle.qg_image.specs.Reach.{extent_of}
+use Rattle.qg_image.specs.Verdict.{extent_set}
 use Rattle.qg_reach.specs.Ascent.{do_ascend}
 use Rattle.qg_reach.proofs.Ascent.{ascend_broken-front}
 use Rattle.qg_reach.proofs.extents.extents_in_order.Goals as goal

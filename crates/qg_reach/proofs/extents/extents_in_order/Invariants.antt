@@ -1,7 +1,7 @@
 use Rattle.std.proofs.Common.{◌≡◌, true, map, take}
 use Rattle.std.specs.List.{flat_map}
-use Rattle.qg_state.specs.Reach.{extent_of}
-use Rattle.qg_verdict.specs.Verdict.{extent_set}
+use Rattle.qg_image.specs.Reach.{extent_of}
+use Rattle.qg_image.specs.Verdict.{extent_set}
 use Rattle.qg_reach.specs.Ascent.{do_ascend}
 use Rattle.qg_reach.proofs.extents.extents_in_order.Given as goal
 

@@ -1,5 +1,5 @@
 use Rattle.std.proofs.Common.{ap, ◌∙◌}
-use Rattle.qg_verdict.specs.Verdict.{extent_set}
+use Rattle.qg_image.specs.Verdict.{extent_set}
 use Rattle.qg_reach.proofs.Members.{same_moved, same_back}
 use Rattle.qg_reach.proofs.ExtentSets.{extent_set_of_same}
 use Rattle.qg_reach.proofs.extents.extents_of.Goals as goal

@@ -1,6 +1,6 @@
 use Rattle.std.proofs.Common.{◌≡◌, map, take}
 use Rattle.std.specs.List.{flat_map}
-use Rattle.qg_state.specs.Reach.{extent_of}
+use Rattle.qg_image.specs.Reach.{extent_of}
 use Rattle.qg_reach.proofs.extents.named_extents.Given as goal
 
 abbrev pub invariant-loop-file : goal.invariant-loop-file

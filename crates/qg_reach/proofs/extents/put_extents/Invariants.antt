@@ -1,5 +1,5 @@
 use Rattle.std.proofs.Common.{◌≡◌, ◌++◌, map, take}
-use Rattle.qg_state.specs.Reach.{extent_of}
+use Rattle.qg_image.specs.Reach.{extent_of}
 use Rattle.qg_reach.proofs.extents.put_extents.Given as goal
 
 abbrev pub invariant-loop-piece : goal.invariant-loop-piece

@@ -1,7 +1,7 @@
 use Rattle.std.proofs.Common.{◌≡◌, ◌+◌, false, List, ◌++◌, map, take, drop, sym, ap, ◌∙◌}
-use Rattle.qg_state.specs.declared.element.Element.{Element}
-use Rattle.qg_state.specs.Reach.{extent_of}
-use Rattle.qg_verdict.specs.Verdict.{extent_set}
+use Rattle.qg_image.specs.declared.element.Element.{Element}
+use Rattle.qg_image.specs.Reach.{extent_of}
+use Rattle.qg_image.specs.Verdict.{extent_set}
 use Rattle.qg_reach.specs.Ascent.{comes_last, do_ascend}
 use Rattle.qg_reach.proofs.Ascent.{ascend_broken, ascend_more, named_all, named_more}
 use Rattle.qg_reach.proofs.extents.put_in_order.Goals as goal

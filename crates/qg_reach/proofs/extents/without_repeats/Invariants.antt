@@ -1,5 +1,5 @@
 use Rattle.std.proofs.Common.{◌≡◌, take}
-use Rattle.qg_verdict.specs.Verdict.{extent_set}
+use Rattle.qg_image.specs.Verdict.{extent_set}
 use Rattle.qg_reach.proofs.extents.without_repeats.Given as goal
 
 abbrev pub invariant-loop-i : goal.invariant-loop-i

@@ -1,6 +1,6 @@
 use Rattle.std.proofs.Common.{◌≡◌, false, get_or, ap, sym, subst, ◌∙◌, arith}
 use Rattle.std.proofs.lemmas.List.{get_or_default}
-use Rattle.qg_state.specs.Record.{same_reference}
+use Rattle.qg_image.specs.Record.{same_reference}
 use Rattle.qg_refs.specs.declared.counted.Counted.{Counted}
 use Rattle.qg_refs.proofs.RankOrder.{same_reference_is}
 use Rattle.qg_refs.proofs.Counting.{count-found, count-missing}

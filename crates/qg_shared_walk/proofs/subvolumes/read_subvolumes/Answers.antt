@@ -3,8 +3,8 @@ use Rattle.std.specs.List.{Contains}
 use Rattle.std.proofs.lemmas.Result.{err_from_is_err_and}
 use Rattle.qg_device.specs.History.{content}
 use Rattle.qg_items.specs.declared.root.RootItem.{RootItem}
-use Rattle.qg_state.proofs.Contained.{none_contained}
-use Rattle.qg_verdict.specs.Verdict.{subvolume_failure}
+use Rattle.qg_image.proofs.Contained.{none_contained}
+use Rattle.qg_image.specs.Verdict.{subvolume_failure}
 use Rattle.qg_shared_walk.specs.Found.{HasTrees}
 use Rattle.qg_shared_walk.proofs.Remembered.{nothing_remembered}
 use Rattle.qg_shared_walk.proofs.Whole.{all_found, all_taken, no_trees, none_failed, of_more, one_more_tree, one_taken, one_tells}

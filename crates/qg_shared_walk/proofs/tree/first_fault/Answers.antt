@@ -1,6 +1,6 @@
 use Rattle.qg_device.specs.History.{content}
-use Rattle.qg_verdict.specs.declared.tree.Tree.TheVariants.{Files}
-use Rattle.qg_verdict.specs.Walk.{tree_failure}
+use Rattle.qg_image.specs.declared.tree.Tree.TheVariants.{Files}
+use Rattle.qg_image.specs.Walk.{tree_failure}
 use Rattle.qg_shared_walk.proofs.Whole.{known_tells}
 use Rattle.qg_shared_walk.proofs.tree.first_fault.Goals as goal
 

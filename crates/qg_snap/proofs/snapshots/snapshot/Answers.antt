@@ -4,7 +4,7 @@ use Rattle.qg_device.specs.History.{Event}
 use Rattle.qg_node.specs.declared.node.Node.{Node}
 use Rattle.qg_node.specs.Nodes.{header_of}
 use Rattle.qg_node.specs.NodeText.{IsNode}
-use Rattle.qg_state.specs.Owed.{Owing}
+use Rattle.qg_image.specs.Owed.{Owing}
 use Rattle.qg_cow.specs.Children.{keyed_children}
 use Rattle.qg_ground.specs.declared.ground.Ground.{Ground}
 use Rattle.qg_ground.specs.Land.{IsDrafted}

@@ -1,7 +1,7 @@
 use Rattle.std.proofs.Common.{◌≡◌, suc, ◌-◌, take, ap, arith}
 use Rattle.qg_super.specs.Places.{data_begin}
 use Rattle.qg_super.proofs.Served.{SizesFit-is_served}
-use Rattle.qg_state.specs.declared.element.Element.{Element}
+use Rattle.qg_image.specs.declared.element.Element.{Element}
 use Rattle.qg_space.specs.Run.{Run}
 use Rattle.qg_space.specs.Lying.{extents_of, end_of, end_of_last}
 use Rattle.qg_space.proofs.Fronts.{whole_at, end_taken}

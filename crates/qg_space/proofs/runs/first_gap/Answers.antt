@@ -2,7 +2,7 @@ use Rattle.std.proofs.Common.{◌≡◌, ◌+◌, ℕ, List, drop, ◌∙◌, sy
 use Rattle.std.proofs.lemmas.List.{take_rest}
 use Rattle.qg_super.proofs.Served.{SizesFit-is_served}
 use Rattle.qg_super.proofs.Runs.{WholeRun-is_run}
-use Rattle.qg_state.specs.declared.element.Element.{Element}
+use Rattle.qg_image.specs.declared.element.Element.{Element}
 use Rattle.qg_space.specs.Run.{Run}
 use Rattle.qg_space.specs.Lying.{end_of}
 use Rattle.qg_space.proofs.Gaps.{ArePassed, front_passed, one_more_passed, passed_at, passed_all, first_before, first_at_end, none_at_end}

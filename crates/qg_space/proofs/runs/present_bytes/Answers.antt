@@ -3,7 +3,7 @@ use Rattle.std.specs.List.{sum_by}
 use Rattle.std.proofs.lemmas.List.{take_all}
 use Rattle.std.proofs.lemmas.List.Sums.{sum_by_more, sum_by_more_le}
 use Rattle.qg_super.proofs.Served.{SizesFit-is_served}
-use Rattle.qg_state.specs.declared.element.Element.{Element}
+use Rattle.qg_image.specs.declared.element.Element.{Element}
 use Rattle.qg_space.proofs.Taken.{bytes_if_present, bytes_of_present, bytes_within}
 use Rattle.qg_space.proofs.runs.present_bytes.Goals as goal
 use Rattle.qg_space.proofs.runs.present_bytes.Goals.{then-is_present, else-is_present}

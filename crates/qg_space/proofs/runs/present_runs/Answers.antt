@@ -1,5 +1,5 @@
 use Rattle.std.proofs.Common.{◌++◌, ◌∷◌, [], sym, ap, ◌∙◌}
-use Rattle.qg_state.specs.declared.element.Element.{Element}
+use Rattle.qg_image.specs.declared.element.Element.{Element}
 use Rattle.qg_space.proofs.Taken.{present-less, present-more}
 use Rattle.qg_space.proofs.runs.present_runs.Goals as goal
 use Rattle.qg_space.proofs.runs.present_runs.Goals.{then-is_present+in_ok-push, else-is_present}

@@ -5,8 +5,8 @@ use Rattle.qg_device.specs.History.{Event}
 use Rattle.qg_items.specs.declared.tree.TheConstants.{TOP_LEVEL}
 use Rattle.qg_super.specs.Places.{capacity}
 use Rattle.qg_image.specs.Table.{has_key, keys_of}
-use Rattle.qg_state.specs.State.{State, has_subvolume}
-use Rattle.qg_state.proofs.Contained.{contains_later}
+use Rattle.qg_image.specs.State.{State, has_subvolume}
+use Rattle.qg_image.proofs.Contained.{contains_later}
 use Rattle.qg_machine.specs.Refusals.{nodes_reached}
 use Rattle.qg_machine.specs.Step.{deleted}
 use Rattle.qg_refs.specs.Book.{what_in}

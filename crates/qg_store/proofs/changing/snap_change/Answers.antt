@@ -3,7 +3,7 @@ use Rattle.std.specs.Prelude.{IfSome}
 use Rattle.qg_device.specs.History.{Event}
 use Rattle.qg_super.specs.Places.{capacity}
 use Rattle.qg_image.specs.Table.{has_key, with_value}
-use Rattle.qg_state.specs.State.{State, has_subvolume}
+use Rattle.qg_image.specs.State.{State, has_subvolume}
 use Rattle.qg_machine.specs.Step.{Snapshots}
 use Rattle.qg_extents.specs.Table.{IsTable}
 use Rattle.qg_ground.specs.declared.ground.Ground.{Ground}

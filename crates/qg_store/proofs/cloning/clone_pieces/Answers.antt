@@ -1,5 +1,5 @@
 use Rattle.std.proofs.Common.{◌+◌, ◌*◌, ◌<◌, ◌∙◌, ◌≤◌, ℕ, subst, sym}
-use Rattle.qg_state.specs.Need.{file_copies}
+use Rattle.qg_image.specs.Need.{file_copies}
 use Rattle.qg_space.specs.Holding.{free_slots}
 use Rattle.qg_inodes.proofs.PiecesRead.{handed}
 use Rattle.qg_inodes.proofs.Whole.{handed-sound}

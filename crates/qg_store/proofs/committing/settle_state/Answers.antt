@@ -1,5 +1,5 @@
 use Rattle.std.proofs.Common.{Option, Some, sym, ap, subst, ◌∙◌}
-use Rattle.qg_state.specs.declared.quota.Quota.{Quota}
+use Rattle.qg_image.specs.declared.quota.Quota.{Quota}
 use Rattle.qg_groups.specs.Tracked.{SameButCounts}
 use Rattle.qg_store.proofs.committing.settle_state.Goals as goal
 

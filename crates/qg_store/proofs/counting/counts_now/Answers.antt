@@ -1,7 +1,7 @@
 use Rattle.std.proofs.Common.{List, Option, length, ap, ◌∙◌}
 use Rattle.qg_num.specs.declared.counters.Counters.{Counters}
 use Rattle.qg_groups.specs.Changing.{groups_in}
-use Rattle.qg_state.specs.declared.quota.Quota.{Quota}
+use Rattle.qg_image.specs.declared.quota.Quota.{Quota}
 use Rattle.qg_inodes.proofs.PiecesRead.{handed}
 use Rattle.qg_inodes.proofs.Whole.{handed-sound}
 use Rattle.qg_store.proofs.Cleaned.{nothing-surveyed, surveyed-keeps}

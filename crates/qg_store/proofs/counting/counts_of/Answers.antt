@@ -1,9 +1,9 @@
 use Rattle.std.proofs.Common.{ℕ, ◌+◌, ◌*◌, ◌<◌, ◌^◌, List, map, length, refl, sym, ap, subst, ◌∙◌}
 use Rattle.std.proofs.lemmas.Result.{IfOk-weaker}
 use Rattle.qg_num.specs.declared.counters.Counters.{Counters}
-use Rattle.qg_state.specs.declared.element.Element.{Element}
-use Rattle.qg_state.specs.Counts.{bytes_of}
-use Rattle.qg_state.specs.State.{layout_of}
+use Rattle.qg_image.specs.declared.element.Element.{Element}
+use Rattle.qg_image.specs.Counts.{bytes_of}
+use Rattle.qg_image.specs.State.{layout_of}
 use Rattle.qg_extents.specs.Table.{IsTable}
 use Rattle.qg_refs.specs.declared.kept.Kept.{Kept as Reference}
 use Rattle.qg_store.specs.Planning.{root_of_tree}

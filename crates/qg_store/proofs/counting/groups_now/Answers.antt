@@ -2,7 +2,7 @@ use Rattle.std.proofs.Common.{◌≡◌, ℕ, List, ◌∷◌, [], ◌++◌, get
 use Rattle.std.proofs.lemmas.List.{map_more, take_all}
 use Rattle.qg_num.specs.declared.counters.Counters.{Counters}
 use Rattle.qg_image.specs.Table.{keys_of}
-use Rattle.qg_state.specs.declared.quota.Group.{Group}
+use Rattle.qg_image.specs.declared.quota.Group.{Group}
 use Rattle.qg_fs_laws.specs.Keeping.{group_after}
 use Rattle.qg_store.specs.Planning.{counters_by}
 use Rattle.qg_store.proofs.GroupCounts.{count-at}

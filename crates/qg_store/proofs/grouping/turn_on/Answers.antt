@@ -3,7 +3,7 @@ use Rattle.std.specs.List.Sorted.{IsStrictlySortedBy}
 use Rattle.std.specs.Ordering.{nat_cmp}
 use Rattle.std.proofs.lemmas.Map.Keys.{sorted_from_strictly_increasing}
 use Rattle.qg_image.specs.Table.{keys_of}
-use Rattle.qg_state.specs.declared.quota.Quota.{Quota}
+use Rattle.qg_image.specs.declared.quota.Quota.{Quota}
 use Rattle.qg_machine.specs.GroupChange.{quota_for}
 use Rattle.qg_store.proofs.grouping.turn_on.Goals as goal
 

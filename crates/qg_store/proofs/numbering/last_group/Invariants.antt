@@ -2,7 +2,7 @@ use Rattle.std.proofs.Common.{◌≡◌, ◌<◌, ◌≤◌, ◌^◌, take}
 use Rattle.std.specs.Prelude.{◌==◌, max}
 use Rattle.std.specs.List.{filter, fold}
 use Rattle.qg_image.specs.Table.{keys_of}
-use Rattle.qg_state.specs.Members.{level_of_group}
+use Rattle.qg_image.specs.Members.{level_of_group}
 use Rattle.qg_store.proofs.numbering.last_group.Given as goal
 
 abbrev pub invariant-loop-group : goal.invariant-loop-group

@@ -4,8 +4,8 @@ use Rattle.std.specs.List.{Contains}
 use Rattle.qg_num.specs.declared.counters.Counters.{Counters}
 use Rattle.qg_items.specs.declared.root.RootItem.{RootItem}
 use Rattle.qg_image.specs.Table.{keys_of}
-use Rattle.qg_state.specs.declared.quota.Quota.{Quota}
-use Rattle.qg_state.specs.Members.{level_of_group}
+use Rattle.qg_image.specs.declared.quota.Quota.{Quota}
+use Rattle.qg_image.specs.Members.{level_of_group}
 use Rattle.qg_refs.specs.declared.kept.Kept.{Kept as Reference}
 use Rattle.qg_extents.specs.Table.{IsTable}
 use Rattle.qg_space.specs.Holding.{free_slots}

@@ -1,7 +1,7 @@
 use Rattle.std.proofs.Common.{◌≡◌, ◌+◌, ◌*◌, ◌<◌, ◌∙◌, ◌≤◌, ℕ, List, ap, arith, length, subst, sym, true}
 use Rattle.qg_num.specs.declared.piece.Piece.{Piece}
 use Rattle.qg_num.specs.declared.refusal.Refusal.TheVariants as why
-use Rattle.qg_state.specs.Need.{file_copies}
+use Rattle.qg_image.specs.Need.{file_copies}
 use Rattle.qg_machine.specs.FileChange.{pieces_meeting}
 use Rattle.qg_groups.specs.OnOrOff.{path_in, refusal_in}
 use Rattle.qg_groups.specs.Tracked.{quota_of}

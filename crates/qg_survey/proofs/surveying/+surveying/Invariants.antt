@@ -1,5 +1,5 @@
 use Rattle.std.proofs.Common.{◌≡◌, ℕ, ◌+◌, ◌*◌, ◌-◌, ◌≤◌, All, Some, length}
-use Rattle.qg_state.specs.State.{State}
+use Rattle.qg_image.specs.State.{State}
 use Rattle.qg_extents.specs.Table.{book_of}
 use Rattle.qg_descent.specs.Way.{HasRead, IsReadable}
 use Rattle.qg_drop.specs.Counting.{LeadsToBranch, TellsNodes}

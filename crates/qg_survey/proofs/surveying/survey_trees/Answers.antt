@@ -1,8 +1,8 @@
 use Rattle.std.proofs.Common.{◌≡◌, ℕ, ◌+◌, ◌≤◌, List, Some, arith, refl, sym, ap, subst, ◌∙◌}
 use Rattle.std.specs.List.{All}
 use Rattle.std.proofs.lemmas.List.Elements.{All-tail}
-use Rattle.qg_state.specs.State.{next_generation}
-use Rattle.qg_verdict.specs.declared.expected.Expected.{Expected}
+use Rattle.qg_image.specs.State.{next_generation}
+use Rattle.qg_image.specs.declared.expected.Expected.{Expected}
 use Rattle.qg_descent.specs.Tree.{Root}
 use Rattle.qg_drop.proofs.Counted.{read-on, tells-read}
 use Rattle.qg_drop.proofs.Resting.{unbroken-handed}

@@ -1,5 +1,5 @@
 use Rattle.std.proofs.Common.{◌≡◌, ℕ, ◌+◌, ◌≤◌, All, Some, length}
-use Rattle.qg_state.specs.State.{State, next_generation}
+use Rattle.qg_image.specs.State.{State, next_generation}
 use Rattle.qg_extents.specs.Table.{book_of}
 use Rattle.qg_descent.specs.Tree.{Root}
 use Rattle.qg_descent.specs.Way.{HasRead, IsReadable}

@@ -1,14 +1,16 @@
-use Rattle.std.proofs.Common.{◌≡◌, ℕ, inr, length, subst, sym, ap, ◌∙◌}
+use Rattle.std.proofs.Common.{◌≡◌, ◌∷◌, ℕ, inl, inr, length, refl, subst, sym, ap, ◌∙◌}
 use Rattle.std.specs.Prelude.{All}
 use Rattle.std.specs.List.{AllByRecursion}
 use Rattle.std.specs.List.Sorted.{IsStrictlySortedBy}
 use Rattle.std.specs.Ordering.{nat_cmp}
+use Rattle.qg_device.specs.History.{Synced}
 use Rattle.qg_node.specs.NodeText.{IsNodeSize}
 use Rattle.qg_super.specs.declared.superblock.Super.{Super}
 use Rattle.qg_super.proofs.Served.{SizesFit-is_served}
 use Rattle.qg_commit.specs.Calls.{IsReadBack, IsWritable}
 use Rattle.qg_tree_commit.specs.Writing.{fresh_nodes, nodes_written}
 use Rattle.qg_tree_commit.proofs.AllNodes.{written-writable}
+use Rattle.qg_tree_commit.proofs.Crashing.{leaves_trees, left_alone}
 use Rattle.qg_tree_commit.proofs.Laying.{each-slot, listed-IsLaying}
 use Rattle.qg_tree_commit.proofs.committing.commit.Goals as goal
 
@@ -76,3 +78,44 @@ returns-clause-stopped g c = λ events told. inr (record {
       c.in_ok-addresses.ensures.addresses c.in_ok-addresses.ensures.ascending;
   made = c.write_all.ensures.front events told;
 })
+
+-- ---- crashes
+
+pub returns-in_err-trees-clause-crashes : goal.returns-in_err-trees-clause-crashes
+returns-in_err-trees-clause-crashes g c = λ before after state told now found. inl (left_alone before after _ _ told refl now)
+
+pub returns-in_err-addresses-clause-crashes : goal.returns-in_err-addresses-clause-crashes
+returns-in_err-addresses-clause-crashes g c = λ before after state told now found. inl (left_alone before after _ _ told refl now)
+
+pub returns-in_err-buffer-clause-crashes : goal.returns-in_err-buffer-clause-crashes
+returns-in_err-buffer-clause-crashes g c = λ before after state told now found. inl (left_alone before after _ _ told refl now)
+
+pub returns-in-Ok-clause-crashes : goal.returns-in-Ok-clause-crashes
+returns-in-Ok-clause-crashes g c = λ before after state told now found.
+    let laying = listed-IsLaying c.args.sizes c.args.next c.args.told.now c.args.slots.now c.args.blocks.now.draft
+    c.in_ok-trees.trees c.in_ok-addresses.addresses c.in_ok-trees.ensures.superblock c.in_ok-trees.ensures.trees
+    c.in_ok-addresses.ensures.addresses c.in_ok-addresses.ensures.ascending in
+    let slots = each-slot c.args.sizes c.args.slots.now c.requires.slots in
+    inr (leaves_trees c.args.sizes c.args.next c.args.told.now c.args.slots.now c.args.blocks.now.draft
+    c.in_ok-trees.trees laying c.requires.fresh slots state before after _ found
+    (c.write_all.ensures.front (Synced ∷ before) told) now)
+
+pub returns-in-Err-Failed-clause-crashes : goal.returns-in-Err-Failed-clause-crashes
+returns-in-Err-Failed-clause-crashes g c = λ before after state told now found.
+    let laying = listed-IsLaying c.args.sizes c.args.next c.args.told.now c.args.slots.now c.args.blocks.now.draft
+    c.in_ok-trees.trees c.in_ok-addresses.addresses c.in_ok-trees.ensures.superblock c.in_ok-trees.ensures.trees
+    c.in_ok-addresses.ensures.addresses c.in_ok-addresses.ensures.ascending in
+    let slots = each-slot c.args.sizes c.args.slots.now c.requires.slots in
+    inr (leaves_trees c.args.sizes c.args.next c.args.told.now c.args.slots.now c.args.blocks.now.draft
+    c.in_ok-trees.trees laying c.requires.fresh slots state before after _ found
+    (c.write_all.ensures.front (Synced ∷ before) told) now)
+
+pub returns-clause-crashes : goal.returns-clause-crashes
+returns-clause-crashes g c = λ before after state told now found.
+    let laying = listed-IsLaying c.args.sizes c.args.next c.args.told.now c.args.slots.now c.args.blocks.now.draft
+    c.in_ok-trees.trees c.in_ok-addresses.addresses c.in_ok-trees.ensures.superblock c.in_ok-trees.ensures.trees
+    c.in_ok-addresses.ensures.addresses c.in_ok-addresses.ensures.ascending in
+    let slots = each-slot c.args.sizes c.args.slots.now c.requires.slots in
+    inr (leaves_trees c.args.sizes c.args.next c.args.told.now c.args.slots.now c.args.blocks.now.draft
+    c.in_ok-trees.trees laying c.requires.fresh slots state before after _ found
+    (c.write_all.ensures.front (Synced ∷ before) told) now)

@@ -1,6 +1,6 @@
 use Rattle.std.proofs.Common.{List, ap, ◌∙◌, ◌++◌}
 use Rattle.std.proofs.lemmas.Result.{on_ok_weaker}
-use Rattle.qg_state.specs.Owed.{Owing}
+use Rattle.qg_image.specs.Owed.{Owing}
 use Rattle.qg_owed.specs.Told.{owings_told}
 use Rattle.qg_node.specs.declared.node.Header.{Header}
 use Rattle.qg_tree_refs.proofs.Keyed.{keyed-under}

@@ -1,5 +1,5 @@
 use Rattle.std.proofs.Common.{List, ap, arith, subst, sym, ◌∙◌}
-use Rattle.qg_state.specs.Owed.{Owing}
+use Rattle.qg_image.specs.Owed.{Owing}
 use Rattle.qg_owed.specs.Told.{owings_told}
 use Rattle.qg_owed.specs.declared.owing.Owing.{Owing as Listed}
 use Rattle.qg_extents.specs.Table.{book_of}

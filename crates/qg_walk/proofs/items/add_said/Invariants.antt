@@ -1,6 +1,6 @@
 use Rattle.std.proofs.Common.{◌≡◌, true, take}
 use Rattle.std.specs.List.{list_all}
-use Rattle.qg_verdict.specs.Walk.{is_item_of}
+use Rattle.qg_image.specs.Walk.{is_item_of}
 use Rattle.qg_walk.specs.Added.{AddsSaid}
 use Rattle.qg_walk.proofs.items.add_said.Given as goal
 

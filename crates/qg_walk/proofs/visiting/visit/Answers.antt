@@ -1,6 +1,6 @@
 use Rattle.std.proofs.Common.{◌≡◌, Some, sym, ◌∙◌}
 use Rattle.qg_device.specs.History.{content}
-use Rattle.qg_verdict.specs.Walk.{node_found}
+use Rattle.qg_image.specs.Walk.{node_found}
 use Rattle.qg_walk.specs.declared.fault.OpenFault.TheVariants.{Disk}
 use Rattle.qg_walk.specs.Standing.{standing_failure}
 use Rattle.qg_walk.proofs.Failures.{TellsFailure-of, told-no_disk}

@@ -1,7 +1,7 @@
 use Rattle.std.proofs.Common.{◌≡◌, ℕ, ◌≤◌, ◌+◌, ◌-◌, List, ◌*◌, ◌<◌, ◌∷◌, Some, None, map, arith, refl, sym, ◌∙◌}
 use Rattle.std.proofs.lemmas.Result.{err_from_is_err_and, on_ok_weaker}
 use Rattle.qg_device.specs.History.{Event, content}
-use Rattle.qg_verdict.specs.Walk.{next_key, node_failure, node_found, walk_failure}
+use Rattle.qg_image.specs.Walk.{next_key, node_failure, node_found, walk_failure}
 use Rattle.qg_node.specs.declared.node.Node.TheVariants.{Inner}
 use Rattle.qg_walk.specs.Standing.{expected_below}
 use Rattle.qg_walk.specs.Added.{AreSpaced, HasAdded, below_node, found_by}

@@ -1,6 +1,6 @@
 use Rattle.std.proofs.Common.{◌≡◌, ℕ, ◌+◌, ◌*◌, ◌≤◌, List, length, Some}
 use Rattle.qg_device.specs.History.{Event, content}
-use Rattle.qg_verdict.specs.Walk.{node_failure, node_found, pointers_failure, walk_failure}
+use Rattle.qg_image.specs.Walk.{node_failure, node_found, pointers_failure, walk_failure}
 use Rattle.qg_walk.specs.Added.{AreSpaced, found_by}
 use Rattle.qg_walk.proofs.Failures.{height}
 use Rattle.qg_walk.proofs.Growth.{HasPassed}

@@ -7,8 +7,8 @@ use Rattle.qg_node.specs.Fits.{ItemFits}
 use Rattle.qg_node.specs.Nodes.{is_ascending}
 use Rattle.qg_image.specs.declared.part.ExtentPart.{ExtentPart}
 use Rattle.qg_image.specs.ItemMeaning.{extent_part}
-use Rattle.qg_verdict.specs.declared.tree.Tree.TheVariants.{Extents}
-use Rattle.qg_verdict.specs.Walk.{is_item_of}
+use Rattle.qg_image.specs.declared.tree.Tree.TheVariants.{Extents}
+use Rattle.qg_image.specs.Walk.{is_item_of}
 use Rattle.qg_refs.specs.declared.kept.Kept.{Kept}
 use Rattle.qg_extents.specs.Written.{parts_of_book}
 use Rattle.qg_extents.proofs.ItemsAscend.{book-ascending}

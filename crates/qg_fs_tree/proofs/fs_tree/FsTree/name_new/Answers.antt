@@ -3,7 +3,7 @@ use Rattle.std.specs.Prelude.{◌++◌, IsTrue, List, length}
 use Rattle.std.proofs.lemmas.Bool.{true≢false}
 use Rattle.qg_items.specs.declared.extent.Reference.{Reference}
 use Rattle.qg_super.specs.Places.{sector}
-use Rattle.qg_state.specs.declared.element.Element.{Element}
+use Rattle.qg_image.specs.declared.element.Element.{Element}
 use Rattle.qg_refs.specs.declared.kept.Kept.{Kept}
 use Rattle.qg_refs.specs.declared.kept.What.{What}
 use Rattle.qg_refs.specs.Book.{Adds, full_in, references_at}

@@ -2,7 +2,7 @@ use Rattle.std.proofs.Common.{◌≡◌, ℕ, arith, refl, sym, ap, subst, ◌�
 use Rattle.std.specs.Prelude.{List, length, nat_lt}
 use Rattle.std.proofs.lemmas.Bool.{lt-ltb, true≢false}
 use Rattle.qg_items.specs.declared.extent.Reference.{Reference}
-use Rattle.qg_state.specs.declared.element.Element.{Element}
+use Rattle.qg_image.specs.declared.element.Element.{Element}
 use Rattle.qg_refs.specs.declared.kept.Kept.{Kept}
 use Rattle.qg_refs.specs.Book.{Drops, count_at, full_in, references_at}
 use Rattle.qg_space.specs.Holding.{Holding, free_slots, without_run}

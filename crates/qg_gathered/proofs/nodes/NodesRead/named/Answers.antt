@@ -1,6 +1,6 @@
 use Rattle.std.proofs.Common.{◌≡◌, ◌≤◌, ◌<◌, ◌++◌, List, arith, length, get_or, ap, sym, subst, ◌∙◌}
 use Rattle.std.proofs.lemmas.List.{take_all}
-use Rattle.qg_state.specs.declared.element.Element.{Element}
+use Rattle.qg_image.specs.declared.element.Element.{Element}
 use Rattle.qg_gathered.specs.declared.nodes.NodeRead.{NodeRead}
 use Rattle.qg_gathered.proofs.Naming.{extents_told, one_more_read}
 use Rattle.qg_gathered.proofs.nodes.NodesRead.named.Goals as goal

@@ -1,6 +1,6 @@
-use Rattle.qg_generator.proofs.InGrammar.{drawn-fits}
+use Rattle.qg_generator.proofs.InGrammar.{drawn-line}
 use Rattle.qg_generator.proofs.generator.Generator.next.Goals as goal
 
-pub returns-clause-in_grammar : goal.returns-clause-in_grammar
-returns-clause-in_grammar c =
-    drawn-fits c.self.inside.draws c.line-command.new.self c.line-command.result c.line-command.ensures
+pub returns-clause-line : goal.returns-clause-line
+returns-clause-line c =
+    drawn-line c.self.inside.draws c.line-command.new.self c.line-command.result c.line-command.ensures

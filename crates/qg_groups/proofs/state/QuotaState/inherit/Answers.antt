@@ -1,6 +1,6 @@
 use Rattle.std.proofs.Common.{◌≡◌, ℕ, ap, sym, subst, ◌∙◌}
-use Rattle.qg_state.specs.declared.quota.Quota.{Quota}
-use Rattle.qg_state.specs.Members.{hierarchy_of, level_of_group}
+use Rattle.qg_image.specs.declared.quota.Quota.{Quota}
+use Rattle.qg_image.specs.Members.{hierarchy_of, level_of_group}
 use Rattle.qg_hier.specs.Faults.{create_fault}
 use Rattle.qg_groups.specs.Changing.{CanJoin}
 use Rattle.qg_groups.proofs.Pairs.{can-join}

@@ -1,7 +1,7 @@
 use Rattle.std.proofs.Common.{◌≡◌, ℕ, List, ap, ◌∙◌}
 use Rattle.qg_num.specs.declared.counters.Counters.{Counters}
-use Rattle.qg_state.specs.declared.quota.Group.{Group}
-use Rattle.qg_state.specs.Members.{Hierarchy}
+use Rattle.qg_image.specs.declared.quota.Group.{Group}
+use Rattle.qg_image.specs.Members.{Hierarchy}
 use Rattle.qg_hier.specs.Groups.{groups_above}
 use Rattle.qg_limits.specs.Limit.{first_over_of}
 use Rattle.qg_groups.specs.Judging.{counted_path}

@@ -1,6 +1,6 @@
 use Rattle.std.proofs.Common.{ℕ, List, refl, ap, sym, ◌∙◌}
 use Rattle.qg_image.specs.Table.{value_at, with_value}
-use Rattle.qg_state.specs.declared.quota.Group.{Group}
+use Rattle.qg_image.specs.declared.quota.Group.{Group}
 use Rattle.qg_groups.specs.declared.state.QuotaState.{QuotaState}
 use Rattle.qg_groups.proofs.Agreed.{ok-then, tracked-limited}
 use Rattle.qg_groups.proofs.state.QuotaState.limit.Goals as goal

@@ -1,6 +1,6 @@
 use Rattle.std.proofs.Common.{sym, subst}
-use Rattle.qg_state.specs.declared.quota.Quota.{Quota}
-use Rattle.qg_state.specs.Members.{hierarchy_of}
+use Rattle.qg_image.specs.declared.quota.Quota.{Quota}
+use Rattle.qg_image.specs.Members.{hierarchy_of}
 use Rattle.qg_hier.specs.Groups.{IsSound}
 use Rattle.qg_image.specs.Table.{keys_of}
 use Rattle.qg_groups.proofs.Agreed.{quota-by, sound-alone}

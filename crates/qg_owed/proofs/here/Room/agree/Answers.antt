@@ -1,7 +1,7 @@
 use Rattle.std.proofs.Common.{Bool, refl, sym, ap, subst, ◌∙◌}
 use Rattle.std.specs.Prelude.{◌&&◌}
 use Rattle.std.specs.List.Sorted.{IsPermutation}
-use Rattle.qg_state.specs.Owed.{are_references}
+use Rattle.qg_image.specs.Owed.{are_references}
 use Rattle.qg_owed.specs.Judged.{what_of, counts_told}
 use Rattle.qg_owed.proofs.OneAddress.{agree_by}
 use Rattle.qg_owed.proofs.here.Room.agree.Goals as goal

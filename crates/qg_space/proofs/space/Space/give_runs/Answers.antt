@@ -1,6 +1,6 @@
 use Rattle.std.proofs.Common.{List, subst, sym, ap}
 use Rattle.std.specs.List.{All, Contains}
-use Rattle.qg_state.specs.declared.element.Element.{Element}
+use Rattle.qg_image.specs.declared.element.Element.{Element}
 use Rattle.qg_space.specs.Holding.{Holding}
 use Rattle.qg_space.proofs.space.Space.give_runs.Goals as goal
 

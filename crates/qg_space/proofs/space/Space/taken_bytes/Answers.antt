@@ -1,6 +1,6 @@
 use Rattle.std.proofs.Common.{◌≤◌, ◌*◌, List, sym, ap, subst, ◌∙◌}
 use Rattle.qg_super.specs.Places.{data_begin, sector}
-use Rattle.qg_state.specs.Counts.{bytes_of}
+use Rattle.qg_image.specs.Counts.{bytes_of}
 use Rattle.qg_space.specs.Run.{Run}
 use Rattle.qg_space.specs.Holding.{AscendApart, Holding}
 use Rattle.qg_space.specs.Lying.{present_of, LieApart}

@@ -1,4 +1,4 @@
-use Rattle.std.proofs.Common.{◌≡◌, ◌∙◌, ◌<◌, List, None, Option, false, true, ap, refl, subst, sym}
+use Rattle.std.proofs.Common.{◌≡◌, ◌∙◌, ◌<◌, inl, List, None, Option, false, true, ap, refl, subst, sym}
 use Rattle.std.specs.Prelude.{Err}
 use Rattle.qg_device.specs.History.{Event}
 use Rattle.qg_num.specs.Fault.{stop_of}
@@ -7,11 +7,12 @@ use Rattle.qg_num.specs.declared.command.Command.{Command}
 use Rattle.qg_num.specs.declared.command.Command.TheVariants.{Commit}
 use Rattle.qg_num.specs.declared.fault.BlockFault.{BlockFault}
 use Rattle.qg_num.specs.declared.fault.BlockFault.TheVariants.{Disk, Image, NoMemory}
-use Rattle.qg_state.specs.State.{State}
+use Rattle.qg_image.specs.State.{State}
 use Rattle.qg_blocks.specs.Told.{BreaksNone}
 use Rattle.qg_store.specs.Answering.{comes_to_disk}
 use Rattle.qg_store.specs.Keeping.{IsKeptOf}
 use Rattle.qg_store.specs.Stored.{ComesToDisk, IsStoreOf, Stored, is_of_image}
+use Rattle.qg_store.proofs.Outlived.{outlives}
 use Rattle.qg_store.proofs.store.Store.apply.Goals as goal
 
 -- a fault that names no rule stops a store for no rule
@@ -62,3 +63,21 @@ pub returns-in-Err-clause-so_far : goal.returns-in-Err-clause-so_far
 returns-in-Err-clause-so_far g c = λ state events store told.
     let keeps = kept-in _ c.args.self.now state (g.D.Disk.history c.args.disk.now) c.self.view_is store in
     c.in-Err.ensures.so_far state events keeps told
+
+-- ---- crashes
+
+pub returns-in-Some-clause-crashes : goal.returns-in-Some-clause-crashes
+returns-in-Some-clause-crashes g c = λ state committed events store told rests last.
+    outlives state c.args.command.now committed events _ last rests _ _ (inl told) tt
+
+pub returns-in-Ok-clause-crashes : goal.returns-in-Ok-clause-crashes
+returns-in-Ok-clause-crashes g c = λ state committed events store told rests last.
+    let keeps = kept-in _ c.args.self.now state (g.D.Disk.history c.args.disk.now) c.self.view_is store in
+    outlives state c.args.command.now committed events _ last rests _ _ (c.in-Ok.ensures.so_far state events keeps told)
+    (c.in-Ok.ensures.step state events keeps told)
+
+pub returns-in-Err-clause-crashes : goal.returns-in-Err-clause-crashes
+returns-in-Err-clause-crashes g c = λ state committed events store told rests last.
+    let keeps = kept-in _ c.args.self.now state (g.D.Disk.history c.args.disk.now) c.self.view_is store in
+    outlives state c.args.command.now committed events _ last rests _ _ (c.in-Err.ensures.so_far state events keeps told)
+    tt

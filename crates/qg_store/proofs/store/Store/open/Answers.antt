@@ -1,8 +1,9 @@
 use Rattle.std.proofs.Common.{◌∷◌, ◌∙◌, ℕ, List, Option, Some, ap, refl, subst, sym}
 use Rattle.qg_device.specs.History.{Event, Synced, content}
 use Rattle.qg_super.specs.Places.{first_place, second_place}
-use Rattle.qg_verdict.specs.ImageState.{super_in}
+use Rattle.qg_image.specs.ImageState.{super_in}
 use Rattle.qg_commit.specs.Opening.{with_repair}
+use Rattle.qg_commit.proofs.OpeningCalls.{outlives_fault}
 use Rattle.qg_store.specs.Keeping.{IsKeptOf}
 use Rattle.qg_store.proofs.Opened.{image-long}
 use Rattle.qg_store.proofs.Repaired.{kept-reopened}
@@ -36,3 +37,20 @@ returns-clause-repaired g c = λ events told.
           ∙ ap (λ (stale : Option ℕ). Some (with_repair c.in_ok-image.image.superblock stale (Synced ∷ events)))
           image.stale;
     }
+
+-- ---- crashes
+
+pub returns-in_err-image-clause-crashes : goal.returns-in_err-image-clause-crashes
+returns-in_err-image-clause-crashes g c = λ events told.
+    outlives_fault events _ (c.in_err-image.ensures.touches events told) c.from_residual.result
+    c.from_residual.ensures.0
+
+pub returns-in_err-kept-clause-crashes : goal.returns-in_err-kept-clause-crashes
+returns-in_err-kept-clause-crashes g c = λ events told.
+    outlives_fault events _ (c.in_ok-image.ensures.touches events told) c.from_residual-in_err-kept.result
+    c.from_residual-in_err-kept.ensures.0
+
+pub returns-clause-crashes : goal.returns-clause-crashes
+returns-clause-crashes g c = λ events told.
+    let outlives = c.in_ok-image.ensures.crashes events told in
+    record { crashes = outlives.crashes; early = outlives.early; rests = λ state stands. outlives.rests state stands }

@@ -1,0 +1,13 @@
+pub mod Crashes
+pub mod Committing
+pub mod Superblocks
+pub mod Repairing
+pub mod Premise
+pub mod Unwritten
+pub mod Reading
+pub mod Slots
+pub mod States
+pub mod Later
+pub mod Outcomes
+pub mod Counted
+pub mod Examples

@@ -1,5 +1,0 @@
-use Rattle.qg_descent.specs.Way.{IsReadable}
-use Rattle.qg_descent.proofs.tests.last_of_each.Given as goal
-
-abbrev pub invariant-loop-object : goal.invariant-loop-object
-invariant-loop-object g l = record { readable : IsReadable l.blocks (g.D.Disk.history l.disk) (g.D.Disk.size l.disk) }

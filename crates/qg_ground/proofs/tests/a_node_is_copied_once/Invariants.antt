@@ -1,4 +1,0 @@
-use Rattle.qg_ground.proofs.tests.a_node_is_copied_once.Given as goal
-
-abbrev pub ghosts-own_twice : goal.ghosts-own_twice
-ghosts-own_twice g a = record { name = a.blank.name; parts = a.blank.parts }

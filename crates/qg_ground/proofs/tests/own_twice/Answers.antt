@@ -1,4 +1,0 @@
-use Rattle.qg_ground.proofs.tests.own_twice.Goals as goal
-
-pub own-requires-clause-drafted : goal.own-requires-clause-drafted
-own-requires-clause-drafted g c = c.in_ok-land.ensures.drafted 2

@@ -1,5 +1,0 @@
-use Rattle.qg_laws.proofs.Unwritten.{spared_stays}
-use Rattle.qg_laws.proofs.crashes.what_is_not_written_stays.Goals as goal
-
-pub returns : goal.returns
-returns c = spared_stays

@@ -1,0 +1,45 @@
+-- How what was asked ends where nothing fails (this project's own).
+use Rattle.std.specs.Prelude.{◌≡◌, ◌⊎◌, ℕ, ◌≤◌, List, length, Option, Some, String}
+use Rattle.std.specs.declared.alloc.Global.{Global}
+use Rattle.qg_super.specs.declared.sizes.Sizes.{Sizes}
+use Rattle.qg_device.specs.History.{Event, content}
+use Rattle.qg_grammar.specs.ScriptText.{longest_script}
+use Rattle.qg_image.specs.Verdict.{IsSound}
+use Rattle.qg_program.specs.Ends.{HasCauses}
+use Rattle.qg_program.specs.declared.status.Status.{Status}
+use Rattle.qg_program.specs.declared.status.Status.TheVariants.{Done, NoMemory, Image, Found}
+use Rattle.qg_program.specs.Words.{AskServed, AskToCheck, AskToGenerate, AskToOpen, AskToRun}
+
+-- no count of faults rose
+pub record NothingFails (SourceFails SinkFails DiskFails : Type 0) : Type 0 where
+  pub source : SourceFails → ⊥
+  pub sink : SinkFails → ⊥
+  pub disk : DiskFails → ⊥
+
+-- it ended so, or memory was refused
+abbrev pub EndsIn : Status → Status → Type 0
+EndsIn wanted end = (end ≡ wanted) ⊎ (end ≡ NoMemory)
+
+-- a source tells an input that is no longer than a script may be
+pub record HasScript (left : Option (List ℕ)) : Type 0 where
+  pub input : List ℕ
+  pub told : left ≡ Some input
+  pub within : length input ≤ longest_script
+
+-- Where nothing fails, what was asked is done, or memory is refused: over a sound image a run whose input is a script, the generator's lines, and
+-- a check; over any other a run and the generator's lines say why it is not sound, and so does a check. An image of sizes that are served is made
+pub record IsComplete (words : List (String Global)) (end : Status) (image : List ℕ) (left : Option (List ℕ)) : Type 0 where
+  pub runs : AskToRun words → IsSound image → HasScript left → EndsIn Done end
+  pub generates : (seed count : ℕ) → AskToGenerate words seed count → IsSound image → EndsIn Done end
+  pub checks : AskToCheck words → IsSound image → EndsIn Done end
+  pub refuses : AskToOpen words → (IsSound image → ⊥) → EndsIn Image end
+  pub finds : AskToCheck words → (IsSound image → ⊥) → EndsIn Found end
+  pub makes : (sizes : Sizes) → AskServed words sizes → EndsIn Done end
+
+-- a fault of source, sink or disk is told only where its count rose; and over a disk that tells, where none rose, what was
+-- asked is done
+pub record EndsForCause (words : List (String Global)) (end : Status) (before : Option (List Event)) (left : Option (List ℕ))
+    (SourceFails SinkFails DiskFails : Type 0) : Type 0 where
+  pub causes : HasCauses end SourceFails SinkFails DiskFails
+  pub complete : (events : List Event) → before ≡ Some events → NothingFails SourceFails SinkFails DiskFails
+      → IsComplete words end (content events) left
