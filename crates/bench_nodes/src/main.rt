@@ -3,9 +3,8 @@
 
 ghost use Rattle.qg_node.specs.NodeText.{IsNode};
 
-use qg_bytes::u32_at;
 use qg_node::{Body, Header, Item, Items, Node, read_node, write_node};
-use qg_num::{Address, Generation, Key, RootId};
+use qg_num::{Address, Generation, Key, RootId, u32_at};
 use std::alloc::{AllocError, Global};
 use std::rt::Clock;
 use std::time::Instant;

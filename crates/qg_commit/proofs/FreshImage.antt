@@ -6,7 +6,7 @@ use Rattle.std.specs.List.Sorted.{IsPermutation}
 use Rattle.std.proofs.lemmas.List.{length-replicate}
 use Rattle.std.proofs.lemmas.List.Elements.{All-from_recursion, recursion_from_All}
 use Rattle.std.proofs.lemmas.List.Sorted.{Contains-permutation, length_permutation}
-use Rattle.qg_bytes.specs.Fields.{zeros}
+use Rattle.qg_num.specs.Fields.{zeros}
 use Rattle.qg_device.specs.History.{Event, Wrote, Cut, content}
 use Rattle.qg_disk.proofs.Sizes.{length-overlay}
 use Rattle.qg_node.specs.declared.node.Node.{Node}

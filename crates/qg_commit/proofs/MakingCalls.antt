@@ -1,7 +1,7 @@
 -- The calls that make an image, one after the other.
 use Rattle.std.proofs.Common.{◌≡◌, ℕ, ◌-◌, List, ◌∷◌, ◌++◌, Option, Some, None, refl, ap, ◌∙◌}
 use Rattle.std.specs.Option.{option_map}
-use Rattle.qg_bytes.specs.Fields.{zeros}
+use Rattle.qg_num.specs.Fields.{zeros}
 use Rattle.qg_device.specs.History.{Event, Wrote, Cut, with_event}
 use Rattle.qg_node.specs.declared.node.Node.{Node}
 use Rattle.qg_super.specs.declared.sizes.Sizes.{Sizes}

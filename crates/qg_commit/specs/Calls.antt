@@ -1,6 +1,6 @@
 -- The device calls that make an image and that commit to it (this project's own).
 use Rattle.std.specs.Prelude.{◌≡◌, ◌⊎◌, ℕ, ◌+◌, ◌-◌, ◌^◌, ◌<◌, ◌≤◌, List, [], ◌∷◌, ◌++◌, length, map, Option, Some, Ok}
-use Rattle.qg_bytes.specs.Fields.{zeros}
+use Rattle.qg_num.specs.Fields.{zeros}
 use Rattle.qg_device.specs.History.{Event, Wrote, Tore, Cut, Synced}
 use Rattle.qg_node.specs.declared.node.Node.{Node}
 use Rattle.qg_node.specs.Nodes.{header_of}

@@ -1,6 +1,6 @@
 -- The extent tree's leaf of a fresh image, and the calls that write one. All was worked out by hand.
 use Rattle.std.specs.Prelude.{◌≡◌, ℕ, ◌-◌, List, [], ◌∷◌, ◌++◌, refl}
-use Rattle.qg_bytes.specs.Fields.{u64_bytes, u32_bytes, zeros}
+use Rattle.qg_num.specs.Fields.{u64_bytes, u32_bytes, zeros}
 use Rattle.qg_device.specs.History.{Event, Wrote, Cut, Synced}
 use Rattle.qg_node.specs.NodeText.{bodies, covered_text, header_text, item_headers, leaf_text, node_text}
 use Rattle.qg_items.specs.ItemText.{extent_text}

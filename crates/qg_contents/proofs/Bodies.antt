@@ -1,6 +1,6 @@
 -- The texts of bodies are bytes.
 use Rattle.std.proofs.Common.{ℕ, ◌<◌, ◌^◌, List, lit<}
-use Rattle.qg_bytes.proofs.AreBytes.{AreBytes, append, of_byte, of_zeros, of_u16, of_u32, of_u64}
+use Rattle.qg_num.proofs.AreBytes.{AreBytes, append, of_byte, of_zeros, of_u16, of_u32, of_u64}
 use Rattle.qg_node.specs.Fits.{ItemFits}
 use Rattle.qg_items.specs.declared.file.InodeItem.{InodeItem}
 use Rattle.qg_items.specs.declared.file.ExtentData.{ExtentData}

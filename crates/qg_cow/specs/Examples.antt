@@ -1,6 +1,6 @@
 -- A leaf and a node above leaves that are copied and left, in each case. All were worked out by hand.
 use Rattle.std.specs.Prelude.{◌≡◌, ℕ, Bool, true, false, List, [], ◌∷◌, Some, None, refl}
-use Rattle.qg_bytes.specs.Fields.{u64_bytes, u16_bytes, u64_at}
+use Rattle.qg_num.specs.Fields.{u64_bytes, u16_bytes, u64_at}
 use Rattle.qg_items.specs.declared.extent.Reference.TheVariants.{KeyedBlock, SharedBlock, KeyedData, SharedData}
 use Rattle.qg_items.specs.ItemText.{inode_text, extent_data_text}
 use Rattle.qg_items.specs.ItemReading.{inode_read, extent_data_read}

@@ -2,7 +2,7 @@
 use Rattle.std.proofs.Common.{◌≡◌, ℕ, ◌+◌, ◌*◌, ◌≤◌, Bool, true, false, cond, List, length, map, Result, Ok, Err, refl, subst, arith}
 use Rattle.std.specs.Prelude.{slice_index, slice_range, ◌&&◌, ◌||◌, not, ◌==◌, nat_le}
 use Rattle.std.proofs.lemmas.Bool.{eqb-false, eqb-true, leb-true}
-use Rattle.qg_bytes.specs.Fields.{is_zero, u64_at}
+use Rattle.qg_num.specs.Fields.{is_zero, u64_at}
 use Rattle.qg_node.specs.declared.item.Item.{Item}
 use Rattle.qg_node.specs.declared.pointer.Pointer.{Pointer}
 use Rattle.qg_node.specs.declared.node.Node.{Node}

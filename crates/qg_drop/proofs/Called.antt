@@ -17,8 +17,8 @@ use Rattle.qg_ground.specs.declared.ground.Ground.{Ground}
 use Rattle.qg_ground.specs.Land.{IsDrafted}
 use Rattle.qg_refs.specs.Book.{Drops, IsBook, count_at, full_in}
 use Rattle.qg_extents.specs.Table.{IsTable, book_of}
-use Rattle.qg_heavier.specs.Heavier.{BookGetsHeavier}
-use Rattle.qg_heavier.proofs.Weighs.{GetsHeavier-dropped}
+use Rattle.qg_tree_refs.specs.Heavier.{BookGetsHeavier}
+use Rattle.qg_tree_refs.proofs.Weighs.{GetsHeavier-dropped}
 use Rattle.qg_descent.specs.Tree.{Root}
 use Rattle.qg_tree_refs.specs.declared.tree_refs.TreeRefs.{TreeRefs}
 use Rattle.qg_tree_refs.specs.Exchange.{times}

@@ -26,7 +26,7 @@ use Rattle.qg_image.specs.Record.{same_reference}
 use Rattle.qg_tree_refs.specs.Exchange.{times}
 use Rattle.qg_tree_refs.proofs.Owings.{times-cons, times-few}
 use Rattle.qg_tree_refs.proofs.Times.{one_of, times-append, times-nil, times_here, times_there}
-use Rattle.qg_heavier.proofs.Owed.{shared-bytes}
+use Rattle.qg_tree_refs.proofs.Owed.{shared-bytes}
 use Rattle.qg_forest.proofs.Bytes.{times-bytes}
 
 -- ---- one in a list

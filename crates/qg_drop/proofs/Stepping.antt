@@ -19,7 +19,7 @@ use Rattle.qg_ground.proofs.Lands.{Rests-draft}
 use Rattle.qg_weighed.specs.Weight.{weight_of}
 use Rattle.qg_tree_refs.specs.declared.tree_refs.TreeRefs.{TreeRefs}
 use Rattle.qg_tree_edits.specs.Editing.{IsEditable}
-use Rattle.qg_heavier.specs.Heavier.{BookGetsHeavier}
+use Rattle.qg_tree_refs.specs.Heavier.{BookGetsHeavier}
 use Rattle.qg_drop.proofs.Resting.{RestsButRuns-same, handed}
 use Rattle.qg_drop.specs.declared.child.Child.{Child}
 use Rattle.qg_drop.specs.Dropping.{AreParts, HoldsPartly, RestsButRuns, parts_reached, without_part, without_parts}

@@ -14,9 +14,9 @@ use Rattle.qg_blocks.proofs.Telling.{clean-listed}
 use Rattle.qg_ground.specs.declared.ground.Ground.{Ground}
 use Rattle.qg_ground.specs.Land.{IsDrafted}
 use Rattle.qg_extents.specs.Table.{IsTable, book_of}
-use Rattle.qg_heavier.specs.Heavier.{BookGetsHeavier, owings_bytes}
-use Rattle.qg_heavier.proofs.Owed.{shared-bytes}
-use Rattle.qg_heavier.proofs.Weighs.{GetsHeavier-exchanged}
+use Rattle.qg_tree_refs.specs.Heavier.{BookGetsHeavier, owings_bytes}
+use Rattle.qg_tree_refs.proofs.Owed.{shared-bytes}
+use Rattle.qg_tree_refs.proofs.Weighs.{GetsHeavier-exchanged}
 use Rattle.qg_tree_refs.specs.declared.tree_refs.TreeRefs.{TreeRefs}
 use Rattle.qg_tree_refs.specs.Following.{IsExchanged, exchange_by_parting, parting_in}
 

@@ -8,7 +8,7 @@ ghost use Rattle.qg_machine.specs.Refusals.{nodes_reached};
 ghost use Rattle.qg_machine.specs.Step.{deleted};
 ghost use Rattle.qg_blocks.specs.Told.{BreaksNone};
 ghost use Rattle.qg_tree_edits.specs.Editing.{IsEditable};
-ghost use Rattle.qg_heavier.specs.Heavier.{BookGetsHeavier};
+ghost use Rattle.qg_tree_refs.specs.Heavier.{BookGetsHeavier};
 ghost use Rattle.qg_forest.specs.Standing.{HoldsState, tree_of};
 ghost use Rattle.qg_drop.specs.Dropping.{AreParts, HoldsPartly, IsPart, RestsButRuns, StaysBook, parts_reached, without_part, without_parts};
 

@@ -7,7 +7,7 @@ ghost use Rattle.qg_super.specs.Places.{capacity};
 ghost use Rattle.qg_blocks.specs.Told.{BreaksNone, IsBacked, held_at};
 ghost use Rattle.qg_space.specs.Holding.{free_slots};
 ghost use Rattle.qg_ground.specs.Land.{IsDrafted};
-ghost use Rattle.qg_heavier.specs.Heavier.{BookGetsHeavier};
+ghost use Rattle.qg_tree_refs.specs.Heavier.{BookGetsHeavier};
 ghost use Rattle.qg_drop.specs.Dropping.{HoldsPartly, IsUnder, RestsButRuns, StaysBook};
 
 use crate::extents::{extents_known, misfit_at, without_references};

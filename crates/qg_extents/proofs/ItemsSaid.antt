@@ -9,7 +9,7 @@ use Rattle.std.proofs.lemmas.List.Concat.{flat_map-append}
 use Rattle.std.proofs.lemmas.List.Elements.{All-append, All-cons, All-nil, All-push}
 use Rattle.std.proofs.lemmas.List.Folds.{list_all-append}
 use Rattle.std.proofs.lemmas.List.Sums.{sum_by-cons}
-use Rattle.qg_bytes.proofs.AreBytes.{AreBytes, append, of_u32, of_u64}
+use Rattle.qg_num.proofs.AreBytes.{AreBytes, append, of_u32, of_u64}
 use Rattle.qg_node.specs.declared.item.Item.{Item}
 use Rattle.qg_node.specs.Fits.{ItemFits}
 use Rattle.qg_items.specs.declared.extent.ExtentItem.{ExtentItem}

@@ -1,6 +1,6 @@
 -- The extent tree's items of small images, as they stand in a leaf. All were worked out by hand.
 use Rattle.std.specs.Prelude.{◌≡◌, ℕ, Bool, true, false, List, [], ◌∷◌, ◌++◌, Some, None, refl}
-use Rattle.qg_bytes.specs.Fields.{u64_bytes, u32_bytes, u16_bytes, u64_at}
+use Rattle.qg_num.specs.Fields.{u64_bytes, u32_bytes, u16_bytes, u64_at}
 use Rattle.qg_items.specs.declared.extent.Reference.{Reference}
 use Rattle.qg_items.specs.declared.extent.Reference.TheVariants.{KeyedBlock, SharedBlock, KeyedData, SharedData}
 use Rattle.qg_items.specs.ItemText.{inode_text, extent_data_text, extent_text, data_ref_text, shared_data_ref_text}

@@ -13,8 +13,8 @@ use Rattle.qg_tree_edits.proofs.Heights.{height-low}
 use Rattle.std.proofs.Math.Nat.{mul-le-mul_right}
 use Rattle.qg_super.specs.declared.sizes.Sizes.{Sizes}
 use Rattle.qg_super.specs.Places.{capacity}
-use Rattle.qg_heavier.specs.Heavier.{BookGetsHeavier, edit_bytes, name_new_bytes, node_bytes}
-use Rattle.qg_heavier.proofs.Sums.{BookGetsHeavier-most, BookGetsHeavier-same, BookGetsHeavier-then}
+use Rattle.qg_tree_refs.specs.Heavier.{BookGetsHeavier, edit_bytes, name_new_bytes, node_bytes}
+use Rattle.qg_tree_refs.proofs.Sums.{BookGetsHeavier-most, BookGetsHeavier-same, BookGetsHeavier-then}
 use Rattle.qg_fs_tree.specs.declared.fs_tree.FsTree.{FsTree}
 use Rattle.qg_fs_tree.specs.Standing.{IsEditedTo, IsSubvolume, Stands}
 use Rattle.qg_fs_tree.proofs.Own.{elsewhere-kept, elsewhere-moved, own-kept as reached-kept}

@@ -17,8 +17,8 @@ use Rattle.qg_space.specs.Holding.{free_slots}
 use Rattle.qg_ground.specs.Land.{IsDrafted}
 use Rattle.qg_extents.specs.Table.{IsTable}
 use Rattle.qg_exchange.specs.Named.{named}
-use Rattle.qg_heavier.specs.Heavier.{edit_bytes, name_new_bytes}
-use Rattle.qg_heavier.proofs.Sums.{BookGetsHeavier-most}
+use Rattle.qg_tree_refs.specs.Heavier.{edit_bytes, name_new_bytes}
+use Rattle.qg_tree_refs.proofs.Sums.{BookGetsHeavier-most}
 use Rattle.qg_fs_tree.specs.declared.fs_tree.FsTree.{FsTree}
 use Rattle.qg_fs_tree.specs.Standing.{IsSubvolume, Stands, made_slots, names_elsewhere, own_slots}
 use Rattle.qg_fs_tree.proofs.Made.{made-free}

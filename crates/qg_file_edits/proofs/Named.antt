@@ -22,8 +22,8 @@ use Rattle.qg_descent.specs.Tree.{Root}
 use Rattle.qg_tree_refs.specs.Exchange.{times}
 use Rattle.qg_tree_refs.proofs.Times.{times-append}
 use Rattle.qg_tree_refs.specs.declared.tree_refs.TreeRefs.{TreeRefs}
-use Rattle.qg_heavier.specs.Heavier.{BookGetsHeavier, name_bytes, name_new_bytes}
-use Rattle.qg_heavier.proofs.Sums.{BookGetsHeavier-most, BookGetsHeavier-same, BookGetsHeavier-then}
+use Rattle.qg_tree_refs.specs.Heavier.{BookGetsHeavier, name_bytes, name_new_bytes}
+use Rattle.qg_tree_refs.proofs.Sums.{BookGetsHeavier-most, BookGetsHeavier-same, BookGetsHeavier-then}
 use Rattle.qg_fs_tree.specs.declared.fs_tree.FsTree.{FsTree}
 use Rattle.qg_fs_tree.specs.Standing.{IsKnownExtent, IsSubvolume, KeepsTree, Stands, extents_named, name_of, name_told, names_elsewhere, names_times}
 use Rattle.qg_fs_tree.proofs.Ordered.{stands-ordered}

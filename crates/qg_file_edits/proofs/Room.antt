@@ -5,10 +5,10 @@ use Rattle.qg_image.specs.declared.file.File.{File}
 use Rattle.qg_image.specs.Need.{file_copies, nodes_filled}
 use Rattle.qg_space.specs.Holding.{free_slots}
 use Rattle.qg_weighed.specs.Weight.{weight_of}
-use Rattle.qg_heavier.specs.Heavier.{edit_bytes, name_new_bytes}
-use Rattle.qg_heavier.specs.Need.{GetsHeavierBy}
-use Rattle.qg_heavier.proofs.Covered.{leaves-need}
-use Rattle.qg_heavier.proofs.Sums.{held-heavier}
+use Rattle.qg_tree_refs.specs.Heavier.{edit_bytes, name_new_bytes}
+use Rattle.qg_tree_refs.specs.Need.{GetsHeavierBy}
+use Rattle.qg_tree_refs.proofs.Covered.{leaves-need}
+use Rattle.qg_tree_refs.proofs.Sums.{held-heavier}
 use Rattle.qg_fs_tree.specs.declared.fs_tree.FsTree.{FsTree}
 use Rattle.qg_file_edits.specs.Files.{LeavesFiles}
 

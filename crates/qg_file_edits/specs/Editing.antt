@@ -13,7 +13,7 @@ use Rattle.qg_blocks.specs.Told.{BreaksNone}
 use Rattle.qg_contents.specs.Written.{item_under}
 use Rattle.qg_space.specs.Holding.{free_slots}
 use Rattle.qg_edit.specs.Edits.{has_key, with_item, without_key}
-use Rattle.qg_heavier.specs.Heavier.{BookGetsHeavier, edit_bytes, name_new_bytes}
+use Rattle.qg_tree_refs.specs.Heavier.{BookGetsHeavier, edit_bytes, name_new_bytes}
 use Rattle.qg_fs_tree.specs.declared.fs_tree.FsTree.{FsTree}
 use Rattle.qg_fs_tree.specs.Standing.{IsElsewhere, Stands, made_slots, own_slots}
 use Rattle.qg_fs_layout.specs.Laying.{IsMoved}

@@ -10,7 +10,7 @@ ghost use Rattle.qg_image.specs.declared.file.File.{File as FileValue};
 ghost use Rattle.qg_contents.specs.Written.{items_of_file};
 ghost use Rattle.qg_exchange.specs.Named.{named, names_of};
 ghost use Rattle.qg_extents.specs.Table.{IsTable};
-ghost use Rattle.qg_heavier.specs.Heavier.{BookGetsHeavier, name_new_bytes};
+ghost use Rattle.qg_tree_refs.specs.Heavier.{BookGetsHeavier, name_new_bytes};
 ghost use Rattle.qg_fs_tree.specs.Standing.{IsSubvolume, Stands, names_elsewhere};
 ghost use Rattle.qg_files.specs.Apart.{AreApart};
 ghost use Rattle.qg_file_edits.specs.Editing.{AreMade};

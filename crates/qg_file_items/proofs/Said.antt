@@ -7,7 +7,7 @@ use Rattle.std.proofs.lemmas.Bool.{and_parts, eqb-true, leb-true}
 use Rattle.std.proofs.lemmas.Option.{none-some, option_and_then_some, same_Some}
 use Rattle.qg_num.specs.declared.key.Key.{Key}
 use Rattle.qg_num.specs.declared.piece.Piece.{Piece}
-use Rattle.qg_bytes.specs.Fields.{IsBytes}
+use Rattle.qg_num.specs.Fields.{IsBytes}
 use Rattle.qg_node.specs.declared.item.Item.{Item}
 use Rattle.qg_items.specs.declared.kind.TheConstants.{EXTENT_DATA, INODE_ITEM}
 use Rattle.qg_items.specs.declared.file.ExtentData.{ExtentData}

@@ -6,7 +6,7 @@ use Rattle.std.proofs.lemmas.Bool.{and_parts}
 use Rattle.std.proofs.lemmas.List.{map-append}
 use Rattle.std.proofs.lemmas.List.Elements.{All-from_recursion, recursion_from_All}
 use Rattle.qg_num.specs.declared.piece.Piece.{Piece}
-use Rattle.qg_bytes.specs.Fields.{IsBytes}
+use Rattle.qg_num.specs.Fields.{IsBytes}
 use Rattle.qg_node.specs.declared.item.Item.{Item}
 use Rattle.qg_node.specs.Nodes.{is_ascending}
 use Rattle.qg_items.proofs.Trips.{then_some_parts}

@@ -10,7 +10,7 @@ use Rattle.qg_weighed.specs.Weight.{reference_bytes}
 use Rattle.qg_tree_refs.specs.Exchange.{times}
 use Rattle.qg_tree_refs.proofs.Owings.{times-cons, times-few}
 use Rattle.qg_tree_refs.proofs.Times.{one_of, times-nil}
-use Rattle.qg_heavier.specs.Heavier.{owings_bytes}
+use Rattle.qg_tree_refs.specs.Heavier.{owings_bytes}
 
 bit_most : (b : Bool) → (if b then 1 else 0) ≤ 1
 bit_most true = omega arith

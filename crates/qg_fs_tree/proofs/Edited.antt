@@ -21,9 +21,9 @@ use Rattle.qg_tree_edits.specs.Rooting.{IsReplaced}
 use Rattle.qg_tree_refs.specs.Following.{Follows}
 use Rattle.qg_tree_refs.specs.Settled.{IsSettled}
 use Rattle.qg_fs_tree.specs.declared.fs_tree.FsTree.{FsTree}
-use Rattle.qg_heavier.specs.Heavier.{BookGetsHeavier, edit_bytes, telling_bytes}
-use Rattle.qg_heavier.proofs.Sums.{BookGetsHeavier-most}
-use Rattle.qg_heavier.proofs.Told.{BookGetsHeavier-followed}
+use Rattle.qg_tree_refs.specs.Heavier.{BookGetsHeavier, edit_bytes, telling_bytes}
+use Rattle.qg_tree_refs.proofs.Sums.{BookGetsHeavier-most}
+use Rattle.qg_tree_refs.proofs.Told.{BookGetsHeavier-followed}
 use Rattle.qg_fs_tree.specs.Standing.{IsEditedTo, IsReached, Stands, every_slot, made_slots, name_told, names_times, own_slots}
 use Rattle.qg_fs_tree.proofs.After.{AreOwned, Stands-after, beside-kept, marks-kept}
 use Rattle.qg_fs_tree.proofs.Before.{first_tree, once, placed, single}

@@ -4,7 +4,7 @@ use Rattle.std.specs.Prelude.{slice_index, slice_range, ◌&&◌, ◌||◌, not,
 use Rattle.std.proofs.lemmas.Bool.{eqb-false, eqb-true, leb-true}
 use Rattle.std.proofs.lemmas.List.{length-take}
 use Rattle.std.proofs.lemmas.List.Sums.{sum_by-cons}
-use Rattle.qg_bytes.specs.Fields.{is_zero, u32_at, u64_at}
+use Rattle.qg_num.specs.Fields.{is_zero, u32_at, u64_at}
 use Rattle.qg_num.specs.Key.{key_at}
 use Rattle.qg_node.specs.declared.item.Item.{Item}
 use Rattle.qg_node.specs.declared.pointer.Pointer.{Pointer}

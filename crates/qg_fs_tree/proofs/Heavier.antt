@@ -26,10 +26,10 @@ use Rattle.qg_extents.specs.Table.{IsTable, book_of}
 use Rattle.qg_weighed.specs.Weight.{extent_record_bytes, reference_bytes}
 use Rattle.qg_tree_edits.specs.Counting.{IsAsWas, IsBare, clean_at, copied_in, made_in}
 use Rattle.qg_tree_refs.specs.declared.tree_refs.TreeRefs.{TreeRefs}
-use Rattle.qg_heavier.specs.Heavier.{BookGetsHeavier, GetsHeavier, name_bytes, name_new_bytes, node_bytes}
-use Rattle.qg_heavier.specs.Heavier.{telling_bytes}
-use Rattle.qg_heavier.proofs.Sums.{GetsHeavier-most}
-use Rattle.qg_heavier.proofs.Weighs.{GetsHeavier-added, GetsHeavier-dropped}
+use Rattle.qg_tree_refs.specs.Heavier.{BookGetsHeavier, GetsHeavier, name_bytes, name_new_bytes, node_bytes}
+use Rattle.qg_tree_refs.specs.Heavier.{telling_bytes}
+use Rattle.qg_tree_refs.proofs.Sums.{GetsHeavier-most}
+use Rattle.qg_tree_refs.proofs.Weighs.{GetsHeavier-added, GetsHeavier-dropped}
 use Rattle.qg_fs_tree.proofs.Sound.{told-formed}
 
 -- ---- what an edit tells

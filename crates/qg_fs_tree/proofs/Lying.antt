@@ -3,7 +3,7 @@ use Rattle.std.proofs.Common.{◌≡◌, ℕ, ◌+◌, ◌*◌, ◌≤◌, Bool,
 use Rattle.std.specs.Prelude.{◌&&◌, ◌||◌, ◌==◌, not, nat_le, slice_index}
 use Rattle.std.proofs.lemmas.Bool.{eqb-true, leb-true}
 use Rattle.qg_device.specs.History.{Event, content, range}
-use Rattle.qg_bytes.specs.Fields.{is_zero, u64_at}
+use Rattle.qg_num.specs.Fields.{is_zero, u64_at}
 use Rattle.qg_node.specs.declared.item.Item.{Item}
 use Rattle.qg_node.specs.declared.pointer.Pointer.{Pointer}
 use Rattle.qg_node.specs.declared.node.Header.{Header}

@@ -37,7 +37,7 @@ use Rattle.qg_tree_edits.specs.Editing.{CanMake, IsEditable}
 use Rattle.qg_tree_edits.specs.Rooting.{IsRooted}
 use Rattle.qg_tree_refs.specs.Exchange.{times}
 use Rattle.qg_tree_refs.specs.Settled.{IsSettled}
-use Rattle.qg_heavier.specs.Heavier.{BookGetsHeavier, edit_bytes}
+use Rattle.qg_tree_refs.specs.Heavier.{BookGetsHeavier, edit_bytes}
 use Rattle.qg_fs_tree.specs.declared.fs_tree.FsTree.{FsTree}
 
 -- ---- over any disk

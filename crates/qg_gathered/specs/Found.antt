@@ -2,7 +2,7 @@
 use Rattle.std.specs.Prelude.{◌≡◌, All, ℕ, List, map, Ok}
 use Rattle.std.proofs.Common.{eqb}
 use Rattle.std.specs.List.{Contains, IsDistinct}
-use Rattle.qg_bytes.specs.Fields.{IsBytes}
+use Rattle.qg_num.specs.Fields.{IsBytes}
 use Rattle.qg_node.specs.declared.node.Node.{Node}
 use Rattle.qg_node.specs.Nodes.{header_of}
 use Rattle.qg_items.specs.declared.root.RootItem.{RootItem}

@@ -1,6 +1,6 @@
 -- Items of the extent tree that are what is owed, and items that are not. All numbers were worked out by hand.
 use Rattle.std.specs.Prelude.{◌≡◌, ℕ, true, false, List, [], ◌∷◌, ◌++◌, Some, None, refl}
-use Rattle.qg_bytes.specs.Fields.{u64_bytes, u16_bytes, u64_at}
+use Rattle.qg_num.specs.Fields.{u64_bytes, u16_bytes, u64_at}
 use Rattle.qg_items.specs.declared.extent.Reference.TheVariants.{KeyedBlock, KeyedData, SharedData}
 use Rattle.qg_items.specs.ItemText.{inode_text, extent_data_text}
 use Rattle.qg_items.specs.ItemReading.{inode_read, extent_data_read}

@@ -1,6 +1,6 @@
 -- The items of a small tree, and what they stand for.
 use Rattle.std.specs.Prelude.{◌≡◌, [], ◌∷◌, Some, None, refl}
-use Rattle.qg_bytes.specs.Fields.{u64_bytes, u16_bytes, u64_at}
+use Rattle.qg_num.specs.Fields.{u64_bytes, u16_bytes, u64_at}
 use Rattle.qg_node.specs.declared.item.Item.{Item}
 use Rattle.qg_items.specs.ItemText.{inode_text, extent_data_text}
 use Rattle.qg_items.specs.ItemReading.{inode_read, extent_data_read}

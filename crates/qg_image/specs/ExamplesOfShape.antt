@@ -2,7 +2,7 @@
 --
 -- A node of 4096 bytes has room for 3995 bytes of items or pointers, and a quarter of that is 998.75 bytes.
 use Rattle.std.specs.Prelude.{◌≡◌, ℕ, ◌-◌, true, false, List, [], ◌∷◌, Some, None, replicate, refl}
-use Rattle.qg_bytes.specs.Fields.{zeros}
+use Rattle.qg_num.specs.Fields.{zeros}
 use Rattle.qg_num.specs.declared.key.Key.{Key}
 use Rattle.qg_node.specs.declared.item.Item.{Item}
 use Rattle.qg_node.specs.declared.node.Node.{Node}

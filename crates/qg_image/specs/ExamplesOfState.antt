@@ -1,7 +1,7 @@
 -- Small states, and what is counted, owed and needed in them. All numbers were worked out by hand.
 use Rattle.std.specs.Prelude.{◌≡◌, ℕ, ◌+◌, ◌*◌, ◌^◌, false, List, [], ◌∷◌, map, Some, None, refl}
 use Rattle.std.specs.List.{flat_map, sum_by}
-use Rattle.qg_bytes.specs.Fields.{u64_bytes, u32_bytes, u16_bytes, u64_at, u32_at}
+use Rattle.qg_num.specs.Fields.{u64_bytes, u32_bytes, u16_bytes, u64_at, u32_at}
 use Rattle.qg_num.specs.declared.piece.Piece.{Piece}
 use Rattle.qg_num.specs.declared.counters.Which.TheVariants.{Rfer}
 use Rattle.qg_node.specs.declared.item.Item.{Item}

@@ -3,7 +3,7 @@ use Rattle.std.proofs.Common.{◌≡◌, ℕ, ◌+◌, ◌*◌, true, false, con
 use Rattle.std.specs.Prelude.{Bool, ◌&&◌, ◌||◌, ◌==◌, not, nat_le, if◌then◌else◌, slice_index}
 use Rattle.std.specs.Result.{result_ok}
 use Rattle.qg_device.specs.History.{Event, content, range}
-use Rattle.qg_bytes.specs.Fields.{is_zero, u64_at}
+use Rattle.qg_num.specs.Fields.{is_zero, u64_at}
 use Rattle.qg_num.specs.declared.rule.Rule.{Rule}
 use Rattle.qg_num.specs.declared.rule.Rule.TheVariants as rule
 use Rattle.qg_node.specs.declared.item.Item.{Item}

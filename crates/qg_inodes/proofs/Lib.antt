@@ -6,6 +6,7 @@ pub mod Keys
 pub mod Within
 pub mod Last
 pub mod Meeting
+pub mod Ending
 pub mod Judging
 pub mod Answered
 pub mod PiecesRead

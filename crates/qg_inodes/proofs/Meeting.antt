@@ -17,14 +17,14 @@ some_byte from size piece pieces first = (WholePiece-is_piece piece first.is).so
 
 -- ---- pieces that begin behind the range's begin
 
-last_none : (from a size : ℕ) (other : Option Piece) (pieces : List Piece) → from < a → are_pieces a size pieces ≡ true
+pub last-none : (from a size : ℕ) (other : Option Piece) (pieces : List Piece) → from < a → are_pieces a size pieces ≡ true
     → last_begun other from pieces ≡ other
-last_none from a size other [] behind are = refl
-last_none from a size other (piece ∷ pieces) behind are =
+last-none from a size other [] behind are = refl
+last-none from a size other (piece ∷ pieces) behind are =
     let first = FirstPiece-are_pieces a size piece pieces are in
     let begins = first.begins in
     ap (λ (b : Bool). last_begun (if b then Some piece else other) from pieces) (lt-leb piece.position from (omega arith))
-    ∙ last_none from (piece_end piece) size other pieces (omega arith) first.rest
+    ∙ last-none from (piece_end piece) size other pieces (omega arith) first.rest
 
 begun_met : (from to a size : ℕ) (pieces : List Piece) → from < a → are_pieces a size pieces ≡ true
     → pieces_begun (from + 1) to pieces ≡ pieces_met from to pieces
@@ -84,7 +84,7 @@ module _ (from to : ℕ) where
       (record { begins = omega arith; is = first.is; rest = first.rest })
       in
       ap (λ (o : Option Piece). piece_met from to o ++ pieces_begun (from + 1) to (piece ∷ pieces))
-      (last_none from piece.position size other (piece ∷ pieces) behind here)
+      (last-none from piece.position size other (piece ∷ pieces) behind here)
       ∙ ap (λ (ps : List Piece). piece_met from to other ++ ps)
       (begun_met from to piece.position size (piece ∷ pieces) behind here)
 

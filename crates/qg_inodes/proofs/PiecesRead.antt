@@ -1,5 +1,5 @@
 -- What the reading of pieces answers. Positions and lengths are in bytes.
-use Rattle.std.proofs.Common.{◌≡◌, ℕ, ◌+◌, ◌*◌, ◌-◌, ◌<◌, ◌≤◌, true, List, [], ◌++◌, length, Some, None, refl, sym, ap, subst, ◌∙◌, arith, append-nil, length-append, inl, inr}
+use Rattle.std.proofs.Common.{◌≡◌, ℕ, ◌+◌, ◌*◌, ◌-◌, ◌<◌, ◌≤◌, true, List, [], ◌∷◌, ◌++◌, length, Some, None, refl, sym, ap, subst, ◌∙◌, arith, append-nil, length-append, inl, inr}
 use Rattle.std.specs.Prelude.{◌&&◌, ⊤, Err, IfOk, IsErrAnd, IsTrue, Ok, Option, Result, is_none, nat_lt}
 use Rattle.std.specs.List.{filter_map, list_any}
 use Rattle.std.proofs.Math.Nat.{mul-add, mul-le-mul_left}
@@ -25,9 +25,10 @@ use Rattle.qg_descent.proofs.Reached.{tells-read}
 use Rattle.qg_file_items.specs.Pieces.{pieces_met}
 use Rattle.qg_inodes.specs.Items.{has_unread, piece_of}
 use Rattle.qg_inodes.specs.Judged.{AreAdded, IsJudged, IsUnreadPiece}
-use Rattle.qg_inodes.specs.Pieces.{last_begun, own_piece, piece_met, pieces_at, pieces_begun}
+use Rattle.qg_inodes.specs.Pieces.{BeginsBy, last_begun, own_piece, piece_met, pieces_at, pieces_begun}
 use Rattle.qg_inodes.specs.Told.{FailsOnPieces, IsUnfit, TellsFiles}
 use Rattle.qg_inodes.proofs.Ascending.{tree-ascends}
+use Rattle.qg_inodes.proofs.Ending.{last-alone, last-more}
 use Rattle.qg_inodes.proofs.Files.{AreTold, HasPieces, are-told, has-pieces, none-unread}
 use Rattle.qg_inodes.proofs.Last.{last-own, unread-last}
 use Rattle.qg_inodes.proofs.Meeting.{met-parted, none-begun, some-pieces}
@@ -191,6 +192,70 @@ module _ (root : Root) (draft : Draft) (history : Option (List Event)) (ino from
       are
       ∙ ap (λ (ps : List Piece). ps ++ filter_map piece_of items) (before_met files tells)
       ∙ met-long root draft history files tells ino from to some items (begun tells.items tells.tells)
+
+-- the last that begins in front of the range's end is all, or the last
+module _ (root : Root) (draft : Draft) (history : Option (List Event)) (ino from to bytes : ℕ) (some : from < to)
+    (placed : ArePlaced draft bytes) (last : Option Item) (reaching : Option Piece)
+    (found : (items : List Item) → TellsTree Files root draft history items
+    → last ≡ last_upto (key_with ino 108 (to - 1)) items)
+    (own : reaching ≡ own_piece ino last) where
+  last_told : (files : List (ℕ × File)) → TellsFiles root draft history files
+      → reaching ≡ last_begun None (to - 1) (pieces_at ino files)
+  last_told files tells =
+      own ∙ piece-before root draft history files tells ino (to - 1) to bytes placed last (found tells.items tells.tells)
+
+  pub are-met-alone : (pieces : List Piece) → pieces ≡ piece_met from to reaching → BeginsBy from reaching
+      → AreMet root draft history ino from to pieces
+  are-met-alone pieces met begins files tells =
+      let told = last_told files tells in
+      let sound = has root draft history files tells ino in
+      met ∙ ap (piece_met from to) told
+      ∙ last-alone from (to - 1) to (omega arith) (omega arith) sound.size (pieces_at ino files) sound.sound
+      (subst (λ (o : Option Piece). BeginsBy from o) told begins)
+
+  more_met : (piece : Piece) → reaching ≡ Some piece → from < piece.position → (files : List (ℕ × File))
+      → TellsFiles root draft history files
+      → pieces_met from piece.position (pieces_at ino files) ++ piece ∷ [] ≡ pieces_met from to (pieces_at ino files)
+  more_met piece is behind files tells =
+      let sound = has root draft history files tells ino in
+      last-more from (to - 1) to (omega arith) (omega arith) sound.size (pieces_at ino files) sound.sound piece
+      (sym (last_told files tells) ∙ is) behind
+
+  pub are-met-more : (piece : Piece) → reaching ≡ Some piece → from < piece.position → (others pieces : List Piece)
+      → AreMet root draft history ino from piece.position others → pieces ≡ others ++ piece ∷ []
+      → AreMet root draft history ino from to pieces
+  are-met-more piece is behind others pieces met more files tells =
+      more ∙ ap (λ (ps : List Piece). ps ++ piece ∷ []) (met files tells) ∙ more_met piece is behind files tells
+
+  -- the steps of both
+  pub steps-more : (steps first second third : ℕ) (piece : Piece) → reaching ≡ Some piece → from < piece.position
+      → (files : List (ℕ × File)) → TellsFiles root draft history files → second ≤ first + steps
+      → third ≤ second + steps * (2 + length (pieces_met from piece.position (pieces_at ino files)))
+      → third ≤ first + steps * (2 + length (pieces_met from to (pieces_at ino files)))
+  steps-more steps first second third piece is behind files tells one more =
+      let fewer = pieces_met from piece.position (pieces_at ino files) in
+      let count : length (pieces_met from to (pieces_at ino files)) ≡ length fewer + 1 =
+      ap (λ (ps : List Piece). length ps) (sym (more_met piece is behind files tells))
+      ∙ length-append fewer (piece ∷ [])
+      in
+      let parts : steps * (1 + (2 + length fewer)) ≡ steps * 1 + steps * (2 + length fewer) =
+      mul-add steps 1 (2 + length fewer)
+      in
+      let same : steps * (2 + length (pieces_met from to (pieces_at ino files))) ≡ steps * (1 + (2 + length fewer)) =
+      ap (λ (n : ℕ). steps * n) (omega (arith, count))
+      in
+      omega (arith, one, more, parts, same)
+
+-- files are told as before, where nodes were read
+pub files-read : (root : Root) (old new : Held) (before after : Option (List Event)) (bytes left : ℕ)
+    → HasRead old new before after bytes left → (files : List (ℕ × File)) → TellsFiles root old.draft before files
+    → TellsFiles root new.draft after files
+files-read root old new before after bytes left read files tells = record {
+  items = tells.items;
+  tells = tells-read Files root old new before after bytes left tells.items read tells.tells;
+  generation = tells.generation;
+  are = tells.are;
+}
 
 -- what a reading found after another one
 pub found-after : (root : Root) (old new : Held) (before after : Option (List Event)) (bytes left : ℕ)

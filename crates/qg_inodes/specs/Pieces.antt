@@ -2,7 +2,7 @@
 -- project's own).
 --
 -- Positions and lengths are in bytes.
-use Rattle.std.specs.Prelude.{ℕ, Bool, ◌&&◌, ◌==◌, List, [], ◌∷◌, Option, Some, None, filter, nat_le, nat_lt, if◌then◌else◌}
+use Rattle.std.specs.Prelude.{⊤, ℕ, ◌≤◌, Bool, ◌&&◌, ◌==◌, List, [], ◌∷◌, Option, Some, None, filter, nat_le, nat_lt, if◌then◌else◌}
 use Rattle.qg_num.specs.declared.piece.Piece.{Piece}
 use Rattle.qg_node.specs.declared.item.Item.{Item}
 use Rattle.qg_items.specs.declared.kind.TheConstants.{EXTENT_DATA}
@@ -21,6 +21,11 @@ abbrev pub last_begun : Option Piece → ℕ → List Piece → Option Piece
 last_begun other position [] = other
 last_begun other position (piece ∷ pieces) =
     last_begun (if nat_le piece.position position then Some piece else other) position pieces
+
+-- a piece, if there is one, begins at a position or in front of it
+abbrev pub BeginsBy : ℕ → Option Piece → Type 0
+BeginsBy position None = ⊤
+BeginsBy position (Some piece) = piece.position ≤ position
 
 -- those that begin at one position or behind it, and in front of another
 abbrev pub pieces_begun : ℕ → ℕ → List Piece → List Piece

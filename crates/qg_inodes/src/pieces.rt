@@ -1,5 +1,5 @@
 // The pieces of one file that share a byte with a range.
-ghost use Rattle.std.specs.Prelude.{◌≡◌, ◌+◌, ◌*◌, ◌≤◌, ◌&&◌, ℕ, List, length, Some, IfOk, nat_lt};
+ghost use Rattle.std.specs.Prelude.{◌≡◌, ◌+◌, ◌*◌, ◌≤◌, ◌<◌, ◌&&◌, ℕ, List, length, Some, IfOk, IfSome, IfNone, nat_lt};
 ghost use Rattle.qg_device.specs.Cause.{HasCause};
 ghost use Rattle.qg_device.specs.History.{Event};
 ghost use Rattle.qg_image.specs.declared.file.File.{File as FileValue};
@@ -8,7 +8,7 @@ ghost use Rattle.qg_blocks.specs.Told.{BreaksNone};
 ghost use Rattle.qg_descent.specs.Way.{HasRead, IsReadable};
 ghost use Rattle.qg_files.specs.Apart.{AreApart};
 ghost use Rattle.qg_file_items.specs.Pieces.{pieces_met};
-ghost use Rattle.qg_inodes.specs.Pieces.{piece_met, pieces_at};
+ghost use Rattle.qg_inodes.specs.Pieces.{BeginsBy, piece_met, pieces_at};
 ghost use Rattle.qg_inodes.specs.Told.{FailsOnPieces, TellsFiles};
 
 use crate::apart::judged;
@@ -27,6 +27,58 @@ use std::sync::ledger::Ledger;
 /// The pieces may be edited, over any disk. What does not fit a tree is answered as `Image`, and so are an item of the file that says
 /// nothing, with the rule `Item` and the root's address, and pieces that no file has, with the rule `File`.
 pub fn pieces_meeting<D: Disk, L: Ledger>(
+    tree: &Tree,
+    alloc: Global,
+    blocks: &mut Blocks,
+    disk: &mut D,
+    ino: Ino,
+    from: u64,
+    to: u64,
+    reads: &mut Steps<L>,
+) -> Result<Pieces, BlockFault>
+    requires readable { IsReadable blocks.old (D.history disk.old) (D.size disk.old) }
+    ensures found { (files : List (ℕ × FileValue)) → TellsFiles tree.now blocks.old.draft (D.history disk.old) files
+        → IfOk result (λ pieces. pieces ≡ pieces_met from to (pieces_at ino files)) }
+    ensures sound { (files : List (ℕ × FileValue)) → TellsFiles tree.now blocks.old.draft (D.history disk.old) files
+        → BreaksNone result }
+    ensures broken { (events : List Event) → D.history disk.old ≡ Some events
+        → FailsOnPieces tree.now blocks.old.draft events ino result }
+    ensures apart { IfOk result (λ pieces. AreApart pieces) }
+    ensures readable { IsReadable blocks.new (D.history disk.new) (D.size disk.new) }
+    ensures read { HasRead blocks.old blocks.new (D.history disk.old) (D.history disk.new) (D.size disk.old) (D.size disk.new) }
+    ensures cause { HasCause BlockFault.Disk (D.faults disk.old) (D.faults disk.new) result }
+    ensures reads { (files : List (ℕ × FileValue)) → TellsFiles tree.now blocks.old.draft (D.history disk.old) files
+        → reads.new ≤ reads.old + (tree.now.height + 1) * (2 + length (pieces_met from to (pieces_at ino files))) }
+{
+    if to <= from {
+        return parted(tree, alloc, blocks, disk, ino, from, to, reads);
+    }
+    let end = piece_key(ino, to - 1);
+    let last = tree.last_to::<FilePart, D, L>(alloc, blocks, disk, end, reads)?;
+    let reaching = own_piece(tree, ino, &last)?;
+    let Some(piece) = behind(from, &reaching) else {
+        let pieces = met(alloc, reaching, from, to)?;
+        return judged(tree, pieces);
+    };
+    let mut pieces = parted(tree, alloc, blocks, disk, ino, from, piece.position, reads)?;
+    pieces.push(piece)?;
+    judged(tree, pieces)
+}
+
+// A piece, where there is one and it begins behind a position.
+fn behind(from: u64, piece: &Option<Piece>) -> Option<Piece>
+    ensures some { IfSome result (λ found. (piece.now ≡ Some found) × (from < found.position)) }
+    ensures none { IfNone result (BeginsBy from piece.now) }
+{
+    match piece {
+        Some(piece) if piece.position > from => Some(*piece),
+        _ => None,
+    }
+}
+
+// The same, in two parts: the last piece that begins at the range's begin or in front of it, and those that begin in the
+// range.
+fn parted<D: Disk, L: Ledger>(
     tree: &Tree,
     alloc: Global,
     blocks: &mut Blocks,

@@ -2,9 +2,9 @@
 use Rattle.std.proofs.Common.{◌≡◌, ℕ, ◌+◌, ◌≤◌, List, [], length, take, drop, Some, refl, subst, ap, ◌∙◌, arith}
 use Rattle.std.specs.Prelude.{◌==◌}
 use Rattle.std.proofs.lemmas.Bool.{eqb-true}
-use Rattle.qg_bytes.specs.Fields.{IsBytes, u32_bytes, u64_bytes, u32_at, u64_at}
-use Rattle.qg_bytes.proofs.Numbers.{u32_at-lt, u32_at-u32_bytes, u64_at-lt, u64_at-u64_bytes}
-use Rattle.qg_bytes.proofs.Standing.{Stands, Stands-then, Stands-whole, u32_stands, u64_stands}
+use Rattle.qg_num.specs.Fields.{IsBytes, u32_bytes, u64_bytes, u32_at, u64_at}
+use Rattle.qg_num.proofs.Numbers.{u32_at-lt, u32_at-u32_bytes, u64_at-lt, u64_at-u64_bytes}
+use Rattle.qg_num.proofs.Standing.{Stands, Stands-then, Stands-whole, u32_stands, u64_stands}
 use Rattle.qg_items.specs.declared.extent.ExtentItem.{ExtentItem}
 use Rattle.qg_items.specs.declared.extent.ExtentDataRef.{ExtentDataRef}
 use Rattle.qg_items.specs.declared.extent.SharedDataRef.{SharedDataRef}

@@ -2,9 +2,9 @@
 use Rattle.std.proofs.Common.{◌≡◌, ℕ, ◌+◌, ◌-◌, ◌≤◌, true, List, length, take, drop, Some, refl, subst, ap, ◌∙◌, arith}
 use Rattle.std.specs.Prelude.{◌==◌, ◌&&◌}
 use Rattle.std.proofs.lemmas.Bool.{and_parts, eqb-true}
-use Rattle.qg_bytes.specs.Fields.{IsBytes, u64_bytes, u64_at, is_zero, zeros}
-use Rattle.qg_bytes.proofs.Numbers.{u64_at-lt, u64_at-u64_bytes}
-use Rattle.qg_bytes.proofs.Standing.{Stands, Stands-then, Stands-whole, zeros_stand, u64_stands}
+use Rattle.qg_num.specs.Fields.{IsBytes, u64_bytes, u64_at, is_zero, zeros}
+use Rattle.qg_num.proofs.Numbers.{u64_at-lt, u64_at-u64_bytes}
+use Rattle.qg_num.proofs.Standing.{Stands, Stands-then, Stands-whole, zeros_stand, u64_stands}
 use Rattle.qg_items.specs.declared.quota.QgroupStatus.{QgroupStatus}
 use Rattle.qg_items.specs.declared.quota.QgroupInfo.{QgroupInfo}
 use Rattle.qg_items.specs.declared.quota.QgroupLimit.{QgroupLimit}

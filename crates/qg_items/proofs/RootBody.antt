@@ -2,9 +2,9 @@
 use Rattle.std.proofs.Common.{◌≡◌, ℕ, ◌+◌, ◌-◌, ◌≤◌, true, List, length, take, drop, Some, refl, subst, ap, ◌∙◌, arith}
 use Rattle.std.specs.Prelude.{◌==◌, ◌&&◌, slice_index}
 use Rattle.std.proofs.lemmas.Bool.{and_parts, eqb-true}
-use Rattle.qg_bytes.specs.Fields.{IsBytes, u32_bytes, u64_bytes, u32_at, u64_at, is_zero, zeros}
-use Rattle.qg_bytes.proofs.Numbers.{u32_at-lt, u32_at-u32_bytes, u64_at-lt, u64_at-u64_bytes}
-use Rattle.qg_bytes.proofs.Standing.{Stands, Stands-then, Stands-whole, byte_stands, zeros_stand, u32_stands, u64_stands}
+use Rattle.qg_num.specs.Fields.{IsBytes, u32_bytes, u64_bytes, u32_at, u64_at, is_zero, zeros}
+use Rattle.qg_num.proofs.Numbers.{u32_at-lt, u32_at-u32_bytes, u64_at-lt, u64_at-u64_bytes}
+use Rattle.qg_num.proofs.Standing.{Stands, Stands-then, Stands-whole, byte_stands, zeros_stand, u32_stands, u64_stands}
 use Rattle.qg_items.specs.declared.root.RootItem.{RootItem}
 use Rattle.qg_items.specs.ItemText.{root_text}
 use Rattle.qg_items.specs.ItemReading.{root_read}

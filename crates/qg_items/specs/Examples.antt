@@ -1,6 +1,6 @@
 -- Bodies whose bytes were worked out by hand.
 use Rattle.std.specs.Prelude.{◌≡◌, ℕ, List, [], ◌∷◌, ◌++◌, Some, refl}
-use Rattle.qg_bytes.specs.Fields.{u64_bytes, u32_bytes, u16_bytes, u64_at, u32_at}
+use Rattle.qg_num.specs.Fields.{u64_bytes, u32_bytes, u16_bytes, u64_at, u32_at}
 use Rattle.qg_items.specs.declared.file.ExtentData.{ExtentData}
 use Rattle.qg_items.specs.declared.extent.ExtentDataRef.{ExtentDataRef}
 use Rattle.qg_items.specs.ItemText.{extent_data_text, data_ref_text}

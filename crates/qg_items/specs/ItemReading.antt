@@ -1,7 +1,7 @@
 -- What a body's bytes are read as (on-disk format, "item types"): nothing exactly where the length or a constant byte differs.
 use Rattle.std.specs.Prelude.{ℕ, ◌&&◌, List, length, slice_index, Option, ◌==◌}
 use Rattle.std.specs.Bool.{then_some}
-use Rattle.qg_bytes.specs.Fields.{u64_at, u32_at, is_zero}
+use Rattle.qg_num.specs.Fields.{u64_at, u32_at, is_zero}
 use Rattle.qg_items.specs.declared.file.InodeItem.{InodeItem}
 use Rattle.qg_items.specs.declared.file.ExtentData.{ExtentData}
 use Rattle.qg_items.specs.declared.root.RootItem.{RootItem}

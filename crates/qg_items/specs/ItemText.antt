@@ -2,7 +2,7 @@
 --
 -- What a text has as `zeros` is 0 in this project's own profile.
 use Rattle.std.specs.Prelude.{ℕ, List, [], ◌∷◌, ◌++◌}
-use Rattle.qg_bytes.specs.Fields.{u64_bytes, u32_bytes, u16_bytes, zeros}
+use Rattle.qg_num.specs.Fields.{u64_bytes, u32_bytes, u16_bytes, zeros}
 use Rattle.qg_items.specs.declared.file.InodeItem.{InodeItem}
 use Rattle.qg_items.specs.declared.file.ExtentData.{ExtentData}
 use Rattle.qg_items.specs.declared.root.RootItem.{RootItem}

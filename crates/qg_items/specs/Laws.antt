@@ -1,6 +1,6 @@
 -- What reading and writing a body are to each other (this project's own).
 use Rattle.std.specs.Prelude.{◌≡◌, ℕ, ◌^◌, ◌<◌, List, Option, Some}
-use Rattle.qg_bytes.specs.Fields.{IsBytes}
+use Rattle.qg_num.specs.Fields.{IsBytes}
 use Rattle.qg_items.specs.declared.file.InodeItem.{InodeItem}
 use Rattle.qg_items.specs.declared.file.ExtentData.{ExtentData}
 use Rattle.qg_items.specs.declared.root.RootItem.{RootItem}

@@ -3,8 +3,7 @@ ghost use Rattle.std.specs.Prelude.{◌≡◌, length, IfSome};
 ghost use Rattle.qg_items.specs.ItemText.{extent_text, data_ref_text, shared_data_ref_text};
 ghost use Rattle.qg_items.specs.ItemReading.{extent_read, data_ref_read, shared_data_ref_read};
 
-use qg_bytes::{put_u32, put_u64, u32_at, u64_at};
-use qg_num::{Address, Generation, Ino, RootId};
+use qg_num::{Address, Generation, Ino, RootId, put_u32, put_u64, u32_at, u64_at};
 
 /// The bytes of an EXTENT_ITEM or METADATA_ITEM body (on-disk format, EXTENT_ITEM).
 pub const EXTENT_ITEM_BYTES: usize = 24;

@@ -3,8 +3,7 @@ ghost use Rattle.std.specs.Prelude.{◌≡◌, length, IfSome};
 ghost use Rattle.qg_items.specs.ItemText.{inode_text, extent_data_text};
 ghost use Rattle.qg_items.specs.ItemReading.{inode_read, extent_data_read};
 
-use qg_bytes::{is_zero, put_u64, put_zeros, u64_at};
-use qg_num::{Address, Generation};
+use qg_num::{Address, Generation, is_zero, put_u64, put_zeros, u64_at};
 
 /// The bytes of an INODE_ITEM body (on-disk format, INODE_ITEM).
 pub const INODE_ITEM_BYTES: usize = 160;

@@ -3,8 +3,7 @@ ghost use Rattle.std.specs.Prelude.{◌≡◌, length, IfSome};
 ghost use Rattle.qg_items.specs.ItemText.{status_text, info_text, limit_text};
 ghost use Rattle.qg_items.specs.ItemReading.{status_read, info_read, limit_read};
 
-use qg_bytes::{is_zero, put_u64, put_zeros, u64_at};
-use qg_num::Generation;
+use qg_num::{Generation, is_zero, put_u64, put_zeros, u64_at};
 
 /// The bytes of a QGROUP_STATUS body (on-disk format, QGROUP_STATUS).
 pub const QGROUP_STATUS_BYTES: usize = 32;

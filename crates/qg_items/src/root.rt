@@ -3,8 +3,7 @@ ghost use Rattle.std.specs.Prelude.{◌≡◌, length, IfSome};
 ghost use Rattle.qg_items.specs.ItemText.{root_text};
 ghost use Rattle.qg_items.specs.ItemReading.{root_read};
 
-use qg_bytes::{is_zero, put_u32, put_u64, put_zeros, u32_at, u64_at};
-use qg_num::{Address, Generation};
+use qg_num::{Address, Generation, is_zero, put_u32, put_u64, put_zeros, u32_at, u64_at};
 
 /// The bytes of a ROOT_ITEM body (on-disk format, ROOT_ITEM).
 pub const ROOT_ITEM_BYTES: usize = 439;

@@ -1,6 +1,6 @@
 -- Small steps of the machine, and a key's bytes. All were worked out by hand.
 use Rattle.std.specs.Prelude.{◌≡◌, ◌+◌, ◌*◌, ◌^◌, [], ◌∷◌, Some, None, refl}
-use Rattle.qg_bytes.specs.Fields.{u64_bytes}
+use Rattle.qg_num.specs.Fields.{u64_bytes}
 use Rattle.qg_num.specs.Key.{key_bytes}
 use Rattle.qg_num.specs.declared.piece.Piece.{Piece}
 use Rattle.qg_num.specs.declared.command.Command.TheVariants.{Write, Commit, SubCreate, Snap, Delete, QuotaOn, Show, Assign}

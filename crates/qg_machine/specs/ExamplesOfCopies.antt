@@ -1,7 +1,7 @@
 -- What a write by copy on write and a deletion leave of shared trees. All were worked out by hand.
 use Rattle.std.specs.Prelude.{◌≡◌, ℕ, true, false, List, [], ◌∷◌, refl}
 use Rattle.std.specs.List.{list_all}
-use Rattle.qg_bytes.specs.Fields.{u64_bytes, u16_bytes, u64_at}
+use Rattle.qg_num.specs.Fields.{u64_bytes, u16_bytes, u64_at}
 use Rattle.qg_items.specs.ItemText.{inode_text, extent_data_text}
 use Rattle.qg_items.specs.ItemReading.{inode_read, extent_data_read}
 use Rattle.qg_super.specs.Places.{is_slot}

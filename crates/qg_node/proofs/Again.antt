@@ -6,8 +6,8 @@ use Rattle.std.proofs.lemmas.Bool.{le-leb, ne_eqb}
 use Rattle.std.proofs.lemmas.List.{append-nil, drop_all, length-replicate}
 use Rattle.std.proofs.lemmas.List.Concat.{flat_map-cons}
 use Rattle.std.proofs.lemmas.List.Elements.{All-head, All-tail}
-use Rattle.qg_bytes.specs.Fields.{u32_at, u32_bytes, u64_at, u64_bytes, zeros}
-use Rattle.qg_bytes.proofs.Standing.{Stands, Stands-first, Stands-second, is_zero-stands, slice_index-stands, slice_range-stands, u32_at-stands, u64_at-stands, whole_stands}
+use Rattle.qg_num.specs.Fields.{u32_at, u32_bytes, u64_at, u64_bytes, zeros}
+use Rattle.qg_num.proofs.Standing.{Stands, Stands-first, Stands-second, is_zero-stands, slice_index-stands, slice_range-stands, u32_at-stands, u64_at-stands, whole_stands}
 use Rattle.qg_crc32c.specs.Crc32c.{crc32c_of}
 use Rattle.qg_crc32c.proofs.Checksum.{crc32c_of-lt}
 use Rattle.qg_num.specs.Key.{IsKey, key_bytes}

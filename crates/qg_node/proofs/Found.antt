@@ -6,9 +6,9 @@ use Rattle.std.proofs.lemmas.Bool.{and_parts, eqb-false, eqb-true, leb-true}
 use Rattle.std.proofs.lemmas.List.{append-nil, drop_all}
 use Rattle.std.proofs.lemmas.List.Concat.{flat_map-cons}
 use Rattle.std.proofs.lemmas.List.Elements.{All-cons, All-nil}
-use Rattle.qg_bytes.specs.Fields.{IsBytes, u32_at, u32_bytes, u64_at, is_zero, zeros}
-use Rattle.qg_bytes.proofs.Numbers.{IsBytes-drop, IsBytes-take, u64_at-lt}
-use Rattle.qg_bytes.proofs.Standing.{Stands, Stands-then, Stands-whole, byte_stands, slice_stands, u32_stands, u64_stands, zeros_stand}
+use Rattle.qg_num.specs.Fields.{IsBytes, u32_at, u32_bytes, u64_at, is_zero, zeros}
+use Rattle.qg_num.proofs.Numbers.{IsBytes-drop, IsBytes-take, u64_at-lt}
+use Rattle.qg_num.proofs.Standing.{Stands, Stands-then, Stands-whole, byte_stands, slice_stands, u32_stands, u64_stands, zeros_stand}
 use Rattle.qg_crc32c.specs.Crc32c.{crc32c_of}
 use Rattle.qg_num.specs.Key.{key_at}
 use Rattle.qg_num.proofs.KeyBytes.{IsKey-key_at, key_stands}

@@ -4,9 +4,9 @@ use Rattle.std.specs.Prelude.{All}
 use Rattle.std.specs.List.{flat_map}
 use Rattle.std.proofs.lemmas.List.Concat.{flat_map-cons}
 use Rattle.std.proofs.lemmas.List.Elements.{All-head, All-tail}
-use Rattle.qg_bytes.specs.Fields.{IsBytes, u32_bytes, u64_bytes, zeros}
-use Rattle.qg_bytes.proofs.AreBytes.{append, of_byte, of_u32, of_u64, of_zeros}
-use Rattle.qg_bytes.proofs.Numbers.{IsBytes-append, IsBytes-u32_bytes, IsBytes-u64_bytes, IsBytes-zeros}
+use Rattle.qg_num.specs.Fields.{IsBytes, u32_bytes, u64_bytes, zeros}
+use Rattle.qg_num.proofs.AreBytes.{append, of_byte, of_u32, of_u64, of_zeros}
+use Rattle.qg_num.proofs.Numbers.{IsBytes-append, IsBytes-u32_bytes, IsBytes-u64_bytes, IsBytes-zeros}
 use Rattle.qg_crc32c.specs.Crc32c.{crc32c_of}
 use Rattle.qg_num.specs.Key.{key_bytes}
 use Rattle.qg_num.proofs.KeyBytes.{IsBytes-key_bytes}

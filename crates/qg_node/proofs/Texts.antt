@@ -4,8 +4,8 @@ use Rattle.std.specs.List.{flat_map}
 use Rattle.std.proofs.lemmas.List.{append-nil, length-replicate}
 use Rattle.std.proofs.lemmas.List.Concat.{flat_map-append, flat_map-cons}
 use Rattle.std.proofs.lemmas.List.Sums.{sum_by-cons, sum_by-drop_more}
-use Rattle.qg_bytes.specs.Fields.{u32_bytes, u64_bytes, zeros}
-use Rattle.qg_bytes.proofs.Numbers.{length-u32_bytes}
+use Rattle.qg_num.specs.Fields.{u32_bytes, u64_bytes, zeros}
+use Rattle.qg_num.proofs.Numbers.{length-u32_bytes}
 use Rattle.qg_crc32c.specs.Crc32c.{crc32c_of}
 use Rattle.qg_node.specs.declared.item.Item.{Item}
 use Rattle.qg_node.specs.declared.pointer.Pointer.{Pointer}

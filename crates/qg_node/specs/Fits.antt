@@ -2,7 +2,7 @@
 --
 -- Every node that a program holds is so, since its fields have these types.
 use Rattle.std.specs.Prelude.{◌^◌, ◌<◌, All}
-use Rattle.qg_bytes.specs.Fields.{IsBytes}
+use Rattle.qg_num.specs.Fields.{IsBytes}
 use Rattle.qg_num.specs.Key.{IsKey}
 use Rattle.qg_node.specs.declared.item.Item.{Item}
 use Rattle.qg_node.specs.declared.pointer.Pointer.{Pointer}

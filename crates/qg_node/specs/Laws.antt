@@ -1,6 +1,6 @@
 -- What reading a node and its text are to each other (this project's own).
 use Rattle.std.specs.Prelude.{◌≡◌, ◌↔◌, ℕ, List, length, Ok}
-use Rattle.qg_bytes.specs.Fields.{IsBytes}
+use Rattle.qg_num.specs.Fields.{IsBytes}
 use Rattle.qg_node.specs.declared.node.Node.{Node}
 use Rattle.qg_node.specs.Fits.{NodeFits}
 use Rattle.qg_node.specs.Nodes.{header_of}

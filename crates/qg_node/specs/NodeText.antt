@@ -3,7 +3,7 @@
 -- All sizes and places are in bytes. What the text has as `zeros` is 0 in this project's own profile.
 use Rattle.std.specs.Prelude.{◌≡◌, ◌⊎◌, ℕ, ◌+◌, ◌-◌, ◌*◌, ◌≤◌, List, [], ◌∷◌, ◌++◌, length, IsTrue}
 use Rattle.std.specs.List.{flat_map}
-use Rattle.qg_bytes.specs.Fields.{u64_bytes, u32_bytes, zeros}
+use Rattle.qg_num.specs.Fields.{u64_bytes, u32_bytes, zeros}
 use Rattle.qg_crc32c.specs.Crc32c.{crc32c_of}
 use Rattle.qg_num.specs.Key.{key_bytes}
 use Rattle.qg_node.specs.declared.item.Item.{Item}

@@ -2,7 +2,7 @@
 --
 -- The rules are looked at in one order (this project's own): csum, place, level, empty, bounds, order, slack.
 use Rattle.std.specs.Prelude.{◌≡◌, ⊤, ℕ, zero, suc, ◌+◌, ◌-◌, ◌*◌, Bool, ◌&&◌, ◌||◌, not, List, [], ◌∷◌, length, drop, map, slice_index, slice_range, Result, Ok, Err, nat_le, ◌==◌, if◌then◌else◌}
-use Rattle.qg_bytes.specs.Fields.{u64_at, u32_at, is_zero}
+use Rattle.qg_num.specs.Fields.{u64_at, u32_at, is_zero}
 use Rattle.qg_crc32c.specs.Crc32c.{crc32c_of}
 use Rattle.qg_num.specs.Key.{key_at}
 use Rattle.qg_node.specs.declared.item.Item.{Item}

@@ -7,9 +7,8 @@ mod inner;
 mod leaf;
 
 use crate::{Header, Node, NodeFault, ReadFault};
-use qg_bytes::{is_zero, u32_at, u64_at};
 use qg_crc32c::crc32c;
-use qg_num::{Address, Generation, RootId};
+use qg_num::{Address, Generation, RootId, is_zero, u32_at, u64_at};
 use std::alloc::Global;
 
 /// The node whose text the bytes of a slot are, or the first rule that they break (on-disk format, "nodes and leaves").

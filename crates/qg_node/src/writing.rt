@@ -1,6 +1,6 @@
 // Writing a node.
 ghost use Rattle.std.specs.Prelude.{◌≡◌, ◌+◌, ◌*◌, ◌≤◌, ◌<◌, ◌^◌, ◌++◌, length, take, drop, slice_range, All};
-ghost use Rattle.qg_bytes.specs.Fields.{u32_bytes, zeros};
+ghost use Rattle.qg_num.specs.Fields.{u32_bytes, zeros};
 ghost use Rattle.qg_num.specs.Key.{IsKey, key_bytes};
 ghost use Rattle.qg_node.specs.Fits.{HeaderFits, ItemFits, NodeFits, PointerFits};
 ghost use Rattle.qg_node.specs.Nodes.{header_of, items_bytes};
@@ -9,9 +9,8 @@ ghost use Rattle.qg_node.specs.Reading.{node_read};
 
 use crate::node::{ITEM_HEADER_BYTES, POINTER_BYTES};
 use crate::{Header, Item, Node, Pointer};
-use qg_bytes::{put_bytes, put_u32, put_u64};
 use qg_crc32c::crc32c;
-use qg_num::Key;
+use qg_num::{Key, put_bytes, put_u32, put_u64};
 
 /// Writes the text of a node over the bytes of a slot, whatever they held (on-disk format, "nodes and leaves").
 ///
@@ -52,7 +51,7 @@ fn write_covered(node: &Node, bytes: &mut [u8])
     }
 }
 
-#[tactic(auto, unfolding(crate::specs::NodeText::header_text, qg_bytes::specs::Fields::u64_bytes, qg_bytes::specs::Fields::u32_bytes))]
+#[tactic(auto, unfolding(crate::specs::NodeText::header_text, qg_num::specs::Fields::u64_bytes, qg_num::specs::Fields::u32_bytes))]
 fn write_header(header: Header, count: u32, bytes: &mut [u8])
     requires { bytes.old ≡ zeros 69 }
     ensures text { bytes.new ≡ header_text header count }
@@ -96,7 +95,7 @@ fn write_item(item: &Item, place: usize, end: usize, room: &mut [u8]) -> usize
     begin
 }
 
-#[tactic(auto, unfolding(qg_bytes::specs::Fields::u64_bytes, qg_bytes::specs::Fields::u32_bytes))]
+#[tactic(auto, unfolding(qg_num::specs::Fields::u64_bytes, qg_num::specs::Fields::u32_bytes))]
 fn item_header(key: Key, begin: u32, len: u32) -> [u8; ITEM_HEADER_BYTES]
     ensures text { result ≡ key_bytes key ++ u32_bytes begin ++ u32_bytes len }
     ensures fits { IsKey key }
@@ -121,7 +120,7 @@ fn write_pointers(pointers: &[Pointer], room: &mut [u8])
     }
 }
 
-#[tactic(auto, unfolding(crate::specs::NodeText::pointer_text, qg_bytes::specs::Fields::u64_bytes))]
+#[tactic(auto, unfolding(crate::specs::NodeText::pointer_text, qg_num::specs::Fields::u64_bytes))]
 fn pointer_text(pointer: Pointer) -> [u8; POINTER_BYTES]
     ensures text { result ≡ pointer_text pointer }
     ensures fits { PointerFits pointer }

@@ -2,10 +2,10 @@
 use Rattle.std.proofs.Common.{◌≡◌, ℕ, zero, suc, ◌+◌, ◌≤◌, ◌<◌, List, [], ◌∷◌, ◌++◌, length, take, drop, set, sym, ap, subst, ◌∙◌, arith}
 use Rattle.std.specs.Prelude.{slice_index}
 use Rattle.std.proofs.lemmas.List.{append_assoc, length-append}
-use Rattle.qg_bytes.specs.Fields.{IsBytes, u64_bytes, u64_at}
-use Rattle.qg_bytes.proofs.Numbers.{IsBytes-append, IsBytes-u64_bytes, length-u64_bytes, u64_at-lt}
-use Rattle.qg_bytes.proofs.Standing.{Stands, Stands-first, Stands-second, Stands-then, byte_stands, slice_index-stands, u64_at-stands, u64_stands, whole_stands}
-use Rattle.qg_bytes.proofs.Written.{length-put, put_byte, put_then}
+use Rattle.qg_num.specs.Fields.{IsBytes, u64_bytes, u64_at}
+use Rattle.qg_num.proofs.Numbers.{IsBytes-append, IsBytes-u64_bytes, length-u64_bytes, u64_at-lt}
+use Rattle.qg_num.proofs.Standing.{Stands, Stands-first, Stands-second, Stands-then, byte_stands, slice_index-stands, u64_at-stands, u64_stands, whole_stands}
+use Rattle.qg_num.proofs.Written.{length-put, put_byte, put_then}
 use Rattle.qg_num.specs.declared.key.Key.{Key}
 use Rattle.qg_num.specs.Key.{IsKey, key_at, key_bytes}
 

@@ -2,7 +2,7 @@
 use Rattle.std.specs.Prelude.{ℕ, ◌+◌, ◌^◌, ◌<◌, List, ◌∷◌, ◌++◌, slice_index}
 use Rattle.std.specs.Ordering.{nat_cmp, ordering_then}
 use Rattle.std.specs.declared.cmp.Ordering.{Ordering}
-use Rattle.qg_bytes.specs.Fields.{u64_bytes, u64_at}
+use Rattle.qg_num.specs.Fields.{u64_bytes, u64_at}
 use Rattle.qg_num.specs.declared.key.Key.{Key}
 
 -- by object, then by type, then by offset

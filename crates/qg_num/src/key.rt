@@ -1,7 +1,7 @@
 // The key of an item, ordered by object, type and offset.
 ghost use Rattle.std.specs.Prelude.{◌≡◌, ◌+◌, ◌≤◌, ◌++◌, take, drop, length};
 
-use qg_bytes::{put_u64, u64_at};
+use crate::{put_u64, u64_at};
 
 /// The key of an item or of a pointer (on-disk format, "Key"). Keys are ordered by object, then by type, then by offset.
 #[derive(Clone, Copy, Debug, PartialEq, Eq, PartialOrd, Ord)]

@@ -3,7 +3,7 @@ use Rattle.std.specs.Prelude.{All, ℕ, List}
 use Rattle.std.proofs.Common.{◌⊎◌}
 use Rattle.std.specs.List.{Contains}
 use Rattle.qg_device.specs.History.{Event, content}
-use Rattle.qg_bytes.specs.Fields.{IsBytes}
+use Rattle.qg_num.specs.Fields.{IsBytes}
 use Rattle.qg_node.specs.declared.node.Node.{Node}
 use Rattle.qg_items.specs.declared.root.RootItem.{RootItem}
 use Rattle.qg_super.specs.declared.superblock.Super.{Super}

@@ -1,7 +1,7 @@
 // The items of a leaf.
 ghost use Rattle.std.specs.Prelude.{◌≡◌, ◌-◌, All, length, map, slice_get, IfOk, IsErrOf, IsTrue};
 ghost use Rattle.std.specs.List.{list_all};
-ghost use Rattle.qg_bytes.specs.Fields.{IsBytes};
+ghost use Rattle.qg_num.specs.Fields.{IsBytes};
 ghost use Rattle.qg_num.specs.declared.rule.Rule.TheVariants as rule;
 ghost use Rattle.qg_node.specs.Nodes.{is_ascending};
 ghost use Rattle.qg_parts.specs.Keys.{file_key};

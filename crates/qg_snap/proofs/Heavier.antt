@@ -19,11 +19,11 @@ use Rattle.qg_tree_refs.specs.declared.tree_refs.TreeRefs.{TreeRefs}
 use Rattle.qg_tree_refs.specs.Exchange.{Gives, times}
 use Rattle.qg_tree_refs.specs.Following.{Step}
 use Rattle.qg_tree_refs.proofs.Times.{times-nil}
-use Rattle.qg_heavier.specs.Heavier.{BookGetsHeavier, node_bytes}
-use Rattle.qg_heavier.proofs.Besides.{GetsHeavier-besides, HasBesides, HasBesides-then}
-use Rattle.qg_heavier.proofs.Changed.{HasBesides-exchanged, gained-bytes, records_gained}
-use Rattle.qg_heavier.proofs.Owed.{keyed-bytes}
-use Rattle.qg_heavier.proofs.Told.{HasBesides-step, fits-step, held-step, records_told, told-records}
+use Rattle.qg_tree_refs.specs.Heavier.{BookGetsHeavier, node_bytes}
+use Rattle.qg_tree_refs.proofs.Besides.{GetsHeavier-besides, HasBesides, HasBesides-then}
+use Rattle.qg_tree_refs.proofs.Changed.{HasBesides-exchanged, gained-bytes, records_gained}
+use Rattle.qg_tree_refs.proofs.Owed.{keyed-bytes}
+use Rattle.qg_tree_refs.proofs.Told.{HasBesides-step, fits-step, held-step, records_told, told-records}
 
 -- references that are given to what is known are all that comes
 known_given : (here : Option What) (what : What) → here ≡ Some what → option_or here None ≡ Some what

@@ -29,7 +29,7 @@ use Rattle.qg_tree_refs.specs.Exchange.{CanGive, times}
 use Rattle.qg_tree_refs.proofs.Keyed.{keyed-under}
 use Rattle.qg_tree_refs.proofs.Owings.{addresses, children-alike, known-alike, times-few}
 use Rattle.qg_tree_refs.proofs.Times.{times-append, times-nil, times_there}
-use Rattle.qg_heavier.proofs.Owed.{keyed-bytes}
+use Rattle.qg_tree_refs.proofs.Owed.{keyed-bytes}
 use Rattle.qg_forest.proofs.Bytes.{one_of-most, times-bytes}
 use Rattle.qg_forest.proofs.Owing.{node_owes, owed-parts}
 use Rattle.qg_forest.proofs.Tables.{times-flat, times-member}

@@ -10,7 +10,7 @@ ghost use Rattle.qg_blocks.specs.Told.{BreaksNone};
 ghost use Rattle.qg_space.specs.Holding.{free_slots, is_free_slot};
 ghost use Rattle.qg_tree_edits.specs.Editing.{IsEditable};
 ghost use Rattle.qg_tree_edits.specs.Rooting.{LeavesBe};
-ghost use Rattle.qg_heavier.specs.Heavier.{BookGetsHeavier, node_bytes};
+ghost use Rattle.qg_tree_refs.specs.Heavier.{BookGetsHeavier, node_bytes};
 ghost use Rattle.qg_forest.specs.Standing.{HoldsState, tree_of};
 ghost use Rattle.qg_snap.specs.Beginning.{BookGoesOn};
 

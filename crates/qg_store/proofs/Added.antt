@@ -31,13 +31,13 @@ use Rattle.qg_groups.specs.Changing.{groups_in, pairs_in}
 use Rattle.qg_groups.specs.Tracked.{HoldsAtMost, quota_of}
 use Rattle.qg_groups.proofs.Snapped.{group-free}
 use Rattle.qg_check.specs.Editable.{AreGroups, AreGroupsOf}
-use Rattle.qg_store.specs.declared.kept.Kept.{Kept}
-use Rattle.qg_store.specs.Keeping.{AreSubvolumesBy, IsFitted, most_reserved}
+use Rattle.qg_kept.specs.declared.kept.Kept.{Kept}
+use Rattle.qg_kept.specs.Keeping.{AreSubvolumesBy, IsFitted, most_reserved}
 use Rattle.qg_store.specs.Structural.{number_next, too_many_refusal}
 use Rattle.qg_store.proofs.GroupAdded.{AddsGroup, IsWithGroup, IsWithGroupIn, bounded-still, length-put, sound-tracked}
-use Rattle.qg_store.proofs.Looked.{hand-among, tree-listed}
+use Rattle.qg_kept.proofs.Looked.{hand-among, tree-listed}
 use Rattle.qg_store.proofs.Numbered.{next-above, next-greater, next-some}
-use Rattle.qg_store.proofs.Tables.{all-of, all-put, key-listed, key-of-value, listed-key, put-into}
+use Rattle.qg_kept.proofs.Tables.{all-of, all-put, key-listed, key-of-value, listed-key, put-into}
 
 -- ---- bools
 

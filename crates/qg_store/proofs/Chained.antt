@@ -27,8 +27,8 @@ use Rattle.qg_crashes.proofs.States.{mirrors_the_new_state}
 use Rattle.qg_commit.specs.Calls.{IsFront, commit_calls, with_commit}
 use Rattle.qg_commit.proofs.CallEvents.{calls_are_whole, calls_write}
 use Rattle.qg_store.specs.Crashes.{LeavesOneOf, last_commit}
-use Rattle.qg_store.specs.Making.{BringsTo, Makes}
-use Rattle.qg_store.proofs.Commits.{all-made}
+use Rattle.qg_kept.specs.Making.{BringsTo, Makes}
+use Rattle.qg_kept.proofs.Commits.{all-made}
 use Rattle.qg_store.proofs.LastCommits.{AreLater}
 use Rattle.qg_store.proofs.Synced.{held_after}
 

@@ -29,15 +29,15 @@ use Rattle.qg_space.specs.Holding.{free_slots}
 use Rattle.qg_descent.specs.Tree.{Root}
 use Rattle.qg_groups.specs.Tracked.{quota_of}
 use Rattle.qg_groups.proofs.Recounted.{recounted-self}
-use Rattle.qg_store.specs.declared.kept.Kept.{Kept}
-use Rattle.qg_store.specs.Keeping.{IsFitted, IsKeptOf, book_weight, commit_need, filled_by, quota_weight}
-use Rattle.qg_store.specs.Keeping.{root_weight, structural_need_of}
-use Rattle.qg_store.specs.Planning.{CommitsOn, LeavesRoom, StartsCommitOf}
+use Rattle.qg_kept.specs.declared.kept.Kept.{Kept}
+use Rattle.qg_kept.specs.Keeping.{IsFitted, IsKeptOf, book_weight, commit_need, filled_by, quota_weight}
+use Rattle.qg_kept.specs.Keeping.{root_weight, structural_need_of}
+use Rattle.qg_kept.specs.Planning.{CommitsOn, LeavesRoom, StartsCommitOf}
 use Rattle.qg_store.specs.Structural.{HasCommitted, HasRoom, IsDoneFirst, IsSettledFrom}
-use Rattle.qg_store.proofs.Looked.{node-size}
-use Rattle.qg_store.proofs.OnOff.{bytes-recounted, roots-recounted}
+use Rattle.qg_kept.proofs.Looked.{node-size}
+use Rattle.qg_kept.proofs.OnOff.{bytes-recounted, roots-recounted}
 use Rattle.qg_store.proofs.Reasoned.{generation-told}
-use Rattle.qg_store.proofs.Room.{commit-few, fills-more, left-first, left-none, left-second}
+use Rattle.qg_file_commands.proofs.Room.{commit-few, fills-more, left-first, left-none, left-second}
 
 -- ---- what is weighed
 

@@ -40,16 +40,16 @@ use Rattle.qg_file_edits.specs.Files.{HasFiles}
 use Rattle.qg_fs_laws.specs.Committing.{AreShort, IsShort}
 use Rattle.qg_fs_laws.specs.Keeping.{AreTreesOf, AreYoung, KeepsState, NamesOthers, OthersHaveFiles, other_names}
 use Rattle.qg_fs_laws.proofs.HeldStands.{held-kept}
-use Rattle.qg_store.specs.declared.kept.Kept.{Kept}
-use Rattle.qg_store.specs.Keeping.{HoldsPending, IsKept, IsKeptOf, IsKeptWith}
+use Rattle.qg_kept.specs.declared.kept.Kept.{Kept}
+use Rattle.qg_kept.specs.Keeping.{HoldsPending, IsKept, IsKeptOf, IsKeptWith}
 use Rattle.qg_store.proofs.Added.{put-last}
 use Rattle.qg_store.proofs.Grown.{files-grown, free-none, layout-grown, old-none-fresh, still-grown, tree-grown}
-use Rattle.qg_store.proofs.CanLay.{early-known}
-use Rattle.qg_store.proofs.KnownBook.{none-later}
-use Rattle.qg_store.proofs.Looked.{hand-among, is-near, is-subvolume}
-use Rattle.qg_store.proofs.Tables.{all-put, key-of-value}
+use Rattle.qg_kept.proofs.CanLay.{early-known}
+use Rattle.qg_kept.proofs.KnownBook.{none-later}
+use Rattle.qg_kept.proofs.Looked.{hand-among, is-near, is-subvolume}
+use Rattle.qg_kept.proofs.Tables.{all-put, key-of-value}
 use Rattle.qg_store.proofs.Trees.{numbers-others, told-by-number, tree-is, without-none}
-use Rattle.qg_store.proofs.Turned.{tree-sub}
+use Rattle.qg_kept.proofs.Turned.{tree-sub}
 use Rattle.qg_store.proofs.Young.{dated-still, fresh-told}
 
 -- ---- a subvolume more

@@ -31,8 +31,8 @@ use Rattle.qg_extents.specs.Table.{IsTable, book_of}
 use Rattle.qg_weighed.specs.Weight.{weight_of}
 use Rattle.qg_tree_edits.specs.Rooting.{LeavesBe}
 use Rattle.qg_descent.specs.Tree.{Root}
-use Rattle.qg_heavier.specs.Heavier.{BookGetsHeavier, node_bytes}
-use Rattle.qg_heavier.proofs.Sums.{held-heavier}
+use Rattle.qg_tree_refs.specs.Heavier.{BookGetsHeavier, node_bytes}
+use Rattle.qg_tree_refs.proofs.Sums.{held-heavier}
 use Rattle.qg_tree_refs.specs.declared.tree_refs.TreeRefs.{TreeRefs}
 use Rattle.qg_forest.specs.Standing.{HoldsState, tree_of}
 use Rattle.qg_forest.proofs.Roots.{root_of-value}
@@ -40,18 +40,18 @@ use Rattle.qg_fs_tree.specs.Standing.{nodes_of}
 use Rattle.qg_fs_tree.proofs.Lists.{has-mapped}
 use Rattle.qg_fs_laws.specs.Committing.{AreShortPieces}
 use Rattle.qg_fs_laws.specs.Keeping.{other_names}
-use Rattle.qg_store.specs.declared.kept.Kept.{Kept}
-use Rattle.qg_store.specs.Keeping.{HoldsPending, IsFitted, IsKept, IsKeptOf, IsKeptWith, book_weight, quota_weight, root_weight}
+use Rattle.qg_kept.specs.declared.kept.Kept.{Kept}
+use Rattle.qg_kept.specs.Keeping.{HoldsPending, IsFitted, IsKept, IsKeptOf, IsKeptWith, book_weight, quota_weight, root_weight}
 use Rattle.qg_store.specs.Structural.{HasRoom, IsChanged, number_next, too_many_refusal}
 use Rattle.qg_store.proofs.Added.{IsAdded, fitted-added, greater}
 use Rattle.qg_store.proofs.Committed.{large}
 use Rattle.qg_store.proofs.Created.{adds-created, at-leaf, empty-files, keeps-added, made_empty, young-added}
 use Rattle.qg_store.proofs.GroupAdded.{AddsGroup, holds-still, room-grown, weighs-more}
-use Rattle.qg_store.proofs.Known.{sub-known}
+use Rattle.qg_file_commands.proofs.Known.{sub-known}
 use Rattle.qg_store.proofs.Numbered.{next-greater, next-some}
 use Rattle.qg_store.proofs.Reasoned.{number-told}
-use Rattle.qg_store.proofs.Stepped.{keys-kept}
-use Rattle.qg_store.proofs.Tables.{key-listed}
+use Rattle.qg_file_commands.proofs.Stepped.{keys-kept}
+use Rattle.qg_kept.proofs.Tables.{key-listed}
 use Rattle.qg_store.proofs.Trees.{held-for}
 
 -- the number that comes next is no subvolume's

@@ -23,10 +23,10 @@ use Rattle.qg_fs_laws.proofs.HeldTrees.{IsTreeIn, reach-into, tree-held}
 use Rattle.qg_fs_laws.proofs.Runs.{state-held}
 use Rattle.qg_drop.proofs.Ended.{none_open}
 use Rattle.qg_drop.proofs.Partly.{all_kept, kept-value}
-use Rattle.qg_store.specs.declared.kept.Kept.{Kept}
-use Rattle.qg_store.specs.Keeping.{IsKept, IsKeptWith}
+use Rattle.qg_kept.specs.declared.kept.Kept.{Kept}
+use Rattle.qg_kept.specs.Keeping.{IsKept, IsKeptWith}
 use Rattle.qg_store.proofs.Grown.{placed-old}
-use Rattle.qg_store.proofs.Looked.{is-near, is-subvolume}
+use Rattle.qg_kept.proofs.Looked.{is-near, is-subvolume}
 use Rattle.qg_store.proofs.Numbers.{other-number}
 use Rattle.qg_store.proofs.Trees.{trees-are}
 

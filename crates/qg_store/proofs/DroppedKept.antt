@@ -37,8 +37,8 @@ use Rattle.qg_extents.specs.Table.{IsTable, book_of}
 use Rattle.qg_weighed.specs.Laws.{IsRecorded}
 use Rattle.qg_weighed.specs.Weight.{weight_of}
 use Rattle.qg_descent.specs.Tree.{Root}
-use Rattle.qg_heavier.specs.Heavier.{BookGetsHeavier}
-use Rattle.qg_heavier.proofs.Sums.{held-heavier}
+use Rattle.qg_tree_refs.specs.Heavier.{BookGetsHeavier}
+use Rattle.qg_tree_refs.proofs.Sums.{held-heavier}
 use Rattle.qg_tree_refs.specs.declared.tree_refs.TreeRefs.{TreeRefs}
 use Rattle.qg_forest.specs.Standing.{HoldsState, tree_of}
 use Rattle.qg_fs_tree.specs.declared.fs_tree.FsTree.{FsTree}
@@ -48,9 +48,9 @@ use Rattle.qg_drop.specs.Dropping.{RestsButRuns}
 use Rattle.qg_fs_laws.specs.Committing.{AreShort, IsShort}
 use Rattle.qg_fs_laws.specs.Keeping.{AreTreesOf, AreYoung, KeepsState, OthersHaveFiles, other_names}
 use Rattle.qg_fs_laws.proofs.HeldStands.{held-kept}
-use Rattle.qg_store.specs.declared.kept.Kept.{Kept}
-use Rattle.qg_store.specs.Keeping.{HoldsPending, IsKept, IsKeptOf, IsKeptWith, SameButClean, book_weight, quota_weight}
-use Rattle.qg_store.specs.Keeping.{root_weight}
+use Rattle.qg_kept.specs.declared.kept.Kept.{Kept}
+use Rattle.qg_kept.specs.Keeping.{HoldsPending, IsKept, IsKeptOf, IsKeptWith, SameButClean, book_weight, quota_weight}
+use Rattle.qg_kept.specs.Keeping.{root_weight}
 use Rattle.qg_store.specs.Structural.{HasRoom, IsChanged, without_tree}
 use Rattle.qg_store.proofs.Committed.{large}
 use Rattle.qg_store.proofs.Created.{dated-before, names-are, quota_names}
@@ -58,12 +58,12 @@ use Rattle.qg_store.proofs.Dropped.{still-left, value-left}
 use Rattle.qg_store.proofs.Gone.{IsGone, fitted-gone, other-left, others-gone}
 use Rattle.qg_store.proofs.GroupAdded.{room-grown, weighs-same}
 use Rattle.qg_store.proofs.Grown.{files-grown, old-none-fresh, tree-grown}
-use Rattle.qg_store.proofs.Known.{sub-known}
-use Rattle.qg_store.proofs.Looked.{hand-among, is-near, is-subvolume}
+use Rattle.qg_file_commands.proofs.Known.{sub-known}
+use Rattle.qg_kept.proofs.Looked.{hand-among, is-near, is-subvolume}
 use Rattle.qg_store.proofs.Numbers.{numbers-without}
-use Rattle.qg_store.proofs.Tables.{key-of-value, keys-mapped, value-there}
+use Rattle.qg_kept.proofs.Tables.{key-of-value, keys-mapped, value-there}
 use Rattle.qg_store.proofs.Trees.{held-for, told-by-number, tree-is, without-mapped}
-use Rattle.qg_store.proofs.Turned.{tree-sub}
+use Rattle.qg_kept.proofs.Turned.{tree-sub}
 use Rattle.qg_store.proofs.Young.{dated-still}
 
 not_not : (b : Bool) → b ≡ not (not b)

@@ -21,13 +21,13 @@ use Rattle.qg_fs_tree.proofs.Lists.{from-mapped, has-mapped}
 use Rattle.qg_groups.specs.declared.state.QuotaState.{QuotaState}
 use Rattle.qg_groups.specs.Tracked.{HoldsAtMost, IsTracked, quota_of}
 use Rattle.qg_check.specs.Editable.{AreGroupsOf}
-use Rattle.qg_store.specs.declared.kept.Kept.{Kept}
-use Rattle.qg_store.specs.Keeping.{AreSubvolumesBy, IsFitted, most_reserved}
+use Rattle.qg_kept.specs.declared.kept.Kept.{Kept}
+use Rattle.qg_kept.specs.Keeping.{AreSubvolumesBy, IsFitted, most_reserved}
 use Rattle.qg_store.specs.Structural.{without_tree}
-use Rattle.qg_store.proofs.Looked.{hand-among, tree-listed}
+use Rattle.qg_kept.proofs.Looked.{hand-among, tree-listed}
 use Rattle.qg_store.proofs.Numbers.{in-front, not-same, numbers-same, numbers-without, other-number}
-use Rattle.qg_store.proofs.Tables.{key-listed, listed-key}
-use Rattle.qg_store.proofs.Turned.{tree-of-key}
+use Rattle.qg_kept.proofs.Tables.{key-listed, listed-key}
+use Rattle.qg_kept.proofs.Turned.{tree-of-key}
 
 -- the tree of a subvolume that there is, and that is not at hand, is among the others
 pub tree-there : (kept : Kept) (sub : ℕ) → IsFitted kept → kept.fs.tree.owner ≡ TOP_LEVEL → (sub ≡ TOP_LEVEL → ⊥)

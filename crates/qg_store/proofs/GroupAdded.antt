@@ -28,11 +28,11 @@ use Rattle.qg_space.specs.Holding.{free_slots}
 use Rattle.qg_ground.specs.declared.ground.Ground.{Ground}
 use Rattle.qg_tree_refs.specs.declared.tree_refs.TreeRefs.{TreeRefs}
 use Rattle.qg_other_trees.specs.Trees.{quota_tree_bytes, root_tree_bytes}
-use Rattle.qg_store.specs.declared.kept.Kept.{Kept}
-use Rattle.qg_store.specs.Keeping.{HoldsPending, IsFitted, book_weight, commit_need, filled_by, quota_weight, root_weight}
+use Rattle.qg_kept.specs.declared.kept.Kept.{Kept}
+use Rattle.qg_kept.specs.Keeping.{HoldsPending, IsFitted, book_weight, commit_need, filled_by, quota_weight, root_weight}
 use Rattle.qg_store.specs.Structural.{HasRoom, SameHeldIn}
 use Rattle.qg_store.proofs.Committed.{large, need-few}
-use Rattle.qg_store.proofs.Room.{fills-more, left-second}
+use Rattle.qg_file_commands.proofs.Room.{fills-more, left-second}
 
 -- ---- what is tracked
 

@@ -36,11 +36,11 @@ use Rattle.qg_fs_layout.proofs.Nodes.{value-reached}
 use Rattle.qg_fs_layout.proofs.Trees.{entry-there, met-slot, nodes-laid, sized}
 use Rattle.qg_exchange.specs.Named.{named}
 use Rattle.qg_file_edits.specs.Files.{HasFiles}
-use Rattle.qg_store.specs.declared.kept.Kept.{Kept}
-use Rattle.qg_store.specs.Keeping.{IsKept, IsKeptWith}
-use Rattle.qg_store.proofs.Looked.{is-near, is-subvolume}
-use Rattle.qg_store.proofs.Tables.{key-of-value}
-use Rattle.qg_store.proofs.Turned.{tree-files, tree-sub}
+use Rattle.qg_kept.specs.declared.kept.Kept.{Kept}
+use Rattle.qg_kept.specs.Keeping.{IsKept, IsKeptWith}
+use Rattle.qg_kept.proofs.Looked.{is-near, is-subvolume}
+use Rattle.qg_kept.proofs.Tables.{key-of-value}
+use Rattle.qg_kept.proofs.Turned.{tree-files, tree-sub}
 use Rattle.qg_store.proofs.Young.{old-not-fresh}
 
 -- a free slot has no node

@@ -8,7 +8,7 @@ use Rattle.std.proofs.lemmas.List.Sums.{AllPass-from_list_all, list_all-from_All
 use Rattle.qg_image.proofs.Contained.{none_contained}
 use Rattle.qg_space.specs.Holding.{Holding, has_slot}
 use Rattle.qg_space.proofs.Members.{Contains-has_slot, contains_filter, filter_contains}
-use Rattle.qg_store.specs.Slots.{ChangesSlots}
+use Rattle.qg_kept.specs.Slots.{ChangesSlots}
 
 -- what all of a list pass, all of a part of it pass
 pub all_filtered : (test keep : ℕ → Bool) (slots : List ℕ) → list_all test slots ≡ true → list_all test (filter keep slots) ≡ true

@@ -18,13 +18,13 @@ use Rattle.qg_fs_tree.specs.Standing.{trees_of}
 use Rattle.qg_check.specs.Editable.{AreGroupsOf}
 use Rattle.qg_fs_laws.specs.Committing.{AreShort}
 use Rattle.qg_fs_laws.specs.Keeping.{KeepsState, NamesOthers, other_names}
-use Rattle.qg_store.specs.declared.kept.Kept.{Kept}
-use Rattle.qg_store.specs.Keeping.{IsFitted, IsKept, IsKeptOf}
+use Rattle.qg_kept.specs.declared.kept.Kept.{Kept}
+use Rattle.qg_kept.specs.Keeping.{IsFitted, IsKept, IsKeptOf}
 use Rattle.qg_store.proofs.Added.{key-still}
-use Rattle.qg_store.proofs.Changed.{short-files}
-use Rattle.qg_store.proofs.Looked.{hand-among, tree-listed, tree-numbered}
-use Rattle.qg_store.proofs.Stepped.{ascend-kept, names-same}
-use Rattle.qg_store.proofs.Tables.{all-put, listed-key, map-put, value-there}
+use Rattle.qg_file_commands.proofs.Changed.{short-files}
+use Rattle.qg_kept.proofs.Looked.{hand-among, tree-listed, tree-numbered}
+use Rattle.qg_file_commands.proofs.Stepped.{ascend-kept, names-same}
+use Rattle.qg_kept.proofs.Tables.{all-put, listed-key, map-put, value-there}
 
 -- ---- a table made of another
 

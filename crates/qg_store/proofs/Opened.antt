@@ -44,10 +44,10 @@ use Rattle.qg_fs_laws.proofs.OpenedNames.{opened-names}
 use Rattle.qg_fs_laws.proofs.OpenedRecords.{opened-recorded}
 use Rattle.qg_fs_laws.proofs.SoundImage.{image-known, others-known}
 use Rattle.qg_fs_laws.proofs.Short.{spaced-short}
-use Rattle.qg_store.specs.declared.kept.Kept.{Kept}
-use Rattle.qg_store.specs.Keeping.{HoldsPending, IsKeptOf}
+use Rattle.qg_kept.specs.declared.kept.Kept.{Kept}
+use Rattle.qg_kept.specs.Keeping.{HoldsPending, IsKeptOf}
 use Rattle.qg_store.specs.Opened.{snapshot_of}
-use Rattle.qg_store.proofs.OnOff.{settled-holds}
+use Rattle.qg_kept.proofs.OnOff.{settled-holds}
 use Rattle.qg_store.proofs.OpenedFits.{IsMadeOf, settled}
 
 -- what failed is not there

@@ -38,11 +38,11 @@ use Rattle.qg_check.specs.IsImage.{IsEditable}
 use Rattle.qg_groups.specs.declared.state.QuotaState.{QuotaState}
 use Rattle.qg_groups.specs.Tracked.{HoldsAll, IsTracked, quota_of}
 use Rattle.qg_check.specs.Editable.{AreGroupsOf}
-use Rattle.qg_store.specs.declared.kept.Kept.{Kept}
-use Rattle.qg_store.specs.Keeping.{AreSubvolumesBy, IsFitted, most_reserved}
+use Rattle.qg_kept.specs.declared.kept.Kept.{Kept}
+use Rattle.qg_kept.specs.Keeping.{AreSubvolumesBy, IsFitted, most_reserved}
 use Rattle.qg_store.specs.Opened.{AreTreesIn, snapshot_of, tree_for}
-use Rattle.qg_store.proofs.CanLay.{All-from-contains, key_by, later-of}
-use Rattle.qg_store.proofs.OnOff.{settled-bounded, settled-tracked}
+use Rattle.qg_kept.proofs.CanLay.{All-from-contains, key_by, later-of}
+use Rattle.qg_kept.proofs.OnOff.{settled-bounded, settled-tracked}
 
 -- What is made of an image: its trees over its space and its book, which is held too; nothing is pending
 pub record IsMadeOf (kept : Kept) (image : Image) : Type 0 where

@@ -29,12 +29,12 @@ use Rattle.qg_groups.proofs.Refused.{groups-told, pairs-told, refusal-is}
 use Rattle.qg_groups.proofs.Snapped.{snap-told}
 use Rattle.qg_extents.specs.Table.{IsTable}
 use Rattle.qg_fs_laws.specs.Keeping.{other_names}
-use Rattle.qg_store.specs.declared.kept.Kept.{Kept}
-use Rattle.qg_store.specs.Keeping.{IsFitted, IsKept, IsKeptOf, structural_need_of}
+use Rattle.qg_kept.specs.declared.kept.Kept.{Kept}
+use Rattle.qg_kept.specs.Keeping.{IsFitted, IsKept, IsKeptOf, structural_need_of}
 use Rattle.qg_store.specs.Structural.{IsSettledFrom, commit_refusal, group_copies, number_next, too_many_refusal}
-use Rattle.qg_store.proofs.Known.{no-other, sub-there}
-use Rattle.qg_store.proofs.Refused.{first_one}
-use Rattle.qg_store.proofs.Stepped.{free-told, keys-kept, many-kept, nodesize-kept, weight-kept}
+use Rattle.qg_file_commands.proofs.Known.{no-other, sub-there}
+use Rattle.qg_file_commands.proofs.Refused.{first_one}
+use Rattle.qg_file_commands.proofs.Stepped.{free-told, keys-kept, many-kept, nodesize-kept, weight-kept}
 
 -- ---- how many there are
 

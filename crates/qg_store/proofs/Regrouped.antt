@@ -45,16 +45,16 @@ use Rattle.qg_fs_tree.proofs.Lists.{from-mapped}
 use Rattle.qg_check.specs.Editable.{AreGroups, AreGroupsOf}
 use Rattle.qg_other_trees.specs.Trees.{quota_tree_bytes, root_tree_bytes}
 use Rattle.qg_fs_laws.specs.Keeping.{KeepsState, other_names}
-use Rattle.qg_store.specs.declared.kept.Kept.{Kept}
-use Rattle.qg_store.specs.Answering.{comes_to_disk, is_structural}
-use Rattle.qg_store.specs.Keeping.{HoldsPending, IsFitted, IsKept, IsKeptOf, IsKeptWith, commit_need}
-use Rattle.qg_store.specs.Keeping.{most_reserved, quota_weight, root_weight}
+use Rattle.qg_kept.specs.declared.kept.Kept.{Kept}
+use Rattle.qg_kept.specs.Answering.{comes_to_disk, is_structural}
+use Rattle.qg_kept.specs.Keeping.{HoldsPending, IsFitted, IsKept, IsKeptOf, IsKeptWith, commit_need}
+use Rattle.qg_kept.specs.Keeping.{most_reserved, quota_weight, root_weight}
 use Rattle.qg_store.specs.Structural.{HasRoom, IsChanged, group_copies}
 use Rattle.qg_store.proofs.Committed.{large}
 use Rattle.qg_store.proofs.GroupAdded.{length-put, none-listed, room-grown, sound-tracked}
 use Rattle.qg_store.proofs.Numbered.{number-below}
-use Rattle.qg_store.proofs.Stepped.{keys-kept}
-use Rattle.qg_store.proofs.Tables.{all-of, listed-key}
+use Rattle.qg_file_commands.proofs.Stepped.{keys-kept}
+use Rattle.qg_kept.proofs.Tables.{all-of, listed-key}
 
 -- ---- of the machine's structural commands
 

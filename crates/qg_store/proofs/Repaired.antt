@@ -22,8 +22,8 @@ use Rattle.qg_standing.specs.Committing.{StandsStill}
 use Rattle.qg_standing.proofs.Alike.{stands-alike, superblocks-keep, syncs-keep, told-alike}
 use Rattle.qg_exchange.specs.Named.{named}
 use Rattle.qg_fs_laws.specs.Keeping.{KeepsState}
-use Rattle.qg_store.specs.declared.kept.Kept.{Kept}
-use Rattle.qg_store.specs.Keeping.{IsFitted, IsKeptOf}
+use Rattle.qg_kept.specs.declared.kept.Kept.{Kept}
+use Rattle.qg_kept.specs.Keeping.{IsFitted, IsKeptOf}
 
 -- ---- where the same is told
 

@@ -36,33 +36,33 @@ use Rattle.qg_extents.specs.Table.{IsTable, book_of}
 use Rattle.qg_weighed.specs.Weight.{weight_of}
 use Rattle.qg_tree_edits.specs.Rooting.{LeavesBe}
 use Rattle.qg_descent.specs.Tree.{Reaches, Root}
-use Rattle.qg_heavier.specs.Heavier.{BookGetsHeavier, node_bytes}
-use Rattle.qg_heavier.proofs.Sums.{held-heavier}
+use Rattle.qg_tree_refs.specs.Heavier.{BookGetsHeavier, node_bytes}
+use Rattle.qg_tree_refs.proofs.Sums.{held-heavier}
 use Rattle.qg_tree_refs.specs.declared.tree_refs.TreeRefs.{TreeRefs}
 use Rattle.qg_forest.specs.Standing.{HoldsState, tree_of}
 use Rattle.qg_forest.proofs.Roots.{root_of-value}
 use Rattle.qg_fs_tree.specs.Standing.{IsReachedBy, nodes_of}
 use Rattle.qg_fs_tree.proofs.Lists.{has-mapped}
 use Rattle.qg_fs_laws.specs.Keeping.{AreYoung, other_names}
-use Rattle.qg_store.specs.declared.kept.Kept.{Kept}
-use Rattle.qg_store.specs.Keeping.{HoldsPending, IsKept, IsKeptOf, IsKeptWith, book_weight, quota_weight, root_weight}
+use Rattle.qg_kept.specs.declared.kept.Kept.{Kept}
+use Rattle.qg_kept.specs.Keeping.{HoldsPending, IsKept, IsKeptOf, IsKeptWith, book_weight, quota_weight, root_weight}
 use Rattle.qg_store.specs.Structural.{HasRoom, IsChanged, number_next, too_many_refusal}
 use Rattle.qg_store.proofs.Added.{IsAdded, fitted-added, greater, number-good}
-use Rattle.qg_store.proofs.Changed.{short-files}
+use Rattle.qg_file_commands.proofs.Changed.{short-files}
 use Rattle.qg_store.proofs.Committed.{large}
 use Rattle.qg_store.proofs.Created.{AddsSubvolume, keeps-added, young-added}
 use Rattle.qg_store.proofs.Grown.{files-grown, free-none, layout-grown, still-grown}
 use Rattle.qg_store.proofs.GroupAdded.{AddsGroup, holds-still, relations-room, room-grown, weighs-more}
-use Rattle.qg_store.proofs.Looked.{hand-among}
+use Rattle.qg_kept.proofs.Looked.{hand-among}
 use Rattle.qg_store.proofs.Marked.{fitted-marked, keeps-marked, keys-marked, many-marked, marked, names_same}
 use Rattle.qg_store.proofs.Marked.{state_marked}
 use Rattle.qg_store.proofs.Numbered.{next-some}
 use Rattle.qg_store.proofs.Reasoned.{number-told}
 use Rattle.qg_store.proofs.Snapped.{adds-snapped, copy-files, copy-reach, made_copy, placed_copy, with_mark}
-use Rattle.qg_store.proofs.Stepped.{keys-kept}
-use Rattle.qg_store.proofs.Tables.{all-put}
+use Rattle.qg_file_commands.proofs.Stepped.{keys-kept}
+use Rattle.qg_kept.proofs.Tables.{all-put}
 use Rattle.qg_store.proofs.Trees.{held-for}
-use Rattle.qg_store.proofs.Turned.{tree-sub}
+use Rattle.qg_kept.proofs.Turned.{tree-sub}
 
 owner_copied : (generation copy address : ℕ) (root : Node)
     → (header_of (copy_of generation copy address root)).owner ≡ copy

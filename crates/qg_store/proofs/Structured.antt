@@ -16,12 +16,12 @@ use Rattle.qg_machine.specs.Step.{Changes, Commits, CommitsPending, DoesStructur
 use Rattle.qg_machine.specs.Step as machine
 use Rattle.qg_groups.specs.Changing.{is_group_command}
 use Rattle.qg_commit.specs.Calls.{with_commit}
-use Rattle.qg_store.specs.declared.kept.Kept.{Kept}
-use Rattle.qg_store.specs.Answering.{AnswersOn, IsDoneSoFar, comes_to_disk, is_structural}
-use Rattle.qg_store.specs.Keeping.{IsKeptOf}
-use Rattle.qg_store.specs.Making.{MadeFirst, Makes, StartsCommit, StartsSecond}
-use Rattle.qg_store.specs.Planning.{CommitsOn, StartsCommitOf}
-use Rattle.qg_store.specs.Stored.{KnowsLast}
+use Rattle.qg_kept.specs.declared.kept.Kept.{Kept}
+use Rattle.qg_kept.specs.Answering.{AnswersOn, IsDoneSoFar, comes_to_disk, is_structural}
+use Rattle.qg_kept.specs.Keeping.{IsKeptOf}
+use Rattle.qg_kept.specs.Making.{MadeFirst, Makes, StartsCommit, StartsSecond}
+use Rattle.qg_kept.specs.Planning.{CommitsOn, StartsCommitOf}
+use Rattle.qg_kept.specs.Stored.{KnowsLast}
 use Rattle.qg_store.specs.Structural.{HasCommitted, IsChanged, IsDoneFirst, IsSettledFrom}
 use Rattle.qg_store.proofs.Synced.{Makes-append, held_after}
 

@@ -8,7 +8,7 @@ use Rattle.qg_super.specs.SuperText.{super_text}
 use Rattle.qg_image.specs.State.{Committed, State}
 use Rattle.qg_commit.specs.Calls.{with_nodes, with_commit}
 use Rattle.qg_commit.proofs.Moments.{synced-with_commit}
-use Rattle.qg_store.specs.Making.{AreSynced, Makes}
+use Rattle.qg_kept.specs.Making.{AreSynced, Makes}
 
 -- what a disk held at a sync right after these events
 abbrev moment_after : List Event → Moment

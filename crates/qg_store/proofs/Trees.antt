@@ -22,11 +22,11 @@ use Rattle.qg_fs_tree.proofs.Lists.{from-mapped}
 use Rattle.qg_fs_layout.proofs.Trees.{root-level, roots-laid}
 use Rattle.qg_exchange.specs.Named.{named}
 use Rattle.qg_fs_laws.specs.Keeping.{AreTreesOf}
-use Rattle.qg_store.specs.declared.kept.Kept.{Kept}
-use Rattle.qg_store.specs.Keeping.{IsKept, IsKeptWith}
-use Rattle.qg_store.proofs.Looked.{hand-among, is-subvolume}
-use Rattle.qg_store.proofs.Tables.{key-of-value}
-use Rattle.qg_store.proofs.Turned.{tree-sub}
+use Rattle.qg_kept.specs.declared.kept.Kept.{Kept}
+use Rattle.qg_kept.specs.Keeping.{IsKept, IsKeptWith}
+use Rattle.qg_kept.proofs.Looked.{hand-among, is-subvolume}
+use Rattle.qg_kept.proofs.Tables.{key-of-value}
+use Rattle.qg_kept.proofs.Turned.{tree-sub}
 
 -- ---- tables without a number
 

@@ -22,7 +22,7 @@ use Rattle.qg_tree_refs.specs.Following.{references_to}
 use Rattle.qg_tree_refs.specs.Settled.{what_of}
 use Rattle.qg_forest.specs.Standing.{HoldsState}
 use Rattle.qg_snap.specs.Beginning.{BookGoesOn}
-use Rattle.qg_store.specs.declared.kept.Kept.{Kept}
+use Rattle.qg_kept.specs.declared.kept.Kept.{Kept}
 
 -- ---- where no node is fresh
 

@@ -1,13 +1,3 @@
-pub mod Keeping
-pub mod Stored
-pub mod Making
-pub mod Answering
-pub mod Editing
-pub mod Ranges
-pub mod Slots
-pub mod Committing
 pub mod Structural
-pub mod Planning
 pub mod Opened
-pub mod Owning
 pub mod Crashes

@@ -21,9 +21,9 @@ use Rattle.qg_groups.specs.Tracked.{SameButCounts, quota_of}
 use Rattle.qg_space.specs.Holding.{free_slots}
 use Rattle.qg_descent.specs.Tree.{Root}
 use Rattle.qg_fs_laws.specs.Keeping.{other_names}
-use Rattle.qg_store.specs.declared.kept.Kept.{Kept}
-use Rattle.qg_store.specs.Keeping.{IsKeptOf, IsKeptWith, commit_need, filled_by, structural_need_of}
-use Rattle.qg_store.specs.Making.{Makes, StartsCommit}
+use Rattle.qg_kept.specs.declared.kept.Kept.{Kept}
+use Rattle.qg_kept.specs.Keeping.{IsKeptOf, IsKeptWith, commit_need, filled_by, structural_need_of}
+use Rattle.qg_kept.specs.Making.{Makes, StartsCommit}
 
 -- ---- why a command is refused: the first that holds
 

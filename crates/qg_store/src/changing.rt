@@ -17,15 +17,14 @@ ghost use Rattle.qg_blocks.specs.Told.{BreaksNone};
 ghost use Rattle.qg_hier.specs.Faults.{create_fault};
 ghost use Rattle.qg_groups.specs.Changing.{AreParents};
 ghost use Rattle.qg_groups.specs.Tracked.{IsTracked, quota_of};
-ghost use Rattle.qg_store.specs.Keeping.{IsKept, IsKeptOf};
+ghost use Rattle.qg_kept.specs.Keeping.{IsKept, IsKeptOf};
 ghost use Rattle.qg_store.specs.Structural.{CanSnap, HasRoom, IsChanged, SameHeldIn, number_next, too_many_refusal, without_tree};
 
-use crate::kept::Kept;
 use crate::numbering::place_of_snapshot;
-use crate::turning::turn_to;
 use qg_descent::Tree;
 use qg_disk::Disk;
 use qg_items::tree::TOP_LEVEL;
+use qg_kept::{Kept, turn_to};
 use qg_num::{BlockFault, Generation, GroupId, NoMemory, RootId, Rule, Steps};
 use std::sync::ledger::Ledger;
 

@@ -14,17 +14,16 @@ ghost use Rattle.qg_blocks.specs.Told.{BreaksNone};
 ghost use Rattle.qg_groups.specs.Changing.{change_fault, change_refusal, group_changed, is_group_command};
 ghost use Rattle.qg_groups.specs.OnOrOff.{quota_changed};
 ghost use Rattle.qg_groups.specs.Tracked.{HoldsAtMost, IsTracked, quota_of};
-ghost use Rattle.qg_store.specs.Answering.{AnswersOn, IsDoneSoFar, is_unchanging};
-ghost use Rattle.qg_store.specs.Editing.{HasLooked};
-ghost use Rattle.qg_store.specs.Keeping.{HoldsPending, IsFitted, IsKept, IsKeptOf};
-ghost use Rattle.qg_store.specs.Stored.{KnowsLast};
+ghost use Rattle.qg_kept.specs.Answering.{AnswersOn, IsDoneSoFar, is_unchanging};
+ghost use Rattle.qg_kept.specs.Editing.{HasLooked};
+ghost use Rattle.qg_kept.specs.Keeping.{HoldsPending, IsFitted, IsKept, IsKeptOf};
+ghost use Rattle.qg_kept.specs.Stored.{KnowsLast};
 ghost use Rattle.qg_store.specs.Structural.{HasRoom, IsChanged, SameHeldIn, group_copies};
 
-use crate::committing::commit_now;
-use crate::kept::Kept;
 use crate::structural::{COPIES, commit_pending, no_commit};
 use qg_disk::Disk;
 use qg_groups::{QuotaState, refusal_of};
+use qg_kept::{Kept, commit_now};
 use qg_num::{Answer, BlockFault, Command, Generation, NoMemory, Steps};
 use std::sync::ledger::Ledger;
 

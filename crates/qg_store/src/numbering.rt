@@ -7,12 +7,12 @@ ghost use Rattle.qg_image.specs.Members.{level_of_group};
 ghost use Rattle.qg_image.specs.Verdict.{most_groups, most_relations, most_subvolumes};
 ghost use Rattle.qg_groups.specs.Changing.{groups_in, pairs_in};
 ghost use Rattle.qg_groups.specs.Tracked.{quota_of};
-ghost use Rattle.qg_store.specs.Keeping.{IsFitted};
+ghost use Rattle.qg_kept.specs.Keeping.{IsFitted};
 ghost use Rattle.qg_store.specs.Structural.{number_next};
 
-use crate::kept::Kept;
 use qg_groups::QuotaState;
 use qg_image::Group;
+use qg_kept::Kept;
 use qg_num::{Generation, GroupId, RootId};
 
 /// The most subvolumes, and the most groups, that an image can have.

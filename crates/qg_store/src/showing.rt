@@ -2,7 +2,7 @@
 ghost use Rattle.std.specs.Prelude.{◌≡◌, IfOk, map};
 ghost use Rattle.qg_machine.specs.Step.{row_of};
 ghost use Rattle.qg_groups.specs.Tracked.{quota_of};
-ghost use Rattle.qg_store.specs.Answering.{shown};
+ghost use Rattle.qg_kept.specs.Answering.{shown};
 
 use qg_groups::QuotaState;
 use qg_image::Group;

@@ -2,7 +2,7 @@
 ghost use Rattle.std.specs.Prelude.{◌⊎◌, ℕ, IsOk, IsTrue};
 ghost use Rattle.std.specs.List.{Contains, list_all};
 ghost use Rattle.qg_super.specs.Places.{is_slot};
-ghost use Rattle.qg_store.specs.Slots.{ChangesSlots};
+ghost use Rattle.qg_kept.specs.Slots.{ChangesSlots};
 
 use qg_num::{Address, NoMemory};
 use qg_space::Space;

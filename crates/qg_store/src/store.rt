@@ -16,26 +16,20 @@ ghost use Rattle.qg_walk.specs.Fault.{TellsFailure};
 ghost use Rattle.qg_crashes.specs.Outcomes.{Rests};
 ghost use Rattle.qg_commit.specs.Opened.{IsOpened, IsOpening, OutlivesCrashes};
 ghost use Rattle.qg_commit.specs.Opening.{IsUntouched};
-ghost use Rattle.qg_store.specs.Answering.{AnswersOn, IsDoneSoFar, comes_to_disk, is_unchanging};
+ghost use Rattle.qg_kept.specs.Answering.{AnswersOn, IsDoneSoFar, comes_to_disk, is_unchanging};
 ghost use Rattle.qg_store.specs.Crashes.{IsLastCommit, OutlivesCommand};
-ghost use Rattle.qg_store.specs.Editing.{HasLooked};
-ghost use Rattle.qg_store.specs.Keeping.{IsKept, IsKeptOf};
-ghost use Rattle.qg_store.specs.Stored.{ComesToDisk, GoesOn, IsReady, IsStoreOf, IsStoreOver, IsUnchanged, KnowsLast, RunsOrStops, is_of_image, sizes_stored};
+ghost use Rattle.qg_kept.specs.Editing.{HasLooked};
+ghost use Rattle.qg_kept.specs.Keeping.{IsKept, IsKeptOf};
+ghost use Rattle.qg_kept.specs.Stored.{ComesToDisk, GoesOn, IsReady, IsStoreOf, IsStoreOver, IsUnchanged, KnowsLast, RunsOrStops, is_of_image, sizes_stored};
 
-use crate::cloning::clone;
-use crate::committing::commit;
 use crate::grouping::regroup;
-use crate::kept::Kept;
-use crate::listing::list;
 use crate::opening::kept_of;
-use crate::owners::owners;
-use crate::resizing::truncate;
 use crate::showing::show;
 use crate::structural::{create, delete, snap};
-use crate::unlinking::unlink;
-use crate::writing::write;
 use qg_commit::{OpenFault, open};
 use qg_disk::Disk;
+use qg_file_commands::{clone, list, truncate, unlink, write};
+use qg_kept::{Kept, commit, owners};
 use qg_num::{Address, Answer, BlockFault, Command, Generation, Steps, Stop};
 use std::alloc::Global;
 use std::marker::Model;
@@ -49,7 +43,7 @@ pub struct Store {
 }
 
 impl Model for Store {
-    ghost use Rattle.qg_store.specs.Stored.{Stored, IsStore};
+    ghost use Rattle.qg_kept.specs.Stored.{Stored, IsStore};
 
     ghost Value = { Stored };
 

@@ -10,21 +10,18 @@ ghost use Rattle.qg_machine.specs.Refusals.{nodes_reached};
 ghost use Rattle.qg_blocks.specs.Told.{BreaksNone};
 ghost use Rattle.qg_extents.specs.Table.{IsTable};
 ghost use Rattle.qg_space.specs.Holding.{free_slots};
-ghost use Rattle.qg_store.specs.Answering.{AnswersOn, IsDoneSoFar, is_unchanging};
-ghost use Rattle.qg_store.specs.Editing.{HasLooked, HasReadNodes};
-ghost use Rattle.qg_store.specs.Keeping.{IsKept, IsKeptOf, structural_need_of};
-ghost use Rattle.qg_store.specs.Stored.{KnowsLast};
+ghost use Rattle.qg_kept.specs.Answering.{AnswersOn, IsDoneSoFar, is_unchanging};
+ghost use Rattle.qg_kept.specs.Editing.{HasLooked, HasReadNodes};
+ghost use Rattle.qg_kept.specs.Keeping.{IsKept, IsKeptOf, structural_need_of};
+ghost use Rattle.qg_kept.specs.Stored.{KnowsLast};
 ghost use Rattle.qg_store.specs.Structural.{HasCommitted, HasRoom, IsDoneFirst, IsSettledFrom, commit_refusal};
 
 use crate::changing::{create_change, delete_change, snap_change};
-use crate::committing::{LAST_GENERATION, commit_now};
-use crate::kept::Kept;
-use crate::need::structural_need;
 use crate::numbering::{are_too_many, number_next};
-use crate::turning::turn_to;
 use qg_disk::Disk;
 use qg_groups::refusal_of_parents;
 use qg_items::tree::TOP_LEVEL;
+use qg_kept::{Kept, LAST_GENERATION, commit_now, structural_need, turn_to};
 use qg_num::{Answer, BlockFault, GroupId, NoMemory, Refusal, RootId, Steps};
 use std::sync::ledger::Ledger;
 

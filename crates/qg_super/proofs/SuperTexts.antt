@@ -7,8 +7,8 @@ use Rattle.std.proofs.lemmas.Bool.{and_parts}
 use Rattle.std.proofs.lemmas.Option.{none-some, same_Some}
 use Rattle.std.proofs.lemmas.Slice.Eq.{bytes_eq-Decides}
 use Rattle.std.proofs.Math.Bool.{and-false}
-use Rattle.qg_bytes.specs.Fields.{u32_bytes, u64_at, u64_bytes}
-use Rattle.qg_bytes.proofs.Numbers.{u32_at-u32_bytes, u64_at-u64_bytes}
+use Rattle.qg_num.specs.Fields.{u32_bytes, u64_at, u64_bytes}
+use Rattle.qg_num.proofs.Numbers.{u32_at-u32_bytes, u64_at-u64_bytes}
 use Rattle.qg_super.specs.declared.superblock.Super.{Super}
 use Rattle.qg_super.specs.SuperText.{covered_text, fields_at, is_super, sizes_of, super_read, super_text}
 use Rattle.qg_super.specs.Laws.{OnePlace, OneSuper, ReadsBack, WritesBack}

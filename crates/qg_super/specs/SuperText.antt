@@ -4,7 +4,7 @@
 use Rattle.std.specs.Prelude.{◌≡◌, ℕ, ◌-◌, ◌^◌, Bool, ◌&&◌, List, ◌++◌, codes, Option, Some, None, nat_le, nat_lt, ◌==◌, if◌then◌else◌, IsTrue}
 use Rattle.std.specs.Bool.{then_some}
 use Rattle.std.specs.Str.{bytes_eq}
-use Rattle.qg_bytes.specs.Fields.{u64_bytes, u32_bytes, u64_at, u32_at, zeros}
+use Rattle.qg_num.specs.Fields.{u64_bytes, u32_bytes, u64_at, u32_at, zeros}
 use Rattle.qg_crc32c.specs.Crc32c.{crc32c_of}
 use Rattle.qg_super.specs.declared.sizes.Sizes.{Sizes}
 use Rattle.qg_super.specs.declared.superblock.Super.{Super}

@@ -5,9 +5,8 @@ ghost use Rattle.qg_super.specs.SuperText.{IsSuperText, covered_text, fields_at,
 
 use crate::places::{FIRST_PLACE, SECOND_PLACE, SECTOR, SUPER_BYTES};
 use crate::superblock::Super;
-use qg_bytes::{put_bytes, put_u32, put_u64, put_zeros, u32_at, u64_at};
 use qg_crc32c::crc32c;
-use qg_num::{Address, Generation};
+use qg_num::{Address, Generation, put_bytes, put_u32, put_u64, put_zeros, u32_at, u64_at};
 
 // What names the format.
 const MAGIC: [u8; 8] = *b"QGRPIMG1";

@@ -8,7 +8,7 @@ use Rattle.std.proofs.lemmas.Bool.{and_parts, leb-true, or_from}
 use Rattle.std.proofs.lemmas.List.{drop-map}
 use Rattle.std.proofs.lemmas.List.Folds.{list_any-append}
 use Rattle.qg_device.specs.History.{Event, content, range}
-use Rattle.qg_bytes.specs.Fields.{is_zero, u64_at}
+use Rattle.qg_num.specs.Fields.{is_zero, u64_at}
 use Rattle.qg_num.specs.Key.{key_cmp}
 use Rattle.qg_num.specs.declared.key.Key.{Key}
 use Rattle.qg_num.specs.declared.rule.Rule.{Rule}

@@ -13,3 +13,11 @@ pub mod Placing
 pub mod Keeping
 pub mod Leaving
 pub mod Settles
+pub mod Among
+pub mod Besides
+pub mod Owed
+pub mod Changed
+pub mod Weighs
+pub mod Told
+pub mod Covered
+pub mod Sums

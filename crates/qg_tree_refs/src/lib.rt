@@ -6,10 +6,12 @@ mod cases;
 mod coming;
 mod exchange;
 mod giving;
+mod laws;
 mod lists;
 mod naming;
 mod taking;
 mod tree_refs;
 
 pub use book::let_go;
+pub use laws::{heavier_law, need_law};
 pub use tree_refs::TreeRefs;

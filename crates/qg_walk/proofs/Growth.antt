@@ -6,7 +6,7 @@ use Rattle.std.specs.Option.{option_and_then}
 use Rattle.std.proofs.lemmas.Bool.{and_from, eqb-true}
 use Rattle.std.proofs.lemmas.List.{map-append}
 use Rattle.std.proofs.lemmas.List.Elements.{All-append, All-nil}
-use Rattle.qg_bytes.specs.Fields.{IsBytes}
+use Rattle.qg_num.specs.Fields.{IsBytes}
 use Rattle.qg_device.specs.History.{Event, content}
 use Rattle.qg_num.specs.declared.key.Key.{Key}
 use Rattle.qg_num.specs.declared.rule.Rule.TheVariants as rule

@@ -1,7 +1,7 @@
 -- What a walk finds of a tree (this project's own).
 use Rattle.std.specs.Prelude.{◌≡◌, All, ℕ, List, map, Option, Some, None, IsTrue}
 use Rattle.std.specs.List.{list_all}
-use Rattle.qg_bytes.specs.Fields.{IsBytes}
+use Rattle.qg_num.specs.Fields.{IsBytes}
 use Rattle.qg_node.specs.declared.item.Item.{Item}
 use Rattle.qg_node.specs.declared.node.Node.{Node}
 use Rattle.qg_super.specs.declared.superblock.Super.{Super}

@@ -1,7 +1,7 @@
 // The items of a leaf.
 ghost use Rattle.std.specs.Prelude.{◌≡◌, ◌++◌, All, OnOk, IsErrOf};
 ghost use Rattle.std.specs.List.{list_all};
-ghost use Rattle.qg_bytes.specs.Fields.{IsBytes};
+ghost use Rattle.qg_num.specs.Fields.{IsBytes};
 ghost use Rattle.qg_num.specs.declared.rule.Rule.TheVariants as rule;
 ghost use Rattle.qg_image.specs.Failure.{unless};
 ghost use Rattle.qg_image.specs.Walk.{is_item_of};

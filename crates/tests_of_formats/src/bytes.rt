@@ -1,4 +1,4 @@
-use qg_bytes::*;
+use qg_num::*;
 
 // The bytes are written out by hand.
 #[test]

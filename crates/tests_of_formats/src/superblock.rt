@@ -1,6 +1,5 @@
-use qg_bytes::{put_bytes, put_u32, put_u64};
 use qg_crc32c::crc32c;
-use qg_num::{Address, Generation};
+use qg_num::{Address, Generation, put_bytes, put_u32, put_u64};
 use qg_super::*;
 
 fn small() -> Super {

@@ -7,8 +7,7 @@ use super::{has_empty_fields, header_at};
 use crate::keyed::is_ascending;
 use crate::node::{HEADER_BYTES, POINTER_BYTES};
 use crate::{Node, NodeFault, Pointer, Pointers, ReadFault};
-use qg_bytes::{is_zero, u32_at, u64_at};
-use qg_num::{Address, Generation, Key};
+use qg_num::{Address, Generation, Key, is_zero, u32_at, u64_at};
 use std::alloc::{AllocError, Global};
 
 #[tactic(auto, unfolding(crate::specs::Reading::inner_at))]

@@ -7,8 +7,7 @@ use super::{has_empty_fields, header_at};
 use crate::keyed::is_ascending;
 use crate::node::{HEADER_BYTES, ITEM_HEADER_BYTES};
 use crate::{Body, Item, Items, Node, NodeFault, ReadFault};
-use qg_bytes::{is_zero, u32_at};
-use qg_num::Key;
+use qg_num::{Key, is_zero, u32_at};
 use std::alloc::Global;
 
 #[tactic(auto, unfolding(crate::specs::Reading::leaf_at))]

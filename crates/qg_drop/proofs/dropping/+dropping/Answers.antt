@@ -11,7 +11,7 @@ use Rattle.qg_super.specs.declared.sizes.Sizes.{Sizes}
 use Rattle.qg_ground.specs.declared.ground.Ground.{Ground}
 use Rattle.qg_ground.proofs.Editing.{ArePlaced-drafted}
 use Rattle.qg_extents.specs.Table.{book_of}
-use Rattle.qg_heavier.specs.Heavier.{BookGetsHeavier}
+use Rattle.qg_tree_refs.specs.Heavier.{BookGetsHeavier}
 use Rattle.qg_drop.proofs.Resting.{unbroken-handed}
 use Rattle.qg_drop.specs.declared.child.Child.{Child}
 use Rattle.qg_drop.specs.Dropping.{AreParts, KnowsNoMore, children_told, parts_reached}

@@ -7,7 +7,7 @@ use Rattle.qg_refs.specs.declared.kept.Kept.{Kept}
 use Rattle.qg_refs.specs.Book.{count_at, full_in}
 use Rattle.qg_extents.specs.Table.{IsTable, book_of}
 use Rattle.qg_tree_refs.specs.declared.tree_refs.TreeRefs.{TreeRefs}
-use Rattle.qg_heavier.specs.Heavier.{BookGetsHeavier}
+use Rattle.qg_tree_refs.specs.Heavier.{BookGetsHeavier}
 use Rattle.qg_drop.specs.Dropping.{KnowsNoMore}
 use Rattle.qg_drop.proofs.Knowing.{knows-dropped, knows-on}
 use Rattle.qg_drop.proofs.Resting.{unbroken-handed}

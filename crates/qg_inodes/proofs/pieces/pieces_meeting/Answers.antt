@@ -1,15 +1,11 @@
-use Rattle.std.proofs.Common.{◌≡◌, ◌+◌, ◌-◌, ◌<◌, ◌≤◌, List, sym, ap, ◌∙◌, arith}
-use Rattle.std.specs.Prelude.{Err, IsTrue, is_none}
-use Rattle.std.specs.List.{list_any}
+use Rattle.std.proofs.Common.{◌≡◌, ◌+◌, ◌≤◌, List, sym, ap, subst, ◌∙◌, arith}
+use Rattle.std.specs.Prelude.{Err, Result}
 use Rattle.qg_num.specs.declared.fault.BlockFault.{BlockFault}
 use Rattle.qg_num.specs.declared.key.Key.{Key}
 use Rattle.qg_num.specs.declared.piece.Piece.{Piece}
-use Rattle.qg_node.specs.declared.item.Item.{Item}
-use Rattle.qg_parts.specs.Keys.{key_with}
+use Rattle.qg_blocks.specs.Told.{BreaksNone}
 use Rattle.qg_descent.specs.Reading.{last_upto}
-use Rattle.qg_inodes.specs.Items.{piece_of}
-use Rattle.qg_inodes.proofs.PiecesRead.{added-broken, added-sound, are-met-long, are-met-short, found-after, handed, judged-broken, judged-found, judged-sound, misread-broken, misread-sound, steps-met, unread-before, unread-begun}
-use Rattle.qg_inodes.proofs.pieces.pieces_meeting.Goals.{then-to-from-via-then-to-from, then-to-from-via-else-to-from+then-to-from-eq1}
+use Rattle.qg_inodes.proofs.PiecesRead.{are-met-alone, are-met-more, files-read, handed, judged-broken, judged-found, judged-sound, misread-broken, misread-sound, steps-more, unread-before}
 use Rattle.qg_inodes.proofs.pieces.pieces_meeting.Goals as goal
 
 -- ---- where the last item says nothing
@@ -19,7 +15,7 @@ returns-in_err-reaching-clause-sound g c =
     let root = c.args.tree.now in
     let history = g.D.Disk.history c.args.disk.now in
     misread-sound _ root c.args.blocks.now.draft history c.args.ino c.from_residual-in_err-reaching.result
-    (unread-before root c.args.blocks.now.draft history c.args.ino c.piece_key.result c.in_ok-last.last
+    (unread-before root c.args.blocks.now.draft history c.args.ino c.piece_key-end.result c.in_ok-last.last
     c.in_err-reaching.ensures.1 c.in_ok-last.ensures.found)
 
 pub returns-in_err-reaching-clause-broken : goal.returns-in_err-reaching-clause-broken
@@ -29,200 +25,166 @@ returns-in_err-reaching-clause-broken g c events is =
     misread-broken _ root c.args.blocks.now.draft history events c.args.ino c.from_residual-in_err-reaching.result is
     (handed c.from_residual-in_err-reaching.result _ c.from_residual-in_err-reaching.ensures.1
     ∙ ap (λ (f : BlockFault). Err f) c.in_err-reaching.ensures.0)
-    (unread-before root c.args.blocks.now.draft history c.args.ino c.piece_key.result c.in_ok-last.last
+    (unread-before root c.args.blocks.now.draft history c.args.ino c.piece_key-end.result c.in_ok-last.last
     c.in_err-reaching.ensures.1 c.in_ok-last.ensures.found)
 
--- ---- where no other piece may begin in the range
+-- ---- where no piece begins behind the range's begin
 
-pub returns-then-to-from-clause-found : goal.returns-then-to-from-clause-found
-returns-then-to-from-clause-found g c =
-    let short : c.args.to ≤ c.args.from + 1 = elim c.then-to-from.branch [
-      | then-to-from-via-then-to-from w ↦ (let less = w.if-to-from.true in omega arith)
-      | then-to-from-via-else-to-from+then-to-from-eq1 w ↦ (let one = w.if-to-from-eq1.true in omega arith)
-    ] in
+pub returns-in_default-clause-found : goal.returns-in_default-clause-found
+returns-in_default-clause-found g c =
     let root = c.args.tree.now in
     let draft = c.args.blocks.now.draft in
     let history = g.D.Disk.history c.args.disk.now in
     let met =
-    are-met-short root draft history c.args.ino c.args.from c.args.to (g.D.Disk.size c.args.disk.now)
-    c.requires.readable.placed c.in_ok-last.last c.in_ok-reaching.reaching c.in_ok-pieces.pieces
+    are-met-alone root draft history c.args.ino c.args.from c.args.to (g.D.Disk.size c.args.disk.now) (omega arith)
+    c.requires.readable.placed c.in_ok-last.last c.in_ok-reaching.reaching
     (λ items tells.
-    c.in_ok-last.ensures.found items tells ∙ ap (λ (k : Key). last_upto k items) c.piece_key.ensures)
-    c.in_ok-reaching.ensures c.in_ok-pieces.ensures short
+    c.in_ok-last.ensures.found items tells ∙ ap (λ (k : Key). last_upto k items) c.piece_key-end.ensures)
+    c.in_ok-reaching.ensures c.in_ok-pieces.pieces c.in_ok-pieces.ensures c.in_default.ensures.none
     in
     judged-found root draft c.args.ino c.args.from c.args.to c.in_ok-pieces.pieces history c.judged.result
     c.judged.ensures met
 
-pub returns-then-to-from-clause-sound : goal.returns-then-to-from-clause-sound
-returns-then-to-from-clause-sound g c =
-    let short : c.args.to ≤ c.args.from + 1 = elim c.then-to-from.branch [
-      | then-to-from-via-then-to-from w ↦ (let less = w.if-to-from.true in omega arith)
-      | then-to-from-via-else-to-from+then-to-from-eq1 w ↦ (let one = w.if-to-from-eq1.true in omega arith)
-    ] in
+pub returns-in_default-clause-sound : goal.returns-in_default-clause-sound
+returns-in_default-clause-sound g c =
     let root = c.args.tree.now in
     let draft = c.args.blocks.now.draft in
     let history = g.D.Disk.history c.args.disk.now in
     let met =
-    are-met-short root draft history c.args.ino c.args.from c.args.to (g.D.Disk.size c.args.disk.now)
-    c.requires.readable.placed c.in_ok-last.last c.in_ok-reaching.reaching c.in_ok-pieces.pieces
+    are-met-alone root draft history c.args.ino c.args.from c.args.to (g.D.Disk.size c.args.disk.now) (omega arith)
+    c.requires.readable.placed c.in_ok-last.last c.in_ok-reaching.reaching
     (λ items tells.
-    c.in_ok-last.ensures.found items tells ∙ ap (λ (k : Key). last_upto k items) c.piece_key.ensures)
-    c.in_ok-reaching.ensures c.in_ok-pieces.ensures short
+    c.in_ok-last.ensures.found items tells ∙ ap (λ (k : Key). last_upto k items) c.piece_key-end.ensures)
+    c.in_ok-reaching.ensures c.in_ok-pieces.pieces c.in_ok-pieces.ensures c.in_default.ensures.none
     in
     judged-sound root draft c.args.ino c.args.from c.args.to c.in_ok-pieces.pieces history c.judged.result
     c.judged.ensures met
 
-pub returns-then-to-from-clause-broken : goal.returns-then-to-from-clause-broken
-returns-then-to-from-clause-broken g c events is =
-    let short : c.args.to ≤ c.args.from + 1 = elim c.then-to-from.branch [
-      | then-to-from-via-then-to-from w ↦ (let less = w.if-to-from.true in omega arith)
-      | then-to-from-via-else-to-from+then-to-from-eq1 w ↦ (let one = w.if-to-from-eq1.true in omega arith)
-    ] in
+pub returns-in_default-clause-broken : goal.returns-in_default-clause-broken
+returns-in_default-clause-broken g c events is =
     let root = c.args.tree.now in
     let draft = c.args.blocks.now.draft in
     let history = g.D.Disk.history c.args.disk.now in
     let met =
-    are-met-short root draft history c.args.ino c.args.from c.args.to (g.D.Disk.size c.args.disk.now)
-    c.requires.readable.placed c.in_ok-last.last c.in_ok-reaching.reaching c.in_ok-pieces.pieces
+    are-met-alone root draft history c.args.ino c.args.from c.args.to (g.D.Disk.size c.args.disk.now) (omega arith)
+    c.requires.readable.placed c.in_ok-last.last c.in_ok-reaching.reaching
     (λ items tells.
-    c.in_ok-last.ensures.found items tells ∙ ap (λ (k : Key). last_upto k items) c.piece_key.ensures)
-    c.in_ok-reaching.ensures c.in_ok-pieces.ensures short
+    c.in_ok-last.ensures.found items tells ∙ ap (λ (k : Key). last_upto k items) c.piece_key-end.ensures)
+    c.in_ok-reaching.ensures c.in_ok-pieces.pieces c.in_ok-pieces.ensures c.in_default.ensures.none
     in
     judged-broken root draft c.args.ino c.args.from c.args.to c.in_ok-pieces.pieces history events c.judged.result is
     c.judged.ensures met
 
--- ---- where others may
+-- ---- where the last one does
 
-pub returns-in_err-items-clause-reads : goal.returns-in_err-items-clause-reads
-returns-in_err-items-clause-reads g c =
-    let after = c.in_ok-last.ensures.read in
-    steps-met c.args.tree.now c.args.blocks.now c.last_to.new.blocks (g.D.Disk.history c.args.disk.now)
-    (g.D.Disk.history c.last_to.new.disk) (g.D.Disk.size c.args.disk.now) (g.D.Disk.size c.last_to.new.disk) after
-    c.args.ino c.args.from c.args.to c.args.reads.now c.last_to.new.reads c.range.new.reads c.piece_key-first.result
-    c.piece_key-end.result c.piece_key-first.ensures c.piece_key-end.ensures (omega arith)
-    (omega (arith, c.in_ok-last.ensures.reads)) c.in_err-items.ensures.reads
+pub returns-in_err-pieces-2-clause-sound : goal.returns-in_err-pieces-2-clause-sound
+returns-in_err-pieces-2-clause-sound g c files tells =
+    let history = g.D.Disk.history c.args.disk.now in
+    subst (λ (r : Result (List Piece) BlockFault). BreaksNone r)
+    (sym (handed c.from_residual-in_err-pieces-2.result _ c.from_residual-in_err-pieces-2.ensures.1))
+    (c.in_err-pieces-2.ensures.sound files
+    (files-read c.args.tree.now c.args.blocks.now c.last_to.new.blocks history (g.D.Disk.history c.last_to.new.disk)
+    (g.D.Disk.size c.args.disk.now) (g.D.Disk.size c.last_to.new.disk) c.in_ok-last.ensures.read files tells))
 
-pub returns-in_err-add_pieces-clause-reads : goal.returns-in_err-add_pieces-clause-reads
-returns-in_err-add_pieces-clause-reads g c =
-    let after = c.in_ok-last.ensures.read in
-    steps-met c.args.tree.now c.args.blocks.now c.last_to.new.blocks (g.D.Disk.history c.args.disk.now)
-    (g.D.Disk.history c.last_to.new.disk) (g.D.Disk.size c.args.disk.now) (g.D.Disk.size c.last_to.new.disk) after
-    c.args.ino c.args.from c.args.to c.args.reads.now c.last_to.new.reads c.range.new.reads c.piece_key-first.result
-    c.piece_key-end.result c.piece_key-first.ensures c.piece_key-end.ensures (omega arith)
-    (omega (arith, c.in_ok-last.ensures.reads)) c.in_ok-items.ensures.reads
+pub returns-in_err-pieces-2-clause-reads : goal.returns-in_err-pieces-2-clause-reads
+returns-in_err-pieces-2-clause-reads g c files tells =
+    let root = c.args.tree.now in
+    let history = g.D.Disk.history c.args.disk.now in
+    steps-more root c.args.blocks.now.draft history c.args.ino c.args.from c.args.to (g.D.Disk.size c.args.disk.now)
+    (omega arith) c.requires.readable.placed c.in_ok-last.last c.in_ok-reaching.reaching
+    (λ items told.
+    c.in_ok-last.ensures.found items told ∙ ap (λ (k : Key). last_upto k items) c.piece_key-end.ensures)
+    c.in_ok-reaching.ensures (root.height + 1) c.args.reads.now c.last_to.new.reads c.parted-2.new.reads c.in-Some.piece
+    c.in-Some.ensures.some.0 c.in-Some.ensures.some.1 files tells (omega (arith, c.in_ok-last.ensures.reads))
+    (c.in_err-pieces-2.ensures.reads files
+    (files-read root c.args.blocks.now c.last_to.new.blocks history (g.D.Disk.history c.last_to.new.disk)
+    (g.D.Disk.size c.args.disk.now) (g.D.Disk.size c.last_to.new.disk) c.in_ok-last.ensures.read files tells))
+
+pub returns-in_err-push-clause-reads : goal.returns-in_err-push-clause-reads
+returns-in_err-push-clause-reads g c files tells =
+    let root = c.args.tree.now in
+    let history = g.D.Disk.history c.args.disk.now in
+    steps-more root c.args.blocks.now.draft history c.args.ino c.args.from c.args.to (g.D.Disk.size c.args.disk.now)
+    (omega arith) c.requires.readable.placed c.in_ok-last.last c.in_ok-reaching.reaching
+    (λ items told.
+    c.in_ok-last.ensures.found items told ∙ ap (λ (k : Key). last_upto k items) c.piece_key-end.ensures)
+    c.in_ok-reaching.ensures (root.height + 1) c.args.reads.now c.last_to.new.reads c.parted-2.new.reads c.in-Some.piece
+    c.in-Some.ensures.some.0 c.in-Some.ensures.some.1 files tells (omega (arith, c.in_ok-last.ensures.reads))
+    (c.in_ok-pieces-2.ensures.reads files
+    (files-read root c.args.blocks.now c.last_to.new.blocks history (g.D.Disk.history c.last_to.new.disk)
+    (g.D.Disk.size c.args.disk.now) (g.D.Disk.size c.last_to.new.disk) c.in_ok-last.ensures.read files tells))
 
 pub returns-clause-reads : goal.returns-clause-reads
-returns-clause-reads g c =
-    let after = c.in_ok-last.ensures.read in
-    steps-met c.args.tree.now c.args.blocks.now c.last_to.new.blocks (g.D.Disk.history c.args.disk.now)
-    (g.D.Disk.history c.last_to.new.disk) (g.D.Disk.size c.args.disk.now) (g.D.Disk.size c.last_to.new.disk) after
-    c.args.ino c.args.from c.args.to c.args.reads.now c.last_to.new.reads c.range.new.reads c.piece_key-first.result
-    c.piece_key-end.result c.piece_key-first.ensures c.piece_key-end.ensures (omega arith)
-    (omega (arith, c.in_ok-last.ensures.reads)) c.in_ok-items.ensures.reads
-
-pub returns-in_err-add_pieces-clause-sound : goal.returns-in_err-add_pieces-clause-sound
-returns-in_err-add_pieces-clause-sound g c =
+returns-clause-reads g c files tells =
     let root = c.args.tree.now in
-    let draft = c.args.blocks.now.draft in
     let history = g.D.Disk.history c.args.disk.now in
-    let begun =
-    found-after root c.args.blocks.now c.last_to.new.blocks history (g.D.Disk.history c.last_to.new.disk)
-    (g.D.Disk.size c.args.disk.now) (g.D.Disk.size c.last_to.new.disk) c.in_ok-last.ensures.read c.as_slice.result.now
-    c.piece_key-first.result c.piece_key-end.result (key_with c.args.ino 108 (c.args.from + 1))
-    (key_with c.args.ino 108 (c.args.to - 1)) c.piece_key-first.ensures c.piece_key-end.ensures
-    (λ whole tells. c.as_slice.ensures ∙ c.in_ok-items.ensures.found whole tells)
-    in
-    let unread = λ (none : IsTrue (list_any (λ item. is_none (piece_of item)) c.as_slice.result.now)).
-    unread-begun root draft history c.args.ino (c.args.from + 1) (c.args.to - 1) c.as_slice.result.now none begun
-    in
-    let result = handed c.from_residual-in_err-add_pieces.result _ c.from_residual-in_err-add_pieces.ensures.1 in
-    added-sound root draft history c.args.ino c.as_slice.result.now c.in_ok-pieces.pieces c.add_pieces.new.pieces
-    c.from_residual-in_err-add_pieces.result c.in_err-add_pieces.field-0.0 result c.in_err-add_pieces.ensures unread
-
-pub returns-in_err-add_pieces-clause-broken : goal.returns-in_err-add_pieces-clause-broken
-returns-in_err-add_pieces-clause-broken g c =
-    let root = c.args.tree.now in
-    let draft = c.args.blocks.now.draft in
-    let history = g.D.Disk.history c.args.disk.now in
-    let begun =
-    found-after root c.args.blocks.now c.last_to.new.blocks history (g.D.Disk.history c.last_to.new.disk)
-    (g.D.Disk.size c.args.disk.now) (g.D.Disk.size c.last_to.new.disk) c.in_ok-last.ensures.read c.as_slice.result.now
-    c.piece_key-first.result c.piece_key-end.result (key_with c.args.ino 108 (c.args.from + 1))
-    (key_with c.args.ino 108 (c.args.to - 1)) c.piece_key-first.ensures c.piece_key-end.ensures
-    (λ whole tells. c.as_slice.ensures ∙ c.in_ok-items.ensures.found whole tells)
-    in
-    let unread = λ (none : IsTrue (list_any (λ item. is_none (piece_of item)) c.as_slice.result.now)).
-    unread-begun root draft history c.args.ino (c.args.from + 1) (c.args.to - 1) c.as_slice.result.now none begun
-    in
-    let result = handed c.from_residual-in_err-add_pieces.result _ c.from_residual-in_err-add_pieces.ensures.1 in
-    added-broken root draft history c.args.ino c.as_slice.result.now c.in_ok-pieces.pieces c.add_pieces.new.pieces
-    c.from_residual-in_err-add_pieces.result c.in_err-add_pieces.field-0.0 result c.in_err-add_pieces.ensures unread
+    steps-more root c.args.blocks.now.draft history c.args.ino c.args.from c.args.to (g.D.Disk.size c.args.disk.now)
+    (omega arith) c.requires.readable.placed c.in_ok-last.last c.in_ok-reaching.reaching
+    (λ items told.
+    c.in_ok-last.ensures.found items told ∙ ap (λ (k : Key). last_upto k items) c.piece_key-end.ensures)
+    c.in_ok-reaching.ensures (root.height + 1) c.args.reads.now c.last_to.new.reads c.parted-2.new.reads c.in-Some.piece
+    c.in-Some.ensures.some.0 c.in-Some.ensures.some.1 files tells (omega (arith, c.in_ok-last.ensures.reads))
+    (c.in_ok-pieces-2.ensures.reads files
+    (files-read root c.args.blocks.now c.last_to.new.blocks history (g.D.Disk.history c.last_to.new.disk)
+    (g.D.Disk.size c.args.disk.now) (g.D.Disk.size c.last_to.new.disk) c.in_ok-last.ensures.read files tells))
 
 pub returns-clause-found : goal.returns-clause-found
 returns-clause-found g c =
     let root = c.args.tree.now in
     let draft = c.args.blocks.now.draft in
     let history = g.D.Disk.history c.args.disk.now in
-    let begun =
-    found-after root c.args.blocks.now c.last_to.new.blocks history (g.D.Disk.history c.last_to.new.disk)
-    (g.D.Disk.size c.args.disk.now) (g.D.Disk.size c.last_to.new.disk) c.in_ok-last.ensures.read c.as_slice.result.now
-    c.piece_key-first.result c.piece_key-end.result (key_with c.args.ino 108 (c.args.from + 1))
-    (key_with c.args.ino 108 (c.args.to - 1)) c.piece_key-first.ensures c.piece_key-end.ensures
-    (λ whole tells. c.as_slice.ensures ∙ c.in_ok-items.ensures.found whole tells)
-    in
     let met =
-    are-met-long root draft history c.args.ino c.args.from c.args.to (g.D.Disk.size c.args.disk.now)
-    c.requires.readable.placed c.in_ok-last.last c.in_ok-reaching.reaching c.in_ok-pieces.pieces
+    are-met-more root draft history c.args.ino c.args.from c.args.to (g.D.Disk.size c.args.disk.now) (omega arith)
+    c.requires.readable.placed c.in_ok-last.last c.in_ok-reaching.reaching
     (λ items tells.
-    c.in_ok-last.ensures.found items tells ∙ ap (λ (k : Key). last_upto k items) c.piece_key.ensures)
-    c.in_ok-reaching.ensures c.in_ok-pieces.ensures (omega arith) c.as_slice.result.now c.add_pieces.new.pieces begun
-    c.in_ok-add_pieces.ensures
+    c.in_ok-last.ensures.found items tells ∙ ap (λ (k : Key). last_upto k items) c.piece_key-end.ensures)
+    c.in_ok-reaching.ensures c.in-Some.piece c.in-Some.ensures.some.0 c.in-Some.ensures.some.1
+    c.in_ok-pieces-2.pieces c.push.new.self
+    (λ files tells.
+    c.in_ok-pieces-2.ensures.found files
+    (files-read root c.args.blocks.now c.last_to.new.blocks history (g.D.Disk.history c.last_to.new.disk)
+    (g.D.Disk.size c.args.disk.now) (g.D.Disk.size c.last_to.new.disk) c.in_ok-last.ensures.read files tells))
+    c.in_ok-push.ensures.ok
     in
-    judged-found root draft c.args.ino c.args.from c.args.to c.add_pieces.new.pieces history c.judged-2.result
-    c.judged-2.ensures met
+    judged-found root draft c.args.ino c.args.from c.args.to c.push.new.self history c.judged-2.result c.judged-2.ensures met
 
 pub returns-clause-sound : goal.returns-clause-sound
 returns-clause-sound g c =
     let root = c.args.tree.now in
     let draft = c.args.blocks.now.draft in
     let history = g.D.Disk.history c.args.disk.now in
-    let begun =
-    found-after root c.args.blocks.now c.last_to.new.blocks history (g.D.Disk.history c.last_to.new.disk)
-    (g.D.Disk.size c.args.disk.now) (g.D.Disk.size c.last_to.new.disk) c.in_ok-last.ensures.read c.as_slice.result.now
-    c.piece_key-first.result c.piece_key-end.result (key_with c.args.ino 108 (c.args.from + 1))
-    (key_with c.args.ino 108 (c.args.to - 1)) c.piece_key-first.ensures c.piece_key-end.ensures
-    (λ whole tells. c.as_slice.ensures ∙ c.in_ok-items.ensures.found whole tells)
-    in
     let met =
-    are-met-long root draft history c.args.ino c.args.from c.args.to (g.D.Disk.size c.args.disk.now)
-    c.requires.readable.placed c.in_ok-last.last c.in_ok-reaching.reaching c.in_ok-pieces.pieces
+    are-met-more root draft history c.args.ino c.args.from c.args.to (g.D.Disk.size c.args.disk.now) (omega arith)
+    c.requires.readable.placed c.in_ok-last.last c.in_ok-reaching.reaching
     (λ items tells.
-    c.in_ok-last.ensures.found items tells ∙ ap (λ (k : Key). last_upto k items) c.piece_key.ensures)
-    c.in_ok-reaching.ensures c.in_ok-pieces.ensures (omega arith) c.as_slice.result.now c.add_pieces.new.pieces begun
-    c.in_ok-add_pieces.ensures
+    c.in_ok-last.ensures.found items tells ∙ ap (λ (k : Key). last_upto k items) c.piece_key-end.ensures)
+    c.in_ok-reaching.ensures c.in-Some.piece c.in-Some.ensures.some.0 c.in-Some.ensures.some.1
+    c.in_ok-pieces-2.pieces c.push.new.self
+    (λ files tells.
+    c.in_ok-pieces-2.ensures.found files
+    (files-read root c.args.blocks.now c.last_to.new.blocks history (g.D.Disk.history c.last_to.new.disk)
+    (g.D.Disk.size c.args.disk.now) (g.D.Disk.size c.last_to.new.disk) c.in_ok-last.ensures.read files tells))
+    c.in_ok-push.ensures.ok
     in
-    judged-sound root draft c.args.ino c.args.from c.args.to c.add_pieces.new.pieces history c.judged-2.result
-    c.judged-2.ensures met
+    judged-sound root draft c.args.ino c.args.from c.args.to c.push.new.self history c.judged-2.result c.judged-2.ensures met
 
 pub returns-clause-broken : goal.returns-clause-broken
 returns-clause-broken g c events is =
     let root = c.args.tree.now in
     let draft = c.args.blocks.now.draft in
     let history = g.D.Disk.history c.args.disk.now in
-    let begun =
-    found-after root c.args.blocks.now c.last_to.new.blocks history (g.D.Disk.history c.last_to.new.disk)
-    (g.D.Disk.size c.args.disk.now) (g.D.Disk.size c.last_to.new.disk) c.in_ok-last.ensures.read c.as_slice.result.now
-    c.piece_key-first.result c.piece_key-end.result (key_with c.args.ino 108 (c.args.from + 1))
-    (key_with c.args.ino 108 (c.args.to - 1)) c.piece_key-first.ensures c.piece_key-end.ensures
-    (λ whole tells. c.as_slice.ensures ∙ c.in_ok-items.ensures.found whole tells)
-    in
     let met =
-    are-met-long root draft history c.args.ino c.args.from c.args.to (g.D.Disk.size c.args.disk.now)
-    c.requires.readable.placed c.in_ok-last.last c.in_ok-reaching.reaching c.in_ok-pieces.pieces
+    are-met-more root draft history c.args.ino c.args.from c.args.to (g.D.Disk.size c.args.disk.now) (omega arith)
+    c.requires.readable.placed c.in_ok-last.last c.in_ok-reaching.reaching
     (λ items tells.
-    c.in_ok-last.ensures.found items tells ∙ ap (λ (k : Key). last_upto k items) c.piece_key.ensures)
-    c.in_ok-reaching.ensures c.in_ok-pieces.ensures (omega arith) c.as_slice.result.now c.add_pieces.new.pieces begun
-    c.in_ok-add_pieces.ensures
+    c.in_ok-last.ensures.found items tells ∙ ap (λ (k : Key). last_upto k items) c.piece_key-end.ensures)
+    c.in_ok-reaching.ensures c.in-Some.piece c.in-Some.ensures.some.0 c.in-Some.ensures.some.1
+    c.in_ok-pieces-2.pieces c.push.new.self
+    (λ files tells.
+    c.in_ok-pieces-2.ensures.found files
+    (files-read root c.args.blocks.now c.last_to.new.blocks history (g.D.Disk.history c.last_to.new.disk)
+    (g.D.Disk.size c.args.disk.now) (g.D.Disk.size c.last_to.new.disk) c.in_ok-last.ensures.read files tells))
+    c.in_ok-push.ensures.ok
     in
-    judged-broken root draft c.args.ino c.args.from c.args.to c.add_pieces.new.pieces history events c.judged-2.result is
+    judged-broken root draft c.args.ino c.args.from c.args.to c.push.new.self history events c.judged-2.result is
     c.judged-2.ensures met

@@ -1,5 +1,5 @@
 use Rattle.std.proofs.Common.{arith}
-use Rattle.qg_bytes.specs.Fields.{IsBytes}
+use Rattle.qg_num.specs.Fields.{IsBytes}
 use Rattle.qg_items.proofs.ExtentBodies.{data_ref_text-from_fields}
 use Rattle.qg_items.proofs.extent.read_data_ref.Goals as goal
 

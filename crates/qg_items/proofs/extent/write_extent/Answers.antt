@@ -1,4 +1,4 @@
-use Rattle.qg_bytes.proofs.Written.{nothing_written, Written-u64, Written-whole}
+use Rattle.qg_num.proofs.Written.{nothing_written, Written-u64, Written-whole}
 use Rattle.qg_items.specs.ItemText.{extent_text}
 use Rattle.qg_items.proofs.extent.write_extent.Goals as goal
 

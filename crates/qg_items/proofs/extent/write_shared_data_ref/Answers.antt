@@ -1,4 +1,4 @@
-use Rattle.qg_bytes.proofs.Written.{nothing_written, Written-u32, Written-whole}
+use Rattle.qg_num.proofs.Written.{nothing_written, Written-u32, Written-whole}
 use Rattle.qg_items.specs.ItemText.{shared_data_ref_text}
 use Rattle.qg_items.proofs.extent.write_shared_data_ref.Goals as goal
 

@@ -1,5 +1,5 @@
 use Rattle.std.proofs.Common.{sym, arith}
-use Rattle.qg_bytes.specs.Fields.{IsBytes}
+use Rattle.qg_num.specs.Fields.{IsBytes}
 use Rattle.qg_items.proofs.FileBodies.{extent_data_text-from_fields}
 use Rattle.qg_items.proofs.file.read_extent_data.Goals as goal
 

@@ -1,7 +1,7 @@
 use Rattle.std.proofs.Common.{[], ◌∷◌, set, refl, arith}
 use Rattle.std.proofs.lemmas.List.{set_split}
-use Rattle.qg_bytes.specs.Fields.{u16_bytes, u64_bytes}
-use Rattle.qg_bytes.proofs.Written.{nothing_written, Written-put, Written-u64, Written-whole, Written-zeros}
+use Rattle.qg_num.specs.Fields.{u16_bytes, u64_bytes}
+use Rattle.qg_num.proofs.Written.{nothing_written, Written-put, Written-u64, Written-whole, Written-zeros}
 use Rattle.qg_items.specs.ItemText.{extent_data_text}
 use Rattle.qg_items.proofs.file.write_extent_data.Goals as goal
 

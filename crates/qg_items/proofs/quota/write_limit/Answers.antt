@@ -1,4 +1,4 @@
-use Rattle.qg_bytes.proofs.Written.{nothing_written, Written-u64, Written-whole, Written-zeros}
+use Rattle.qg_num.proofs.Written.{nothing_written, Written-u64, Written-whole, Written-zeros}
 use Rattle.qg_items.specs.ItemText.{limit_text}
 use Rattle.qg_items.proofs.quota.write_limit.Goals as goal
 

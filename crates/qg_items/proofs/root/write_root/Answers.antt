@@ -1,8 +1,8 @@
 use Rattle.std.proofs.Common.{◌≡◌, ℕ, ◌-◌, ◌≤◌, List, [], ◌∷◌, length, set, refl, sym, ap, subst, arith}
 use Rattle.std.proofs.lemmas.List.{set_split}
-use Rattle.qg_bytes.specs.Fields.{zeros}
-use Rattle.qg_bytes.proofs.Standing.{Stands, zeros_stand_in_zeros}
-use Rattle.qg_bytes.proofs.Written.{nothing_written, Written-put, Written-skip, Written-u32, Written-u64, Written-whole, Written-zeros}
+use Rattle.qg_num.specs.Fields.{zeros}
+use Rattle.qg_num.proofs.Standing.{Stands, zeros_stand_in_zeros}
+use Rattle.qg_num.proofs.Written.{nothing_written, Written-put, Written-skip, Written-u32, Written-u64, Written-whole, Written-zeros}
 use Rattle.qg_items.specs.ItemText.{root_text}
 use Rattle.qg_items.proofs.root.write_root.Goals as goal
 

@@ -1,6 +1,6 @@
 use Rattle.std.proofs.Common.{◌≤◌, Err, List, Ok, Result, arith, length, ℕ}
 use Rattle.std.specs.Prelude.{IfOk}
-use Rattle.qg_bytes.specs.Fields.{IsBytes}
+use Rattle.qg_num.specs.Fields.{IsBytes}
 use Rattle.qg_node.specs.declared.fault.ReadFault.{ReadFault}
 use Rattle.qg_node.specs.declared.node.Node.{Node}
 use Rattle.qg_node.specs.NodeText.{IsNodeText}

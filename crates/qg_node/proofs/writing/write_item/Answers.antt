@@ -1,6 +1,6 @@
 use Rattle.std.proofs.Common.{◌≡◌, ◌+◌, ◌-◌, ◌∙◌, ◌++◌, ap, arith, drop, length, List, rules, take, ℕ}
 use Rattle.std.specs.Prelude.{slice_range}
-use Rattle.qg_bytes.specs.Fields.{u32_bytes}
+use Rattle.qg_num.specs.Fields.{u32_bytes}
 use Rattle.qg_num.specs.Key.{key_bytes}
 use Rattle.qg_node.specs.NodeText.{item_header}
 use Rattle.qg_node.proofs.Filling.{two_puts}

@@ -1,6 +1,6 @@
 use Rattle.std.proofs.Common.{◌≡◌, ◌+◌, ◌++◌, ◌∙◌, ap, arith, length, refl, rules, take}
 use Rattle.std.proofs.lemmas.List.{take-replicate}
-use Rattle.qg_bytes.specs.Fields.{u32_bytes, zeros}
+use Rattle.qg_num.specs.Fields.{u32_bytes, zeros}
 use Rattle.qg_crc32c.specs.Crc32c.{crc32c_of}
 use Rattle.qg_node.specs.NodeText.{covered_text, node_text}
 use Rattle.qg_node.proofs.Again.{text_again}

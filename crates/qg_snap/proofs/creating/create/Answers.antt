@@ -3,7 +3,7 @@ use Rattle.qg_device.specs.History.{Event}
 use Rattle.qg_ground.specs.Land.{IsDrafted, Rests}
 use Rattle.qg_ground.specs.Tellings.Telling.{Made}
 use Rattle.qg_extents.specs.Table.{IsTable}
-use Rattle.qg_heavier.proofs.Told.{BookGetsHeavier-step, fits-step}
+use Rattle.qg_tree_refs.proofs.Told.{BookGetsHeavier-step, fits-step}
 use Rattle.qg_tree_refs.specs.Settled.{IsSettled}
 use Rattle.qg_tree_refs.proofs.Stepping.{Follows-none}
 use Rattle.qg_snap.proofs.Begun.{Calls, created-then, leaf-dated, leaf-low, leaf-made}

@@ -16,7 +16,7 @@ use Rattle.qg_ground.proofs.Settling.{KeepsLevels-draft}
 use Rattle.qg_extents.specs.Table.{IsTable, book_of}
 use Rattle.qg_owed.specs.Told.{owings_told}
 use Rattle.qg_descent.specs.Tree.{Root, super_of}
-use Rattle.qg_heavier.proofs.Told.{fits-step}
+use Rattle.qg_tree_refs.proofs.Told.{fits-step}
 use Rattle.qg_tree_edits.proofs.Rejoined.{unbroken-other}
 use Rattle.qg_tree_refs.specs.Exchange.{CanGive, Gives}
 use Rattle.qg_tree_refs.specs.Lasting.{settled_still}

@@ -7,7 +7,7 @@ use Rattle.qg_extents.specs.Table.{IsTable}
 use Rattle.qg_ground.specs.declared.ground.Ground.{Ground}
 use Rattle.qg_tree_edits.specs.Editing.{IsEditable}
 use Rattle.qg_tree_edits.specs.Rooting.{LeavesBe}
-use Rattle.qg_heavier.specs.Heavier.{BookGetsHeavier, node_bytes}
+use Rattle.qg_tree_refs.specs.Heavier.{BookGetsHeavier, node_bytes}
 use Rattle.qg_tree_refs.specs.declared.tree_refs.TreeRefs.{TreeRefs}
 use Rattle.qg_forest.specs.Standing.{HoldsState}
 use Rattle.qg_groups.specs.declared.state.QuotaState.{QuotaState}
@@ -16,13 +16,13 @@ use Rattle.qg_inodes.proofs.PiecesRead.{handed}
 use Rattle.qg_inodes.proofs.Whole.{handed-sound}
 use Rattle.qg_descent.specs.Tree.{Root}
 use Rattle.qg_fs_laws.proofs.Runs.{state-held}
-use Rattle.qg_store.specs.declared.kept.Kept.{Kept}
-use Rattle.qg_store.specs.Keeping.{IsKept, IsKeptOf}
+use Rattle.qg_kept.specs.declared.kept.Kept.{Kept}
+use Rattle.qg_kept.specs.Keeping.{IsKept, IsKeptOf}
 use Rattle.qg_store.proofs.Added.{group-may-come, number-good}
 use Rattle.qg_store.proofs.CreatedKept.{changed-created, kept-created, number-new}
 use Rattle.qg_store.proofs.GroupAdded.{group-created, quota-created, rest-grouped}
-use Rattle.qg_store.proofs.Looked.{is-subvolume}
-use Rattle.qg_store.proofs.Stepped.{tree-kept}
+use Rattle.qg_kept.proofs.Looked.{is-subvolume}
+use Rattle.qg_file_commands.proofs.Stepped.{tree-kept}
 use Rattle.qg_store.proofs.Trees.{held-for}
 use Rattle.qg_store.proofs.Young.{known-now}
 use Rattle.qg_store.proofs.changing.create_change.Goals as goal

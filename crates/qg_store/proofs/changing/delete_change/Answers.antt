@@ -13,7 +13,7 @@ use Rattle.qg_refs.specs.Book.{what_in}
 use Rattle.qg_extents.specs.Table.{IsTable, book_of}
 use Rattle.qg_ground.specs.declared.ground.Ground.{Ground}
 use Rattle.qg_tree_edits.specs.Editing.{IsEditable}
-use Rattle.qg_heavier.specs.Heavier.{BookGetsHeavier}
+use Rattle.qg_tree_refs.specs.Heavier.{BookGetsHeavier}
 use Rattle.qg_tree_refs.specs.declared.tree_refs.TreeRefs.{TreeRefs}
 use Rattle.qg_forest.specs.Standing.{HoldsState, tree_of}
 use Rattle.qg_drop.specs.Dropping.{RestsButRuns}
@@ -22,13 +22,13 @@ use Rattle.qg_inodes.proofs.Whole.{handed-sound}
 use Rattle.qg_descent.specs.Tree.{Root}
 use Rattle.qg_fs_laws.specs.Keeping.{other_names}
 use Rattle.qg_fs_laws.proofs.Runs.{state-held}
-use Rattle.qg_store.specs.declared.kept.Kept.{Kept}
-use Rattle.qg_store.specs.Keeping.{IsKept, IsKeptOf, SameButClean}
+use Rattle.qg_kept.specs.declared.kept.Kept.{Kept}
+use Rattle.qg_kept.specs.Keeping.{IsKept, IsKeptOf, SameButClean}
 use Rattle.qg_store.proofs.DroppedKept.{changed-dropped, kept-dropped, rest-dropped, room-turned}
 use Rattle.qg_store.proofs.Gone.{tree-there}
-use Rattle.qg_store.proofs.Known.{sub-known}
-use Rattle.qg_store.proofs.Looked.{is-subvolume}
-use Rattle.qg_store.proofs.Stepped.{tree-kept}
+use Rattle.qg_file_commands.proofs.Known.{sub-known}
+use Rattle.qg_kept.proofs.Looked.{is-subvolume}
+use Rattle.qg_file_commands.proofs.Stepped.{tree-kept}
 use Rattle.qg_store.proofs.Trees.{held-for, tree-is}
 use Rattle.qg_store.proofs.changing.delete_change.Goals as goal
 

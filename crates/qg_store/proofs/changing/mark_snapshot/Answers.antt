@@ -2,7 +2,7 @@ use Rattle.std.proofs.Common.{◌≡◌, ◌<◌, ℕ, List, ap, get_or, length,
 use Rattle.std.specs.List.{All}
 use Rattle.std.specs.Prelude.{◌≢◌}
 use Rattle.qg_store.proofs.Numbers.{none-of, set-with}
-use Rattle.qg_store.proofs.Tables.{key-listed}
+use Rattle.qg_kept.proofs.Tables.{key-listed}
 use Rattle.qg_store.proofs.changing.mark_snapshot.Goals as goal
 
 pub returns-in-Some : goal.returns-in-Some

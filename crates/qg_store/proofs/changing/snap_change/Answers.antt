@@ -7,7 +7,7 @@ use Rattle.qg_image.specs.State.{State, has_subvolume}
 use Rattle.qg_machine.specs.Step.{Snapshots}
 use Rattle.qg_extents.specs.Table.{IsTable}
 use Rattle.qg_ground.specs.declared.ground.Ground.{Ground}
-use Rattle.qg_heavier.specs.Heavier.{BookGetsHeavier, node_bytes}
+use Rattle.qg_tree_refs.specs.Heavier.{BookGetsHeavier, node_bytes}
 use Rattle.qg_tree_refs.specs.declared.tree_refs.TreeRefs.{TreeRefs}
 use Rattle.qg_forest.specs.Standing.{HoldsState}
 use Rattle.qg_groups.specs.declared.state.QuotaState.{QuotaState}
@@ -17,16 +17,16 @@ use Rattle.qg_inodes.proofs.Whole.{handed-sound}
 use Rattle.qg_descent.specs.Tree.{Root}
 use Rattle.qg_fs_laws.specs.Keeping.{other_names}
 use Rattle.qg_fs_laws.proofs.Runs.{state-held}
-use Rattle.qg_store.specs.declared.kept.Kept.{Kept}
-use Rattle.qg_store.specs.Keeping.{IsFitted, IsKept, IsKeptOf}
+use Rattle.qg_kept.specs.declared.kept.Kept.{Kept}
+use Rattle.qg_kept.specs.Keeping.{IsFitted, IsKept, IsKeptOf}
 use Rattle.qg_store.proofs.Added.{group-may-come, level-lowest, number-good}
 use Rattle.qg_store.proofs.CreatedKept.{number-new}
 use Rattle.qg_store.proofs.GroupAdded.{group-snapped, parents-may-be, quota-snapped, rest-grouped}
-use Rattle.qg_store.proofs.Known.{sub-known}
-use Rattle.qg_store.proofs.Looked.{hand-among, is-subvolume, tree-listed}
+use Rattle.qg_file_commands.proofs.Known.{sub-known}
+use Rattle.qg_kept.proofs.Looked.{hand-among, is-subvolume, tree-listed}
 use Rattle.qg_store.proofs.SnappedKept.{changed-snapped, kept-snapped, rest-snapped}
-use Rattle.qg_store.proofs.Stepped.{tree-kept}
-use Rattle.qg_store.proofs.Tables.{listed-key}
+use Rattle.qg_file_commands.proofs.Stepped.{tree-kept}
+use Rattle.qg_kept.proofs.Tables.{listed-key}
 use Rattle.qg_store.proofs.Trees.{held-for, tree-is}
 use Rattle.qg_store.proofs.Young.{known-now}
 use Rattle.qg_store.proofs.changing.snap_change.Goals as goal

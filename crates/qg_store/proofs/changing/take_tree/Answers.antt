@@ -2,7 +2,7 @@ use Rattle.std.proofs.Common.{rules, ◌≡◌, ◌<◌, ap, length, map, subst,
 use Rattle.std.specs.List.Sorted.{IsStrictlyIncreasing}
 use Rattle.std.proofs.lemmas.Bool.{eqb-true}
 use Rattle.qg_descent.specs.Tree.{Root}
-use Rattle.qg_store.specs.declared.kept.Kept.{Kept}
+use Rattle.qg_kept.specs.declared.kept.Kept.{Kept}
 use Rattle.qg_store.specs.Structural.{without_tree}
 use Rattle.qg_store.proofs.Numbers.{removed-without}
 use Rattle.qg_store.proofs.changing.take_tree.Goals as goal

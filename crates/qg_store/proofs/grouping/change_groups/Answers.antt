@@ -1,7 +1,7 @@
 use Rattle.std.proofs.Common.{subst, sym}
 use Rattle.qg_num.specs.declared.answer.Answer.TheVariants.{Done}
-use Rattle.qg_store.specs.declared.kept.Kept.{Kept}
-use Rattle.qg_store.specs.Keeping.{IsFitted}
+use Rattle.qg_kept.specs.declared.kept.Kept.{Kept}
+use Rattle.qg_kept.specs.Keeping.{IsFitted}
 use Rattle.qg_store.specs.Structural.{IsChanged}
 use Rattle.qg_store.proofs.Regrouped.{changed-regrouped, fitted-regrouped, regrouped-so}
 use Rattle.qg_store.proofs.grouping.change_groups.Goals as goal

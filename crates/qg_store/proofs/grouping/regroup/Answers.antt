@@ -5,18 +5,18 @@ use Rattle.qg_groups.specs.Tracked.{quota_of}
 use Rattle.qg_inodes.proofs.PiecesRead.{handed}
 use Rattle.qg_inodes.proofs.Whole.{handed-sound}
 use Rattle.qg_fs_laws.specs.Keeping.{other_names}
-use Rattle.qg_store.specs.Keeping.{structural_need_of}
+use Rattle.qg_kept.specs.Keeping.{structural_need_of}
 use Rattle.qg_store.specs.Structural.{HasRoom, commit_refusal, group_copies}
-use Rattle.qg_store.proofs.Edited.{if-none}
-use Rattle.qg_store.proofs.Looked.{node-size}
-use Rattle.qg_store.proofs.OnDisk.{last-any, on-disk}
+use Rattle.qg_file_commands.proofs.Edited.{if-none}
+use Rattle.qg_kept.proofs.Looked.{node-size}
+use Rattle.qg_kept.proofs.OnDisk.{last-any, on-disk}
 use Rattle.qg_store.proofs.Reasoned.{copies-same, group-early, group-late, group-same}
 use Rattle.qg_store.proofs.Regrouped.{asked-so, comes-group, does-group, kept-regrouped, structural-group}
 use Rattle.qg_store.proofs.Regrouped.{superblock-regrouped}
-use Rattle.qg_store.proofs.Stepped.{does_nothing}
+use Rattle.qg_file_commands.proofs.Stepped.{does_nothing}
 use Rattle.qg_store.proofs.Structured.{does-structural, early-second, held-regrouped, last-settled, made-first}
 use Rattle.qg_store.proofs.Structured.{made-second, so-far-first, so-far-second}
-use Rattle.qg_store.proofs.Turned.{looked-refl}
+use Rattle.qg_kept.proofs.Turned.{looked-refl}
 use Rattle.qg_store.proofs.grouping.regroup.Goals as goal
 
 pub refusal_of-requires : goal.refusal_of-requires

@@ -5,7 +5,7 @@ use Rattle.qg_super.specs.Places.{data_begin, is_slot}
 use Rattle.qg_super.specs.SuperText.{sizes_of}
 use Rattle.qg_super.specs.declared.sizes.Sizes.{Sizes}
 use Rattle.qg_space.specs.Holding.{AscendApart, Holding, has_slot}
-use Rattle.qg_store.specs.Slots.{ChangesSlots}
+use Rattle.qg_kept.specs.Slots.{ChangesSlots}
 use Rattle.qg_store.proofs.HeldSlots.{HoldsNodes, all_filtered, held-both, present-nodes}
 use Rattle.qg_store.proofs.Runs.{extents-apart}
 use Rattle.qg_store.proofs.holding.space_of.Goals as goal

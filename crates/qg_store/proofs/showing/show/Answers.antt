@@ -4,7 +4,7 @@ use Rattle.qg_num.specs.declared.answer.Row.{Row}
 use Rattle.qg_machine.specs.Step.{row_of}
 use Rattle.qg_groups.specs.declared.state.QuotaState.{QuotaState}
 use Rattle.qg_groups.specs.Tracked.{quota_of}
-use Rattle.qg_store.specs.Answering.{shown}
+use Rattle.qg_kept.specs.Answering.{shown}
 use Rattle.qg_store.proofs.showing.show.Goals as goal
 
 pub returns-in-None : goal.returns-in-None

@@ -1,5 +1,5 @@
 use Rattle.std.proofs.Common.{sym, ◌∙◌}
-use Rattle.qg_store.proofs.Taken.{all_taken, changes_so, gives_more, gives_one, lacks_one}
+use Rattle.qg_kept.proofs.Taken.{all_taken, changes_so, gives_more, gives_one, lacks_one}
 use Rattle.qg_store.proofs.slots.give_slots.Goals as goal
 use Rattle.qg_store.proofs.slots.give_slots.Goals.{then-has_slot, else-has_slot}
 

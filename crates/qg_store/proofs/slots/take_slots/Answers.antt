@@ -1,5 +1,5 @@
 use Rattle.std.proofs.Common.{inl, inr, sym, ◌∙◌}
-use Rattle.qg_store.proofs.Taken.{all_taken, changes_so, free_lacked, has_one, takes_more, takes_one}
+use Rattle.qg_kept.proofs.Taken.{all_taken, changes_so, free_lacked, has_one, takes_more, takes_one}
 use Rattle.qg_store.proofs.slots.take_slots.Goals as goal
 use Rattle.qg_store.proofs.slots.take_slots.Goals.{then-not-has_slot+in_ok-take_slot_at, else-not-has_slot}
 

@@ -1,6 +1,6 @@
 use Rattle.std.proofs.Common.{◌⊎◌, take}
 use Rattle.std.specs.List.{Contains}
-use Rattle.qg_store.specs.Slots.{ChangesSlots}
+use Rattle.qg_kept.specs.Slots.{ChangesSlots}
 use Rattle.qg_store.proofs.slots.take_slots.Given as goal
 
 abbrev pub invariant-loop-slot : goal.invariant-loop-slot

@@ -4,9 +4,9 @@ use Rattle.qg_inodes.proofs.PiecesRead.{handed}
 use Rattle.qg_inodes.proofs.Whole.{handed-sound}
 use Rattle.qg_fs_laws.proofs.Runs.{state-held}
 use Rattle.qg_fs_laws.specs.Keeping.{other_names}
-use Rattle.qg_store.proofs.Looked.{hand-among, is-subvolume, kept-looked, looked-land}
-use Rattle.qg_store.proofs.Stepped.{tree-kept}
-use Rattle.qg_store.proofs.Tables.{key-of-value}
+use Rattle.qg_kept.proofs.Looked.{hand-among, is-subvolume, kept-looked, looked-land}
+use Rattle.qg_file_commands.proofs.Stepped.{tree-kept}
+use Rattle.qg_kept.proofs.Tables.{key-of-value}
 use Rattle.qg_store.proofs.Trees.{tree-is}
 use Rattle.qg_store.proofs.structural.copies_of_tree.Goals as goal
 

@@ -8,17 +8,17 @@ use Rattle.qg_space.specs.Holding.{free_slots}
 use Rattle.qg_inodes.proofs.PiecesRead.{handed}
 use Rattle.qg_inodes.proofs.Whole.{handed-sound}
 use Rattle.qg_fs_laws.specs.Keeping.{other_names}
-use Rattle.qg_store.specs.declared.kept.Kept.{Kept}
-use Rattle.qg_store.specs.Keeping.{structural_need_of}
-use Rattle.qg_store.proofs.Cloned.{target-listed}
-use Rattle.qg_store.proofs.Edited.{if-none}
-use Rattle.qg_store.proofs.Looked.{keeps-looked, node-size, superblock-read}
-use Rattle.qg_store.proofs.OnDisk.{last-any, on-disk}
+use Rattle.qg_kept.specs.declared.kept.Kept.{Kept}
+use Rattle.qg_kept.specs.Keeping.{structural_need_of}
+use Rattle.qg_file_commands.proofs.Cloned.{target-listed}
+use Rattle.qg_file_commands.proofs.Edited.{if-none}
+use Rattle.qg_kept.proofs.Looked.{keeps-looked, node-size, superblock-read}
+use Rattle.qg_kept.proofs.OnDisk.{last-any, on-disk}
 use Rattle.qg_store.proofs.Reasoned.{delete-late, delete-no-sub, delete-top}
-use Rattle.qg_store.proofs.Stepped.{does_nothing}
+use Rattle.qg_file_commands.proofs.Stepped.{does_nothing}
 use Rattle.qg_store.proofs.Structured.{does-structural, early-second, held-deleted, last-settled, made-first}
 use Rattle.qg_store.proofs.Structured.{made-second, reached-settled, so-far-first, so-far-second}
-use Rattle.qg_store.proofs.Turned.{looked-refl, looked-turned}
+use Rattle.qg_kept.proofs.Turned.{looked-refl, looked-turned}
 use Rattle.qg_store.proofs.structural.delete.Goals as goal
 
 pub turn_to-requires : goal.turn_to-requires

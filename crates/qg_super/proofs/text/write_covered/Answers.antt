@@ -1,7 +1,7 @@
 use Rattle.std.proofs.Common.{◌≡◌, ℕ, ◌-◌, ◌≤◌, List, length, refl, sym, ap, subst, ◌∙◌, arith}
-use Rattle.qg_bytes.specs.Fields.{zeros}
-use Rattle.qg_bytes.proofs.Standing.{Stands, zeros_stand_in_zeros}
-use Rattle.qg_bytes.proofs.Written.{nothing_written, Written-put, Written-skip, Written-u32, Written-u64, Written-whole, Written-zeros}
+use Rattle.qg_num.specs.Fields.{zeros}
+use Rattle.qg_num.proofs.Standing.{Stands, zeros_stand_in_zeros}
+use Rattle.qg_num.proofs.Written.{nothing_written, Written-put, Written-skip, Written-u32, Written-u64, Written-whole, Written-zeros}
 use Rattle.qg_super.specs.Places.{is_served, total_bytes}
 use Rattle.qg_super.specs.SuperText.{covered_text, magic, sizes_of}
 use Rattle.qg_super.proofs.Served.{SuperFits-is_super}

@@ -1,6 +1,6 @@
 use Rattle.std.proofs.Common.{take}
 use Rattle.std.specs.Prelude.{All}
-use Rattle.qg_bytes.specs.Fields.{IsBytes}
+use Rattle.qg_num.specs.Fields.{IsBytes}
 use Rattle.qg_walk.proofs.items.are_of_bytes.Given as goal
 
 abbrev pub invariant-loop-item : goal.invariant-loop-item

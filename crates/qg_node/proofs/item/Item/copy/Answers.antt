@@ -1,5 +1,5 @@
 use Rattle.std.proofs.Common.{rules, subst, sym}
-use Rattle.qg_bytes.specs.Fields.{IsBytes}
+use Rattle.qg_num.specs.Fields.{IsBytes}
 use Rattle.qg_num.specs.Key.{IsKey}
 use Rattle.qg_node.proofs.item.Item.copy.Goals as goal
 

@@ -1,0 +1,17 @@
+pub mod Room
+pub mod Known
+pub mod Refused
+pub mod Stepped
+pub mod Changed
+pub mod Touched
+pub mod Leaves
+pub mod ReservedBy
+pub mod Accepting
+pub mod Edited
+pub mod Reasons
+pub mod Written
+pub mod Cloned
+pub mod Sized
+pub mod Unlinked
+pub mod Listed
+pub mod RunTold

@@ -1,0 +1,315 @@
+use Rattle.std.proofs.Common.{◌+◌, ◌<◌, ◌∙◌, ℕ, List, Option, ap, refl, subst, sym}
+use Rattle.std.specs.Prelude.{◌==◌, ◌&&◌}
+use Rattle.qg_num.specs.declared.piece.Piece.{Piece}
+use Rattle.qg_num.specs.declared.refusal.Refusal.TheVariants as why
+use Rattle.qg_items.specs.declared.file.InodeItem.{InodeItem}
+use Rattle.qg_image.specs.declared.file.File.{File}
+use Rattle.qg_image.specs.Table.{value_at}
+use Rattle.qg_machine.specs.Refusals.{share_a_byte}
+use Rattle.qg_groups.specs.OnOrOff.{path_in, refusal_in}
+use Rattle.qg_groups.specs.Tracked.{quota_of}
+use Rattle.qg_inodes.proofs.PiecesRead.{handed}
+use Rattle.qg_inodes.proofs.Whole.{handed-sound}
+use Rattle.qg_file_edits.specs.Files.{pieces_of}
+use Rattle.qg_file_items.specs.Pieces.{pieces_met}
+use Rattle.qg_fs_laws.specs.Keeping.{other_names}
+use Rattle.qg_kept.specs.declared.kept.Kept.{Kept}
+use Rattle.qg_kept.specs.Editing.{clone_refusal}
+use Rattle.qg_file_commands.proofs.Accepting.{judged-node, listed-still, path-still, path-told, quota-read}
+use Rattle.qg_file_commands.proofs.Cloned.{refuses-clone, refuses-limit, source-there, target-listed}
+use Rattle.qg_kept.proofs.Looked.{holds-looked, keeps-looked, looked-again, owner-read}
+use Rattle.qg_file_commands.proofs.Reasons.{missing-clone, none-there, other-clone, other-target, overlap-clone, some-there}
+use Rattle.qg_kept.proofs.Turned.{same-read, same-then, unchanged-then}
+use Rattle.qg_file_commands.proofs.cloning.clone.Goals as goal
+
+pub turn_to-requires : goal.turn_to-requires
+turn_to-requires g c = record { fitted = c.requires.kept.fitted }
+
+pub turn_to-requires-2 : goal.turn_to-requires-2
+turn_to-requires-2 g c = record {
+  fitted =
+      (c.turn_to.ensures.kept (g.D.Disk.history c.args.disk.now) (g.D.Disk.size c.args.disk.now) c.requires.kept).fitted;
+}
+
+pub inode_in-requires : goal.inode_in-requires
+inode_in-requires g c =
+    let history = g.D.Disk.history c.args.disk.now in
+    let bytes = g.D.Disk.size c.args.disk.now in
+    record { kept = c.turn_to-2.ensures.kept history bytes (c.turn_to.ensures.kept history bytes c.requires.kept) }
+
+-- ---- a subvolume isn't there
+
+pub returns-then-not-turn_to-clause-kept : goal.returns-then-not-turn_to-clause-kept
+returns-then-not-turn_to-clause-kept g c =
+    c.turn_to.ensures.kept (g.D.Disk.history c.args.disk.now) (g.D.Disk.size c.args.disk.now) c.requires.kept
+
+pub returns-then-not-turn_to-clause-step : goal.returns-then-not-turn_to-clause-step
+returns-then-not-turn_to-clause-step g c = λ state keeps.
+    let history = g.D.Disk.history c.args.disk.now in
+    refuses-clone c.turn_to.new.kept state history c.args.sub c.args.ino c.args.off c.args.len c.args.to_sub
+    c.args.to_ino c.args.to_off _
+    (c.turn_to.ensures.keeps state history (g.D.Disk.size c.args.disk.now) (other_names state) c.requires.kept keeps)
+    (other-target c.args.kept.now state history keeps c.args.ino c.args.off c.args.len c.args.to_sub c.args.to_ino
+    c.args.to_off c.args.sub (sym c.turn_to.ensures.there ∙ c.if-not-turn_to.true))
+
+pub returns-then-not-turn_to-clause-unchanged : goal.returns-then-not-turn_to-clause-unchanged
+returns-then-not-turn_to-clause-unchanged g c = λ is. c.turn_to.ensures.same
+
+pub returns-then-not-turn_to-2-clause-kept : goal.returns-then-not-turn_to-2-clause-kept
+returns-then-not-turn_to-2-clause-kept g c =
+    let history = g.D.Disk.history c.args.disk.now in
+    let bytes = g.D.Disk.size c.args.disk.now in
+    c.turn_to-2.ensures.kept history bytes (c.turn_to.ensures.kept history bytes c.requires.kept)
+
+pub returns-then-not-turn_to-2-clause-step : goal.returns-then-not-turn_to-2-clause-step
+returns-then-not-turn_to-2-clause-step g c = λ state given.
+    let history = g.D.Disk.history c.args.disk.now in
+    let bytes = g.D.Disk.size c.args.disk.now in
+    let fits = c.turn_to.ensures.kept history bytes c.requires.kept in
+    let first = c.turn_to.ensures.keeps state history bytes (other_names state) c.requires.kept given in
+    refuses-clone c.turn_to-2.new.kept state history c.args.sub c.args.ino c.args.off c.args.len c.args.to_sub
+    c.args.to_ino c.args.to_off _ (c.turn_to-2.ensures.keeps state history bytes (other_names state) fits first)
+    (other-clone c.turn_to.new.kept state history first c.args.ino c.args.off c.args.len c.args.to_sub c.args.to_ino
+    c.args.to_off c.args.sub (sym c.turn_to-2.ensures.there ∙ c.if-not-turn_to-2.true))
+
+pub returns-then-not-turn_to-2-clause-unchanged : goal.returns-then-not-turn_to-2-clause-unchanged
+returns-then-not-turn_to-2-clause-unchanged g c = λ is.
+    same-then c.args.kept.now c.turn_to.new.kept c.turn_to-2.new.kept c.turn_to.ensures.same c.turn_to-2.ensures.same
+
+-- ---- the source
+
+pub returns-in_err-inode-clause-sound : goal.returns-in_err-inode-clause-sound
+returns-in_err-inode-clause-sound g c = λ state events told given.
+    let history = g.D.Disk.history c.args.disk.now in
+    let bytes = g.D.Disk.size c.args.disk.now in
+    let fits = c.turn_to.ensures.kept history bytes c.requires.kept in
+    let first = c.turn_to.ensures.keeps state history bytes (other_names state) c.requires.kept given in
+    let keeps = c.turn_to-2.ensures.keeps state history bytes (other_names state) fits first in
+    handed-sound (Option InodeItem) c.from_residual.result _
+    (handed c.from_residual.result _ c.from_residual.ensures.1)
+    (c.in_err-inode.ensures.sound keeps.files keeps.keeps.holds)
+
+pub returns-in_default-clause-step : goal.returns-in_default-clause-step
+returns-in_default-clause-step g c = λ state given.
+    let kept = c.turn_to-2.new.kept in
+    let read = c.inode_in.new.kept in
+    let before = g.D.Disk.history c.args.disk.now in
+    let bytes = g.D.Disk.size c.args.disk.now in
+    let then = g.D.Disk.history c.inode_in.new.disk in
+    let left = g.D.Disk.size c.inode_in.new.disk in
+    let fits = c.turn_to.ensures.kept before bytes c.requires.kept in
+    let first = c.turn_to.ensures.keeps state before bytes (other_names state) c.requires.kept given in
+    let keeps = c.turn_to-2.ensures.keeps state before bytes (other_names state) fits first in
+    let looked = c.in_ok-inode.ensures.looked in
+    let still = keeps-looked kept read before then bytes left state (other_names state) looked keeps in
+    let told = sym c.in_default.is ∙ c.in_ok-inode.ensures.found keeps.files keeps.keeps.holds in
+    let hand = sym (c.turn_to-2.ensures.hand c.if-not-turn_to-2.false) ∙ owner-read kept read before then bytes left looked
+    in
+    refuses-clone read state then c.args.sub c.args.ino c.args.off c.args.len c.args.to_sub c.args.to_ino c.args.to_off _
+    still
+    (ap (λ (sub : ℕ). clone_refusal state sub c.args.ino c.args.off c.args.len c.args.to_sub c.args.to_ino c.args.to_off)
+    hand
+    ∙ missing-clone read state then still c.args.ino c.args.off c.args.len c.args.to_sub c.args.to_ino c.args.to_off
+    (target-listed c.args.kept.now read state before then given still c.args.to_sub
+    (sym c.turn_to.ensures.there ∙ c.if-not-turn_to.false))
+    (none-there (value_at c.args.ino keeps.files) told))
+
+pub returns-in_default-clause-unchanged : goal.returns-in_default-clause-unchanged
+returns-in_default-clause-unchanged g c = λ is.
+    same-read c.args.kept.now c.turn_to-2.new.kept c.inode_in.new.kept _ _ _ _
+    (same-then c.args.kept.now c.turn_to.new.kept c.turn_to-2.new.kept c.turn_to.ensures.same c.turn_to-2.ensures.same)
+    c.in_ok-inode.ensures.looked
+
+pub returns-in-Some-refusal_of_clone-clause-step : goal.returns-in-Some-refusal_of_clone-clause-step
+returns-in-Some-refusal_of_clone-clause-step g c = λ state given.
+    let kept = c.turn_to-2.new.kept in
+    let read = c.inode_in.new.kept in
+    let before = g.D.Disk.history c.args.disk.now in
+    let bytes = g.D.Disk.size c.args.disk.now in
+    let then = g.D.Disk.history c.inode_in.new.disk in
+    let left = g.D.Disk.size c.inode_in.new.disk in
+    let fits = c.turn_to.ensures.kept before bytes c.requires.kept in
+    let first = c.turn_to.ensures.keeps state before bytes (other_names state) c.requires.kept given in
+    let keeps = c.turn_to-2.ensures.keeps state before bytes (other_names state) fits first in
+    let looked = c.in_ok-inode.ensures.looked in
+    let still = keeps-looked kept read before then bytes left state (other_names state) looked keeps in
+    let told = sym c.in-Some.is ∙ c.in_ok-inode.ensures.found keeps.files keeps.keeps.holds in
+    let there = some-there (value_at c.args.ino keeps.files) c.in-Some.inode told in
+    let hand = sym (c.turn_to-2.ensures.hand c.if-not-turn_to-2.false) ∙ owner-read kept read before then bytes left looked
+    in
+    refuses-clone read state then c.args.sub c.args.ino c.args.off c.args.len c.args.to_sub c.args.to_ino c.args.to_off
+    c.in-Some-refusal_of_clone.why still
+    (ap (λ (sub : ℕ). clone_refusal state sub c.args.ino c.args.off c.args.len c.args.to_sub c.args.to_ino c.args.to_off)
+    hand
+    ∙ overlap-clone read state then still c.args.ino c.args.off c.args.len c.args.to_sub c.args.to_ino c.args.to_off
+    (target-listed c.args.kept.now read state before then given still c.args.to_sub
+    (sym c.turn_to.ensures.there ∙ c.if-not-turn_to.false))
+    c.in-Some.inode.size there.file there.is there.size c.do_overlap-overlap.result
+    (c.do_overlap-overlap.ensures
+    ∙ ap (λ (sub : ℕ). (sub == c.args.to_sub) && (c.args.ino == c.args.to_ino)
+    && share_a_byte c.args.off c.args.to_off c.args.len) hand)
+    ∙ sym c.in-Some-refusal_of_clone.ensures.value)
+
+pub returns-in-Some-refusal_of_clone-clause-unchanged : goal.returns-in-Some-refusal_of_clone-clause-unchanged
+returns-in-Some-refusal_of_clone-clause-unchanged g c = λ is.
+    same-read c.args.kept.now c.turn_to-2.new.kept c.inode_in.new.kept _ _ _ _
+    (same-then c.args.kept.now c.turn_to.new.kept c.turn_to-2.new.kept c.turn_to.ensures.same c.turn_to-2.ensures.same)
+    c.in_ok-inode.ensures.looked
+
+-- ---- what it reserves is judged
+
+pub judge-requires : goal.judge-requires
+judge-requires g c = record {
+  fitted = c.in_ok-inode.ensures.kept.fitted;
+  there = listed-still c.args.kept.now c.inode_in.new.kept
+      (same-read c.args.kept.now c.turn_to-2.new.kept c.inode_in.new.kept _ _ _ _
+      (same-then c.args.kept.now c.turn_to.new.kept c.turn_to-2.new.kept c.turn_to.ensures.same c.turn_to-2.ensures.same)
+      c.in_ok-inode.ensures.looked) c.args.to_sub (sym c.turn_to.ensures.there ∙ c.if-not-turn_to.false);
+}
+
+pub returns-in-Over-clause-step : goal.returns-in-Over-clause-step
+returns-in-Over-clause-step g c = λ state given.
+    let kept = c.turn_to-2.new.kept in
+    let read = c.inode_in.new.kept in
+    let before = g.D.Disk.history c.args.disk.now in
+    let bytes = g.D.Disk.size c.args.disk.now in
+    let then = g.D.Disk.history c.inode_in.new.disk in
+    let left = g.D.Disk.size c.inode_in.new.disk in
+    let fits = c.turn_to.ensures.kept before bytes c.requires.kept in
+    let first = c.turn_to.ensures.keeps state before bytes (other_names state) c.requires.kept given in
+    let keeps = c.turn_to-2.ensures.keeps state before bytes (other_names state) fits first in
+    let looked = c.in_ok-inode.ensures.looked in
+    let still = keeps-looked kept read before then bytes left state (other_names state) looked keeps in
+    let told = sym c.in-Some.is ∙ c.in_ok-inode.ensures.found keeps.files keeps.keeps.holds in
+    let there = some-there (value_at c.args.ino keeps.files) c.in-Some.inode told in
+    let hand = sym (c.turn_to-2.ensures.hand c.if-not-turn_to-2.false) ∙ owner-read kept read before then bytes left looked
+    in
+    refuses-limit read state then c.args.sub c.args.ino c.args.off c.args.len c.args.to_sub c.args.to_ino c.args.to_off
+    (why.Quota c.in-Over.group c.in-Over.which) still
+    (ap (λ (sub : ℕ). clone_refusal state sub c.args.ino c.args.off c.args.len c.args.to_sub c.args.to_ino c.args.to_off)
+    hand
+    ∙ overlap-clone read state then still c.args.ino c.args.off c.args.len c.args.to_sub c.args.to_ino c.args.to_off
+    (target-listed c.args.kept.now read state before then given still c.args.to_sub
+    (sym c.turn_to.ensures.there ∙ c.if-not-turn_to.false))
+    c.in-Some.inode.size there.file there.is there.size c.do_overlap-overlap.result
+    (c.do_overlap-overlap.ensures
+    ∙ ap (λ (sub : ℕ). (sub == c.args.to_sub) && (c.args.ino == c.args.to_ino)
+    && share_a_byte c.args.off c.args.to_off c.args.len) hand)
+    ∙ sym c.in_default-refusal_of_clone.ensures.value)
+    (judged-node read state then still c.in_ok-inode.ensures.kept.fitted c.args.to_sub c.from.result
+    c.in_ok-judged.judged (c.in_ok-judged.ensures.value state (other_names state) then still) c.from.ensures
+    ∙ ap refusal_in c.in-Over.is)
+
+pub returns-in-Over-clause-unchanged : goal.returns-in-Over-clause-unchanged
+returns-in-Over-clause-unchanged g c = λ is.
+    same-read c.args.kept.now c.turn_to-2.new.kept c.inode_in.new.kept _ _ _ _
+    (same-then c.args.kept.now c.turn_to.new.kept c.turn_to-2.new.kept c.turn_to.ensures.same c.turn_to-2.ensures.same)
+    c.in_ok-inode.ensures.looked
+
+-- ---- the source's pieces
+
+pub returns-in_err-source-clause-sound : goal.returns-in_err-source-clause-sound
+returns-in_err-source-clause-sound g c = λ state events told given.
+    let history = g.D.Disk.history c.args.disk.now in
+    let bytes = g.D.Disk.size c.args.disk.now in
+    let fits = c.turn_to.ensures.kept history bytes c.requires.kept in
+    let first = c.turn_to.ensures.keeps state history bytes (other_names state) c.requires.kept given in
+    let keeps = c.turn_to-2.ensures.keeps state history bytes (other_names state) fits first in
+    handed-sound (List Piece) c.from_residual-in_err-source.result _
+    (handed c.from_residual-in_err-source.result _ c.from_residual-in_err-source.ensures.1)
+    (c.in_err-source.ensures.sound keeps.files
+    (holds-looked c.turn_to-2.new.kept c.inode_in.new.kept _ _ _ _ keeps.files c.in_ok-inode.ensures.looked
+    keeps.keeps.holds))
+
+pub clone_pieces-requires-clause-path : goal.clone_pieces-requires-clause-path
+clone_pieces-requires-clause-path g c =
+    let read = c.inode_in.new.kept in
+    let mid = c.pieces_in.new.kept in
+    path-still read.quota mid.quota c.args.to_sub c.args.to_sub c.as_slice.result.now
+    (c.as_slice.ensures
+    ∙ path-told c.in_ok-judged.judged c.in-Path.path (path_in (quota_of read.quota) c.args.to_sub) c.in-Path.is
+    c.in_ok-judged.ensures.path)
+    (quota-read read mid _ _ _ _ c.in_ok-source.ensures.looked) refl
+
+pub clone_pieces-requires-clause-range : goal.clone_pieces-requires-clause-range
+clone_pieces-requires-clause-range g c = c.in_default-refusal_of_clone.ensures.clonable
+
+pub clone_pieces-requires-clause-number : goal.clone_pieces-requires-clause-number
+clone_pieces-requires-clause-number g c = (c.requires.least, c.requires.below)
+
+pub clone_pieces-requires-clause-few : goal.clone_pieces-requires-clause-few
+clone_pieces-requires-clause-few g c =
+    subst (λ (kept : Kept). kept.pending < 65536) (sym c.in_ok-source.ensures.looked.same)
+    c.in_default-refusal_of_clone.ensures.few
+
+pub returns-clause-sound : goal.returns-clause-sound
+returns-clause-sound g c = λ state events told given.
+    let kept = c.turn_to-2.new.kept in
+    let read = c.inode_in.new.kept in
+    let mid = c.pieces_in.new.kept in
+    let before = g.D.Disk.history c.args.disk.now in
+    let bytes = g.D.Disk.size c.args.disk.now in
+    let then = g.D.Disk.history c.inode_in.new.disk in
+    let between = g.D.Disk.history c.pieces_in.new.disk in
+    let left = g.D.Disk.size c.pieces_in.new.disk in
+    let fits = c.turn_to.ensures.kept before bytes c.requires.kept in
+    let first = c.turn_to.ensures.keeps state before bytes (other_names state) c.requires.kept given in
+    let keeps = c.turn_to-2.ensures.keeps state before bytes (other_names state) fits first in
+    let one = c.in_ok-inode.ensures.looked in
+    let looked = looked-again kept read mid before then between bytes _ left one c.in_ok-source.ensures.looked in
+    let still = keeps-looked kept mid before between bytes left state (other_names state) looked keeps in
+    let source = c.in_ok-source.ensures.found keeps.files
+    (holds-looked kept read before then bytes _ keeps.files one keeps.keeps.holds) in
+    c.clone_pieces.ensures.sound state events c.args.sub c.args.ino keeps.mine (looked.history ∙ told) still
+    (source-there kept state before keeps c.args.sub (c.turn_to-2.ensures.hand c.if-not-turn_to-2.false))
+    (source ∙ ap (λ (files : List (ℕ × File)). pieces_met c.args.off (c.args.off + c.args.len)
+    (pieces_of c.args.ino files)) (sym keeps.keeps.are))
+
+pub returns-clause-step : goal.returns-clause-step
+returns-clause-step g c = λ state given.
+    let kept = c.turn_to-2.new.kept in
+    let read = c.inode_in.new.kept in
+    let mid = c.pieces_in.new.kept in
+    let before = g.D.Disk.history c.args.disk.now in
+    let bytes = g.D.Disk.size c.args.disk.now in
+    let then = g.D.Disk.history c.inode_in.new.disk in
+    let between = g.D.Disk.history c.pieces_in.new.disk in
+    let left = g.D.Disk.size c.pieces_in.new.disk in
+    let fits = c.turn_to.ensures.kept before bytes c.requires.kept in
+    let first = c.turn_to.ensures.keeps state before bytes (other_names state) c.requires.kept given in
+    let keeps = c.turn_to-2.ensures.keeps state before bytes (other_names state) fits first in
+    let one = c.in_ok-inode.ensures.looked in
+    let looked = looked-again kept read mid before then between bytes _ left one c.in_ok-source.ensures.looked in
+    let still = keeps-looked kept mid before between bytes left state (other_names state) looked keeps in
+    let at_read = keeps-looked kept read before then bytes _ state (other_names state) one keeps in
+    let told = sym c.in-Some.is ∙ c.in_ok-inode.ensures.found keeps.files keeps.keeps.holds in
+    let there = some-there (value_at c.args.ino keeps.files) c.in-Some.inode told in
+    let source = c.in_ok-source.ensures.found keeps.files
+    (holds-looked kept read before then bytes _ keeps.files one keeps.keeps.holds) in
+    let hand = sym (c.turn_to-2.ensures.hand c.if-not-turn_to-2.false) ∙ owner-read kept read before then bytes _ one in
+    c.clone_pieces.ensures.step state c.args.sub c.args.ino keeps.mine still
+    (source-there kept state before keeps c.args.sub (c.turn_to-2.ensures.hand c.if-not-turn_to-2.false))
+    (source ∙ ap (λ (files : List (ℕ × File)). pieces_met c.args.off (c.args.off + c.args.len)
+    (pieces_of c.args.ino files)) (sym keeps.keeps.are))
+    (ap (λ (sub : ℕ). clone_refusal state sub c.args.ino c.args.off c.args.len c.args.to_sub c.args.to_ino c.args.to_off)
+    hand
+    ∙ overlap-clone read state then at_read c.args.ino c.args.off c.args.len c.args.to_sub c.args.to_ino c.args.to_off
+    (target-listed c.args.kept.now read state before then given at_read c.args.to_sub
+    (sym c.turn_to.ensures.there ∙ c.if-not-turn_to.false))
+    c.in-Some.inode.size there.file there.is there.size c.do_overlap-overlap.result
+    (c.do_overlap-overlap.ensures
+    ∙ ap (λ (sub : ℕ). (sub == c.args.to_sub) && (c.args.ino == c.args.to_ino)
+    && share_a_byte c.args.off c.args.to_off c.args.len) hand)
+    ∙ sym c.in_default-refusal_of_clone.ensures.value)
+    (judged-node read state then at_read c.in_ok-inode.ensures.kept.fitted c.args.to_sub c.from.result
+    c.in_ok-judged.judged (c.in_ok-judged.ensures.value state (other_names state) then at_read) c.from.ensures
+    ∙ ap refusal_in c.in-Path.is)
+
+pub returns-clause-unchanged : goal.returns-clause-unchanged
+returns-clause-unchanged g c =
+    unchanged-then c.clone_pieces.result c.args.kept.now c.pieces_in.new.kept c.clone_pieces.new.kept
+    (same-read c.args.kept.now c.turn_to-2.new.kept c.pieces_in.new.kept _ _ _ _
+    (same-then c.args.kept.now c.turn_to.new.kept c.turn_to-2.new.kept c.turn_to.ensures.same c.turn_to-2.ensures.same)
+    (looked-again c.turn_to-2.new.kept c.inode_in.new.kept c.pieces_in.new.kept _ _ _ _ _ _
+    c.in_ok-inode.ensures.looked c.in_ok-source.ensures.looked))
+    c.clone_pieces.ensures.unchanged

@@ -1,0 +1,151 @@
+// A range of a file is cloned.
+ghost use Rattle.std.specs.Prelude.{◌≡◌, ◌+◌, ◌<◌, ◌≤◌, [], ℕ, List, None, Some, IfOk, IsTrue, ◌^◌, length};
+ghost use Rattle.qg_device.specs.Cause.{HasCause};
+ghost use Rattle.qg_device.specs.History.{Event};
+ghost use Rattle.qg_num.specs.declared.command.Command.TheVariants.{Clone};
+ghost use Rattle.qg_image.specs.FilesOf.{inodes_end, least_inode};
+ghost use Rattle.qg_image.specs.Table.{value_at};
+ghost use Rattle.qg_image.specs.State.{State, Subvolume};
+ghost use Rattle.qg_blocks.specs.Told.{BreaksNone};
+ghost use Rattle.qg_files.specs.Apart.{AreApart};
+ghost use Rattle.qg_file_items.specs.Pieces.{pieces_met};
+ghost use Rattle.qg_file_edits.specs.Files.{pieces_of};
+ghost use Rattle.qg_machine.specs.Refusals.{over_limit};
+ghost use Rattle.qg_groups.specs.OnOrOff.{path_in};
+ghost use Rattle.qg_groups.specs.Tracked.{quota_of};
+ghost use Rattle.qg_kept.specs.Answering.{Answered, is_unchanging};
+ghost use Rattle.qg_kept.specs.Editing.{clone_refusal};
+ghost use Rattle.qg_kept.specs.Keeping.{IsKept, IsKeptOf, SameButClean};
+ghost use Rattle.qg_file_commands.specs.Ranges.{IsClonable};
+
+use crate::finding::{found_in, inode_in, pieces_in};
+use crate::ranges::{do_overlap, refusal_of_clone};
+use crate::reserving::{accept, judge};
+use qg_disk::Disk;
+use qg_groups::Judged;
+use qg_kept::{Kept, no_nodes, turn_to};
+use qg_num::{Answer, BlockFault, GroupId, Ino, Pieces, Refusal, RootId, Steps};
+use std::sync::ledger::Ledger;
+
+/// Clones a range of a file, in bytes, into a range of a file of this or another subvolume, or refuses to.
+pub fn clone<D: Disk, L: Ledger>(
+    kept: &mut Kept,
+    disk: &mut D,
+    sub: RootId,
+    ino: Ino,
+    off: u64,
+    len: u64,
+    to_sub: RootId,
+    to_ino: Ino,
+    to_off: u64,
+    reads: &mut Steps<L>,
+) -> Result<Answer, BlockFault>
+    requires kept { IsKept kept.old (D.history disk.old) (D.size disk.old) }
+    requires least { least_inode ≤ to_ino }
+    requires below { to_ino < inodes_end }
+    ensures kept { IfOk result (λ answer. IsKept kept.new (D.history disk.new) (D.size disk.new)) }
+    ensures step { (state : State) → IsKeptOf kept.old state (D.history disk.old)
+        → IfOk result (λ answer. Answered state (Clone sub ino off len to_sub to_ino to_off) answer [] kept.new
+        (D.history disk.new)) }
+    ensures sound { (state : State) (events : List Event) → D.history disk.old ≡ Some events
+        → IsKeptOf kept.old state (D.history disk.old) → BreaksNone result }
+    ensures unchanged { IfOk result (λ answer. IsTrue (is_unchanging answer) → SameButClean kept.old kept.new) }
+    ensures superblock { kept.new.superblock ≡ kept.old.superblock }
+    ensures apart { (D.history disk.new ≡ D.history disk.old) × (D.size disk.new ≡ D.size disk.old) }
+    ensures cause { HasCause BlockFault.Disk (D.faults disk.old) (D.faults disk.new) result }
+{
+    if !turn_to(kept, to_sub) {
+        return Ok(Answer::Refused(Refusal::NoSub));
+    }
+    if !turn_to(kept, sub) {
+        return Ok(Answer::Refused(Refusal::NoSub));
+    }
+    let Some(inode) = inode_in(kept, disk, ino, reads)? else {
+        return Ok(Answer::Refused(Refusal::NoFile));
+    };
+    let overlap = do_overlap(sub, ino, off, to_sub, to_ino, to_off, len);
+    if let Some(why) = refusal_of_clone(inode.size, off, len, to_off, overlap, kept.pending) {
+        return Ok(Answer::Refused(why));
+    }
+    let judged = judge(kept, to_sub, u64::from(kept.superblock.nodesize))?;
+    let path = match judged {
+        Judged::Over(group, which) => {
+            return Ok(Answer::Refused(Refusal::Quota { group, which }));
+        }
+        Judged::Path(path) => path,
+    };
+    let source = pieces_in(kept, disk, ino, off, off + len, reads)?;
+    clone_pieces(
+        kept,
+        disk,
+        &source,
+        off,
+        len,
+        to_sub,
+        to_ino,
+        to_off,
+        path.as_slice(),
+        reads,
+    )
+}
+
+// Clones what was read of the source's range, where it finds the slots that it needs.
+fn clone_pieces<D: Disk, L: Ledger>(
+    kept: &mut Kept,
+    disk: &mut D,
+    source: &Pieces,
+    off: u64,
+    len: u64,
+    to_sub: RootId,
+    to_ino: Ino,
+    to_off: u64,
+    path: &[GroupId],
+    reads: &mut Steps<L>,
+) -> Result<Answer, BlockFault>
+    requires kept { IsKept kept.old (D.history disk.old) (D.size disk.old) }
+    requires path { path.now ≡ path_in (quota_of kept.old.quota) to_sub }
+    requires apart { AreApart source.now }
+    requires told { length source.now < 2 ^ 63 }
+    requires number { (least_inode ≤ to_ino) × (to_ino < inodes_end) }
+    requires range { IsClonable off len to_off }
+    requires few { kept.old.pending < 65536 }
+    ensures kept { IfOk result (λ answer. IsKept kept.new (D.history disk.new) (D.size disk.new)) }
+    ensures step { (state : State) (sub ino : ℕ) (from : Subvolume) → IsKeptOf kept.old state (D.history disk.old)
+        → value_at sub state.subvolumes ≡ Some from → source.now ≡ pieces_met off (off + len) (pieces_of ino from.files)
+        → clone_refusal state sub ino off len to_sub to_ino to_off ≡ None
+        → over_limit state to_sub state.sizes.nodesize ≡ None
+        → IfOk result (λ answer. Answered state (Clone sub ino off len to_sub to_ino to_off) answer [] kept.new
+        (D.history disk.new)) }
+    ensures sound { (state : State) (events : List Event) (sub ino : ℕ) (from : Subvolume)
+        → D.history disk.old ≡ Some events → IsKeptOf kept.old state (D.history disk.old)
+        → value_at sub state.subvolumes ≡ Some from → source.now ≡ pieces_met off (off + len) (pieces_of ino from.files)
+        → BreaksNone result }
+    ensures unchanged { IfOk result (λ answer. IsTrue (is_unchanging answer) → SameButClean kept.old kept.new) }
+    ensures superblock { kept.new.superblock ≡ kept.old.superblock }
+    ensures apart { (D.history disk.new ≡ D.history disk.old) × (D.size disk.new ≡ D.size disk.old) }
+    ensures cause { HasCause BlockFault.Disk (D.faults disk.old) (D.faults disk.new) result }
+{
+    if !turn_to(kept, to_sub) {
+        return Ok(Answer::Refused(Refusal::NoSub));
+    }
+    let found = found_in(kept, disk, to_ino, to_off, to_off + len, reads)?;
+    let pieces = source.len() as u64 + found.met.len() as u64;
+    if let Some(why) = no_nodes(kept, pieces)? {
+        return Ok(Answer::Refused(why));
+    }
+    qg_file_edits::clone_into(
+        &mut kept.fs,
+        kept.alloc,
+        disk,
+        source,
+        off,
+        len,
+        to_ino,
+        to_off,
+        found,
+        reads,
+    )?;
+    let amount = u64::from(kept.superblock.nodesize);
+    accept(kept, path, amount)?;
+    Ok(Answer::Done)
+}

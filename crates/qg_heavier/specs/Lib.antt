@@ -1,3 +1,0 @@
-pub mod Heavier
-pub mod Laws
-pub mod Need

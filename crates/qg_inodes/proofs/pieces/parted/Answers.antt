@@ -1,0 +1,228 @@
+use Rattle.std.proofs.Common.{◌≡◌, ◌+◌, ◌-◌, ◌<◌, ◌≤◌, List, sym, ap, ◌∙◌, arith}
+use Rattle.std.specs.Prelude.{Err, IsTrue, is_none}
+use Rattle.std.specs.List.{list_any}
+use Rattle.qg_num.specs.declared.fault.BlockFault.{BlockFault}
+use Rattle.qg_num.specs.declared.key.Key.{Key}
+use Rattle.qg_num.specs.declared.piece.Piece.{Piece}
+use Rattle.qg_node.specs.declared.item.Item.{Item}
+use Rattle.qg_parts.specs.Keys.{key_with}
+use Rattle.qg_descent.specs.Reading.{last_upto}
+use Rattle.qg_inodes.specs.Items.{piece_of}
+use Rattle.qg_inodes.proofs.PiecesRead.{added-broken, added-sound, are-met-long, are-met-short, found-after, handed, judged-broken, judged-found, judged-sound, misread-broken, misread-sound, steps-met, unread-before, unread-begun}
+use Rattle.qg_inodes.proofs.pieces.parted.Goals.{then-to-from-via-then-to-from, then-to-from-via-else-to-from+then-to-from-eq1}
+use Rattle.qg_inodes.proofs.pieces.parted.Goals as goal
+
+-- ---- where the last item says nothing
+
+pub returns-in_err-reaching-clause-sound : goal.returns-in_err-reaching-clause-sound
+returns-in_err-reaching-clause-sound g c =
+    let root = c.args.tree.now in
+    let history = g.D.Disk.history c.args.disk.now in
+    misread-sound _ root c.args.blocks.now.draft history c.args.ino c.from_residual-in_err-reaching.result
+    (unread-before root c.args.blocks.now.draft history c.args.ino c.piece_key.result c.in_ok-last.last
+    c.in_err-reaching.ensures.1 c.in_ok-last.ensures.found)
+
+pub returns-in_err-reaching-clause-broken : goal.returns-in_err-reaching-clause-broken
+returns-in_err-reaching-clause-broken g c events is =
+    let root = c.args.tree.now in
+    let history = g.D.Disk.history c.args.disk.now in
+    misread-broken _ root c.args.blocks.now.draft history events c.args.ino c.from_residual-in_err-reaching.result is
+    (handed c.from_residual-in_err-reaching.result _ c.from_residual-in_err-reaching.ensures.1
+    ∙ ap (λ (f : BlockFault). Err f) c.in_err-reaching.ensures.0)
+    (unread-before root c.args.blocks.now.draft history c.args.ino c.piece_key.result c.in_ok-last.last
+    c.in_err-reaching.ensures.1 c.in_ok-last.ensures.found)
+
+-- ---- where no other piece may begin in the range
+
+pub returns-then-to-from-clause-found : goal.returns-then-to-from-clause-found
+returns-then-to-from-clause-found g c =
+    let short : c.args.to ≤ c.args.from + 1 = elim c.then-to-from.branch [
+      | then-to-from-via-then-to-from w ↦ (let less = w.if-to-from.true in omega arith)
+      | then-to-from-via-else-to-from+then-to-from-eq1 w ↦ (let one = w.if-to-from-eq1.true in omega arith)
+    ] in
+    let root = c.args.tree.now in
+    let draft = c.args.blocks.now.draft in
+    let history = g.D.Disk.history c.args.disk.now in
+    let met =
+    are-met-short root draft history c.args.ino c.args.from c.args.to (g.D.Disk.size c.args.disk.now)
+    c.requires.readable.placed c.in_ok-last.last c.in_ok-reaching.reaching c.in_ok-pieces.pieces
+    (λ items tells.
+    c.in_ok-last.ensures.found items tells ∙ ap (λ (k : Key). last_upto k items) c.piece_key.ensures)
+    c.in_ok-reaching.ensures c.in_ok-pieces.ensures short
+    in
+    judged-found root draft c.args.ino c.args.from c.args.to c.in_ok-pieces.pieces history c.judged.result
+    c.judged.ensures met
+
+pub returns-then-to-from-clause-sound : goal.returns-then-to-from-clause-sound
+returns-then-to-from-clause-sound g c =
+    let short : c.args.to ≤ c.args.from + 1 = elim c.then-to-from.branch [
+      | then-to-from-via-then-to-from w ↦ (let less = w.if-to-from.true in omega arith)
+      | then-to-from-via-else-to-from+then-to-from-eq1 w ↦ (let one = w.if-to-from-eq1.true in omega arith)
+    ] in
+    let root = c.args.tree.now in
+    let draft = c.args.blocks.now.draft in
+    let history = g.D.Disk.history c.args.disk.now in
+    let met =
+    are-met-short root draft history c.args.ino c.args.from c.args.to (g.D.Disk.size c.args.disk.now)
+    c.requires.readable.placed c.in_ok-last.last c.in_ok-reaching.reaching c.in_ok-pieces.pieces
+    (λ items tells.
+    c.in_ok-last.ensures.found items tells ∙ ap (λ (k : Key). last_upto k items) c.piece_key.ensures)
+    c.in_ok-reaching.ensures c.in_ok-pieces.ensures short
+    in
+    judged-sound root draft c.args.ino c.args.from c.args.to c.in_ok-pieces.pieces history c.judged.result
+    c.judged.ensures met
+
+pub returns-then-to-from-clause-broken : goal.returns-then-to-from-clause-broken
+returns-then-to-from-clause-broken g c events is =
+    let short : c.args.to ≤ c.args.from + 1 = elim c.then-to-from.branch [
+      | then-to-from-via-then-to-from w ↦ (let less = w.if-to-from.true in omega arith)
+      | then-to-from-via-else-to-from+then-to-from-eq1 w ↦ (let one = w.if-to-from-eq1.true in omega arith)
+    ] in
+    let root = c.args.tree.now in
+    let draft = c.args.blocks.now.draft in
+    let history = g.D.Disk.history c.args.disk.now in
+    let met =
+    are-met-short root draft history c.args.ino c.args.from c.args.to (g.D.Disk.size c.args.disk.now)
+    c.requires.readable.placed c.in_ok-last.last c.in_ok-reaching.reaching c.in_ok-pieces.pieces
+    (λ items tells.
+    c.in_ok-last.ensures.found items tells ∙ ap (λ (k : Key). last_upto k items) c.piece_key.ensures)
+    c.in_ok-reaching.ensures c.in_ok-pieces.ensures short
+    in
+    judged-broken root draft c.args.ino c.args.from c.args.to c.in_ok-pieces.pieces history events c.judged.result is
+    c.judged.ensures met
+
+-- ---- where others may
+
+pub returns-in_err-items-clause-reads : goal.returns-in_err-items-clause-reads
+returns-in_err-items-clause-reads g c =
+    let after = c.in_ok-last.ensures.read in
+    steps-met c.args.tree.now c.args.blocks.now c.last_to.new.blocks (g.D.Disk.history c.args.disk.now)
+    (g.D.Disk.history c.last_to.new.disk) (g.D.Disk.size c.args.disk.now) (g.D.Disk.size c.last_to.new.disk) after
+    c.args.ino c.args.from c.args.to c.args.reads.now c.last_to.new.reads c.range.new.reads c.piece_key-first.result
+    c.piece_key-end.result c.piece_key-first.ensures c.piece_key-end.ensures (omega arith)
+    (omega (arith, c.in_ok-last.ensures.reads)) c.in_err-items.ensures.reads
+
+pub returns-in_err-add_pieces-clause-reads : goal.returns-in_err-add_pieces-clause-reads
+returns-in_err-add_pieces-clause-reads g c =
+    let after = c.in_ok-last.ensures.read in
+    steps-met c.args.tree.now c.args.blocks.now c.last_to.new.blocks (g.D.Disk.history c.args.disk.now)
+    (g.D.Disk.history c.last_to.new.disk) (g.D.Disk.size c.args.disk.now) (g.D.Disk.size c.last_to.new.disk) after
+    c.args.ino c.args.from c.args.to c.args.reads.now c.last_to.new.reads c.range.new.reads c.piece_key-first.result
+    c.piece_key-end.result c.piece_key-first.ensures c.piece_key-end.ensures (omega arith)
+    (omega (arith, c.in_ok-last.ensures.reads)) c.in_ok-items.ensures.reads
+
+pub returns-clause-reads : goal.returns-clause-reads
+returns-clause-reads g c =
+    let after = c.in_ok-last.ensures.read in
+    steps-met c.args.tree.now c.args.blocks.now c.last_to.new.blocks (g.D.Disk.history c.args.disk.now)
+    (g.D.Disk.history c.last_to.new.disk) (g.D.Disk.size c.args.disk.now) (g.D.Disk.size c.last_to.new.disk) after
+    c.args.ino c.args.from c.args.to c.args.reads.now c.last_to.new.reads c.range.new.reads c.piece_key-first.result
+    c.piece_key-end.result c.piece_key-first.ensures c.piece_key-end.ensures (omega arith)
+    (omega (arith, c.in_ok-last.ensures.reads)) c.in_ok-items.ensures.reads
+
+pub returns-in_err-add_pieces-clause-sound : goal.returns-in_err-add_pieces-clause-sound
+returns-in_err-add_pieces-clause-sound g c =
+    let root = c.args.tree.now in
+    let draft = c.args.blocks.now.draft in
+    let history = g.D.Disk.history c.args.disk.now in
+    let begun =
+    found-after root c.args.blocks.now c.last_to.new.blocks history (g.D.Disk.history c.last_to.new.disk)
+    (g.D.Disk.size c.args.disk.now) (g.D.Disk.size c.last_to.new.disk) c.in_ok-last.ensures.read c.as_slice.result.now
+    c.piece_key-first.result c.piece_key-end.result (key_with c.args.ino 108 (c.args.from + 1))
+    (key_with c.args.ino 108 (c.args.to - 1)) c.piece_key-first.ensures c.piece_key-end.ensures
+    (λ whole tells. c.as_slice.ensures ∙ c.in_ok-items.ensures.found whole tells)
+    in
+    let unread = λ (none : IsTrue (list_any (λ item. is_none (piece_of item)) c.as_slice.result.now)).
+    unread-begun root draft history c.args.ino (c.args.from + 1) (c.args.to - 1) c.as_slice.result.now none begun
+    in
+    let result = handed c.from_residual-in_err-add_pieces.result _ c.from_residual-in_err-add_pieces.ensures.1 in
+    added-sound root draft history c.args.ino c.as_slice.result.now c.in_ok-pieces.pieces c.add_pieces.new.pieces
+    c.from_residual-in_err-add_pieces.result c.in_err-add_pieces.field-0.0 result c.in_err-add_pieces.ensures unread
+
+pub returns-in_err-add_pieces-clause-broken : goal.returns-in_err-add_pieces-clause-broken
+returns-in_err-add_pieces-clause-broken g c =
+    let root = c.args.tree.now in
+    let draft = c.args.blocks.now.draft in
+    let history = g.D.Disk.history c.args.disk.now in
+    let begun =
+    found-after root c.args.blocks.now c.last_to.new.blocks history (g.D.Disk.history c.last_to.new.disk)
+    (g.D.Disk.size c.args.disk.now) (g.D.Disk.size c.last_to.new.disk) c.in_ok-last.ensures.read c.as_slice.result.now
+    c.piece_key-first.result c.piece_key-end.result (key_with c.args.ino 108 (c.args.from + 1))
+    (key_with c.args.ino 108 (c.args.to - 1)) c.piece_key-first.ensures c.piece_key-end.ensures
+    (λ whole tells. c.as_slice.ensures ∙ c.in_ok-items.ensures.found whole tells)
+    in
+    let unread = λ (none : IsTrue (list_any (λ item. is_none (piece_of item)) c.as_slice.result.now)).
+    unread-begun root draft history c.args.ino (c.args.from + 1) (c.args.to - 1) c.as_slice.result.now none begun
+    in
+    let result = handed c.from_residual-in_err-add_pieces.result _ c.from_residual-in_err-add_pieces.ensures.1 in
+    added-broken root draft history c.args.ino c.as_slice.result.now c.in_ok-pieces.pieces c.add_pieces.new.pieces
+    c.from_residual-in_err-add_pieces.result c.in_err-add_pieces.field-0.0 result c.in_err-add_pieces.ensures unread
+
+pub returns-clause-found : goal.returns-clause-found
+returns-clause-found g c =
+    let root = c.args.tree.now in
+    let draft = c.args.blocks.now.draft in
+    let history = g.D.Disk.history c.args.disk.now in
+    let begun =
+    found-after root c.args.blocks.now c.last_to.new.blocks history (g.D.Disk.history c.last_to.new.disk)
+    (g.D.Disk.size c.args.disk.now) (g.D.Disk.size c.last_to.new.disk) c.in_ok-last.ensures.read c.as_slice.result.now
+    c.piece_key-first.result c.piece_key-end.result (key_with c.args.ino 108 (c.args.from + 1))
+    (key_with c.args.ino 108 (c.args.to - 1)) c.piece_key-first.ensures c.piece_key-end.ensures
+    (λ whole tells. c.as_slice.ensures ∙ c.in_ok-items.ensures.found whole tells)
+    in
+    let met =
+    are-met-long root draft history c.args.ino c.args.from c.args.to (g.D.Disk.size c.args.disk.now)
+    c.requires.readable.placed c.in_ok-last.last c.in_ok-reaching.reaching c.in_ok-pieces.pieces
+    (λ items tells.
+    c.in_ok-last.ensures.found items tells ∙ ap (λ (k : Key). last_upto k items) c.piece_key.ensures)
+    c.in_ok-reaching.ensures c.in_ok-pieces.ensures (omega arith) c.as_slice.result.now c.add_pieces.new.pieces begun
+    c.in_ok-add_pieces.ensures
+    in
+    judged-found root draft c.args.ino c.args.from c.args.to c.add_pieces.new.pieces history c.judged-2.result
+    c.judged-2.ensures met
+
+pub returns-clause-sound : goal.returns-clause-sound
+returns-clause-sound g c =
+    let root = c.args.tree.now in
+    let draft = c.args.blocks.now.draft in
+    let history = g.D.Disk.history c.args.disk.now in
+    let begun =
+    found-after root c.args.blocks.now c.last_to.new.blocks history (g.D.Disk.history c.last_to.new.disk)
+    (g.D.Disk.size c.args.disk.now) (g.D.Disk.size c.last_to.new.disk) c.in_ok-last.ensures.read c.as_slice.result.now
+    c.piece_key-first.result c.piece_key-end.result (key_with c.args.ino 108 (c.args.from + 1))
+    (key_with c.args.ino 108 (c.args.to - 1)) c.piece_key-first.ensures c.piece_key-end.ensures
+    (λ whole tells. c.as_slice.ensures ∙ c.in_ok-items.ensures.found whole tells)
+    in
+    let met =
+    are-met-long root draft history c.args.ino c.args.from c.args.to (g.D.Disk.size c.args.disk.now)
+    c.requires.readable.placed c.in_ok-last.last c.in_ok-reaching.reaching c.in_ok-pieces.pieces
+    (λ items tells.
+    c.in_ok-last.ensures.found items tells ∙ ap (λ (k : Key). last_upto k items) c.piece_key.ensures)
+    c.in_ok-reaching.ensures c.in_ok-pieces.ensures (omega arith) c.as_slice.result.now c.add_pieces.new.pieces begun
+    c.in_ok-add_pieces.ensures
+    in
+    judged-sound root draft c.args.ino c.args.from c.args.to c.add_pieces.new.pieces history c.judged-2.result
+    c.judged-2.ensures met
+
+pub returns-clause-broken : goal.returns-clause-broken
+returns-clause-broken g c events is =
+    let root = c.args.tree.now in
+    let draft = c.args.blocks.now.draft in
+    let history = g.D.Disk.history c.args.disk.now in
+    let begun =
+    found-after root c.args.blocks.now c.last_to.new.blocks history (g.D.Disk.history c.last_to.new.disk)
+    (g.D.Disk.size c.args.disk.now) (g.D.Disk.size c.last_to.new.disk) c.in_ok-last.ensures.read c.as_slice.result.now
+    c.piece_key-first.result c.piece_key-end.result (key_with c.args.ino 108 (c.args.from + 1))
+    (key_with c.args.ino 108 (c.args.to - 1)) c.piece_key-first.ensures c.piece_key-end.ensures
+    (λ whole tells. c.as_slice.ensures ∙ c.in_ok-items.ensures.found whole tells)
+    in
+    let met =
+    are-met-long root draft history c.args.ino c.args.from c.args.to (g.D.Disk.size c.args.disk.now)
+    c.requires.readable.placed c.in_ok-last.last c.in_ok-reaching.reaching c.in_ok-pieces.pieces
+    (λ items tells.
+    c.in_ok-last.ensures.found items tells ∙ ap (λ (k : Key). last_upto k items) c.piece_key.ensures)
+    c.in_ok-reaching.ensures c.in_ok-pieces.ensures (omega arith) c.as_slice.result.now c.add_pieces.new.pieces begun
+    c.in_ok-add_pieces.ensures
+    in
+    judged-broken root draft c.args.ino c.args.from c.args.to c.add_pieces.new.pieces history events c.judged-2.result is
+    c.judged-2.ensures met

@@ -1,0 +1,9 @@
+pub mod Keeping
+pub mod Stored
+pub mod Making
+pub mod Answering
+pub mod Editing
+pub mod Slots
+pub mod Committing
+pub mod Planning
+pub mod Owning

@@ -1,0 +1,105 @@
+-- A store as its callers see it (this project's own).
+use Rattle.std.specs.Prelude.{◌≡◌, ◌⊎◌, ℕ, ◌+◌, ◌<◌, ◌≤◌, Bool, true, false, List, Option, None, Some, Result, Ok, Err, IsTrue}
+use Rattle.qg_device.specs.History.{Event}
+use Rattle.qg_num.specs.declared.answer.Answer.{Answer}
+use Rattle.qg_num.specs.declared.command.Command.{Command}
+use Rattle.qg_num.specs.declared.command.Command.TheVariants.{Commit}
+use Rattle.qg_num.specs.declared.fault.BlockFault.{BlockFault}
+use Rattle.qg_num.specs.declared.fault.BlockFault.TheVariants as fault
+use Rattle.qg_num.specs.declared.fault.Stop.{Stop}
+use Rattle.qg_num.specs.declared.fault.Stop.TheVariants.{NoMemory, Disk, Image, Aborted}
+use Rattle.qg_super.specs.declared.sizes.Sizes.{Sizes}
+use Rattle.qg_super.specs.Places.{total_bytes}
+use Rattle.qg_super.specs.SuperText.{sizes_of}
+use Rattle.qg_image.specs.State.{State}
+use Rattle.qg_blocks.specs.Told.{IsBacked}
+use Rattle.qg_kept.specs.declared.kept.Kept.{Kept}
+use Rattle.qg_kept.specs.Answering.{comes_to_disk, is_structural}
+use Rattle.qg_kept.specs.Keeping.{IsFitted, IsKeptOf, SameButClean}
+use Rattle.qg_kept.specs.Making.{MadeFirst, StartsSecond}
+
+-- what it keeps, and why it stopped, if it did
+pub record Stored : Type 0 where
+  pub kept : Kept
+  pub stopped : Option BlockFault
+
+-- as long as it has not stopped, what it keeps fits together
+abbrev pub IsStore : Stored → Type 0
+IsStore store = store.stopped ≡ None → IsFitted store.kept
+
+-- as long as it has not stopped, its clean nodes are those of the disk: a disk that tells is as the last call left it
+abbrev pub IsStoreOver : Stored → Option (List Event) → Type 0
+IsStoreOver store history = store.stopped ≡ None → IsBacked store.kept.fs.land.blocks history
+
+-- it has not stopped, and over a disk with this history it keeps this state
+pub record IsStoreOf (store : Stored) (state : State) (history : Option (List Event)) : Type 0 where
+  pub running : store.stopped ≡ None
+  pub keeps : IsKeptOf store.kept state history
+
+-- a store is the same, but for its clean nodes
+pub record IsUnchanged (old new : Stored) : Type 0 where
+  pub stopped : new.stopped ≡ old.stopped
+  pub kept : SameButClean old.kept new.kept
+
+-- a command comes to the disk in a store that has not stopped: a commit where something is pending, or a structural one
+pub record ComesToDisk (store : Stored) (command : Command) : Type 0 where
+  pub running : store.stopped ≡ None
+  pub commits : IsTrue (comes_to_disk command)
+  pub some : command ≡ Commit → 0 < store.kept.pending
+
+-- the sizes of its image
+abbrev pub sizes_stored : Stored → Sizes
+sizes_stored store = sizes_of store.kept.superblock
+
+-- a store has not stopped, its disk, where that tells, is as the store left it, and its disk of so many bytes has all of its image
+pub record IsReady (store : Stored) (history : Option (List Event)) (size : ℕ) : Type 0 where
+  pub running : store.stopped ≡ None
+  pub backed : IsStoreOver store history
+  pub long : total_bytes (sizes_stored store) ≤ size
+
+-- A store goes on over a disk of so many bytes, before and now: that, where it tells, is as the store left it, and is no shorter; and the sizes of
+-- the store's image stay
+pub record GoesOn (old new : Stored) (history : Option (List Event)) (before now : ℕ) : Type 0 where
+  pub backed : IsStoreOver new history
+  pub sizes : sizes_stored new ≡ sizes_stored old
+  pub no_less : before ≤ now
+
+-- The last commit is the first of the two that a structural command makes: something was pending, and is committed, as
+-- the next generation. A disk that tells what it held was given all calls of that commit, and of the second some or none
+pub record HasMadeFirst (command : Command) (old new : Kept) (before after : Option (List Event)) : Type 0 where
+  pub structural : IsTrue (is_structural command)
+  pub some : 0 < old.pending
+  pub next : new.superblock.generation ≡ old.superblock.generation + 1
+  pub given : (state : State) (events : List Event) → IsKeptOf old state before → before ≡ Some events
+      → MadeFirst state events after ⊎ StartsSecond state command events after
+
+-- the last commit is known still: it is the one before a command, or the first of the two of a structural one
+abbrev pub KnowsLast : Command → Kept → Kept → Option (List Event) → Option (List Event) → Type 0
+KnowsLast command old new before after =
+    (new.superblock ≡ old.superblock) ⊎ HasMadeFirst command old new before after
+
+-- a store stops for a fault, over a disk with these histories before a command and now, and knows the last commit still
+pub record StopsBy (cause : BlockFault) (command : Command) (old new : Stored) (before after : Option (List Event))
+    : Type 0 where
+  pub running : old.stopped ≡ None
+  pub stopped : new.stopped ≡ Some cause
+  pub last : KnowsLast command old.kept new.kept before after
+
+-- a command stops a store, or finds that it has stopped
+abbrev pub Stops : Stop → Command → Stored → Stored → Option (List Event) → Option (List Event) → Type 0
+Stops (Aborted cause) command old new before after = (old.stopped ≡ Some cause) × (new ≡ old)
+Stops NoMemory command old new before after = StopsBy fault.NoMemory command old new before after
+Stops Disk command old new before after = StopsBy fault.Disk command old new before after
+Stops (Image rule address) command old new before after =
+    StopsBy (fault.Image rule address) command old new before after
+
+-- a store that answers was running, and is so still; else it stops
+abbrev pub RunsOrStops : Result Answer Stop → Command → Stored → Stored → Option (List Event) → Option (List Event)
+    → Type 0
+RunsOrStops (Ok answer) command old new before after = (old.stopped ≡ None) × (new.stopped ≡ None)
+RunsOrStops (Err stop) command old new before after = Stops stop command old new before after
+
+-- a store stops for a rule that the image breaks
+abbrev pub is_of_image : Stop → Bool
+is_of_image (Image rule address) = true
+is_of_image _ = false
