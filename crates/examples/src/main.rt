@@ -2,8 +2,9 @@
 #![tactic(auto)]
 
 use anyhow::{Context, Result, anyhow};
-use qg_cases::{Case, Cases, Program, Report, case_names, case_text, judge_case, read_case};
-use qg_disk::Disk;
+use qg_cases::{
+    Case, CaseDisk, Cases, Program, Report, case_names, case_text, judge_case, read_case,
+};
 use qg_edge::{MemSink, MemSource};
 use qg_program::run_program;
 use std::alloc::Global;
@@ -17,10 +18,10 @@ struct Whole {
 }
 
 impl Program for Whole {
-    fn call<D: Disk>(
+    fn call(
         &self,
         words: &Vec<String>,
-        disk: &mut D,
+        disk: &mut CaseDisk,
         source: &mut MemSource,
         sink: &mut MemSink,
     ) -> u8 {

@@ -1,5 +1,6 @@
 // All crashes of a run, and whether the images that they leave are wanted.
 use crate::crash::{crashed, crashed_without, first_calls, unsure_calls};
+use crate::disk::CaseDisk;
 use crate::run::difference;
 use crate::text::words_of;
 use crate::{Crashes, NoMemory, Program, Report};
@@ -105,12 +106,13 @@ fn difference_of_run<P: Program>(
     program: &P,
     crashes: &Crashes,
     moment: &Moment,
-    disk: &mut MemDisk,
+    left: MemDisk,
 ) -> Result<Option<String>, NoMemory> {
     let words = words_of(alloc, "run")?;
+    let mut disk = CaseDisk::new(alloc, left);
     let mut source = MemSource::new(crashes.input.clone()?);
     let mut sink = MemSink::new(alloc);
-    let status = program.call(&words, disk, &mut source, &mut sink);
+    let status = program.call(&words, &mut disk, &mut source, &mut sink);
     if status != 0 {
         let text = format!(in alloc; "status: wanted 0, came {status}")?;
         return Ok(Some(text));
@@ -132,11 +134,11 @@ fn judge_image<P: Program>(
     what: &str,
     report: &mut Report,
 ) -> Result<(), NoMemory> {
-    let Some(mut disk) = left else {
+    let Some(left) = left else {
         report.tell("this can't be done to the disk")?;
         return Ok(());
     };
-    if let Some(other) = difference_of_run(alloc, program, crashes, moment, &mut disk)? {
+    if let Some(other) = difference_of_run(alloc, program, crashes, moment, left)? {
         let calls = moment.calls;
         let text = format!(in alloc; "behind call {calls}, {what}: {other}")?;
         report.tell(text.as_str())?;

@@ -9,9 +9,9 @@ mod case;
 mod change;
 mod crash;
 mod crashes;
+mod disk;
 mod fault;
 mod files;
-mod flip;
 mod judge;
 mod lines;
 mod numbers;
@@ -23,6 +23,7 @@ mod steps;
 mod text;
 
 pub use case::{Case, Crashes, Flip, Number, Part, Plan, Run, Step, Wanted};
+pub use disk::CaseDisk;
 pub use fault::{CaseFault, Complaint, NoMemory};
 pub use files::{case_names, case_text};
 pub use judge::{Cases, judge_case};

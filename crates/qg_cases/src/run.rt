@@ -1,8 +1,8 @@
 // One call of the program, and whether what came of it was wanted.
 use crate::calls::{call_texts, is_read};
-use crate::flip::FlipDisk;
-use crate::{Flip, NoMemory, Number, Plan, Report, Run, Wanted};
-use qg_disk::{Disk, MemDisk};
+use crate::disk::CaseDisk;
+use crate::{NoMemory, Number, Plan, Report, Run, Wanted};
+use qg_disk::MemDisk;
 use qg_edge::{MemSink, MemSource};
 use std::alloc::Global;
 use std::mem;
@@ -13,10 +13,10 @@ const NO_TEXT: &str = "bytes that are no text";
 /// The program that the cases are of (this project's own).
 pub trait Program {
     /// Does what the words say, and answers the number of its status.
-    fn call<D: Disk>(
+    fn call(
         &self,
         words: &Vec<String>,
-        disk: &mut D,
+        disk: &mut CaseDisk,
         source: &mut MemSource,
         sink: &mut MemSink,
     ) -> u8;
@@ -143,27 +143,24 @@ fn judge_calls(
     Ok(())
 }
 
-// Calls the program over a disk of which some bytes change from the call of a number on. Afterwards they are as they
-// were.
-fn call_flipped<P: Program>(
+// The disk that a run is called over, which made so many calls before: where bytes are to change, they do.
+fn disk_of(
     alloc: Global,
-    program: &P,
     run: &Run,
-    flip: &Flip,
-    first: u64,
-    disk: &mut MemDisk,
-    source: &mut MemSource,
-    sink: &mut MemSink,
-) -> Result<u8, NoMemory> {
-    let bytes = flip.bytes.clone()?;
-    let held = mem::replace(disk, MemDisk::new(alloc));
-    let mut flipped = FlipDisk::new(held, first, flip.at, bytes);
-    let status = program.call(&run.words, &mut flipped, source, sink);
-    *disk = flipped.into_disk();
-    Ok(status)
+    each: u64,
+    made: u64,
+    disk: MemDisk,
+) -> Result<CaseDisk, NoMemory> {
+    match &run.plan.flip {
+        None => Ok(CaseDisk::new(alloc, disk)),
+        Some(flip) => {
+            let first = call_number(flip.call, each, made);
+            Ok(CaseDisk::changing(disk, first, flip.at, flip.bytes.clone()?))
+        }
+    }
 }
 
-// Calls the program over a disk that made so many calls before.
+// Calls the program over a disk that made so many calls before. Bytes that change are as they were afterwards.
 fn call_planned<P: Program>(
     alloc: Global,
     program: &P,
@@ -174,13 +171,11 @@ fn call_planned<P: Program>(
     source: &mut MemSource,
     sink: &mut MemSink,
 ) -> Result<u8, NoMemory> {
-    match &run.plan.flip {
-        None => Ok(program.call(&run.words, disk, source, sink)),
-        Some(flip) => {
-            let first = call_number(flip.call, each, made);
-            call_flipped(alloc, program, run, flip, first, disk, source, sink)
-        }
-    }
+    let held = mem::replace(disk, MemDisk::new(alloc));
+    let mut over = disk_of(alloc, run, each, made, held)?;
+    let status = program.call(&run.words, &mut over, source, sink);
+    *disk = over.into_disk();
+    Ok(status)
 }
 
 /// Calls the program over a disk, for the number `each`, and judges what came.

@@ -5,6 +5,7 @@ mod above;
 mod direct;
 mod links;
 mod namers;
+mod places;
 mod portions;
 mod surveyed;
 

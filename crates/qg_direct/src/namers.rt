@@ -7,8 +7,9 @@ ghost use Rattle.qg_counted.specs.Groups.{AreWithin};
 ghost use Rattle.qg_direct.specs.Namers.{AreNamers, HasAtMost, HasNoted};
 
 use crate::Surveyed;
+use crate::places::Places;
 use qg_image::Element;
-use qg_num::{Address, Sequence};
+use qg_num::Address;
 use std::alloc::{AllocError, Global};
 
 /// For each extent the indices of the nodes that name it. What is named and isn't among the extents is passed by.
@@ -16,7 +17,7 @@ pub(crate) fn namers_of(
     alloc: Global,
     nodes: &[Surveyed],
     extents: &[Element],
-) -> Result<Vec<Sequence<usize>>, AllocError>
+) -> Result<Vec<Places>, AllocError>
     ensures same { IfOk result (λ lists. length lists.items ≡ length extents.now) }
     ensures within { IfOk result (λ lists. AreWithin (length nodes.now) lists.items) }
     ensures namers { IsStrictlyIncreasing (map (λ extent. extent.address) extents.now)
@@ -30,20 +31,20 @@ pub(crate) fn namers_of(
 }
 
 /// So many empty lists.
-fn empty_lists(alloc: Global, count: usize) -> Result<Vec<Sequence<usize>>, AllocError>
+fn empty_lists(alloc: Global, count: usize) -> Result<Vec<Places>, AllocError>
     ensures same { IfOk result (λ lists. length lists.items ≡ count) }
     ensures empty { IfOk result (λ lists. AreEmpty lists.items) }
 {
     let mut lists = Vec::with_capacity(alloc, count)?;
     for _place in 0..count {
-        lists.push(Sequence::new(alloc))?;
+        lists.push(Places::new(alloc))?;
     }
     Ok(lists)
 }
 
 /// Puts an index into the list of each extent that is named.
 fn note(
-    lists: &mut [Sequence<usize>],
+    lists: &mut [Places],
     extents: &[Element],
     named: &[Address],
     index: usize,
@@ -54,12 +55,27 @@ fn note(
     ensures noted { IsStrictlyIncreasing (map (λ extent. extent.address) extents.now)
         → OnOk result (HasNoted extents.now named.now index lists.old lists.new) }
 {
+    let mut next = 0;
     for address in named {
-        if let Some(place) = place_of_extent(extents, *address) {
+        if let Some(place) = place_from(extents, next, *address) {
             lists[place].push(index)?;
+            next = place + 1;
         }
     }
     Ok(())
+}
+
+/// The same as [`place_of_extent`]; where a file's pieces follow each other in its extents as in the file, the next place is
+/// the one.
+fn place_from(extents: &[Element], next: usize, address: Address) -> Option<usize>
+    ensures there { IfSome result (λ place. StandsAt (λ extent. extent.address) extents.now address place) }
+    ensures absent { IsStrictlyIncreasing (map (λ extent. extent.address) extents.now)
+        → IfNone result (AreOthers (λ extent. extent.address) extents.now address) }
+{
+    match extents.get(next) {
+        Some(extent) if extent.address == address => Some(next),
+        _ => place_of_extent(extents, address),
+    }
 }
 
 /// The index of the extent at an address. Where extents ascend, there is none exactly where none lies there.

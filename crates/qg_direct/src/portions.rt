@@ -6,6 +6,7 @@ ghost use Rattle.qg_reached.specs.Sets.{IsUnionOf};
 ghost use Rattle.qg_counted.specs.Groups.{AreWithin};
 ghost use Rattle.qg_direct.specs.Portions.{AreOfNamers, node_portions};
 
+use crate::places::Places;
 use qg_counted::Portion;
 use qg_image::Element;
 use qg_num::{NoMemory, Sequence};
@@ -17,7 +18,7 @@ pub(crate) fn extent_portions(
     alloc: Global,
     reached: &mut Reached,
     extents: &[Element],
-    namers: &[Sequence<usize>],
+    namers: &[Places],
 ) -> Result<Vec<Portion>, NoMemory>
     requires { length namers.now ≡ length extents.now }
     ensures { IfOk result (λ portions. (links : List Link) (roots : List (ℕ × ℕ))
@@ -45,12 +46,30 @@ fn portion_of(
     ensures reach { IfOk result (λ _. (links : List Link) (roots : List (ℕ × ℕ))
         → TellsReach links roots reached.old → TellsReach links roots reached.new) }
 {
-    let sets = sets_at(alloc, reached, places)?;
-    let set = reached.union(alloc, sets.as_slice())?;
+    let set = union_at(alloc, reached, places)?;
     Ok(Portion {
         bytes: extent.bytes,
         set,
     })
+}
+
+/// The union of the sets of the nodes at some indices. Of one index it takes no memory.
+fn union_at(alloc: Global, reached: &mut Reached, places: &[usize]) -> Result<SetId, NoMemory>
+    ensures union { IfOk result (λ set. IsUnionOf reached.old.sets.rows.items []
+        (map (λ place. slice_index reached.old.numbers.items place) places.now) reached.new.sets.rows.items set) }
+    ensures reach { IfOk result (λ _. (links : List Link) (roots : List (ℕ × ℕ))
+        → TellsReach links roots reached.old → TellsReach links roots reached.new) }
+{
+    match places {
+        [place] => {
+            let set = reached.set_of(*place);
+            reached.union(alloc, &[set])
+        }
+        _ => {
+            let sets = sets_at(alloc, reached, places)?;
+            reached.union(alloc, sets.as_slice())
+        }
+    }
 }
 
 /// The sets of the nodes at some indices.

@@ -77,7 +77,7 @@ full_more parts i part found more inside is so_far given =
 
 -- ---- what one node owes
 
-owings_same : (parent : ℕ) (owings : List OwedReference) → map (marked_owing parent false) owings ≡ owings
+pub owings_same : (parent : ℕ) (owings : List OwedReference) → map (marked_owing parent false) owings ≡ owings
 owings_same parent [] = refl
 owings_same parent (owing ∷ owings) = ap (λ rest. owing ∷ rest) (owings_same parent owings)
 

@@ -31,7 +31,7 @@ fn extents_of_items(alloc: Global, items: &[Item]) -> Result<Sequence<Element>, 
     ensures { IfOk result (λ extents. extents
         ≡ map extent_of (filter_map (λ item. option_and_then piece_of_part (file_part item)) items.now)) }
 {
-    let mut extents = Sequence::new(alloc);
+    let mut extents = Sequence::with_capacity(alloc, items.len())?;
     for item in items {
         if let Some(piece) = piece_in(item) {
             extents.push(extent_of(&piece))?;

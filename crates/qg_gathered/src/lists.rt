@@ -1,5 +1,5 @@
 // The lists over which the two rules are judged.
-ghost use Rattle.std.specs.Prelude.{◌≡◌, ◌++◌, ◌∷◌, [], map, IfOk, OnOk};
+ghost use Rattle.std.specs.Prelude.{◌≡◌, ◌++◌, ◌∷◌, [], true, map, IfOk, OnOk};
 ghost use Rattle.std.specs.List.{flat_map};
 ghost use Rattle.std.specs.List.Sorted.{IsNonDecreasing};
 ghost use Rattle.qg_owed.specs.Told.{owing_told, owings_told};
@@ -71,7 +71,7 @@ fn add_node(
         extents,
     } = node;
     let full = is_full(full, linked.address);
-    add_owings(linked.address, full, owings.as_slice(), &mut lists.owings)?;
+    add_owings(linked.address, full, owings, &mut lists.owings)?;
     lists.things.push(Thing {
         address: linked.address,
         kind: Kind::Node {
@@ -90,30 +90,38 @@ fn add_node(
 fn add_owings(
     parent: Address,
     full: bool,
-    own: &[Owing],
+    mut own: Vec<Owing>,
     owings: &mut Vec<Owing>,
 ) -> Result<(), NoMemory>
     ensures { OnOk result (owings_told owings.new.items
-        ≡ owings_told owings.old.items ++ map (marked_owing parent full) (owings_told own.now)) }
+        ≡ owings_told owings.old.items ++ map (marked_owing parent full) (owings_told own.items)) }
+{
+    if full {
+        return add_marked(parent, own.as_slice(), owings);
+    }
+    owings.append(&mut own)?;
+    Ok(())
+}
+
+// Puts what a full node at an address owes at the end.
+fn add_marked(parent: Address, own: &[Owing], owings: &mut Vec<Owing>) -> Result<(), NoMemory>
+    ensures { OnOk result (owings_told owings.new.items
+        ≡ owings_told owings.old.items ++ map (marked_owing parent true) (owings_told own.now)) }
 {
     for owing in own {
-        let marked = marked_owing(parent, full, owing);
+        let marked = marked_owing(parent, owing);
         owings.push(marked)?;
     }
     Ok(())
 }
 
-// What a node owes in place of what it owes where it isn't full: where it is, a shared reference from itself.
-fn marked_owing(parent: Address, full: bool, owing: &Owing) -> Owing
-    ensures { owing_told result ≡ marked_owing parent full (owing_told owing.now) }
+// What a full node owes in place of what it owes where it isn't full: a shared reference from itself.
+fn marked_owing(parent: Address, owing: &Owing) -> Owing
+    ensures { owing_told result ≡ marked_owing parent true (owing_told owing.now) }
 {
     Owing {
         address: owing.address,
-        reference: if full {
-            shared_reference(parent, &owing.reference)
-        } else {
-            owing.reference
-        },
+        reference: shared_reference(parent, &owing.reference),
     }
 }
 

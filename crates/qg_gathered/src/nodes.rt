@@ -96,11 +96,19 @@ impl NodeList for NodesRead {
     }
 }
 
+// How many items or pointers a node has.
+fn entries_of(node: &Node) -> usize {
+    match node {
+        Node::Leaf { items, .. } => items.len(),
+        Node::Inner { pointers, .. } => pointers.len(),
+    }
+}
+
 // What is gathered of a node.
 fn read_of(alloc: Global, node: &Node) -> Result<NodeRead, NoMemory>
     ensures { IfOk result (λ read. told_by read ≡ told_of node.now) }
 {
-    let mut owings = Vec::new(alloc);
+    let mut owings = Vec::with_capacity(alloc, entries_of(node))?;
     owings_of_node(node, false, &mut owings)?;
     Ok(NodeRead {
         linked: linked_of(alloc, node, false)?,

@@ -120,10 +120,13 @@ fn items_bytes(items: &[Item]) -> usize
     total
 }
 
-/// Whether the items fit in so many bytes.
+/// Whether the items fit in so many bytes. Where their headers alone don't, no body is looked at.
 fn items_fit(items: &[Item], room: usize) -> bool
     ensures { IsTrue result ↔ (items_bytes items.now ≤ room) }
 {
+    if items.len() > room / ITEM_HEADER_BYTES {
+        return false;
+    }
     let mut left = room;
     for item in items {
         if left < ITEM_HEADER_BYTES || left - ITEM_HEADER_BYTES < item.body.len() {

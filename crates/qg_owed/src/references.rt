@@ -26,8 +26,8 @@ pub(crate) fn put_told(told: &mut Vec<Counted>, parts: &[ExtentPart]) -> Result<
     Ok(())
 }
 
-// The reference that an item records, with its count; a record records none.
-fn entry_of(part: &ExtentPart) -> Option<Counted>
+/// The reference that an item records, with its count; a record records none.
+pub(crate) fn entry_of(part: &ExtentPart) -> Option<Counted>
     ensures { option_map count_told result ≡ reference_told part.now }
 {
     match *part {

@@ -32,7 +32,7 @@ pub(crate) fn read_leaf(
     ensures read { IfOk result (λ below. IsLeafRead generation items.now below) }
     ensures disk { IsErrOf result OpenFault.Disk → ⊥ }
 {
-    let mut parts: Sequence<FilePart> = Sequence::new(alloc);
+    let mut parts: Sequence<FilePart> = Sequence::with_capacity(alloc, items.len())?;
     add_said::<FilePart, Sequence<FilePart>>(generation, address, items, &mut parts)?;
     Ok(Below {
         last: last_of(items),

@@ -2,7 +2,9 @@
 #![tactic(auto)]
 
 use anyhow::{Result, anyhow};
-use qg_cases::{Case, Cases, Program, Report, case_names, case_text, judge_case, read_case};
+use qg_cases::{
+    Case, CaseDisk, Cases, Program, Report, case_names, case_text, judge_case, read_case,
+};
 use qg_disk::Disk;
 use qg_edge::{MemSink, MemSource, Sink, Source};
 use std::rt::Files;
@@ -83,10 +85,10 @@ fn put_digit<D: Disk>(disk: &mut D, source: &mut MemSource, sink: &mut MemSink) 
 }
 
 impl Program for Counter {
-    fn call<D: Disk>(
+    fn call(
         &self,
         words: &Vec<String>,
-        disk: &mut D,
+        disk: &mut CaseDisk,
         source: &mut MemSource,
         sink: &mut MemSink,
     ) -> u8 {
@@ -98,10 +100,10 @@ impl Program for Counter {
 }
 
 impl Program for Echo {
-    fn call<D: Disk>(
+    fn call(
         &self,
         words: &Vec<String>,
-        disk: &mut D,
+        disk: &mut CaseDisk,
         source: &mut MemSource,
         sink: &mut MemSink,
     ) -> u8 {

@@ -24,7 +24,7 @@ loop-address-preserved c =
     let short = c.loop-address-test.true in
     let is = c.address-item.is in
     let before = c.loop-address.invariant in
-    elim c.match-place_of_extent.branch [
+    elim c.match-place_from.branch [
       | in-Some+in_ok-push w ↦
           let at = w.in-Some.place in
           let stands = w.in-Some.ensures.there in

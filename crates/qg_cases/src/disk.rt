@@ -1,22 +1,24 @@
-// A disk that changes by itself.
+// The disk that the program is called over.
 ghost use Rattle.std.specs.Prelude.{◌≡◌, ◌+◌, ◌<◌, ◌≤◌, ◌^◌, IsErrOf, None, OnOk, length, max};
 ghost use Rattle.qg_device.specs.Cause.{HasCause};
 ghost use Rattle.qg_disk.specs.Disk.{Cuts, Syncs, Writes};
 ghost use Rattle.qg_disk.specs.MemDisk.{memory_faults, memory_size};
 
 use qg_disk::{Disk, DiskFault, MemDisk};
+use std::alloc::Global;
 use std::marker::Model;
 
-/// A disk in memory that tells nothing of what it holds: from one of its calls on, some bytes are read as others.
+/// A disk in memory that tells nothing of what it holds (this project's own): from one of its calls on, some bytes are read
+/// as others. There may be none.
 #[derive(Drop)]
-pub(crate) struct FlipDisk {
+pub struct CaseDisk {
     disk: MemDisk,
     first: u64,
     place: u64,
     bytes: Vec<u8>,
 }
 
-impl Model for FlipDisk {
+impl Model for CaseDisk {
     ghost use Rattle.qg_disk.specs.MemDisk.{MemoryDisk};
 
     ghost Value = { MemoryDisk };
@@ -24,10 +26,15 @@ impl Model for FlipDisk {
     ghost view = { λ d. d.disk };
 }
 
-impl FlipDisk {
+impl CaseDisk {
+    /// A disk of which all bytes are read as it holds them.
+    pub(crate) fn new(alloc: Global, disk: MemDisk) -> CaseDisk {
+        CaseDisk::changing(disk, u64::MAX, 0, Vec::new(alloc))
+    }
+
     /// A disk of which these bytes are read at a place from the call of a number on.
-    pub(crate) fn new(disk: MemDisk, first: u64, place: u64, bytes: Vec<u8>) -> FlipDisk {
-        FlipDisk {
+    pub(crate) fn changing(disk: MemDisk, first: u64, place: u64, bytes: Vec<u8>) -> CaseDisk {
+        CaseDisk {
             disk,
             first,
             place,
@@ -53,7 +60,7 @@ fn put_over(bytes: &[u8], place: u64, at: u64, buf: &mut [u8]) {
     }
 }
 
-impl Disk for FlipDisk {
+impl Disk for CaseDisk {
     ghost use Rattle.qg_disk.specs.FileDisk.{sized_untold};
 
     ghost history = { λ _. None };
