@@ -2,9 +2,8 @@
 #![tactic(auto)]
 
 use anyhow::{Context, Result, anyhow};
-use qg_cases::{
-    Case, CaseDisk, Cases, Program, Report, case_names, case_text, judge_case, read_case,
-};
+use qg_case_file::{Case, case_names, case_text, read_case};
+use qg_cases::{CaseDisk, Cases, Program, Report, judge_case};
 use qg_edge::{MemSink, MemSource};
 use qg_program::run_program;
 use std::alloc::Global;

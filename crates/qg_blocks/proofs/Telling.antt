@@ -23,7 +23,7 @@ use Rattle.qg_device.specs.History.{Event, content}
 use Rattle.qg_node.specs.declared.node.Node.{Node}
 use Rattle.qg_blocks.specs.Held.{Draft, Held, with_node}
 use Rattle.qg_blocks.specs.Standing.{standing}
-use Rattle.qg_blocks.specs.Told.{Answers, BreaksNone, IsBacked, IsNodeAt, StandsThere, clean_at, first_of, found, fresh_at, fresh_or, held_at, told, told_or}
+use Rattle.qg_blocks.specs.Told.{Answers, BreaksNone, IsAtHand, IsBacked, IsNodeAt, StandsThere, clean_at, first_of, found, fresh_at, fresh_or, held_at, told, told_or}
 use Rattle.qg_blocks.specs.Writing.{AreWritten}
 use Rattle.qg_super.specs.declared.sizes.Sizes.{Sizes}
 
@@ -114,6 +114,15 @@ pub loaded-kept : (held : Held) (draft : Draft) (history : Option (List Event)) 
 loaded-kept held draft history address node same backed none is =
     subst (λ (d : Draft). IsNodeAt d.sizes.nodesize address node) same
     (held-kept held history address node backed (ap (λ (d : Draft). fresh_at d address) same ∙ none) is)
+
+-- so it is at hand as it is
+pub IsAtHand-backed : (held : Held) (draft : Draft) (history : Option (List Event)) (address : ℕ) → held.draft ≡ draft → IsBacked held history
+    → IsSome (held_at held address) → IsAtHand held draft history address
+IsAtHand-backed held draft history address same backed some = record {
+  held = some;
+  told = λ node. loaded-told held draft history address node same backed some;
+  kept = λ node. loaded-kept held draft history address node same backed;
+}
 
 pub loaded-found : (held : Held) (draft : Draft) (history : Option (List Event)) (events : List Event) (address : ℕ) → held.draft ≡ draft → IsBacked held history
     → history ≡ Some events → IsSome (held_at held address) → IsOk (found draft (content events) address)

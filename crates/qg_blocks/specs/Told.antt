@@ -1,7 +1,7 @@
 -- What nodes in memory and a disk tell together (this project's own).
 --
 -- A disk is told by its history: what was done to it, where it tells.
-use Rattle.std.specs.Prelude.{◌≡◌, ⊤, ℕ, nat_eq, List, Option, Some, None, Result, Ok, Err, IsOk, Contains}
+use Rattle.std.specs.Prelude.{◌≡◌, ⊤, ℕ, nat_eq, List, Option, Some, None, Result, Ok, Err, IsOk, IsSome, Contains}
 use Rattle.std.specs.Result.{result_ok}
 use Rattle.std.specs.Ordering.{nat_cmp}
 use Rattle.std.specs.BTreeMap.{is_at}
@@ -74,6 +74,18 @@ pub record IsBacked (held : Held) (history : Option (List Event)) : Type 0 where
   pub stands : (address : ℕ) (node : Node) → Contains held.clean (address, node) → StandsThere held.draft.sizes history address node
   pub kept : (address : ℕ) (node : Node) → Contains held.clean (address, node) → IsNodeAt held.draft.sizes.nodesize address node
   pub apart : (address : ℕ) (node : Node) → Contains held.clean (address, node) → fresh_at held.draft address ≡ None
+
+-- the map from address to node stays as it is, and so does the room for clean nodes, which are those of the disk
+pub record StaysBacked (before after : Held) (history : Option (List Event)) : Type 0 where
+  pub draft : after.draft ≡ before.draft
+  pub bound : after.bound ≡ before.bound
+  pub backed : IsBacked after history
+
+-- a node is in memory at an address: the one that is told, where one is; and one that is not fresh has a text and names the address
+pub record IsAtHand (memory : Held) (draft : Draft) (history : Option (List Event)) (address : ℕ) : Type 0 where
+  pub held : IsSome (held_at memory address)
+  pub told : (node : Node) → told draft history address ≡ Some node → held_at memory address ≡ Some node
+  pub kept : (node : Node) → fresh_at draft address ≡ None → held_at memory address ≡ Some node → IsNodeAt draft.sizes.nodesize address node
 
 -- ---- answers
 

@@ -14,7 +14,7 @@ ghost use Rattle.qg_super.specs.Places.{is_served};
 ghost use Rattle.lru.specs.LruCache.{lru_cache, promoted, put_entries};
 ghost use Rattle.qg_blocks.specs.Held.{most_clean, nothing_fresh, slots_of};
 ghost use Rattle.qg_blocks.specs.Standing.{standing};
-ghost use Rattle.qg_blocks.specs.Told.{Answers, BreaksNone, Finds, IsBacked, IsNodeAt, StandsThere, clean_at, first_of, found, fresh_at, held_at, told};
+ghost use Rattle.qg_blocks.specs.Told.{Answers, BreaksNone, Finds, IsAtHand, IsBacked, IsNodeAt, StandsThere, StaysBacked, clean_at, first_of, found, fresh_at, held_at, told};
 ghost use Rattle.qg_blocks.specs.Writing.{AreWritten};
 
 use crate::reading::read_at;
@@ -178,28 +178,18 @@ impl Blocks {
     ) -> Result<(), BlockFault>
         requires backed { IsBacked self.old (D.history disk.old) }
 
-        // The map from address to node stays as it is, and what is lent is what it tells.
-        ensures draft { self.new.draft ≡ self.old.draft }
-        ensures held { OnOk result (IsSome (held_at self.new address)) }
-        ensures told { OnOk result ((node : NodeValue) → told self.old.draft (D.history disk.old) address ≡ Some node
-            → held_at self.new address ≡ Some node) }
-        ensures kept { OnOk result ((node : NodeValue) → fresh_at self.old.draft address ≡ None → held_at self.new address ≡ Some node
-            → IsNodeAt self.old.draft.sizes.nodesize address node) }
+        // What is then in memory.
+        ensures stays { StaysBacked self.old self.new (D.history disk.new) }
+        ensures lent { OnOk result (IsAtHand self.new self.old.draft (D.history disk.old) address) }
+        ensures again { IsSome (held_at self.old address) → IsOk result × (held_at self.new address ≡ held_at self.old address) }
+        ensures err { OnErr result (self.new ≡ self.old) }
 
-        // Answers have their causes, and what is in memory is lent as it is.
+        // Answers have their causes, and the disk is as it was.
         ensures answers { (events : List Event) → D.history disk.old ≡ Some events
             → Answers result address (found self.old.draft (content events) address) }
         ensures sound { (node : NodeValue) → told self.old.draft (D.history disk.old) address ≡ Some node → BreaksNone result }
-        ensures again { IsSome (held_at self.old address) → IsOk result }
-        ensures same { IsSome (held_at self.old address) → held_at self.new address ≡ held_at self.old address }
         ensures cause { HasCause BlockFault.Disk (D.faults disk.old) (D.faults disk.new) result }
-
-        // Clean nodes are none but those of the disk, and the disk is as it was.
-        ensures backed { IsBacked self.new (D.history disk.new) }
-        ensures bound { self.new.bound ≡ self.old.bound }
-        ensures err { OnErr result (self.new ≡ self.old) }
-        ensures history { D.history disk.new ≡ D.history disk.old }
-        ensures size { D.size disk.new ≡ D.size disk.old }
+        ensures disk { (D.history disk.new ≡ D.history disk.old) × (D.size disk.new ≡ D.size disk.old) }
         ensures reads { reads.new ≡ reads.old + 1 }
     {
         reads.tick();
@@ -216,16 +206,13 @@ impl Blocks {
     fn fetch<D: Disk>(&mut self, disk: &mut D, address: Address) -> Result<(), BlockFault>
         requires backed { IsBacked self.old (D.history disk.old) }
         requires other { fresh_at self.old.draft address ≡ None }
-        ensures draft { self.new.draft ≡ self.old.draft }
+        ensures stays { StaysBacked self.old self.new (D.history disk.new) }
         ensures held { OnOk result (IsSome (held_at self.new address)) }
+        ensures err { OnErr result (self.new ≡ self.old) }
         ensures answers { (events : List Event) → D.history disk.old ≡ Some events
             → Answers result address (standing self.old.draft.sizes (content events) address) }
         ensures cause { HasCause BlockFault.Disk (D.faults disk.old) (D.faults disk.new) result }
-        ensures backed { IsBacked self.new (D.history disk.new) }
-        ensures bound { self.new.bound ≡ self.old.bound }
-        ensures err { OnErr result (self.new ≡ self.old) }
-        ensures history { D.history disk.new ≡ D.history disk.old }
-        ensures size { D.size disk.new ≡ D.size disk.old }
+        ensures disk { (D.history disk.new ≡ D.history disk.old) × (D.size disk.new ≡ D.size disk.old) }
     {
         let node = self.read(disk, address)?;
         self.keep(address, node)?;

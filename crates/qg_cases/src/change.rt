@@ -1,5 +1,5 @@
 // Changes of a disk in memory between runs. Each says why it could not be made.
-use crate::NoMemory;
+use qg_case_file::NoMemory;
 use qg_crc32c::crc32c;
 use qg_disk::{Disk, MemDisk};
 use std::alloc::Global;

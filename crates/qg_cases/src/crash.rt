@@ -1,6 +1,6 @@
 // What crashes leave of a disk in memory.
-use crate::NoMemory;
 use crate::change::{cut, set};
+use qg_case_file::NoMemory;
 use qg_disk::{Call, MemDisk, Request, Tear};
 use std::alloc::Global;
 

@@ -2,8 +2,8 @@
 use crate::crash::{crashed, crashed_without, first_calls, unsure_calls};
 use crate::disk::CaseDisk;
 use crate::run::difference;
-use crate::text::words_of;
-use crate::{Crashes, NoMemory, Program, Report};
+use crate::{Program, Report};
+use qg_case_file::{Crashes, NoMemory, words_of};
 use qg_disk::{Call, MemDisk, Request, Tear};
 use qg_edge::{MemSink, MemSource};
 use std::alloc::Global;

@@ -3,7 +3,8 @@ use crate::change::{bytes_at, cut, extend, make_checksum, set};
 use crate::crash::{crashed, crashed_without};
 use crate::crashes::judge_crashes;
 use crate::run::{call_number, judge_run};
-use crate::{Case, NoMemory, Part, Program, Report, Step};
+use crate::{Program, Report};
+use qg_case_file::{Case, NoMemory, Part, Step};
 use qg_disk::{Disk, MemDisk};
 use std::alloc::Global;
 

@@ -1,5 +1,5 @@
 // What came in place of what was wanted.
-use crate::NoMemory;
+use qg_case_file::NoMemory;
 use std::alloc::{AllocError, Global};
 
 /// What came in place of what was wanted, as lines (this project's own).

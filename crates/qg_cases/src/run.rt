@@ -1,7 +1,8 @@
 // One call of the program, and whether what came of it was wanted.
+use crate::Report;
 use crate::calls::{call_texts, is_read};
 use crate::disk::CaseDisk;
-use crate::{NoMemory, Number, Plan, Report, Run, Wanted};
+use qg_case_file::{NoMemory, Number, Plan, Run, Wanted};
 use qg_disk::MemDisk;
 use qg_edge::{MemSink, MemSource};
 use std::alloc::Global;

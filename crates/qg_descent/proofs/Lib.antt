@@ -9,6 +9,7 @@ pub mod Frames
 pub mod Walked
 pub mod Ranges
 pub mod Branches
+pub mod BranchItems
 pub mod BranchFrames
 pub mod BranchForms
 pub mod BranchWalk

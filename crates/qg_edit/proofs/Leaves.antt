@@ -24,7 +24,7 @@ use Rattle.qg_edit.specs.declared.edit.Change.{Change}
 use Rattle.qg_edit.specs.declared.edit.Change.TheVariants.{Insert, Replace, Remove}
 use Rattle.qg_edit.specs.Edits.{CanChange, changed}
 use Rattle.qg_edit.specs.Answering.{AnswersBy, CanCut, IsBrokenByChange, IsBrokenUnless, IsChangeable}
-use Rattle.qg_edit.specs.Outcome.{IsCutOf, IsNodeFor, IsOldOrCleared, RestIsNode, cleared}
+use Rattle.qg_edit.specs.Outcome.{IsCutOf, IsLeftOf, IsNodeFor, IsOldOrCleared, RestIsNode, cleared}
 use Rattle.qg_edit.proofs.Lists.{has_key-goes, has_key-there, item-there, keys_of, with_item-goes, with_item-there, without_key-there}
 
 -- a node is what a change makes of a leaf, with an item too much at most
@@ -192,15 +192,15 @@ module _ (nodesize : ℕ) (leaf : Node) (leafy : IsLeaf leaf) (sound : IsNode no
 
 -- ---- what is answered
 
-pub edited-cut : (nodesize : ℕ) (key : Key) (change : Change) (leaf mid new : Node) (result : Result (Option Node) BlockFault) → IsChanged nodesize key change leaf mid
-    → IfOk result (λ rest. IsCutOf nodesize mid new rest) → IfOk result (λ rest. IsCutOf nodesize (with_items leaf (changed key change (own_items leaf))) new rest)
-edited-cut nodesize key change leaf mid new (Ok rest) made cut = subst (λ (n : Node). IsCutOf nodesize n new rest) (sym made.is) cut
-edited-cut nodesize key change leaf mid new (Err fault) made cut = tt
-
-pub overfull-cut : (nodesize : ℕ) (key : Key) (change : Change) (leaf mid : Node) (result : Result (Option Node) BlockFault) → IsChanged nodesize key change leaf mid
-    → IfOk result (λ rest. IsSome rest ↔ IsOverfull nodesize mid) → IfOk result (λ rest. IsSome rest ↔ IsOverfull nodesize (with_items leaf (changed key change (own_items leaf))))
-overfull-cut nodesize key change leaf mid (Ok rest) made cut = subst (λ (n : Node). IsSome rest ↔ IsOverfull nodesize n) (sym made.is) cut
-overfull-cut nodesize key change leaf mid (Err fault) made cut = tt
+-- what is left of a whole is so in the place of another node with the same header
+pub left-of : (nodesize : ℕ) (old mid whole new : Node) (result : Result (Option Node) BlockFault) → whole ≡ mid → header_of mid ≡ header_of old
+    → IfOk result (IsLeftOf nodesize mid mid new) → IfOk result (IsLeftOf nodesize old whole new)
+left-of nodesize old mid whole new (Ok rest) is same left = record {
+  cut = subst (λ (n : Node). IsCutOf nodesize n new rest) (sym is) left.cut;
+  overfull = subst (λ (n : Node). IsSome rest ↔ IsOverfull nodesize n) (sym is) left.overfull;
+  rest = RestIsNode-header nodesize old mid rest same left.rest;
+}
+left-of nodesize old mid whole new (Err fault) is same left = tt
 
 pub answers-cut : (nodesize : ℕ) (key : Key) (change : Change) (leaf mid : Node) (result : Result (Option Node) BlockFault) → IsChanged nodesize key change leaf mid
     → AnswersBy (CanCut nodesize mid) (IsBrokenUnless ItemRule mid (CanCut nodesize mid)) result → AnswersBy (IsChangeable nodesize key change leaf) (IsBrokenByChange nodesize key change leaf) result
@@ -224,11 +224,6 @@ pub err-cut : (nodesize : ℕ) (key : Key) (change : Change) (leaf mid new : Nod
     → OnErr result (new ≡ cleared mid) → OnErr result (IsOldOrCleared leaf new)
 err-cut nodesize key change leaf mid new (Ok rest) made cut = tt
 err-cut nodesize key change leaf mid new (Err fault) made cut = inr (cut ∙ cleared-header mid leaf made.header)
-
-pub rest-cut : (nodesize : ℕ) (old mid : Node) (result : Result (Option Node) BlockFault) → header_of mid ≡ header_of old → IfOk result (λ rest. RestIsNode nodesize mid rest)
-    → IfOk result (λ rest. RestIsNode nodesize old rest)
-rest-cut nodesize old mid (Ok rest) same is = RestIsNode-header nodesize old mid rest same is
-rest-cut nodesize old mid (Err fault) same is = tt
 
 pub ok-known : {A : Type 0} (P : Type 0) (result : Result A BlockFault) → P → OnOk result P
 ok-known P (Ok x) known = known

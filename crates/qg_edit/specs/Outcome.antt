@@ -1,5 +1,5 @@
 -- What an edit leaves of one node (this project's own).
-use Rattle.std.specs.Prelude.{◌≡◌, ◌⊎◌, ⊤, ℕ, ◌++◌, List, [], take, drop, Option, Some, None, IsTrue}
+use Rattle.std.specs.Prelude.{◌≡◌, ◌⊎◌, ◌↔◌, ⊤, ℕ, ◌++◌, List, [], take, drop, Option, Some, None, IsSome, IsTrue}
 use Rattle.qg_node.specs.declared.pointer.Pointer.{Pointer}
 use Rattle.qg_node.specs.declared.node.Node.{Node}
 use Rattle.qg_node.specs.declared.node.Node.TheVariants.{Leaf}
@@ -7,6 +7,7 @@ use Rattle.qg_node.specs.Nodes.{header_of, is_ascending, own_keys}
 use Rattle.qg_node.specs.NodeText.{IsNode}
 use Rattle.qg_shape.specs.declared.joining.Joined.{Joined}
 use Rattle.qg_shape.specs.declared.joining.Joined.TheVariants.{Whole, Parted}
+use Rattle.qg_shape.specs.Filled.{IsOverfull}
 use Rattle.qg_shape.specs.Outcomes.{IsSplit}
 
 -- a node holds the whole, or a front of it where it has too much; the rest is a node of its own, which names the same address
@@ -25,6 +26,13 @@ pub record IsNodeFor (nodesize : ℕ) (old new : Node) : Type 0 where
 abbrev pub RestIsNode : ℕ → Node → Option Node → Type 0
 RestIsNode nodesize old None = ⊤
 RestIsNode nodesize old (Some rest) = IsNodeFor nodesize old rest
+
+-- a node is what is left of this whole in the place of an old one: all of it, or a front. There is a rest exactly where the whole has too
+-- much, and it is a node too
+pub record IsLeftOf (nodesize : ℕ) (old whole node : Node) (more : Option Node) : Type 0 where
+  pub cut : IsCutOf nodesize whole node more
+  pub overfull : IsSome more ↔ IsOverfull nodesize whole
+  pub rest : RestIsNode nodesize old more
 
 -- pointers with others in the place of those from one index up to another
 abbrev pub spliced : ℕ → ℕ → List Pointer → List Pointer → List Pointer

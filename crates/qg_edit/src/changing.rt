@@ -1,15 +1,15 @@
 // An edit of one leaf.
-ghost use Rattle.std.specs.Prelude.{◌≡◌, ◌↔◌, ◌<◌, IfOk, IfErr, OnOk, OnErr, IsSome, length, map, slice_get, None, Some};
+ghost use Rattle.std.specs.Prelude.{◌≡◌, ◌<◌, IfOk, IfErr, OnOk, OnErr, length, map, slice_get, None, Some};
 ghost use Rattle.qg_node.specs.declared.item.Item.{Item as ItemValue};
 ghost use Rattle.qg_node.specs.NodeText.{IsNode, IsNodeSize};
 ghost use Rattle.qg_node.specs.Nodes.{own_items};
-ghost use Rattle.qg_shape.specs.Filled.{HasShortBodies, IsOverfull};
+ghost use Rattle.qg_shape.specs.Filled.{HasShortBodies};
 ghost use Rattle.qg_shape.specs.Parts.{IsLeaf, with_items};
 ghost use Rattle.qg_shape.specs.Places.{GoesAt};
 ghost use Rattle.qg_blocks.specs.Told.{BreaksNone};
 ghost use Rattle.qg_edit.specs.Edits.{CanChange, CanEdit, IsShort, changed, edited, growth_of};
 ghost use Rattle.qg_edit.specs.Answering.{AnswersBy, IsBrokenByChange, IsChangeable};
-ghost use Rattle.qg_edit.specs.Outcome.{IsCutOf, IsNodeFor, IsOldOrCleared, RestIsNode};
+ghost use Rattle.qg_edit.specs.Outcome.{IsLeftOf, IsNodeFor, IsOldOrCleared};
 ghost use Rattle.qg_edit.specs.declared.edit.Change.TheVariants.{Insert, Replace, Remove};
 
 use crate::clearing::clear;
@@ -26,15 +26,12 @@ use qg_shape::{find_item, insert_item, remove_item, replace_body};
 /// was, or empty.
 pub fn edit_leaf(leaf: &mut Node, nodesize: u32, edit: Edit) -> Result<Option<Node>, BlockFault>
     requires size { IsNodeSize nodesize }
-    requires leaf { IsLeaf leaf.old }
-    requires sound { IsNode nodesize leaf.old }
+    requires leaf { IsLeaf leaf.old × IsNode nodesize leaf.old }
     requires short { IsShort edit.change }
-    ensures edited { IfOk result (λ rest. IsCutOf nodesize (with_items leaf.old (edited edit (own_items leaf.old))) leaf.new rest) }
-    ensures overfull { IfOk result (λ rest. IsSome rest ↔ IsOverfull nodesize (with_items leaf.old (edited edit (own_items leaf.old)))) }
+    ensures edited { IfOk result (IsLeftOf nodesize leaf.old (with_items leaf.old (edited edit (own_items leaf.old))) leaf.new) }
     ensures can { OnOk result (CanEdit edit (own_items leaf.old)) }
     ensures answers { AnswersBy (IsChangeable nodesize edit.key edit.change leaf.old) (IsBrokenByChange nodesize edit.key edit.change leaf.old) result }
     ensures node { IsNodeFor nodesize leaf.old leaf.new }
-    ensures rest { IfOk result (λ rest. RestIsNode nodesize leaf.old rest) }
     ensures whole { growth_of edit.change ≡ 0 → IfOk result (λ rest. rest ≡ None) }
     ensures sound { CanEdit edit (own_items leaf.old) → HasShortBodies leaf.old → BreaksNone result }
     ensures err { OnErr result (IsOldOrCleared leaf.old leaf.new) }
@@ -69,12 +66,10 @@ fn insert(leaf: &mut Node, nodesize: u32, key: Key, body: Body) -> Result<Option
     requires leaf { IsLeaf leaf.old }
     requires sound { IsNode nodesize leaf.old }
     requires short { IsShort (Insert body) }
-    ensures edited { IfOk result (λ rest. IsCutOf nodesize (with_items leaf.old (changed key (Insert body) (own_items leaf.old))) leaf.new rest) }
-    ensures overfull { IfOk result (λ rest. IsSome rest ↔ IsOverfull nodesize (with_items leaf.old (changed key (Insert body) (own_items leaf.old)))) }
+    ensures edited { IfOk result (IsLeftOf nodesize leaf.old (with_items leaf.old (changed key (Insert body) (own_items leaf.old))) leaf.new) }
     ensures can { OnOk result (CanChange key (Insert body) (own_items leaf.old)) }
     ensures answers { AnswersBy (IsChangeable nodesize key (Insert body) leaf.old) (IsBrokenByChange nodesize key (Insert body) leaf.old) result }
     ensures node { IsNodeFor nodesize leaf.old leaf.new }
-    ensures rest { IfOk result (λ rest. RestIsNode nodesize leaf.old rest) }
     ensures sound { CanChange key (Insert body) (own_items leaf.old) → HasShortBodies leaf.old → BreaksNone result }
     ensures err { OnErr result (IsOldOrCleared leaf.old leaf.new) }
 {
@@ -92,12 +87,10 @@ fn replace(leaf: &mut Node, nodesize: u32, key: Key, body: Body) -> Result<Optio
     requires leaf { IsLeaf leaf.old }
     requires sound { IsNode nodesize leaf.old }
     requires short { IsShort (Replace body) }
-    ensures edited { IfOk result (λ rest. IsCutOf nodesize (with_items leaf.old (changed key (Replace body) (own_items leaf.old))) leaf.new rest) }
-    ensures overfull { IfOk result (λ rest. IsSome rest ↔ IsOverfull nodesize (with_items leaf.old (changed key (Replace body) (own_items leaf.old)))) }
+    ensures edited { IfOk result (IsLeftOf nodesize leaf.old (with_items leaf.old (changed key (Replace body) (own_items leaf.old))) leaf.new) }
     ensures can { OnOk result (CanChange key (Replace body) (own_items leaf.old)) }
     ensures answers { AnswersBy (IsChangeable nodesize key (Replace body) leaf.old) (IsBrokenByChange nodesize key (Replace body) leaf.old) result }
     ensures node { IsNodeFor nodesize leaf.old leaf.new }
-    ensures rest { IfOk result (λ rest. RestIsNode nodesize leaf.old rest) }
     ensures sound { CanChange key (Replace body) (own_items leaf.old) → HasShortBodies leaf.old → BreaksNone result }
     ensures err { OnErr result (IsOldOrCleared leaf.old leaf.new) }
 {
@@ -127,12 +120,10 @@ fn remove(leaf: &mut Node, nodesize: u32, key: Key) -> Result<Option<Node>, Bloc
     requires size { IsNodeSize nodesize }
     requires leaf { IsLeaf leaf.old }
     requires sound { IsNode nodesize leaf.old }
-    ensures edited { IfOk result (λ rest. IsCutOf nodesize (with_items leaf.old (changed key Remove (own_items leaf.old))) leaf.new rest) }
-    ensures overfull { IfOk result (λ rest. IsSome rest ↔ IsOverfull nodesize (with_items leaf.old (changed key Remove (own_items leaf.old)))) }
+    ensures edited { IfOk result (IsLeftOf nodesize leaf.old (with_items leaf.old (changed key Remove (own_items leaf.old))) leaf.new) }
     ensures can { OnOk result (CanChange key Remove (own_items leaf.old)) }
     ensures answers { AnswersBy (IsChangeable nodesize key Remove leaf.old) (IsBrokenByChange nodesize key Remove leaf.old) result }
     ensures node { IsNodeFor nodesize leaf.old leaf.new }
-    ensures rest { IfOk result (λ rest. RestIsNode nodesize leaf.old rest) }
     ensures whole { IfOk result (λ rest. rest ≡ None) }
     ensures sound { CanChange key Remove (own_items leaf.old) → HasShortBodies leaf.old → BreaksNone result }
     ensures err { OnErr result (IsOldOrCleared leaf.old leaf.new) }

@@ -1,14 +1,14 @@
 // A node that may have too much.
-ghost use Rattle.std.specs.Prelude.{◌≡◌, ◌+◌, ◌≤◌, ◌↔◌, false, length, IfOk, OnErr, IsSome, IsTrue};
+ghost use Rattle.std.specs.Prelude.{◌≡◌, ◌+◌, ◌≤◌, ◌↔◌, false, length, IfOk, OnErr, IsTrue};
 ghost use Rattle.std.specs.List.{All};
 ghost use Rattle.qg_num.specs.declared.fault.BlockFault.TheVariants as fault;
 ghost use Rattle.qg_num.specs.declared.rule.Rule.TheVariants as rule;
 ghost use Rattle.qg_node.specs.Nodes.{header_of, is_ascending, own_keys, used_bytes};
 ghost use Rattle.qg_node.specs.NodeText.{IsLevelled, IsNodeSize};
-ghost use Rattle.qg_shape.specs.Filled.{HasShortBodies, IsOverfull};
+ghost use Rattle.qg_shape.specs.Filled.{HasShortBodies};
 ghost use Rattle.qg_blocks.specs.Told.{BreaksNone};
 ghost use Rattle.qg_edit.specs.Answering.{AnswersBy, CanCut, IsBrokenUnless};
-ghost use Rattle.qg_edit.specs.Outcome.{IsCutOf, IsNodeFor, RestIsNode, cleared};
+ghost use Rattle.qg_edit.specs.Outcome.{IsLeftOf, IsNodeFor, cleared};
 
 use crate::clearing::clear;
 use qg_node::{Item, Node};
@@ -67,11 +67,9 @@ pub(crate) fn cut(
     requires ascending { IsTrue (is_ascending (own_keys node.old)) }
     requires by_one { 101 + used_bytes node.old ≤ nodesize + 1049 }
     requires kept { has_grown ≡ false → 101 + used_bytes node.old ≤ nodesize }
-    ensures cut { IfOk result (λ rest. IsCutOf nodesize node.old node.new rest) }
-    ensures overfull { IfOk result (λ rest. IsSome rest ↔ IsOverfull nodesize node.old) }
+    ensures cut { IfOk result (IsLeftOf nodesize node.old node.old node.new) }
     ensures answers { AnswersBy (CanCut nodesize node.old) (IsBrokenUnless rule.Item node.old (CanCut nodesize node.old)) result }
     ensures node { IsNodeFor nodesize node.old node.new }
-    ensures rest { IfOk result (λ rest. RestIsNode nodesize node.old rest) }
     ensures sound { HasShortBodies node.old → BreaksNone result }
     ensures err { OnErr result (node.new ≡ cleared node.old) }
 {

@@ -30,8 +30,7 @@ pub fn merge(left: &mut Node, right: &mut Node, nodesize: u32) -> Result<Joined,
     ensures nodes { IfOk result (λ joined. AreNodesAfter nodesize left.old right.old left.new right.new joined) }
     ensures answers { AnswersBy (CanMerge left.old right.old) (IsBrokenByMerge left.old right.old) result }
     ensures sound { IsInFront left.old right.old → HasShortBodies left.old → HasShortBodies right.old → BreaksNone result }
-    ensures left_err { OnErr result (left.new ≡ left.old) }
-    ensures right_err { OnErr result (right.new ≡ right.old) }
+    ensures err { OnErr result ((left.new ≡ left.old) × (right.new ≡ right.old)) }
 {
     if !is_in_front(left, right) {
         return Err(misfit(left));

@@ -1,13 +1,12 @@
 // Pointers in the place of others.
-ghost use Rattle.std.specs.Prelude.{◌≡◌, ◌+◌, ◌-◌, ◌≤◌, ◌<◌, ◌++◌, ◌↔◌, length, map, take, drop, IfOk, OnOk, OnErr, IsSome, IsTrue};
+ghost use Rattle.std.specs.Prelude.{◌≡◌, ◌+◌, ◌-◌, ◌≤◌, ◌<◌, ◌++◌, ◌↔◌, length, map, take, drop, IfOk, OnOk, OnErr, IsTrue};
 ghost use Rattle.qg_node.specs.NodeText.{IsNode, IsNodeSize};
 ghost use Rattle.qg_num.specs.declared.rule.Rule.TheVariants as rule;
 ghost use Rattle.qg_node.specs.Nodes.{is_ascending, own_pointers};
-ghost use Rattle.qg_shape.specs.Filled.{IsOverfull};
 ghost use Rattle.qg_shape.specs.Parts.{IsInner, with_pointers};
 ghost use Rattle.qg_blocks.specs.Told.{BreaksNone};
 ghost use Rattle.qg_edit.specs.Answering.{AnswersBy, CanSplice, IsBrokenUnless};
-ghost use Rattle.qg_edit.specs.Outcome.{IsCutOf, IsNodeFor, IsOldOrCleared, RestIsNode, spliced};
+ghost use Rattle.qg_edit.specs.Outcome.{IsLeftOf, IsNodeFor, IsOldOrCleared, spliced};
 
 use crate::clearing::clear;
 use crate::cutting::{cut, misfit};
@@ -31,13 +30,10 @@ pub fn splice(
     requires inner { IsInner node.old }
     requires sound { IsNode nodesize node.old }
     requires within { (from ≤ to) × (to ≤ length (own_pointers node.old)) }
-    requires some { 1 ≤ length new.now }
-    requires few { (length new.now ≤ 2) × (length new.now ≤ to - from + 1) }
-    ensures spliced { IfOk result (λ rest. IsCutOf nodesize (with_pointers node.old (spliced from to new.now (own_pointers node.old))) node.new rest) }
-    ensures overfull { IfOk result (λ rest. IsSome rest ↔ IsOverfull nodesize (with_pointers node.old (spliced from to new.now (own_pointers node.old)))) }
+    requires few { (1 ≤ length new.now) × (length new.now ≤ 2) × (length new.now ≤ to - from + 1) }
+    ensures spliced { IfOk result (IsLeftOf nodesize node.old (with_pointers node.old (spliced from to new.now (own_pointers node.old))) node.new) }
     ensures answers { AnswersBy (CanSplice from to new.now node.old) (IsBrokenUnless rule.Refs node.old (CanSplice from to new.now node.old)) result }
     ensures node { IsNodeFor nodesize node.old node.new }
-    ensures rest { IfOk result (λ rest. RestIsNode nodesize node.old rest) }
     ensures sound { IsTrue (is_ascending (map (λ pointer. pointer.key) (spliced from to new.now (own_pointers node.old)))) → BreaksNone result }
     ensures err { OnErr result (IsOldOrCleared node.old node.new) }
 {

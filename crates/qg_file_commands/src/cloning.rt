@@ -1,5 +1,5 @@
 // A range of a file is cloned.
-ghost use Rattle.std.specs.Prelude.{◌≡◌, ◌+◌, ◌<◌, ◌≤◌, [], ℕ, List, None, Some, IfOk, IsTrue, ◌^◌, length};
+ghost use Rattle.std.specs.Prelude.{◌≡◌, ◌+◌, ◌<◌, ◌≤◌, [], ℕ, List, None, Some, IfOk, IsTrue};
 ghost use Rattle.qg_device.specs.Cause.{HasCause};
 ghost use Rattle.qg_device.specs.History.{Event};
 ghost use Rattle.qg_num.specs.declared.command.Command.TheVariants.{Clone};
@@ -7,16 +7,14 @@ ghost use Rattle.qg_image.specs.FilesOf.{inodes_end, least_inode};
 ghost use Rattle.qg_image.specs.Table.{value_at};
 ghost use Rattle.qg_image.specs.State.{State, Subvolume};
 ghost use Rattle.qg_blocks.specs.Told.{BreaksNone};
-ghost use Rattle.qg_files.specs.Apart.{AreApart};
 ghost use Rattle.qg_file_items.specs.Pieces.{pieces_met};
 ghost use Rattle.qg_file_edits.specs.Files.{pieces_of};
 ghost use Rattle.qg_machine.specs.Refusals.{over_limit};
-ghost use Rattle.qg_groups.specs.OnOrOff.{path_in};
-ghost use Rattle.qg_groups.specs.Tracked.{quota_of};
 ghost use Rattle.qg_kept.specs.Answering.{Answered, is_unchanging};
 ghost use Rattle.qg_kept.specs.Editing.{clone_refusal};
 ghost use Rattle.qg_kept.specs.Keeping.{IsKept, IsKeptOf, SameButClean};
-ghost use Rattle.qg_file_commands.specs.Ranges.{IsClonable};
+ghost use Rattle.qg_file_commands.specs.Ranges.{CanClonePieces};
+ghost use Rattle.qg_file_commands.specs.Reserving.{CanReserve};
 
 use crate::finding::{found_in, inode_in, pieces_in};
 use crate::ranges::{do_overlap, refusal_of_clone};
@@ -103,12 +101,8 @@ fn clone_pieces<D: Disk, L: Ledger>(
     reads: &mut Steps<L>,
 ) -> Result<Answer, BlockFault>
     requires kept { IsKept kept.old (D.history disk.old) (D.size disk.old) }
-    requires path { path.now ≡ path_in (quota_of kept.old.quota) to_sub }
-    requires apart { AreApart source.now }
-    requires told { length source.now < 2 ^ 63 }
-    requires number { (least_inode ≤ to_ino) × (to_ino < inodes_end) }
-    requires range { IsClonable off len to_off }
-    requires few { kept.old.pending < 65536 }
+    requires reserves { CanReserve kept.old path.now to_sub }
+    requires pieces { CanClonePieces source.now off len to_ino to_off }
     ensures kept { IfOk result (λ answer. IsKept kept.new (D.history disk.new) (D.size disk.new)) }
     ensures step { (state : State) (sub ino : ℕ) (from : Subvolume) → IsKeptOf kept.old state (D.history disk.old)
         → value_at sub state.subvolumes ≡ Some from → source.now ≡ pieces_met off (off + len) (pieces_of ino from.files)

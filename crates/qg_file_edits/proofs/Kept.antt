@@ -6,8 +6,9 @@ use Rattle.std.proofs.lemmas.Result.{on_ok_weaker}
 use Rattle.qg_device.specs.History.{Event}
 use Rattle.qg_num.specs.declared.fault.BlockFault.{BlockFault}
 use Rattle.qg_ground.specs.declared.ground.Ground.{Ground}
+use Rattle.qg_ground.specs.Calls.{LeavesBe}
 use Rattle.qg_descent.specs.Tree.{Root}
-use Rattle.qg_tree_edits.specs.Rooting.{Grows, LeavesBe}
+use Rattle.qg_tree_edits.specs.Rooting.{Grows}
 use Rattle.qg_fs_tree.specs.declared.fs_tree.FsTree.{FsTree}
 use Rattle.qg_fs_tree.specs.Standing.{IsSubvolume, KeepsTree, items_in, name_told, names_elsewhere}
 use Rattle.qg_file_edits.specs.Files.{LeavesHeld, StaysOwn}

@@ -33,7 +33,7 @@ use Rattle.qg_reach.proofs.Members.{contains_flat_map, one_flat_mapped}
 use Rattle.qg_reach.proofs.SlotRule.{slot_below}
 use Rattle.qg_tree_refs.specs.declared.tree_refs.TreeRefs.{TreeRefs}
 use Rattle.qg_forest.specs.Standing.{HoldsState}
-use Rattle.qg_forest.proofs.Leaves.{from-leaf, in-leaf}
+use Rattle.qg_descent.proofs.BranchItems.{from-leaf, in-leaf}
 use Rattle.qg_forest.proofs.Meeting.{IsMet, each-there, is-reached-met, placed-there, root-low}
 use Rattle.qg_forest.proofs.Pieces.{TellsExtent, extents_of_files, file-item, item-file, item-named, named-item}
 use Rattle.qg_forest.proofs.Referring.{extents-named, named-extents, named_by}

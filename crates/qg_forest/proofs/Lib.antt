@@ -9,7 +9,6 @@ pub mod Below
 pub mod Meeting
 pub mod Changed
 pub mod Referring
-pub mod Leaves
 pub mod Pieces
 pub mod Extents
 pub mod Bytes

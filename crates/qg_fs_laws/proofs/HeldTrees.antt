@@ -34,7 +34,7 @@ use Rattle.qg_fs_layout.specs.Laying.{IsLaidOut, IsMet, IsMetAs, nodes_in}
 use Rattle.qg_fs_layout.proofs.Nodes.{nodes-ascend, reached-by, value-reached}
 use Rattle.qg_fs_layout.proofs.Reach.{reach-on}
 use Rattle.qg_fs_layout.proofs.Roots.{root-tree, roots-ascend, tree-root}
-use Rattle.qg_other_trees.proofs.Tables.{tables_same}
+use Rattle.qg_reach.proofs.Ascending.{tables_same}
 use Rattle.qg_fs_laws.specs.Keeping.{AreTreesOf, IsKept}
 
 -- ---- lists and tables

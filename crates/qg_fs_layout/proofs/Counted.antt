@@ -23,7 +23,7 @@ use Rattle.qg_tree_refs.specs.Settled.{what_of}
 use Rattle.qg_fs_tree.specs.declared.fs_tree.FsTree.{FsTree}
 use Rattle.qg_fs_tree.specs.Standing.{IsSubvolume, Stands, items_in, layout_in, name_told, names_elsewhere, nodes_of, trees_of}
 use Rattle.qg_fs_tree.proofs.Before.{known_of}
-use Rattle.qg_fs_tree.proofs.Leaves.{from-leaf, in-leaf}
+use Rattle.qg_descent.proofs.BranchItems.{from-leaf, in-leaf}
 use Rattle.qg_fs_tree.proofs.Lists.{has-flat}
 use Rattle.qg_fs_layout.specs.Laying.{HaveFiles, IsCounted, IsKnownRun, IsLaidOut, IsMetAs, names_in, nodes_in}
 use Rattle.qg_fs_layout.proofs.Extents.{TellsExtent, from-files, from-layout, from-present, in-files, in-layout, in-names, in-present}

@@ -30,7 +30,7 @@ use Rattle.qg_fs_tree.specs.declared.fs_tree.FsTree.{FsTree}
 use Rattle.qg_fs_tree.specs.Standing.{IsAtHome, IsReachedBy, IsSubvolume, Stands, items_in, name_of, name_told, names_elsewhere, nodes_of, trees_of}
 use Rattle.qg_fs_tree.proofs.Before.{name_apart, names_there}
 use Rattle.qg_fs_tree.proofs.Fixed.{elsewhere_name}
-use Rattle.qg_fs_tree.proofs.Leaves.{from-leaf}
+use Rattle.qg_descent.proofs.BranchItems.{from-leaf}
 use Rattle.qg_fs_tree.proofs.Lists.{all-contained, made-some}
 use Rattle.qg_fs_tree.proofs.Lying.{told-at}
 use Rattle.qg_fs_tree.proofs.Nodes.{names-some, times-many}

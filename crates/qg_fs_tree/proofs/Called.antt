@@ -15,10 +15,11 @@ use Rattle.qg_blocks.specs.Told.{BreaksNone}
 use Rattle.qg_ground.specs.Land.{IsDrafted, Rests}
 use Rattle.qg_ground.specs.Tellings.{Telling}
 use Rattle.qg_ground.proofs.Lands.{Rests-draft}
+use Rattle.qg_ground.specs.Calls.{LeavesBe}
 use Rattle.qg_extents.specs.Table.{IsTable}
 use Rattle.qg_items.specs.declared.extent.Reference.{Reference}
 use Rattle.qg_tree_edits.specs.Counting.{IsTreeTold}
-use Rattle.qg_tree_edits.specs.Rooting.{IsReplaced, LeavesBe, StaysTree}
+use Rattle.qg_tree_edits.specs.Rooting.{IsReplaced, StaysTree}
 use Rattle.qg_tree_refs.specs.Following.{Follows}
 use Rattle.qg_tree_refs.specs.Settled.{IsSettled}
 use Rattle.qg_fs_tree.specs.declared.fs_tree.FsTree.{FsTree}

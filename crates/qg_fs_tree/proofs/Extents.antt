@@ -26,7 +26,7 @@ use Rattle.qg_fs_tree.proofs.Before.{beside-there, beside_parts, counted, later_
 use Rattle.qg_fs_tree.proofs.Beside.{around_of, beside_in, foreign_in, own_ways, roots_owed, slots_of}
 use Rattle.qg_fs_tree.proofs.Counts.{branch}
 use Rattle.qg_fs_tree.proofs.Fixed.{elsewhere-told, fixed, tree_below}
-use Rattle.qg_fs_tree.proofs.Leaves.{in-leaf}
+use Rattle.qg_descent.proofs.BranchItems.{in-leaf}
 use Rattle.qg_fs_tree.proofs.Lists.{from-flat, from-some, made-some}
 use Rattle.qg_fs_tree.proofs.Nodes.{IsNamed, many-owed, owed-some, roots-some, times-many}
 use Rattle.qg_fs_tree.proofs.Owes.{owed_in}

@@ -37,7 +37,7 @@ use Rattle.qg_fs_tree.proofs.Before.{IsTreeOf, alone_there, beside-kept, beside-
 use Rattle.qg_fs_tree.proofs.Beside.{around_of, beside_in, foreign_in, foreign_of, mark_of, own_ways, roots_owed}
 use Rattle.qg_fs_tree.proofs.Counts.{branch, node-there, single-way}
 use Rattle.qg_fs_tree.proofs.Exchanged.{lasting, reached_first}
-use Rattle.qg_fs_tree.proofs.Leaves.{from-leaf}
+use Rattle.qg_descent.proofs.BranchItems.{from-leaf}
 use Rattle.qg_fs_tree.proofs.Lists.{from-some, has-flat, made-some}
 use Rattle.qg_fs_tree.proofs.Lying.{told-at}
 use Rattle.qg_fs_tree.proofs.Nodes.{last-step, owed-few, owed-some, pointing-few, roots-own, roots-shared, roots-some, roots-there, times-many}

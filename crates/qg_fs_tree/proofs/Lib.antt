@@ -27,7 +27,6 @@ pub mod Told
 pub mod Called
 pub mod Owes
 pub mod Lists
-pub mod Leaves
 pub mod Lying
 pub mod Beside
 pub mod Nodes

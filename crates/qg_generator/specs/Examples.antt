@@ -55,7 +55,7 @@ first_commit : first_line 0 ≡ codes "commit"
 unfolding line_drawn line_of_kind draw drawn_on command_text
 first_commit = refl
 
--- a seed has 64 bits: this one is 2 ^ 32 above the seed 1
+-- a seed has 64 bits: this one is 1 above 2 ^ 32
 seed_past_32_bits : first_line 4294967297 ≡ codes "delete 334"
 unfolding line_drawn line_of_kind delete_drawn draw drawn_on command_text digits
 seed_past_32_bits = refl

@@ -1,5 +1,6 @@
 pub mod Slots
 pub mod Lands
+pub mod Calls
 pub mod Editing
 pub mod Settling
 pub mod Owners

@@ -1,3 +1,4 @@
 pub mod Land
 pub mod Tellings
 pub mod Changes
+pub mod Calls

@@ -1,12 +1,12 @@
 // Nodes that a tree makes, and nodes that it leaves.
-ghost use Rattle.std.specs.Prelude.{◌≡◌, ◌+◌, ◌<◌, ◌≤◌, ℕ, List, [], ◌∷◌, ◌++◌, Option, Some, None, IfOk, OnOk};
+ghost use Rattle.std.specs.Prelude.{◌≡◌, ◌+◌, ◌≤◌, ℕ, List, [], ◌∷◌, ◌++◌, Option, Some, None, IfOk, OnOk};
 ghost use Rattle.qg_device.specs.Cause.{HasCause};
 ghost use Rattle.qg_device.specs.History.{Event, content};
 ghost use Rattle.qg_node.specs.declared.node.Node.{Node as NodeValue};
 ghost use Rattle.qg_node.specs.Nodes.{header_of};
 ghost use Rattle.qg_node.specs.NodeText.{IsNode};
-ghost use Rattle.qg_blocks.specs.Told.{Answers, BreaksNone, IsBacked, found, told};
-ghost use Rattle.qg_space.specs.Holding.{free_slots};
+ghost use Rattle.qg_blocks.specs.Told.{Answers, IsBacked, found, told};
+ghost use Rattle.qg_ground.specs.Calls.{CanTakeSlot, FailsByDisk, KeepsBook, LeavesBe};
 ghost use Rattle.qg_ground.specs.Land.{IsDrafted, Rests};
 ghost use Rattle.qg_ground.specs.Changes.{Makes, Takes};
 ghost use Rattle.qg_ground.specs.declared.ground.Ground.{Ground as Land};
@@ -29,20 +29,16 @@ pub fn make_node<D: Disk, L: Ledger, B: Book<D, L>>(
     node: Node,
     reads: &mut Steps<L>,
 ) -> Result<Address, BlockFault>
-    requires backed { IsBacked land.old.blocks (D.history disk.old) }
-    requires drafted { IsDrafted land.old (header_of node).generation }
+    requires ready { CanTakeSlot land.old (D.history disk.old) (header_of node).generation }
     requires sound { IsNode land.old.space.sizes.nodesize node }
     requires stands { B.stands book.old land.old disk.old }
-    requires slots { 0 < free_slots land.old.space }
     ensures made { IfOk result (λ now. Makes land.old land.new now node) }
     ensures takes { OnOk result (Takes 1 (λ q. ⊥) land.old land.new) }
-    ensures rests { Rests land.old land.new (D.history disk.new) (header_of node).generation }
+    ensures rests { LeavesBe land.old land.new (D.history disk.old) (D.history disk.new) (D.size disk.old) (D.size disk.new)
+        (header_of node).generation }
     ensures told { (before : B) (log : List Telling) → B.follows before log book.old → IfOk result (λ now. B.follows before (log ++ Made now ∷ []) book.new) }
-    ensures stands { OnOk result (B.stands book.new land.new disk.new) }
-    ensures settled { B.settled book.old land.old disk.old → OnOk result (B.settled book.new land.new disk.new) }
-    ensures no_image { (events : List Event) → D.history disk.old ≡ Some events → BreaksNone result }
-    ensures disk { (D.history disk.new ≡ D.history disk.old) × (D.size disk.new ≡ D.size disk.old) }
-    ensures cause { HasCause BlockFault.Disk (D.faults disk.old) (D.faults disk.new) result }
+    ensures book { KeepsBook B.stands B.settled book.old book.new land.old land.new disk.old disk.new result }
+    ensures fails { FailsByDisk (D.history disk.old) (D.faults disk.old) (D.faults disk.new) result }
     ensures reads { (most : ℕ) → ((q : ℕ) → B.to_read book.old q ≤ most) → reads.new ≤ reads.old + most }
 {
     let now = put_node(land, node)?;

@@ -1,13 +1,11 @@
 // A node that a tree may edit.
-ghost use Rattle.std.specs.Prelude.{◌≡◌, ◌+◌, ◌<◌, ◌≤◌, false, ℕ, List, [], ◌∷◌, ◌++◌, Option, Some, None, Ok, IfOk, OnOk, IsSome, is_some, if◌then◌else◌};
-ghost use Rattle.qg_device.specs.Cause.{HasCause};
-ghost use Rattle.qg_device.specs.History.{Event, content};
+ghost use Rattle.std.specs.Prelude.{◌≡◌, ◌+◌, ◌≤◌, false, ℕ, List, [], ◌∷◌, ◌++◌, Option, Some, None, Ok, IfOk, OnOk, IsSome, is_some, if◌then◌else◌};
 ghost use Rattle.qg_node.specs.declared.node.Node.{Node as NodeValue};
 ghost use Rattle.qg_node.specs.Nodes.{header_of};
 ghost use Rattle.qg_image.specs.Table.{with_number};
-ghost use Rattle.qg_blocks.specs.Told.{Answers, IsBacked, fresh_at, found, told};
-ghost use Rattle.qg_space.specs.Holding.{free_slots, is_free_slot};
-ghost use Rattle.qg_ground.specs.Land.{IsDrafted, Rests};
+ghost use Rattle.qg_blocks.specs.Told.{fresh_at, told};
+ghost use Rattle.qg_space.specs.Holding.{is_free_slot};
+ghost use Rattle.qg_ground.specs.Calls.{CanTakeSlot, FailsToRead, KeepsBook, LeavesBe};
 ghost use Rattle.qg_ground.specs.Changes.{Copies, Owned, Takes};
 ghost use Rattle.qg_ground.specs.Tellings.{Telling, Spares, node_copy};
 ghost use Rattle.qg_ground.specs.Tellings.Telling.{Copied};
@@ -62,17 +60,13 @@ fn copy_out<D: Disk, L: Ledger>(
     next: Generation,
     reads: &mut Steps<L>,
 ) -> Result<Address, BlockFault>
-    requires backed { IsBacked land.old.blocks (D.history disk.old) }
-    requires drafted { IsDrafted land.old next }
+    requires ready { CanTakeSlot land.old (D.history disk.old) next }
     requires clean { fresh_at land.old.blocks.draft at ≡ None }
-    requires slots { 0 < free_slots land.old.space }
     ensures copied { IfOk result (λ now. Copies land.old land.new (D.history disk.old) at now owner next) }
     ensures slots { IfOk result (λ now. land.new.space.slots ≡ with_number now land.old.space.slots) }
     ensures spares { Spares land.old land.new }
-    ensures rests { Rests land.old land.new (D.history disk.new) next }
-    ensures answers { (events : List Event) → D.history disk.old ≡ Some events → Answers result at (found land.old.blocks.draft (content events) at) }
-    ensures disk { (D.history disk.new ≡ D.history disk.old) × (D.size disk.new ≡ D.size disk.old) }
-    ensures cause { HasCause BlockFault.Disk (D.faults disk.old) (D.faults disk.new) result }
+    ensures rests { LeavesBe land.old land.new (D.history disk.old) (D.history disk.new) (D.size disk.old) (D.size disk.new) next }
+    ensures fails { FailsToRead land.old (D.history disk.old) at (D.faults disk.old) (D.faults disk.new) result }
     ensures reads { reads.new ≡ reads.old + 1 }
 {
     land.blocks.load(disk, at, reads)?;
@@ -95,28 +89,23 @@ pub fn own_node<D: Disk, L: Ledger, B: Book<D, L>>(
     next: Generation,
     reads: &mut Steps<L>,
 ) -> Result<Address, BlockFault>
-    requires backed { IsBacked land.old.blocks (D.history disk.old) }
-    requires drafted { IsDrafted land.old next }
+    requires ready { CanTakeSlot land.old (D.history disk.old) next }
     requires stands { B.stands book.old land.old disk.old }
-    requires slots { 0 < free_slots land.old.space }
 
-    // What is edited, and what of slots and nodes is as it was.
+    // What is edited, and what of slots, nodes and disk is as it was.
     ensures owned { IfOk result (λ now. Owned land.old land.new (D.history disk.old) at now owner next) }
     ensures takes { OnOk result (Takes 1 (λ q. q ≡ at) land.old land.new) }
-    ensures rests { Rests land.old land.new (D.history disk.new) next }
+    ensures rests { LeavesBe land.old land.new (D.history disk.old) (D.history disk.new) (D.size disk.old) (D.size disk.new) next }
 
     // What the book is told.
     ensures same { IsSome (fresh_at land.old.blocks.draft at) → (result ≡ Ok at) × (book.new ≡ book.old) }
     ensures told { (node : NodeValue) → told land.old.blocks.draft (D.history disk.old) at ≡ Some node → fresh_at land.old.blocks.draft at ≡ None
         → is_free_slot land.old.space at ≡ false → (before : B) (log : List Telling) → B.follows before log book.old
         → IfOk result (λ now. B.follows before (log ++ Copied node now ∷ []) book.new) }
-    ensures stands { OnOk result (B.stands book.new land.new disk.new) }
-    ensures settled { B.settled book.old land.old disk.old → OnOk result (B.settled book.new land.new disk.new) }
+    ensures book { KeepsBook B.stands B.settled book.old book.new land.old land.new disk.old disk.new result }
 
     // Answers have their causes.
-    ensures answers { (events : List Event) → D.history disk.old ≡ Some events → Answers result at (found land.old.blocks.draft (content events) at) }
-    ensures disk { (D.history disk.new ≡ D.history disk.old) × (D.size disk.new ≡ D.size disk.old) }
-    ensures cause { HasCause BlockFault.Disk (D.faults disk.old) (D.faults disk.new) result }
+    ensures fails { FailsToRead land.old (D.history disk.old) at (D.faults disk.old) (D.faults disk.new) result }
     ensures reads { reads.new ≤ reads.old + (if is_some (fresh_at land.old.blocks.draft at) then 0 else 1 + B.to_read book.old at) }
 {
     if land.blocks.is_fresh(at) {

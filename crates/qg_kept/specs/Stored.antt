@@ -1,5 +1,5 @@
 -- A store as its callers see it (this project's own).
-use Rattle.std.specs.Prelude.{◌≡◌, ◌⊎◌, ℕ, ◌+◌, ◌<◌, ◌≤◌, Bool, true, false, List, Option, None, Some, Result, Ok, Err, IsTrue}
+use Rattle.std.specs.Prelude.{◌≡◌, ◌⊎◌, ℕ, ◌+◌, ◌<◌, ◌≤◌, Bool, true, false, List, Option, None, Some, Result, Ok, Err, IfErr, IfOk, IsTrue}
 use Rattle.qg_device.specs.History.{Event}
 use Rattle.qg_num.specs.declared.answer.Answer.{Answer}
 use Rattle.qg_num.specs.declared.command.Command.{Command}
@@ -14,7 +14,7 @@ use Rattle.qg_super.specs.SuperText.{sizes_of}
 use Rattle.qg_image.specs.State.{State}
 use Rattle.qg_blocks.specs.Told.{IsBacked}
 use Rattle.qg_kept.specs.declared.kept.Kept.{Kept}
-use Rattle.qg_kept.specs.Answering.{comes_to_disk, is_structural}
+use Rattle.qg_kept.specs.Answering.{AnswersOn, IsDoneSoFar, comes_to_disk, is_structural}
 use Rattle.qg_kept.specs.Keeping.{IsFitted, IsKeptOf, SameButClean}
 use Rattle.qg_kept.specs.Making.{MadeFirst, StartsSecond}
 
@@ -103,3 +103,12 @@ RunsOrStops (Err stop) command old new before after = Stops stop command old new
 abbrev pub is_of_image : Stop → Bool
 is_of_image (Image rule address) = true
 is_of_image _ = false
+
+-- A store of a state does a command as the machine does, over a disk that told this before: the answer is the machine's, and the disk was made to
+-- hold what the machine commits; whatever is answered, nothing else was done than calls of a commit that the machine does; and no rule of the
+-- image is found broken
+pub record DoesCommand (state : State) (command : Command) (events : List Event) (after : Option (List Event))
+    (result : Result Answer Stop) (kept : Kept) : Type 0 where
+  pub step : IfOk result (λ answer. AnswersOn state command answer kept events after)
+  pub so_far : IsDoneSoFar state command events after
+  pub sound : IfErr result (λ stop. is_of_image stop ≡ false)

@@ -28,7 +28,8 @@ use Rattle.qg_extents.proofs.Sayable.{entry-found, entry-may}
 use Rattle.qg_other_trees.specs.Telling.{Knows}
 use Rattle.qg_other_trees.proofs.Recorded.{begins_at, some_there, told_owed}
 use Rattle.qg_other_trees.proofs.Recorded.Begins.{ExtentHere, NodeHere, NothingHere}
-use Rattle.qg_other_trees.proofs.Slots.{contains_map, one_flat_mapped, one_mapped, value_contained}
+use Rattle.qg_reach.proofs.Members.{contains_map, one_flat_mapped, one_mapped}
+use Rattle.qg_other_trees.proofs.Slots.{value_contained}
 use Rattle.qg_other_trees.proofs.Weight.{Differ, book_differs, book_weighs}
 
 -- ---- records that are the same

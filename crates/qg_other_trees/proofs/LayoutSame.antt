@@ -22,8 +22,10 @@ use Rattle.qg_extents.specs.Told.{parts_at, told_in, told_sum}
 use Rattle.qg_tree.specs.Row.{address_of}
 use Rattle.qg_other_trees.specs.Holds.{AreRuns}
 use Rattle.qg_other_trees.proofs.MetNodes.{finds, met, those}
-use Rattle.qg_other_trees.proofs.Slots.{each_contained, value_contained}
-use Rattle.qg_other_trees.proofs.Tables.{all_laid, layout-ascends, tables_same}
+use Rattle.qg_reach.proofs.Members.{each_contained}
+use Rattle.qg_other_trees.proofs.Slots.{value_contained}
+use Rattle.qg_reach.proofs.Ascending.{tables_same}
+use Rattle.qg_other_trees.proofs.Tables.{all_laid, layout-ascends}
 use Rattle.qg_other_trees.proofs.Whole.{node_placed}
 
 -- ---- the full mark that a record tells

@@ -18,13 +18,13 @@ use Rattle.qg_image.specs.Reach.{extent_of, is_among, level_of, pieces_of, reach
 use Rattle.qg_image.proofs.Contained.{contains_cases, contains_here, contains_later, none_contained}
 use Rattle.qg_machine.specs.Layout.{IsReached, IsTreeOf, IsWhole}
 use Rattle.qg_reach.proofs.Counting.{HasNodes, reach_of_root_nodes}
-use Rattle.qg_reach.proofs.Members.{contains_flat_map}
+use Rattle.qg_reach.proofs.Members.{contains_flat_map, each_contained, one_flat_mapped, one_mapped}
 use Rattle.qg_reach.proofs.Reached.{FindsEach, elements_of, extents_named}
 use Rattle.qg_reach.proofs.SlotRule.{slot_below}
 use Rattle.qg_check.proofs.Found.{FindsEach-below}
 use Rattle.qg_tree.specs.Row.{address_of}
 use Rattle.qg_other_trees.specs.Holds.{AreRuns}
-use Rattle.qg_other_trees.proofs.Slots.{each_contained, one_flat_mapped, one_mapped, value_contained}
+use Rattle.qg_other_trees.proofs.Slots.{value_contained}
 use Rattle.qg_other_trees.proofs.Whole.{level, lie, node_placed, nodes, nodes_there}
 
 -- ---- what is among elements

@@ -17,7 +17,8 @@ use Rattle.qg_image.specs.Walk.{root_expected}
 use Rattle.qg_tree.specs.Build.{IsMadeFor}
 use Rattle.qg_tree.specs.Row.{address_of}
 use Rattle.qg_tree.proofs.Frame.{all_found}
-use Rattle.qg_other_trees.proofs.Slots.{all_contained, each_contained, flips}
+use Rattle.qg_reach.proofs.Members.{each_contained}
+use Rattle.qg_other_trees.proofs.Slots.{all_contained, flips}
 use Rattle.qg_other_trees.proofs.TreesIn.{among, root_stands, stands_open, stands_told, AreThere, IsBuiltFor, Stands}
 
 module _ (tree : Tree) (super : Super) (nodesize owner generation : ℕ) (items : List Item) (slots : List ℕ)

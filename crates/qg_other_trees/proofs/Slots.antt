@@ -1,17 +1,16 @@
 -- Elements of lists, slots in front and behind, and the nodes that lie in them.
 use Rattle.std.proofs.Common.{◌≡◌, ℕ, ◌+◌, ◌≤◌, List, [], ◌∷◌, ◌++◌, map, length, take, drop, refl, sym, ap, subst, ◌∙◌, arith, inl, inr}
 use Rattle.std.specs.Prelude.{◌==◌, Option, Some}
-use Rattle.std.specs.List.{AllByRecursion, Contains, IsDistinct, filter_map, flat_map}
+use Rattle.std.specs.List.{AllByRecursion, Contains, IsDistinct, filter_map}
 use Rattle.std.proofs.lemmas.Bool.{cases_Bool, cond-true, cond-false, eqb-true}
 use Rattle.std.proofs.lemmas.Option.{same_Some}
 use Rattle.std.proofs.lemmas.Bool.Decides.{nat_tests}
 use Rattle.std.proofs.lemmas.List.{append_assoc, length-drop, map-append, take-append-drop}
-use Rattle.std.proofs.lemmas.List.Elements.{All-contains, All-from_recursion, Contains-append_cases}
 use Rattle.std.proofs.lemmas.Map.Keys.{IsDistinct-tail}
 use Rattle.qg_node.specs.declared.item.Item.{Item}
 use Rattle.qg_node.specs.declared.node.Node.{Node}
 use Rattle.qg_image.specs.Table.{value_at}
-use Rattle.qg_image.proofs.Contained.{contains_cases, contains_here, contains_later, none_contained}
+use Rattle.qg_image.proofs.Contained.{contains_here, contains_later}
 use Rattle.qg_tree.specs.Row.{address_of}
 use Rattle.qg_tree.proofs.Frame.{IsDistinct-front}
 use Rattle.qg_other_trees.specs.Trees.{AreEnough}
@@ -22,34 +21,6 @@ pub all_contained : {A : Type 0} (P : A → Type 0) (xs : List A) → ((x : A) �
 all_contained P [] each = tt
 all_contained P (x ∷ xs) each =
     (each x (contains_here x xs), all_contained P xs (λ y has. each y (contains_later x xs y has)))
-
-pub each_contained : {A : Type 0} (P : A → Type 0) (xs : List A) (x : A) → AllByRecursion P xs → Contains xs x → P x
-each_contained P xs x all has = All-contains P xs x (All-from_recursion P xs all) has
-
--- ---- what a function gives of them
-
-pub contains_map : {A B : Type 0} (f : A → B) (xs : List A) (x : A) → Contains xs x → Contains (map f xs) (f x)
-contains_map f [] x has = absurd (none_contained x has)
-contains_map f (z ∷ zs) x has = elim (contains_cases z zs x has) [
-  | inl is ↦ subst (λ w. Contains (f z ∷ map f zs) (f w)) is (contains_here (f z) (map f zs))
-  | inr later ↦ contains_later (f z) (map f zs) (f x) (contains_map f zs x later)
-]
-
-pub one_mapped : {A B : Type 0} (f : A → B) (xs : List A) (y : B) → Contains (map f xs) y
-    → (x : A) × Contains xs x × (f x ≡ y)
-one_mapped f [] y has = absurd (none_contained y has)
-one_mapped f (z ∷ zs) y has = elim (contains_cases (f z) (map f zs) y has) [
-  | inl is ↦ (z, contains_here z zs, is)
-  | inr later ↦ let found = one_mapped f zs y later in (found.0, contains_later z zs found.0 found.1, found.2)
-]
-
-pub one_flat_mapped : {A B : Type 0} (f : A → List B) (xs : List A) (y : B) → Contains (flat_map f xs) y
-    → (x : A) × Contains xs x × Contains (f x) y
-one_flat_mapped f [] y has = absurd (none_contained y has)
-one_flat_mapped f (z ∷ zs) y has = elim (Contains-append_cases (f z) (flat_map f zs) y has) [
-  | inl here ↦ (z, contains_here z zs, here)
-  | inr later ↦ let found = one_flat_mapped f zs y later in (found.0, contains_later z zs found.0 found.1, found.2)
-]
 
 -- what a table has at a number is one of its entries
 pub value_contained : {A : Type 0} (q : ℕ) (table : List (ℕ × A)) (value : A) → value_at q table ≡ Some value

@@ -40,7 +40,8 @@ use Rattle.qg_other_trees.proofs.Lists.{quota_said, quotas_named, subvolumes_nam
 use Rattle.qg_other_trees.proofs.Others.{format, tree_open, tree_told}
 use Rattle.qg_other_trees.proofs.QuotaTree.{quota_placed, quota_same, quota_told_by, quota_walked, root_if}
 use Rattle.qg_other_trees.proofs.Recorded.{book_agrees}
-use Rattle.qg_other_trees.proofs.Slots.{LieFirst, LieFirst-more, LieFirst-placed, contains_map, distinct-drop, flips, one_mapped, placed_apart}
+use Rattle.qg_reach.proofs.Members.{contains_map, one_mapped}
+use Rattle.qg_other_trees.proofs.Slots.{LieFirst, LieFirst-more, LieFirst-placed, distinct-drop, flips, placed_apart}
 use Rattle.qg_other_trees.proofs.TreesIn.{IsBuiltFor}
 
 -- ---- the trees

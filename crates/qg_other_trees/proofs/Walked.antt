@@ -30,7 +30,8 @@ use Rattle.qg_machine.specs.Layout.{IsTreeOf, IsWhole, found_in, super_to_come}
 use Rattle.qg_tree.proofs.Frame.{AllByRecursion-weaker, Judge, Keeps, neither, none_of_two, under_kept, walk_kept}
 use Rattle.qg_tree.proofs.Reached.{nodes_kept}
 use Rattle.qg_other_trees.specs.Holds.{HoldsLayout, IsToCome, IsTreeIn, IsWalkedIn}
-use Rattle.qg_other_trees.proofs.Slots.{each_contained, value_contained}
+use Rattle.qg_reach.proofs.Members.{each_contained}
+use Rattle.qg_other_trees.proofs.Slots.{value_contained}
 use Rattle.qg_other_trees.proofs.TreesIn.{four_kept, given_so, none_of_three, three_none, way_walked}
 use Rattle.qg_other_trees.proofs.Whole.{items_there, level, node_placed, nodes, nodes_there, root_node, root_there, there_is, way_passes}
 

@@ -27,7 +27,8 @@ use Rattle.qg_image.specs.Walk.{deepest, found_failure, node_failure, root_expec
 use Rattle.qg_machine.specs.Layout.{IsReached, IsTreeOf, IsWhole, found_in, super_to_come}
 use Rattle.qg_reach.proofs.Reached.{LieWhereFound}
 use Rattle.qg_tree.proofs.Frame.{Judge}
-use Rattle.qg_other_trees.proofs.Slots.{each_contained, value_contained}
+use Rattle.qg_reach.proofs.Members.{each_contained}
+use Rattle.qg_other_trees.proofs.Slots.{value_contained}
 use Rattle.qg_other_trees.proofs.TreesIn.{passed}
 
 -- ---- a node is found at a root that is walked

@@ -3,6 +3,7 @@ pub mod Order
 pub mod ExtentSets
 pub mod InOrder
 pub mod Ascent
+pub mod Ascending
 pub mod SpaceRule
 pub mod SlotRule
 pub mod Distinct

@@ -1,12 +1,21 @@
 -- The elements of a list.
 use Rattle.std.proofs.Common.{◌≡◌, ℕ, List, [], ◌∷◌, map, eqb, sym, subst, inl, inr}
-use Rattle.std.specs.List.{Contains, dedup, flat_map}
+use Rattle.std.specs.List.{AllByRecursion, Contains, dedup, flat_map}
 use Rattle.std.specs.List.Sorted.{IsPermutation}
-use Rattle.std.proofs.lemmas.List.Elements.{Contains-append_left, Contains-append_right, Contains-append_cases}
+use Rattle.std.proofs.lemmas.List.Elements.{All-contains, All-from_recursion, Contains-append_left, Contains-append_right, Contains-append_cases}
 use Rattle.std.proofs.lemmas.List.Kept.{Contains-dedup_nat, Contains-from_dedup}
 use Rattle.std.proofs.lemmas.List.Sorted.{Contains-permutation, IsPermutation-sym}
 use Rattle.qg_image.proofs.Contained.{none_contained, contains_here, contains_later, contains_cases}
 use Rattle.qg_reach.specs.Sets.{HaveSame}
+
+-- ---- what holds of each of them
+
+pub each_contained : {A : Type 0} (P : A → Type 0) (xs : List A) (x : A) → AllByRecursion P xs → Contains xs x → P x
+each_contained P xs x all has = All-contains P xs x (All-from_recursion P xs all) has
+
+pub all_weaker : {A : Type 0} (P Q : A → Type 0) → ((x : A) → P x → Q x) → (xs : List A) → AllByRecursion P xs → AllByRecursion Q xs
+all_weaker P Q step [] all = tt
+all_weaker P Q step (x ∷ xs) all = (step x all.0, all_weaker P Q step xs all.1)
 
 -- ---- what a function gives of them
 

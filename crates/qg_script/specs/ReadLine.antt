@@ -1,9 +1,9 @@
 -- What a call that reads a line does (this project's own).
-use Rattle.std.specs.Prelude.{◌≡◌, ℕ, ◌≤◌, ◌<◌, List, Option, Result, Err, IfOk, IfSome, IfNone, IsOkAnd, IsSomeAnd, OnErr, OnSome}
+use Rattle.std.specs.Prelude.{◌≡◌, ℕ, ◌≤◌, ◌<◌, List, length, Option, Result, Err, IfOk, IfSome, IfNone, IsOkAnd, IsSomeAnd, OnErr, OnSome}
 use Rattle.qg_script.specs.declared.fault.LineFault.{LineFault}
 use Rattle.qg_script.specs.declared.fault.LineFault.TheVariants.{TooLong}
 use Rattle.qg_script.specs.declared.line.Line.{Line}
-use Rattle.qg_script.specs.Feeding.{Feeding, IsWithinLimit, IsTooLong, HoldsLine, HandsOutHeld, most_to_come}
+use Rattle.qg_script.specs.Feeding.{Feeding, IsWithinLimit, IsTooLong, HoldsLine, HandsOutHeld, handed_out, most_to_come}
 use Rattle.qg_script.specs.LineBytes.{line_bytes}
 use Rattle.qg_script.specs.Lines.{pending, TakesLine, IsOver, CountsTaken}
 
@@ -23,3 +23,15 @@ pub record ReadsLine (result : Result (Option Line) LineFault) (old new : Feedin
   pub no_fewer : old.taken ≤ new.taken
   pub within : IsWithinLimit new
   pub shrinks : IfOk result (λ found. OnSome found (most_to_come new < most_to_come old))
+
+-- a line ends at a place of what is held, and once it is handed out no byte past the longest script is, and less is to come
+pub record EndsWithin (old new : Feeding) (end : ℕ) : Type 0 where
+  pub bound : end ≤ length new.rest
+  pub within : IsWithinLimit (handed_out new end)
+  pub shrinks : most_to_come (handed_out new end) < most_to_come old
+
+-- what is taken is counted, no byte of it is given back, and it stays within the longest script
+pub record TakesWithin (old new : Feeding) (before after : Option (List ℕ)) : Type 0 where
+  pub counted : CountsTaken before after old.taken new.taken
+  pub no_fewer : old.taken ≤ new.taken
+  pub within : IsWithinLimit new

@@ -1,12 +1,12 @@
 // The next line of a source.
-ghost use Rattle.std.specs.Prelude.{◌≡◌, ◌≢◌, ◌≤◌, ◌<◌, length, take, Err, IfOk, IfSome, IfNone, IsOkAnd, IsSomeAnd, OnErr};
+ghost use Rattle.std.specs.Prelude.{◌≡◌, ◌≢◌, length, take, Err, IfOk, IfSome, IfNone, IsOkAnd, IsSomeAnd, OnErr};
 ghost use Rattle.std.specs.Borrow.{sem};
 ghost use Rattle.std.specs.Io.BufRead.{Rests};
 ghost use Rattle.std.specs.List.{AllWithin};
 ghost use Rattle.qg_device.specs.Cause.{HasCause};
-ghost use Rattle.qg_script.specs.Feeding.{IsWithinLimit, handed_out, IsTooLong, IsFirstNewline, HoldsLine, HandsOutHeld, most_to_come};
-ghost use Rattle.qg_script.specs.Lines.{pending, TakesLine, IsOver, CountsTaken};
-ghost use Rattle.qg_script.specs.ReadLine.{ReadsLine};
+ghost use Rattle.qg_script.specs.Feeding.{handed_out, IsTooLong, IsFirstNewline, HoldsLine, HandsOutHeld};
+ghost use Rattle.qg_script.specs.Lines.{pending, TakesLine, IsOver};
+ghost use Rattle.qg_script.specs.ReadLine.{EndsWithin, ReadsLine, TakesWithin};
 ghost use Rattle.qg_script.specs.contracts.feed.Feed.{the_row};
 
 use crate::{Feed, Line, LineFault};
@@ -28,8 +28,7 @@ fn newline_from(bytes: &[u8], from: usize) -> Option<usize>
 // Where the next line ends in what the feed then holds: at its first newline, or at the end of it; `None` exactly where nothing is
 // pending.
 fn line_end<S: Source>(feed: &mut Feed, source: &mut S) -> Result<Option<usize>, LineFault>
-    ensures bound { IfOk result (λ found. IfSome found (λ end. end ≤ length feed.new.rest)) }
-    ensures handed { IfOk result (λ found. IfSome found (λ end. IsWithinLimit (handed_out feed.new end))) }
+    ensures ends { IfOk result (λ found. IfSome found (EndsWithin feed.old feed.new)) }
     ensures line { IfOk result (λ found. IfSome found (λ end. TakesLine
         (pending feed.old (S.bytes_left source.old)) (pending (handed_out feed.new end) (S.bytes_left source.new))
         (take end feed.new.rest))) }
@@ -43,12 +42,7 @@ fn line_end<S: Source>(feed: &mut Feed, source: &mut S) -> Result<Option<usize>,
     ensures held { HoldsLine feed.old → IsOkAnd result (λ found. IsSomeAnd found (λ end.
         HandsOutHeld feed.old (handed_out feed.new end) (take end feed.new.rest))) }
     ensures not_asked { HoldsLine feed.old → source.new ≡ source.old }
-    ensures counted { CountsTaken
-        (S.bytes_left source.old) (S.bytes_left source.new) feed.old.taken feed.new.taken }
-    ensures no_fewer { feed.old.taken ≤ feed.new.taken }
-    ensures within { IsWithinLimit feed.new }
-    ensures shrinks { IfOk result (λ found. IfSome found (λ end.
-        most_to_come (handed_out feed.new end) < most_to_come feed.old)) }
+    ensures taken { TakesWithin feed.old feed.new (S.bytes_left source.old) (S.bytes_left source.new) }
 {
     let mut scanned = 0;
     loop {

@@ -1,5 +1,5 @@
 // A subvolume that begins without files.
-ghost use Rattle.std.specs.Prelude.{◌≡◌, ◌+◌, ◌<◌, ◌≤◌, List, Some, IfOk, OnOk, IsTrue, not};
+ghost use Rattle.std.specs.Prelude.{◌≡◌, ◌+◌, ◌<◌, ◌≤◌, List, Some, IfOk, IsTrue, not};
 ghost use Rattle.qg_device.specs.Cause.{HasCause};
 ghost use Rattle.qg_device.specs.History.{Event};
 ghost use Rattle.qg_node.specs.Fits.{HeaderFits};
@@ -9,12 +9,12 @@ ghost use Rattle.qg_image.specs.State.{State as MachineState, has_subvolume};
 ghost use Rattle.qg_machine.specs.Step.{CreatesSubvolume};
 ghost use Rattle.qg_machine.specs.Step.{empty_leaf as machine_leaf};
 ghost use Rattle.qg_blocks.specs.Told.{BreaksNone};
-ghost use Rattle.qg_space.specs.Holding.{free_slots, is_free_slot};
+ghost use Rattle.qg_space.specs.Holding.{free_slots};
 ghost use Rattle.qg_tree_edits.specs.Editing.{IsEditable};
-ghost use Rattle.qg_tree_edits.specs.Rooting.{LeavesBe};
-ghost use Rattle.qg_tree_refs.specs.Heavier.{BookGetsHeavier, node_bytes};
+ghost use Rattle.qg_ground.specs.Calls.{LeavesBe};
+ghost use Rattle.qg_tree_refs.specs.Heavier.{node_bytes};
 ghost use Rattle.qg_forest.specs.Standing.{HoldsState, tree_of};
-ghost use Rattle.qg_snap.specs.Beginning.{BookGoesOn};
+ghost use Rattle.qg_snap.specs.Beginning.{BeginsTree};
 
 use crate::sharing::misfit_at;
 use qg_descent::Tree;
@@ -42,8 +42,7 @@ pub fn create<D: Disk, L: Ledger>(
 ) -> Result<Tree, BlockFault>
     requires editable { IsEditable land.old (D.history disk.old) (D.size disk.old) next }
     requires number { IsTrue (is_subvolume_number sub) }
-    requires book { book.old.tree ≡ sub }
-    requires next { book.old.next ≡ next }
+    requires book { (book.old.tree ≡ sub) × (book.old.next ≡ next) }
     requires slots { 0 < free_slots land.old.space }
 
     // Where they hold a state.
@@ -56,11 +55,8 @@ pub fn create<D: Disk, L: Ledger>(
         → IsTrue (not (has_subvolume state sub)) → BreaksNone result }
 
     // Over any disk.
-    ensures tree { IfOk result (λ tree. (tree ≡ record { address = tree.address; height = 0; owner = sub; next = next })
-        × IsTrue (is_free_slot land.old.space tree.address)) }
-    ensures slots { OnOk result (free_slots land.old.space ≤ 1 + free_slots land.new.space) }
-    ensures book { OnOk result (BookGoesOn book.old book.new) }
-    ensures heavier { OnOk result (BookGetsHeavier book.old book.new node_bytes) }
+    ensures begun { IfOk result (λ tree. BeginsTree land.old land.new book.old book.new node_bytes
+        (record { address = tree.address; height = 0; owner = sub; next = next }) tree) }
     ensures rests { LeavesBe land.old land.new (D.history disk.old) (D.history disk.new) (D.size disk.old) (D.size disk.new)
         next }
     ensures cause { HasCause BlockFault.Disk (D.faults disk.old) (D.faults disk.new) result }

@@ -1,5 +1,5 @@
 // A subvolume that begins as another one is.
-ghost use Rattle.std.specs.Prelude.{◌≡◌, ◌+◌, ◌<◌, ◌≤◌, ℕ, List, Some, IfOk, OnOk, IsTrue, not};
+ghost use Rattle.std.specs.Prelude.{◌≡◌, ◌+◌, ◌<◌, ◌≤◌, ℕ, List, Some, IfOk, IsTrue, not};
 ghost use Rattle.qg_device.specs.Cause.{HasCause};
 ghost use Rattle.qg_device.specs.History.{Event};
 ghost use Rattle.qg_image.specs.ItemMeaning.{is_subvolume_number};
@@ -7,12 +7,12 @@ ghost use Rattle.qg_super.specs.Places.{capacity};
 ghost use Rattle.qg_image.specs.State.{State as MachineState, has_subvolume};
 ghost use Rattle.qg_machine.specs.Step.{Snapshots};
 ghost use Rattle.qg_blocks.specs.Told.{BreaksNone};
-ghost use Rattle.qg_space.specs.Holding.{free_slots, is_free_slot};
+ghost use Rattle.qg_space.specs.Holding.{free_slots};
 ghost use Rattle.qg_tree_edits.specs.Editing.{IsEditable};
-ghost use Rattle.qg_tree_edits.specs.Rooting.{LeavesBe};
-ghost use Rattle.qg_tree_refs.specs.Heavier.{BookGetsHeavier, node_bytes};
+ghost use Rattle.qg_ground.specs.Calls.{LeavesBe};
+ghost use Rattle.qg_tree_refs.specs.Heavier.{node_bytes};
 ghost use Rattle.qg_forest.specs.Standing.{HoldsState, tree_of};
-ghost use Rattle.qg_snap.specs.Beginning.{BookGoesOn};
+ghost use Rattle.qg_snap.specs.Beginning.{BeginsTree};
 
 use crate::copying::copy_node;
 use crate::sharing::{give_all, keyed_children, misfit_at};
@@ -57,11 +57,9 @@ pub fn snapshot<D: Disk, L: Ledger>(
         → IsTrue (not (has_subvolume state copy)) → BreaksNone result }
 
     // Over any disk.
-    ensures tree { IfOk result (λ tree. (tree ≡ record source.now { address = tree.address; owner = copy })
-        × IsTrue (is_free_slot land.old.space tree.address)) }
-    ensures slots { OnOk result (free_slots land.old.space ≤ 1 + free_slots land.new.space) }
-    ensures book { OnOk result (BookGoesOn book.old book.new) }
-    ensures heavier { OnOk result (BookGetsHeavier book.old book.new (node_bytes + capacity land.old.space.sizes.nodesize)) }
+    ensures begun { IfOk result (λ tree. BeginsTree land.old land.new book.old book.new
+        (node_bytes + capacity land.old.space.sizes.nodesize)
+        (record source.now { address = tree.address; owner = copy }) tree) }
     ensures rests { LeavesBe land.old land.new (D.history disk.old) (D.history disk.new) (D.size disk.old) (D.size disk.new)
         source.now.next }
     ensures cause { HasCause BlockFault.Disk (D.faults disk.old) (D.faults disk.new) result }

@@ -33,7 +33,7 @@ use Rattle.qg_fs_tree.specs.Standing.{IsReachedBy, IsSubvolume, Stands, items_in
 use Rattle.qg_fs_tree.proofs.Before.{known_of, names_there}
 use Rattle.qg_fs_tree.proofs.Counts.{node-there}
 use Rattle.qg_fs_tree.proofs.Fixed.{elsewhere_name, tree_below}
-use Rattle.qg_fs_tree.proofs.Leaves.{from-leaf}
+use Rattle.qg_descent.proofs.BranchItems.{from-leaf}
 use Rattle.qg_fs_tree.proofs.Lists.{made-some}
 use Rattle.qg_fs_tree.proofs.Nodes.{IsNamed, names-some, times-many}
 use Rattle.qg_fs_tree.proofs.Owings.{names_of}

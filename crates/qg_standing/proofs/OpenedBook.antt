@@ -50,7 +50,7 @@ use Rattle.qg_fs_tree.specs.declared.fs_tree.FsTree.{FsTree}
 use Rattle.qg_fs_tree.specs.Standing.{IsAtHome, IsKnownExtent, IsReachedBy, extents_named, items_in, layout_in, name_told, names_elsewhere, names_times, nodes_of, trees_of}
 use Rattle.qg_fs_tree.proofs.Counts.{branch, single-way}
 use Rattle.qg_fs_tree.proofs.FewNames.{names-few}
-use Rattle.qg_fs_tree.proofs.Leaves.{from-leaf, in-leaf}
+use Rattle.qg_descent.proofs.BranchItems.{from-leaf, in-leaf}
 use Rattle.qg_fs_tree.proofs.Lists.{all-contained, from-flat, from-mapped, from-some, has-flat, has-mapped, made-some}
 use Rattle.qg_fs_tree.proofs.Nodes.{last-step}
 use Rattle.qg_fs_tree.proofs.Places.{slot-once}

@@ -25,11 +25,11 @@ use Rattle.qg_groups.specs.Tracked.{quota_of}
 use Rattle.qg_space.specs.Holding.{free_slots}
 use Rattle.qg_ground.specs.declared.ground.Ground.{Ground}
 use Rattle.qg_ground.specs.Land.{IsDrafted}
+use Rattle.qg_ground.specs.Calls.{LeavesBe}
 use Rattle.qg_refs.specs.declared.kept.What.{What}
 use Rattle.qg_refs.specs.Book.{what_in}
 use Rattle.qg_extents.specs.Table.{IsTable, book_of}
 use Rattle.qg_weighed.specs.Weight.{weight_of}
-use Rattle.qg_tree_edits.specs.Rooting.{LeavesBe}
 use Rattle.qg_descent.specs.Tree.{Root}
 use Rattle.qg_tree_refs.specs.Heavier.{BookGetsHeavier, node_bytes}
 use Rattle.qg_tree_refs.proofs.Sums.{held-heavier}

@@ -15,7 +15,6 @@ use Rattle.qg_image.specs.Table.{value_at}
 use Rattle.qg_image.specs.declared.element.Element.{Element}
 use Rattle.qg_image.specs.Space.{present_extents}
 use Rattle.qg_image.specs.State.{Accepted, State, Subvolume}
-use Rattle.qg_image.proofs.Contained.{contains_cases, none_contained}
 use Rattle.qg_image.specs.declared.tree.Tree.TheVariants.{Files}
 use Rattle.qg_image.specs.ImageState.{addresses_of, extent_parts, nodes_of_root, quota_in, roots_in, state_in}
 use Rattle.qg_image.specs.ImageState.{subvolume_in, subvolume_roots, subvolumes_in, super_of}
@@ -23,7 +22,7 @@ use Rattle.qg_image.specs.StateOf.{StateOf}
 use Rattle.qg_image.specs.Verdict.{extent_set}
 use Rattle.qg_reach.specs.Sets.{HaveSame}
 use Rattle.qg_reach.proofs.ExtentSets.{extent_set_same}
-use Rattle.qg_reach.proofs.Members.{contains_map}
+use Rattle.qg_reach.proofs.Members.{all_weaker, contains_map, each_contained}
 use Rattle.qg_home.proofs.Reaching.{entry_of_value}
 use Rattle.qg_blocks.specs.Held.{Draft, nothing_fresh, slots_of}
 use Rattle.qg_refs.specs.declared.kept.Kept.{Kept as Reference}
@@ -93,18 +92,6 @@ snapshots_there : (super : Super) (bytes : List ℕ)
     ≡ map snapshot_of (subvolume_roots (roots_in super bytes))
 unfolding state_in subvolumes_in
 snapshots_there super bytes = copied_roots super bytes (subvolume_roots (roots_in super bytes))
-
-weaker : {A : Type 0} (P Q : A → Type 0) → ((x : A) → P x → Q x) → (xs : List A) → AllByRecursion P xs
-    → AllByRecursion Q xs
-weaker P Q step [] all = tt
-weaker P Q step (x ∷ xs) all = (step x all.0, weaker P Q step xs all.1)
-
-each_contained : {A : Type 0} (P : A → Type 0) (xs : List A) (x : A) → AllByRecursion P xs → Contains xs x → P x
-each_contained P [] x all has = absurd (none_contained x has)
-each_contained P (y ∷ ys) x all has = elim (contains_cases y ys x has) [
-  | inl is ↦ subst P is all.0
-  | inr later ↦ each_contained P ys x all.1 later
-]
 
 filter_mapped : {A B : Type 0} (f : A → B) (p : B → Bool) (xs : List A)
     → map f (filter (λ x. p (f x)) xs) ≡ filter p (map f xs)
@@ -249,7 +236,7 @@ module _ (kept : Kept) (image : Image) (made : IsMadeOf kept image) (holds : Hol
   have_bytes = subst
       (λ (roots : List (ℕ × RootItem)). AllByRecursion
       (λ entry. AreBytes image.superblock (content events) entry.1) roots) (sym is.kept.roots)
-      (weaker (λ (entry : ℕ × RootItem). IsSubvolumeOf image.superblock (content events) entry.1)
+      (all_weaker (λ (entry : ℕ × RootItem). IsSubvolumeOf image.superblock (content events) entry.1)
       (λ (entry : ℕ × RootItem). AreBytes image.superblock (content events) entry.1) (λ entry own. own.bodies)
       image.roots is.kept.each)
 

@@ -1,5 +1,5 @@
 // The store, and its one step.
-ghost use Rattle.std.specs.Prelude.{◌≡◌, ◌<◌, ◌≤◌, ◌∷◌, List, None, Some, IfOk, IfErr, IsTrue, false};
+ghost use Rattle.std.specs.Prelude.{◌≡◌, ◌<◌, ◌≤◌, ◌∷◌, List, None, Some, IfOk, IfErr, IsTrue};
 ghost use Rattle.qg_device.specs.Cause.{HasCause};
 ghost use Rattle.qg_device.specs.History.{Event, Synced, content};
 ghost use Rattle.qg_num.specs.declared.answer.Answer.{Answer};
@@ -20,7 +20,7 @@ ghost use Rattle.qg_kept.specs.Answering.{AnswersOn, IsDoneSoFar, comes_to_disk,
 ghost use Rattle.qg_store.specs.Crashes.{IsLastCommit, OutlivesCommand};
 ghost use Rattle.qg_kept.specs.Editing.{HasLooked};
 ghost use Rattle.qg_kept.specs.Keeping.{IsKept, IsKeptOf};
-ghost use Rattle.qg_kept.specs.Stored.{ComesToDisk, GoesOn, IsReady, IsStoreOf, IsStoreOver, IsUnchanged, KnowsLast, RunsOrStops, is_of_image, sizes_stored};
+ghost use Rattle.qg_kept.specs.Stored.{ComesToDisk, DoesCommand, GoesOn, IsReady, IsStoreOf, IsStoreOver, IsUnchanged, KnowsLast, RunsOrStops, sizes_stored};
 
 use crate::grouping::regroup;
 use crate::opening::kept_of;
@@ -110,15 +110,9 @@ impl Store {
         // Over a disk that tells what it holds, the answer is the machine's, and the disk was made to hold what the
         // machine commits. Whatever is answered, nothing else was done than calls of a commit that the machine does.
         // No rule of the image is found broken.
-        ensures step { (state : State) (events : List Event) → IsStoreOf self.old state (D.history disk.old)
+        ensures machine { (state : State) (events : List Event) → IsStoreOf self.old state (D.history disk.old)
             → D.history disk.old ≡ Some events
-            → IfOk result (λ answer. AnswersOn state command.now answer self.new.kept events (D.history disk.new)) }
-        ensures so_far { (state : State) (events : List Event) → IsStoreOf self.old state (D.history disk.old)
-            → D.history disk.old ≡ Some events
-            → IsDoneSoFar state command.now events (D.history disk.new) }
-        ensures sound { (state : State) (events : List Event) → IsStoreOf self.old state (D.history disk.old)
-            → D.history disk.old ≡ Some events
-            → IfErr result (λ stop. is_of_image stop ≡ false) }
+            → DoesCommand state command.now events (D.history disk.new) result self.new.kept }
 
         // Where the disk rested in the last commit, what a crash leaves since then stands for that, or for one that the
         // command makes, whatever is answered. Once the command is answered, the disk rests in the last one again.

@@ -1,113 +1,24 @@
--- Tables in the order of their numbers are one where they have the same at each number; so what was read of all nodes.
+-- What was read of all nodes is the layout's, in the order of their numbers.
 use Rattle.std.proofs.Common.{◌≡◌, ℕ, suc, ◌<◌, ◌≤◌, Bool, true, false, cond, List, [], ◌∷◌, map, length, Option, Some, None, refl, sym, ap, subst, ◌∙◌, arith, inl, inr}
-use Rattle.std.specs.Prelude.{◌==◌, nat_lt, Contains, IsSome}
+use Rattle.std.specs.Prelude.{◌==◌, Contains, IsSome}
 use Rattle.std.specs.BTreeMap.{is_at}
-use Rattle.std.specs.Cmp.{ranked}
 use Rattle.std.specs.List.{AllByRecursion}
 use Rattle.std.specs.List.Sorted.{IsStrictlyIncreasing, IsStrictlySortedBy}
 use Rattle.std.specs.Option.{option_map}
 use Rattle.std.specs.Ordering.{nat_cmp}
-use Rattle.std.specs.declared.cmp.Ordering.TheVariants.{Less}
-use Rattle.std.proofs.lemmas.Bool.{cases_Bool, cond-true, cond-false, eq-eqb, eqb-true, ltb-true, true≢false}
+use Rattle.std.proofs.lemmas.Bool.{cases_Bool, cond-true, cond-false, eq-eqb, eqb-true, true≢false}
 use Rattle.std.proofs.lemmas.Bool.Decides.{nat_tests}
 use Rattle.std.proofs.lemmas.Map.Keys.{sorted_from_strictly_increasing}
 use Rattle.std.proofs.lemmas.Option.{same_Some}
 use Rattle.qg_image.specs.Table.{keys_of, value_at}
 use Rattle.qg_image.specs.State.{Placed, State}
 use Rattle.qg_image.proofs.Contained.{contains_cases, contains_here, contains_later, none_contained}
+use Rattle.qg_reach.proofs.Ascending.{Rise, rise_sorted, rises_same}
+use Rattle.qg_reach.proofs.Members.{each_contained}
 use Rattle.qg_direct.specs.Surveyed.{surveyed_of}
 use Rattle.qg_direct.specs.declared.surveyed.Surveyed.{Surveyed}
 use Rattle.qg_survey.specs.Surveying.{AreRead, link_at}
 use Rattle.qg_survey.proofs.Reading.{is-there, there-is}
-
-weaker : {A : Type 0} (P Q : A → Type 0) → ((x : A) → P x → Q x) → (xs : List A) → AllByRecursion P xs → AllByRecursion Q xs
-weaker P Q step [] all = tt
-weaker P Q step (x ∷ xs) all = (step x all.0, weaker P Q step xs all.1)
-
-each_contained : {A : Type 0} (P : A → Type 0) (xs : List A) (x : A) → AllByRecursion P xs → Contains xs x → P x
-each_contained P [] x all has = absurd (none_contained x has)
-each_contained P (y ∷ ys) x all has = elim (contains_cases y ys x has) [
-  | inl is ↦ subst P is all.0
-  | inr later ↦ each_contained P ys x all.1 later
-]
-
--- ---- a table is told by what it has at each number
-
--- each number is less than all later ones
-abbrev Rise : List ℕ → Type 0
-Rise [] = Unit {0}
-Rise (n ∷ ns) = AllByRecursion (λ m. n < m) ns × Rise ns
-
-rise_sorted : (ns : List ℕ) → IsStrictlySortedBy nat_cmp ns → Rise ns
-unfolding IsStrictlySortedBy
-rise_sorted [] up = tt
-rise_sorted (n ∷ ns) up = (
-  weaker (λ m. nat_cmp n m ≡ Less) (λ m. n < m) (λ m h. ranked n m Less (sym h)) ns up.0,
-  rise_sorted ns up.1,
-)
-
-differ_eqb : (a b : ℕ) → b < a → (a == b) ≡ false
-differ_eqb a b less = grind (arith, nat_tests)
-
-later_differs : (a b : ℕ) → a < b → (a == b) ≡ false
-later_differs a b less = grind (arith, nat_tests)
-
-none_past : {A : Type 0} (q : ℕ) (table : List (ℕ × A)) → AllByRecursion (λ m. q < m) (keys_of table)
-    → value_at q table ≡ None
-none_past q [] all = refl
-none_past q (entry ∷ table) all = rw (differ_eqb entry.0 q all.0) (none_past q table all.1)
-
-value_here : {A : Type 0} (entry : ℕ × A) (table : List (ℕ × A)) → value_at entry.0 (entry ∷ table) ≡ Some entry.1
-value_here entry table =
-    cond-true (entry.0 == entry.0) (Some entry.1) (value_at entry.0 table) (eq-eqb entry.0 entry.0 refl)
-
-none_first : {A : Type 0} (value : A) (given : Option A) → given ≡ None → given ≡ Some value → ⊥
-none_first value given none some = absurd cc
-
--- no entry is before the first of another that has the same
-not_before : {A : Type 0} (d e : ℕ × A) (a b : List (ℕ × A)) → AllByRecursion (λ m. e.0 < m) (keys_of b)
-    → value_at d.0 (d ∷ a) ≡ value_at d.0 (e ∷ b) → d.0 < e.0 → ⊥
-not_before d e a b up same less =
-    let later = weaker (λ m. e.0 < m) (λ m. d.0 < m) (λ m h. omega (arith, less, h)) (keys_of b) up in
-    none_first d.1 (value_at d.0 (e ∷ b)) (none_past d.0 (e ∷ b) (less, later)) (sym same ∙ value_here d a)
-
-same_numbers : (a b : ℕ) → nat_lt a b ≡ false → nat_lt b a ≡ false → a ≡ b
-same_numbers a b h k = grind (arith, nat_tests)
-
--- two tables whose first numbers are the same
-joined_same : {A : Type 0} (d e : ℕ × A) (a b : List (ℕ × A)) → AllByRecursion (λ m. d.0 < m) (keys_of a)
-    → AllByRecursion (λ m. e.0 < m) (keys_of b) → ((q : ℕ) → value_at q (d ∷ a) ≡ value_at q (e ∷ b))
-    → (((q : ℕ) → value_at q a ≡ value_at q b) → a ≡ b) → d.0 ≡ e.0 → d ∷ a ≡ e ∷ b
-joined_same d e a b up up' same rest at =
-    let here : value_at d.0 (e ∷ b) ≡ Some e.1 = ap (λ (q : ℕ). value_at q (e ∷ b)) at ∙ value_here e b in
-    let value : d.1 ≡ e.1 = same_Some d.1 e.1 (sym (value_here d a) ∙ same d.0 ∙ here) in
-    let later : (q : ℕ) → value_at q a ≡ value_at q b = λ q. elim (cases_Bool (d.0 == q)) [
-      | inl is ↦
-          let q_is : d.0 ≡ q = eqb-true d.0 q is in
-          let mine = subst (λ (n : ℕ). value_at n a ≡ None) q_is (none_past d.0 a up) in
-          let theirs = subst (λ (n : ℕ). value_at n b ≡ None) (sym at ∙ q_is) (none_past e.0 b up') in
-          mine ∙ sym theirs
-      | inr differs ↦
-          let other : (e.0 == q) ≡ false = subst (λ (n : ℕ). (n == q) ≡ false) at differs in
-          sym (cond-false (d.0 == q) (Some d.1) (value_at q a) differs) ∙ same q
-          ∙ cond-false (e.0 == q) (Some e.1) (value_at q b) other
-    ] in
-    let are : a ≡ b = rest later in
-    λ i. (at i, value i) ∷ are i
-
-rises_same : {A : Type 0} (a b : List (ℕ × A)) → Rise (keys_of a) → Rise (keys_of b)
-    → ((q : ℕ) → value_at q a ≡ value_at q b) → a ≡ b
-rises_same [] [] up up' same = refl
-rises_same [] (e ∷ b) up up' same = absurd (none_first e.1 (value_at e.0 (e ∷ b)) (sym (same e.0)) (value_here e b))
-rises_same (d ∷ a) [] up up' same = absurd (none_first d.1 (value_at d.0 (d ∷ a)) (same d.0) (value_here d a))
-rises_same (d ∷ a) (e ∷ b) up up' same = elim (cases_Bool (nat_lt d.0 e.0)) [
-  | inl less ↦ absurd (not_before d e a b up'.0 (same d.0) (ltb-true d.0 e.0 less))
-  | inr not ↦ elim (cases_Bool (nat_lt e.0 d.0)) [
-    | inl less ↦ absurd (not_before e d b a up.0 (sym (same e.0)) (ltb-true e.0 d.0 less))
-    | inr nor ↦
-        joined_same d e a b up.0 up'.0 same (rises_same a b up.1 up'.1) (same_numbers d.0 e.0 not nor)
-  ]
-]
 
 -- ---- what was read of all nodes
 

@@ -4,13 +4,15 @@ use Rattle.std.specs.List.{All}
 use Rattle.qg_device.specs.History.{Event}
 use Rattle.qg_node.specs.declared.item.Item.{Item}
 use Rattle.qg_node.specs.declared.node.Node.{Node}
-use Rattle.qg_node.specs.Nodes.{is_ascending, items_bytes}
+use Rattle.qg_node.specs.Nodes.{header_of, is_ascending, items_bytes}
+use Rattle.qg_node.specs.NodeText.{IsNode}
 use Rattle.qg_image.specs.Need.{nodes_filled}
-use Rattle.qg_blocks.specs.Told.{fresh_at, told}
+use Rattle.qg_blocks.specs.Told.{IsBacked, fresh_at, told}
 use Rattle.qg_space.specs.Holding.{free_slots, is_free_slot}
 use Rattle.qg_image.specs.declared.tree.Tree.{Tree}
 use Rattle.qg_image.specs.Walk.{deepest, is_owner}
 use Rattle.qg_ground.specs.declared.ground.Ground.{Ground}
+use Rattle.qg_ground.specs.Land.{IsDrafted}
 use Rattle.qg_ground.specs.Tellings.Telling.{Made}
 use Rattle.qg_descent.specs.Tree.{Reaches, Root}
 use Rattle.qg_tree_edits.specs.Counting.{IsTold, ways}
@@ -20,6 +22,14 @@ use Rattle.qg_tree_edits.specs.Rooting.{IsRooted}
 -- the most nodes that a tree of these items takes
 abbrev pub most_nodes : ℕ → List Item → ℕ
 most_nodes nodesize items = 5 * nodes_filled nodesize (items_bytes items) + 1
+
+-- a node can be laid: clean nodes are those of the disk, fresh ones are such as the commit to come may write, the node has a
+-- text and the generation of that commit, and the slot that it names is free
+pub record CanLay (land : Ground) (history : Option (List Event)) (node : Node) : Type 0 where
+  pub backed : IsBacked land.blocks history
+  pub drafted : IsDrafted land (header_of node).generation
+  pub sound : IsNode land.space.sizes.nodesize node
+  pub free : IsTrue (is_free_slot land.space (header_of node).address)
 
 -- what a build asks, over any disk: nodes and space in which a tree is made for the generation to come, a number and a
 -- generation that its nodes may have, items in the order of their keys with bodies of at most 1024 bytes, and free

@@ -6,7 +6,7 @@ ghost use Rattle.qg_blocks.specs.Told.{BreaksNone};
 ghost use Rattle.qg_ground.specs.Changes.{IsOwnedBy};
 ghost use Rattle.qg_ground.specs.Tellings.{Telling};
 ghost use Rattle.qg_ground.specs.Tellings.Telling.{Made};
-ghost use Rattle.qg_tree_edits.specs.Rooting.{LeavesBe};
+ghost use Rattle.qg_ground.specs.Calls.{LeavesBe};
 ghost use Rattle.qg_tree_build.specs.Building.{CanBuild, IsBuildTold, IsBuiltIn, most_nodes};
 
 use crate::laying::lay_node;

@@ -1,15 +1,14 @@
 // A node put into the slot that it names.
 ghost use Rattle.std.specs.Prelude.{◌≡◌, ◌+◌, ◌≤◌, List, [], ◌∷◌, ◌++◌, Option, Some, OnErr, OnOk, IsTrue};
-ghost use Rattle.qg_device.specs.Cause.{HasCause};
 ghost use Rattle.qg_device.specs.History.{Event};
 ghost use Rattle.qg_node.specs.Nodes.{header_of};
-ghost use Rattle.qg_node.specs.NodeText.{IsNode};
-ghost use Rattle.qg_blocks.specs.Told.{BreaksNone, IsBacked};
+ghost use Rattle.qg_blocks.specs.Told.{IsBacked};
 ghost use Rattle.qg_space.specs.Holding.{is_free_slot};
-ghost use Rattle.qg_ground.specs.Land.{IsDrafted, Rests};
+ghost use Rattle.qg_ground.specs.Calls.{FailsByDisk, KeepsBook, LeavesBe};
 ghost use Rattle.qg_ground.specs.Changes.{Makes, Takes};
 ghost use Rattle.qg_ground.specs.Tellings.{Spares, Telling};
 ghost use Rattle.qg_ground.specs.Tellings.Telling.{Made};
+ghost use Rattle.qg_tree_build.specs.Building.{CanLay};
 
 use qg_disk::Disk;
 use qg_ground::{Book, Ground};
@@ -41,21 +40,16 @@ pub(crate) fn lay_node<D: Disk, L: Ledger, B: Book<D, L>>(
     node: Node,
     reads: &mut Steps<L>,
 ) -> Result<(), BlockFault>
-    requires backed { IsBacked land.old.blocks (D.history disk.old) }
-    requires drafted { IsDrafted land.old (header_of node).generation }
-    requires sound { IsNode land.old.space.sizes.nodesize node }
+    requires ready { CanLay land.old (D.history disk.old) node }
     requires stands { B.stands book.old land.old disk.old }
-    requires free { IsTrue (is_free_slot land.old.space (header_of node).address) }
     ensures made { OnOk result (Makes land.old land.new (header_of node).address node) }
     ensures takes { OnOk result (Takes 1 (λ q. ⊥) land.old land.new) }
-    ensures rests { Rests land.old land.new (D.history disk.new) (header_of node).generation }
+    ensures rests { LeavesBe land.old land.new (D.history disk.old) (D.history disk.new) (D.size disk.old) (D.size disk.new)
+        (header_of node).generation }
     ensures told { (before : B) (log : List Telling) → B.follows before log book.old
         → OnOk result (B.follows before (log ++ Made (header_of node).address ∷ []) book.new) }
-    ensures stands { OnOk result (B.stands book.new land.new disk.new) }
-    ensures settled { B.settled book.old land.old disk.old → OnOk result (B.settled book.new land.new disk.new) }
-    ensures no_image { (events : List Event) → D.history disk.old ≡ Some events → BreaksNone result }
-    ensures disk { (D.history disk.new ≡ D.history disk.old) × (D.size disk.new ≡ D.size disk.old) }
-    ensures cause { HasCause BlockFault.Disk (D.faults disk.old) (D.faults disk.new) result }
+    ensures book { KeepsBook B.stands B.settled book.old book.new land.old land.new disk.old disk.new result }
+    ensures fails { FailsByDisk (D.history disk.old) (D.faults disk.old) (D.faults disk.new) result }
     ensures reads { reads.new ≤ reads.old + B.to_read book.old (header_of node).address }
 {
     let at = node.header().address;

@@ -31,7 +31,7 @@ use Rattle.qg_tree.specs.Row.{address_of}
 use Rattle.qg_ground.specs.Land.{IsDrafted}
 use Rattle.qg_other_trees.specs.declared.laying.OtherTrees.{OtherTrees}
 use Rattle.qg_other_trees.specs.Trees.{nodes_laid}
-use Rattle.qg_other_trees.proofs.Slots.{contains_map, one_mapped}
+use Rattle.qg_reach.proofs.Members.{contains_map, one_mapped}
 use Rattle.qg_fs_tree.specs.declared.fs_tree.FsTree.{FsTree}
 use Rattle.qg_fs_tree.specs.Standing.{IsSubvolume, Stands, nodes_of}
 use Rattle.qg_fs_tree.proofs.Lying.{told-at}

@@ -1,25 +1,9 @@
--- What is known of one step of an edit after another.
-use Rattle.std.proofs.Common.{◌≡◌, ℕ, ◌≤◌, arith, ap, ◌∙◌, Option}
-use Rattle.std.specs.Prelude.{List, Result, Err, IsErrOf}
+-- Why a step of an edit fails that comes after others.
+use Rattle.std.proofs.Common.{◌≡◌, ℕ, ◌≤◌, arith, ap}
+use Rattle.std.specs.Prelude.{Result, Err, IsErrOf}
 use Rattle.qg_device.specs.Cause.{HasCause}
-use Rattle.qg_device.specs.History.{Event}
 use Rattle.qg_num.specs.declared.fault.BlockFault.{BlockFault}
 use Rattle.qg_num.specs.declared.fault.BlockFault.TheVariants.{Disk}
-use Rattle.qg_ground.specs.declared.ground.Ground.{Ground}
-use Rattle.qg_ground.proofs.Lands.{Rests-after}
-use Rattle.qg_tree_edits.specs.Rooting.{LeavesBe}
-
--- what two steps leave so
-pub LeavesBe-after : (old mid new : Ground) (before then after : Option (List Event)) (bytes held left generation : ℕ)
-    → LeavesBe old mid before then bytes held generation → LeavesBe mid new then after held left generation
-    → LeavesBe old new before after bytes left generation
-LeavesBe-after old mid new before then after bytes held left generation one two = record {
-  rests = Rests-after old mid new then after generation one.rests two.rests;
-  history = two.history ∙ one.history;
-  size = two.size ∙ one.size;
-}
-
--- ---- why a fault is answered
 
 err-other : (A B : Type 0) (fault : BlockFault) → IsErrOf {T = A} (Err fault) Disk → IsErrOf {T = B} (Err fault) Disk
 err-other A B fault is =

@@ -11,7 +11,6 @@ use Rattle.qg_blocks.specs.Told.{told}
 use Rattle.qg_space.specs.Holding.{free_slots, is_free_slot}
 use Rattle.qg_image.specs.declared.tree.Tree.{Tree}
 use Rattle.qg_ground.specs.declared.ground.Ground.{Ground}
-use Rattle.qg_ground.specs.Land.{Rests}
 use Rattle.qg_edit.specs.declared.edit.Edit.{Edit}
 use Rattle.qg_tree_edits.specs.declared.instead.Instead.{Instead}
 use Rattle.qg_descent.specs.Tree.{Reaches, Root, TellsTree, super_of}
@@ -65,13 +64,6 @@ pub record IsReady (tree : Tree) (root : Root) (land : Ground) (history : Option
   pub editable : IsEditable land history bytes root.next
   pub makes : CanMake tree root
   pub slots : 3 * (root.height + 2) ≤ free_slots land.space
-
--- what it leaves so, whatever it answers: fresh nodes are such as a commit may write, what the last commit holds is as it was, and the disk
--- is not written
-pub record LeavesBe (old new : Ground) (before after : Option (List Event)) (bytes left generation : ℕ) : Type 0 where
-  pub rests : Rests old new after generation
-  pub history : after ≡ before
-  pub size : left ≡ bytes
 
 -- a tree stays that of its number and generation, and gets at most so many levels higher
 pub record StaysTree (most : ℕ) (before after : Root) : Type 0 where

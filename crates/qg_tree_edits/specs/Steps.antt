@@ -48,18 +48,6 @@ pub record IsReadyFor (many : ℕ) (tree : Tree) (root : Root) (land : Ground) (
   pub makes : CanMake tree root
   pub slots : many ≤ free_slots land.space
 
--- where a step answers Ok, book, land and disk are as calls ask, and what stood of them between two edits stands still
-pub record KeepsBook {B D T : Type 0} (Stands Settled : B → Ground → D → Type 0) (book later : B) (old new : Ground)
-    (disk left : D) (result : Result T BlockFault) : Type 0 where
-  pub stands : OnOk result (Stands later new left)
-  pub settled : Settled book old disk → OnOk result (Settled later new left)
-
--- over a disk that tells a step names no rule, and it answers `Disk` only where the disk's count of faults rose
-pub record FailsByDisk {T : Type 0} (history : Option (List Event)) (before now : ℕ) (result : Result T BlockFault)
-    : Type 0 where
-  pub sound : (events : List Event) → history ≡ Some events → BreaksNone result
-  pub cause : HasCause Disk before now result
-
 -- ---- a node is owned
 
 -- Over any disk: the node is owned that the way leads to expect. At most one slot fewer is free, and each fresh node

@@ -3,12 +3,12 @@ ghost use Rattle.std.specs.Prelude.{◌≡◌, ◌+◌, ◌*◌, ◌≤◌, ℕ,
 ghost use Rattle.qg_node.specs.declared.item.Item.{Item as ItemValue};
 ghost use Rattle.qg_blocks.specs.Told.{told};
 ghost use Rattle.qg_ground.specs.Changes.{IsOwnedBy};
+ghost use Rattle.qg_ground.specs.Calls.{KeepsBook, LeavesBe};
 ghost use Rattle.qg_edit.specs.declared.edit.Change.TheVariants as edit_change;
 ghost use Rattle.qg_edit.specs.Edits.{CanEdit, IsShort, growth_of, has_key, with_item, without_key};
 ghost use Rattle.qg_tree_edits.specs.Calls.{EditsTree, FailsToEditTree, ReplacesItems};
 ghost use Rattle.qg_tree_edits.specs.First.{first_leaf, least, leaves, leaves_behind};
-ghost use Rattle.qg_tree_edits.specs.Rooting.{Grows, IsReady, IsRooted, LeavesBe};
-ghost use Rattle.qg_tree_edits.specs.Steps.{KeepsBook};
+ghost use Rattle.qg_tree_edits.specs.Rooting.{Grows, IsReady, IsRooted};
 
 use crate::editing::edit_under;
 use crate::rooting::set_root;

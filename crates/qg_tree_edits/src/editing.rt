@@ -4,8 +4,8 @@ ghost use Rattle.qg_node.specs.declared.item.Item.{Item as ItemValue};
 ghost use Rattle.qg_edit.specs.declared.edit.Change.TheVariants as edit_change;
 ghost use Rattle.qg_edit.specs.Edits.{IsShort};
 ghost use Rattle.qg_tree_edits.specs.Editing.{IsPartFit};
-ghost use Rattle.qg_tree_edits.specs.Rooting.{LeavesBe};
-ghost use Rattle.qg_tree_edits.specs.Steps.{EditsItems, EditsPart, FailsToEdit, IsReadyFor, KeepsBook};
+ghost use Rattle.qg_ground.specs.Calls.{KeepsBook, LeavesBe};
+ghost use Rattle.qg_tree_edits.specs.Steps.{EditsItems, EditsPart, FailsToEdit, IsReadyFor};
 
 use crate::child::{place_for, way_at};
 use crate::instead::Instead;

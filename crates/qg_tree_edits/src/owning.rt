@@ -4,10 +4,10 @@ ghost use Rattle.qg_node.specs.declared.node.Node.{Node as NodeValue};
 ghost use Rattle.qg_blocks.specs.Told.{told};
 ghost use Rattle.qg_space.specs.Holding.{free_slots, is_free_slot};
 ghost use Rattle.qg_ground.specs.Tellings.{Telling};
+ghost use Rattle.qg_ground.specs.Calls.{KeepsBook, LeavesBe};
 ghost use Rattle.qg_tree_edits.specs.Editing.{IsEditable};
 ghost use Rattle.qg_tree_edits.specs.Counting.{tellings_owned};
-ghost use Rattle.qg_tree_edits.specs.Rooting.{LeavesBe};
-ghost use Rattle.qg_tree_edits.specs.Steps.{FailsToOwn, KeepsBook, OwnsNode};
+ghost use Rattle.qg_tree_edits.specs.Steps.{FailsToOwn, OwnsNode};
 
 use qg_descent::{Tree, Way};
 use qg_disk::Disk;

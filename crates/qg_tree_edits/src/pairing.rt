@@ -4,11 +4,11 @@ ghost use Rattle.qg_node.specs.declared.item.Item.{Item as ItemValue};
 ghost use Rattle.qg_num.specs.declared.fault.BlockFault.TheVariants as block;
 ghost use Rattle.qg_space.specs.Holding.{free_slots};
 ghost use Rattle.qg_ground.specs.Tellings.{Telling};
+ghost use Rattle.qg_ground.specs.Calls.{KeepsBook, LeavesBe};
 ghost use Rattle.qg_tree_edits.specs.Editing.{IsEditable, IsUnsettled, alone};
 ghost use Rattle.qg_tree_edits.specs.Uniting.{IsPaired};
 ghost use Rattle.qg_tree_edits.specs.Counting.{tellings_owned};
-ghost use Rattle.qg_tree_edits.specs.Rooting.{LeavesBe};
-ghost use Rattle.qg_tree_edits.specs.Steps.{FailsToPair, HasPlace, KeepsBook, OwnsNeighbour};
+ghost use Rattle.qg_tree_edits.specs.Steps.{FailsToPair, HasPlace, OwnsNeighbour};
 
 use crate::child::neighbour_of;
 use crate::owning::own;

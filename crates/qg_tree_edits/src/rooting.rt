@@ -13,8 +13,9 @@ ghost use Rattle.qg_blocks.specs.Told.{BreaksNone, fresh_at};
 ghost use Rattle.qg_edit.specs.Outcome.{cleared};
 ghost use Rattle.qg_tree_edits.specs.Editing.{IsEditable, IsFreshOn, IsRewritten, StandsInstead, alone};
 ghost use Rattle.qg_tree_edits.specs.Failing.{NamesOnly};
-ghost use Rattle.qg_tree_edits.specs.Rooting.{LeavesBe, StandsForRoot, levels_for, lone_child};
-ghost use Rattle.qg_tree_edits.specs.Steps.{FailsByDisk, FailsToRoot, IsReadyFor, KeepsBook, RootsItems, SetsRoot};
+ghost use Rattle.qg_ground.specs.Calls.{FailsByDisk, KeepsBook, LeavesBe};
+ghost use Rattle.qg_tree_edits.specs.Rooting.{StandsForRoot, levels_for, lone_child};
+ghost use Rattle.qg_tree_edits.specs.Steps.{FailsToRoot, IsReadyFor, RootsItems, SetsRoot};
 
 use crate::instead::Instead;
 use qg_descent::Tree;

@@ -13,8 +13,8 @@ ghost use Rattle.qg_shape.specs.Filled.{IsThin};
 ghost use Rattle.qg_shape.specs.Parts.{IsInner};
 ghost use Rattle.qg_blocks.specs.Told.{fresh_at};
 ghost use Rattle.qg_tree_edits.specs.Editing.{CanLead, HasLed, IsNamed, IsRewritten, IsUnsettled, OfEach, StandsInstead, StaysCut, alone};
-ghost use Rattle.qg_tree_edits.specs.Rooting.{LeavesBe};
-ghost use Rattle.qg_tree_edits.specs.Steps.{FailsToLead, FailsToSettle, HasNodeSize, HasPlace, IsReadyFor, IsThinOn, KeepsBook, SetsPointers, SettlesItems};
+ghost use Rattle.qg_ground.specs.Calls.{KeepsBook, LeavesBe};
+ghost use Rattle.qg_tree_edits.specs.Steps.{FailsToLead, FailsToSettle, HasNodeSize, HasPlace, IsReadyFor, IsThinOn, SetsPointers, SettlesItems};
 
 use crate::instead::Instead;
 use crate::joining::unite;

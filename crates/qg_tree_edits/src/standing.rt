@@ -2,10 +2,10 @@
 ghost use Rattle.std.specs.Prelude.{◌≡◌, ◌+◌, ◌<◌, ◌≤◌, ℕ, List, ◌++◌, Option, None, Some, IfOk};
 ghost use Rattle.qg_space.specs.Holding.{free_slots};
 ghost use Rattle.qg_ground.specs.Tellings.{Telling};
+ghost use Rattle.qg_ground.specs.Calls.{FailsByDisk, KeepsBook, LeavesBe};
 ghost use Rattle.qg_tree_edits.specs.Editing.{IsEditable, with_owner};
 ghost use Rattle.qg_tree_edits.specs.Counting.{tellings_made};
-ghost use Rattle.qg_tree_edits.specs.Rooting.{LeavesBe};
-ghost use Rattle.qg_tree_edits.specs.Steps.{FailsByDisk, HasRest, KeepsBook, PlacesRest};
+ghost use Rattle.qg_tree_edits.specs.Steps.{HasRest, PlacesRest};
 
 use crate::instead::Instead;
 use qg_descent::Tree;

@@ -7,10 +7,14 @@ use Rattle.qg_edit.specs.declared.edit.Change.TheVariants.{Remove}
 use Rattle.qg_edit.proofs.changing.remove.Goals as goal
 
 pub returns-in-Ok-clause-edited : goal.returns-in-Ok-clause-edited
-returns-in-Ok-clause-edited c = sym (removed c.args.nodesize c.args.leaf.now c.requires.leaf c.requires.sound c.args.key c.in-Ok.place c.remove_item-item.new.node c.in-Ok.ensures.found c.remove_item-item.ensures.left).is
-
-pub returns-in-Ok-clause-overfull : goal.returns-in-Ok-clause-overfull
-returns-in-Ok-clause-overfull c = (λ some. absurd (true≢false (sym some)), λ over. absurd (removed-fits c.args.nodesize c.args.leaf.now c.requires.leaf c.requires.sound c.args.key c.in-Ok.place c.remove_item-item.new.node c.in-Ok.ensures.found c.remove_item-item.ensures.left over))
+returns-in-Ok-clause-edited c = record {
+  cut = sym (removed c.args.nodesize c.args.leaf.now c.requires.leaf c.requires.sound c.args.key c.in-Ok.place c.remove_item-item.new.node c.in-Ok.ensures.found c.remove_item-item.ensures.left).is;
+  overfull = (
+    λ some. absurd (true≢false (sym some)),
+    λ over. absurd (removed-fits c.args.nodesize c.args.leaf.now c.requires.leaf c.requires.sound c.args.key c.in-Ok.place c.remove_item-item.new.node c.in-Ok.ensures.found c.remove_item-item.ensures.left over),
+  );
+  rest = tt;
+}
 
 pub returns-in-Ok-clause-answers : goal.returns-in-Ok-clause-answers
 returns-in-Ok-clause-answers c = ((removed c.args.nodesize c.args.leaf.now c.requires.leaf c.requires.sound c.args.key c.in-Ok.place c.remove_item-item.new.node c.in-Ok.ensures.found c.remove_item-item.ensures.left).can, λ over. absurd (removed-fits c.args.nodesize c.args.leaf.now c.requires.leaf c.requires.sound c.args.key c.in-Ok.place c.remove_item-item.new.node c.in-Ok.ensures.found c.remove_item-item.ensures.left over))

@@ -1,10 +1,12 @@
 use Rattle.std.proofs.Common.{arith, sym, ◌∙◌}
 use borrow.Author.Tests.{ltb-false}
 use Rattle.std.proofs.lemmas.Bool.{true≢false}
-use Rattle.qg_edit.proofs.Leaves.{answers-cut, answers-misfit, edited-cut, err-cut, IsNodeFor-header, overfull-cut, ok-known, replaced, replaced-fits, rest-cut}
+use Rattle.qg_edit.proofs.Leaves.{answers-cut, answers-misfit, err-cut, IsNodeFor-header, left-of, ok-known, replaced, replaced-fits}
 use Rattle.qg_edit.proofs.Lists.{has_key-goes, item-there}
 use Rattle.qg_node.specs.Nodes.{own_items}
+use Rattle.qg_shape.specs.Parts.{with_items}
 use Rattle.qg_edit.specs.declared.edit.Change.TheVariants.{Replace}
+use Rattle.qg_edit.specs.Edits.{changed}
 use Rattle.qg_edit.proofs.changing.replace.Goals as goal
 
 pub cut-requires-clause-levelled : goal.cut-requires-clause-levelled
@@ -17,10 +19,10 @@ pub cut-requires-clause-by_one : goal.cut-requires-clause-by_one
 cut-requires-clause-by_one c = (replaced c.args.nodesize c.args.leaf.now c.requires.leaf c.requires.sound c.args.key c.args.body c.in-Ok.place c.replace_body.new.node c.requires.short c.in-Ok.ensures.found c.replace_body.ensures).by_one
 
 pub returns-in-Ok-clause-edited : goal.returns-in-Ok-clause-edited
-returns-in-Ok-clause-edited c = edited-cut c.args.nodesize c.args.key (Replace c.args.body) c.args.leaf.now c.replace_body.new.node c.cut.new.node c.cut.result (replaced c.args.nodesize c.args.leaf.now c.requires.leaf c.requires.sound c.args.key c.args.body c.in-Ok.place c.replace_body.new.node c.requires.short c.in-Ok.ensures.found c.replace_body.ensures) c.cut.ensures.cut
-
-pub returns-in-Ok-clause-overfull : goal.returns-in-Ok-clause-overfull
-returns-in-Ok-clause-overfull c = overfull-cut c.args.nodesize c.args.key (Replace c.args.body) c.args.leaf.now c.replace_body.new.node c.cut.result (replaced c.args.nodesize c.args.leaf.now c.requires.leaf c.requires.sound c.args.key c.args.body c.in-Ok.place c.replace_body.new.node c.requires.short c.in-Ok.ensures.found c.replace_body.ensures) c.cut.ensures.overfull
+returns-in-Ok-clause-edited c =
+    let made = replaced c.args.nodesize c.args.leaf.now c.requires.leaf c.requires.sound c.args.key c.args.body c.in-Ok.place c.replace_body.new.node c.requires.short c.in-Ok.ensures.found c.replace_body.ensures in
+    left-of c.args.nodesize c.args.leaf.now c.replace_body.new.node (with_items c.args.leaf.now (changed c.args.key (Replace c.args.body) (own_items c.args.leaf.now))) c.cut.new.node c.cut.result
+    made.is made.header c.cut.ensures.cut
 
 pub returns-in-Ok-clause-answers : goal.returns-in-Ok-clause-answers
 returns-in-Ok-clause-answers c = answers-cut c.args.nodesize c.args.key (Replace c.args.body) c.args.leaf.now c.replace_body.new.node c.cut.result (replaced c.args.nodesize c.args.leaf.now c.requires.leaf c.requires.sound c.args.key c.args.body c.in-Ok.place c.replace_body.new.node c.requires.short c.in-Ok.ensures.found c.replace_body.ensures) c.cut.ensures.answers
@@ -38,9 +40,6 @@ returns-in-Ok-clause-can c = ok-known _ c.cut.result (replaced c.args.nodesize c
 
 pub returns-in-Ok-clause-node : goal.returns-in-Ok-clause-node
 returns-in-Ok-clause-node c = IsNodeFor-header c.args.nodesize c.args.leaf.now c.replace_body.new.node c.cut.new.node (replaced c.args.nodesize c.args.leaf.now c.requires.leaf c.requires.sound c.args.key c.args.body c.in-Ok.place c.replace_body.new.node c.requires.short c.in-Ok.ensures.found c.replace_body.ensures).header c.cut.ensures.node
-
-pub returns-in-Ok-clause-rest : goal.returns-in-Ok-clause-rest
-returns-in-Ok-clause-rest c = rest-cut c.args.nodesize c.args.leaf.now c.replace_body.new.node c.cut.result (replaced c.args.nodesize c.args.leaf.now c.requires.leaf c.requires.sound c.args.key c.args.body c.in-Ok.place c.replace_body.new.node c.requires.short c.in-Ok.ensures.found c.replace_body.ensures).header c.cut.ensures.rest
 
 pub returns-in-Ok-clause-sound : goal.returns-in-Ok-clause-sound
 returns-in-Ok-clause-sound c = λ can short. c.cut.ensures.sound ((replaced c.args.nodesize c.args.leaf.now c.requires.leaf c.requires.sound c.args.key c.args.body c.in-Ok.place c.replace_body.new.node c.requires.short c.in-Ok.ensures.found c.replace_body.ensures).short short)

@@ -1,4 +1,4 @@
-use Rattle.std.proofs.Common.{sym, subst, ap, ◌∙◌}
+use Rattle.std.proofs.Common.{rules, sym, subst, ap, ◌∙◌}
 use Rattle.qg_node.specs.declared.node.Node.{Node}
 use Rattle.qg_edit.specs.Outcome.{IsNodeFor, cleared}
 use Rattle.qg_edit.proofs.Leaves.{IsNodeFor-cleared}
@@ -13,10 +13,13 @@ pub returns-in-Ok-clause-node : goal.returns-in-Ok-clause-node
 returns-in-Ok-clause-node c =
     front-cut c.args.nodesize c.header-address.result.address c.args.node.now c.split.new.node c.in-Ok.rest c.requires.size c.requires.levelled c.requires.ascending c.in-Ok.ensures.split
 
-pub returns-in-Ok-clause-rest : goal.returns-in-Ok-clause-rest
-returns-in-Ok-clause-rest c =
-    rest-of_cut c.args.nodesize c.header-address.result.address c.args.node.now c.split.new.node c.in-Ok.rest c.requires.size c.requires.levelled c.requires.ascending
-    (ap (λ h. h.address) c.header-address.ensures) c.in-Ok.ensures.split
+pub returns-in-Ok-clause-cut : goal.returns-in-Ok-clause-cut
+returns-in-Ok-clause-cut c = record {
+  cut = search rules;
+  overfull = search rules;
+  rest = rest-of_cut c.args.nodesize c.header-address.result.address c.args.node.now c.split.new.node c.in-Ok.rest c.requires.size c.requires.levelled c.requires.ascending
+      (ap (λ h. h.address) c.header-address.ensures) c.in-Ok.ensures.split;
+}
 
 pub returns-in-Err-clause-node : goal.returns-in-Err-clause-node
 returns-in-Err-clause-node c =

@@ -1,4 +1,4 @@
-use Rattle.std.proofs.Common.{◌+◌, ◌<◌, ◌∙◌, ℕ, List, Option, ap, refl, subst, sym}
+use Rattle.std.proofs.Common.{◌+◌, ◌<◌, ◌∙◌, ℕ, List, Option, ap, refl, rules, subst, sym}
 use Rattle.std.specs.Prelude.{◌==◌, ◌&&◌}
 use Rattle.qg_num.specs.declared.piece.Piece.{Piece}
 use Rattle.qg_num.specs.declared.refusal.Refusal.TheVariants as why
@@ -221,26 +221,27 @@ returns-in_err-source-clause-sound g c = λ state events told given.
     (holds-looked c.turn_to-2.new.kept c.inode_in.new.kept _ _ _ _ keeps.files c.in_ok-inode.ensures.looked
     keeps.keeps.holds))
 
-pub clone_pieces-requires-clause-path : goal.clone_pieces-requires-clause-path
-clone_pieces-requires-clause-path g c =
+pub clone_pieces-requires-clause-reserves : goal.clone_pieces-requires-clause-reserves
+clone_pieces-requires-clause-reserves g c =
     let read = c.inode_in.new.kept in
     let mid = c.pieces_in.new.kept in
-    path-still read.quota mid.quota c.args.to_sub c.args.to_sub c.as_slice.result.now
-    (c.as_slice.ensures
-    ∙ path-told c.in_ok-judged.judged c.in-Path.path (path_in (quota_of read.quota) c.args.to_sub) c.in-Path.is
-    c.in_ok-judged.ensures.path)
-    (quota-read read mid _ _ _ _ c.in_ok-source.ensures.looked) refl
+    record {
+      few = subst (λ (kept : Kept). kept.pending < 65536) (sym c.in_ok-source.ensures.looked.same)
+          c.in_default-refusal_of_clone.ensures.few;
+      path = path-still read.quota mid.quota c.args.to_sub c.args.to_sub c.as_slice.result.now
+          (c.as_slice.ensures
+          ∙ path-told c.in_ok-judged.judged c.in-Path.path (path_in (quota_of read.quota) c.args.to_sub) c.in-Path.is
+          c.in_ok-judged.ensures.path)
+          (quota-read read mid _ _ _ _ c.in_ok-source.ensures.looked) refl;
+    }
 
-pub clone_pieces-requires-clause-range : goal.clone_pieces-requires-clause-range
-clone_pieces-requires-clause-range g c = c.in_default-refusal_of_clone.ensures.clonable
-
-pub clone_pieces-requires-clause-number : goal.clone_pieces-requires-clause-number
-clone_pieces-requires-clause-number g c = (c.requires.least, c.requires.below)
-
-pub clone_pieces-requires-clause-few : goal.clone_pieces-requires-clause-few
-clone_pieces-requires-clause-few g c =
-    subst (λ (kept : Kept). kept.pending < 65536) (sym c.in_ok-source.ensures.looked.same)
-    c.in_default-refusal_of_clone.ensures.few
+pub clone_pieces-requires-clause-pieces : goal.clone_pieces-requires-clause-pieces
+clone_pieces-requires-clause-pieces g c = record {
+  apart = c.in_ok-source.ensures.apart;
+  few = search rules;
+  number = (c.requires.least, c.requires.below);
+  range = c.in_default-refusal_of_clone.ensures.clonable;
+}
 
 pub returns-clause-sound : goal.returns-clause-sound
 returns-clause-sound g c = λ state events told given.

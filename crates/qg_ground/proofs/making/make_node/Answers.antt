@@ -8,34 +8,51 @@ use Rattle.qg_ground.proofs.making.make_node.Goals as goal
 pub returns-in_err-now-clause-rests : goal.returns-in_err-now-clause-rests
 returns-in_err-now-clause-rests g c =
     let history = g.D.Disk.history c.args.disk.now in
-    Rests-taken c.args.land.now c.put_node.new.land history (header_of c.args.node).generation c.put_node.ensures.spares c.in_err-now.ensures.err
-    (c.put_node.ensures.backed history c.requires.backed) c.requires.drafted
+    let ready = c.requires.ready in
+    record {
+      rests = Rests-taken c.args.land.now c.put_node.new.land history (header_of c.args.node).generation c.put_node.ensures.spares c.in_err-now.ensures.err
+          (c.put_node.ensures.backed history ready.backed) ready.drafted;
+      history = refl;
+      size = refl;
+    }
 
 pub returns-in_err-made-clause-rests : goal.returns-in_err-made-clause-rests
 returns-in_err-made-clause-rests g c =
     let history = g.D.Disk.history c.args.disk.now in
-    let put = Rests-made c.args.land.now c.put_node.new.land history c.in_ok-now.now (header_of c.args.node).generation c.args.node c.put_node.ensures.spares c.put_node.ensures.bound
-    (c.put_node.ensures.backed history c.requires.backed) c.in_ok-now.ensures.made c.requires.sound refl c.requires.drafted in
-    Rests-after c.args.land.now c.put_node.new.land c.made.new.land history (g.D.Disk.history c.made.new.disk) (header_of c.args.node).generation put
-    (c.made.ensures.rests (header_of c.args.node).generation put.drafted)
+    let generation = (header_of c.args.node).generation in
+    let ready = c.requires.ready in
+    let put = Rests-made c.args.land.now c.put_node.new.land history c.in_ok-now.now generation c.args.node c.put_node.ensures.spares c.put_node.ensures.bound
+    (c.put_node.ensures.backed history ready.backed) c.in_ok-now.ensures.made c.requires.sound refl ready.drafted in
+    record {
+      rests = Rests-after c.args.land.now c.put_node.new.land c.made.new.land history (g.D.Disk.history c.made.new.disk) generation put (c.made.ensures.rests generation put.drafted);
+      history = c.made.ensures.disk.0;
+      size = c.made.ensures.disk.1;
+    }
 
 pub returns-clause-rests : goal.returns-clause-rests
 returns-clause-rests g c =
     let history = g.D.Disk.history c.args.disk.now in
-    let put = Rests-made c.args.land.now c.put_node.new.land history c.in_ok-now.now (header_of c.args.node).generation c.args.node c.put_node.ensures.spares c.put_node.ensures.bound
-    (c.put_node.ensures.backed history c.requires.backed) c.in_ok-now.ensures.made c.requires.sound refl c.requires.drafted in
-    Rests-after c.args.land.now c.put_node.new.land c.made.new.land history (g.D.Disk.history c.made.new.disk) (header_of c.args.node).generation put
-    (c.made.ensures.rests (header_of c.args.node).generation put.drafted)
+    let generation = (header_of c.args.node).generation in
+    let ready = c.requires.ready in
+    let put = Rests-made c.args.land.now c.put_node.new.land history c.in_ok-now.now generation c.args.node c.put_node.ensures.spares c.put_node.ensures.bound
+    (c.put_node.ensures.backed history ready.backed) c.in_ok-now.ensures.made c.requires.sound refl ready.drafted in
+    record {
+      rests = Rests-after c.args.land.now c.put_node.new.land c.made.new.land history (g.D.Disk.history c.made.new.disk) generation put (c.made.ensures.rests generation put.drafted);
+      history = c.made.ensures.disk.0;
+      size = c.made.ensures.disk.1;
+    }
 
 pub returns-clause-takes : goal.returns-clause-takes
 returns-clause-takes g c =
-    let rests = returns-clause-rests g c in
+    let rests = (returns-clause-rests g c).rests in
     let takes = c.in_ok-made.ensures.takes in
-    Takes-made c.args.land.now c.made.new.land c.in_ok-now.now c.args.node c.requires.drafted.sizes rests.sizes rests.held_slots
+    Takes-made c.args.land.now c.made.new.land c.in_ok-now.now c.args.node c.requires.ready.drafted.sizes rests.sizes rests.held_slots
     (Makes-after c.args.land.now c.put_node.new.land c.made.new.land c.in_ok-now.now c.args.node c.in_ok-now.ensures.made takes.draft takes.slots)
 
-pub returns-clause-settled : goal.returns-clause-settled
-returns-clause-settled g c settled =
-    c.in_ok-made.ensures.settled c.args.land.now
-    (PutsFresh-puts c.args.land.now c.put_node.new.land c.in_ok-now.now (header_of c.args.node).generation (node_at c.in_ok-now.now c.args.node) c.in_ok-now.ensures.made.puts
-    c.put_node.ensures.spares c.in_ok-now.ensures.made.slots c.requires.drafted) settled
+pub returns-clause-book : goal.returns-clause-book
+returns-clause-book g c = record {
+  stands = c.in_ok-made.ensures.stands;
+  settled = c.in_ok-made.ensures.settled c.args.land.now
+      (PutsFresh-puts c.args.land.now c.put_node.new.land c.in_ok-now.now (header_of c.args.node).generation (node_at c.in_ok-now.now c.args.node) c.in_ok-now.ensures.made.puts
+      c.put_node.ensures.spares c.in_ok-now.ensures.made.slots c.requires.ready.drafted);
+}

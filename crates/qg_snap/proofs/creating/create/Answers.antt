@@ -1,6 +1,7 @@
-use Rattle.std.proofs.Common.{◌≡◌, ℕ, List, [], Option, Some, None, arith, sym, subst, ◌∙◌}
+use Rattle.std.proofs.Common.{◌≡◌, ℕ, List, [], Option, Some, None, arith, rules, sym, subst, ◌∙◌}
 use Rattle.qg_device.specs.History.{Event}
-use Rattle.qg_ground.specs.Land.{IsDrafted, Rests}
+use Rattle.qg_ground.specs.Calls.{LeavesBe}
+use Rattle.qg_ground.specs.Land.{IsDrafted}
 use Rattle.qg_ground.specs.Tellings.Telling.{Made}
 use Rattle.qg_extents.specs.Table.{IsTable}
 use Rattle.qg_tree_refs.proofs.Told.{BookGetsHeavier-step, fits-step}
@@ -12,11 +13,14 @@ use Rattle.qg_snap.proofs.Knowing.{goes-made}
 use Rattle.qg_snap.proofs.Putting.{fits-made}
 use Rattle.qg_snap.proofs.creating.create.Goals as goal
 
-pub make_node-requires-clause-drafted : goal.make_node-requires-clause-drafted
-make_node-requires-clause-drafted g c =
-    subst (λ (generation : ℕ). IsDrafted c.args.land.now generation)
-    (sym (leaf-dated c.empty_leaf-node.result c.args.next c.args.sub 0 c.empty_leaf-node.ensures.leaf))
-    c.requires.editable.drafted
+pub make_node-requires-clause-ready : goal.make_node-requires-clause-ready
+make_node-requires-clause-ready g c = record {
+  backed = c.requires.editable.backed;
+  drafted = subst (λ (generation : ℕ). IsDrafted c.args.land.now generation)
+      (sym (leaf-dated c.empty_leaf-node.result c.args.next c.args.sub 0 c.empty_leaf-node.ensures.leaf))
+      c.requires.editable.drafted;
+  slots = c.requires.slots;
+}
 
 pub make_node-requires-clause-sound : goal.make_node-requires-clause-sound
 make_node-requires-clause-sound g c =
@@ -24,14 +28,11 @@ make_node-requires-clause-sound g c =
     c.empty_leaf-node.ensures.leaf
 
 pub returns-in_err-now-clause-rests : goal.returns-in_err-now-clause-rests
-returns-in_err-now-clause-rests g c = record {
-  rests = subst
-      (λ (generation : ℕ). Rests c.args.land.now c.make_node.new.land (g.D.Disk.history c.make_node.new.disk) generation)
-      (leaf-dated c.empty_leaf-node.result c.args.next c.args.sub 0 c.empty_leaf-node.ensures.leaf)
-      c.make_node.ensures.rests;
-  history = c.make_node.ensures.disk.0;
-  size = c.make_node.ensures.disk.1;
-}
+returns-in_err-now-clause-rests g c =
+    subst (λ (generation : ℕ). LeavesBe c.args.land.now c.make_node.new.land (g.D.Disk.history c.args.disk.now)
+    (g.D.Disk.history c.make_node.new.disk) (g.D.Disk.size c.args.disk.now) (g.D.Disk.size c.make_node.new.disk) generation)
+    (leaf-dated c.empty_leaf-node.result c.args.next c.args.sub 0 c.empty_leaf-node.ensures.leaf)
+    c.make_node.ensures.rests
 
 pub returns-in_err-now-clause-reads : goal.returns-in_err-now-clause-reads
 returns-in_err-now-clause-reads g c = c.make_node.ensures.reads 1 (λ q. omega arith)
@@ -49,14 +50,11 @@ returns-in-Some-clause-sound g c state events told_is holds unused =
     absurd cc
 
 pub returns-in-Some-clause-rests : goal.returns-in-Some-clause-rests
-returns-in-Some-clause-rests g c = record {
-  rests = subst
-      (λ (generation : ℕ). Rests c.args.land.now c.make_node.new.land (g.D.Disk.history c.make_node.new.disk) generation)
-      (leaf-dated c.empty_leaf-node.result c.args.next c.args.sub 0 c.empty_leaf-node.ensures.leaf)
-      c.make_node.ensures.rests;
-  history = c.make_node.ensures.disk.0;
-  size = c.make_node.ensures.disk.1;
-}
+returns-in-Some-clause-rests g c =
+    subst (λ (generation : ℕ). LeavesBe c.args.land.now c.make_node.new.land (g.D.Disk.history c.args.disk.now)
+    (g.D.Disk.history c.make_node.new.disk) (g.D.Disk.size c.args.disk.now) (g.D.Disk.size c.make_node.new.disk) generation)
+    (leaf-dated c.empty_leaf-node.result c.args.next c.args.sub 0 c.empty_leaf-node.ensures.leaf)
+    c.make_node.ensures.rests
 
 pub returns-in-Some-clause-reads : goal.returns-in-Some-clause-reads
 returns-in-Some-clause-reads g c = c.make_node.ensures.reads 1 (λ q. omega arith)
@@ -71,12 +69,12 @@ returns-clause-created g c state holds unused =
     let now = c.in_ok-now.now in
     let leaf = c.empty_leaf-node.result in
     let empty = c.empty_leaf-node.ensures.leaf in
-    let rests = c.make_node.ensures.rests in
-    let later : g.D.Disk.history c.make_node.new.disk ≡ history = c.make_node.ensures.disk.0 in
+    let rests = c.make_node.ensures.rests.rests in
+    let later : g.D.Disk.history c.make_node.new.disk ≡ history = c.make_node.ensures.rests.history in
     let fits : made.misfit ≡ None = sym c.misfit.ensures ∙ c.in_default.is in
     let calls : Calls land new history book made c.args.sub c.args.next now = record {
-      tree = c.requires.book;
-      to_come = sym c.requires.next;
+      tree = c.requires.book.0;
+      to_come = sym c.requires.book.1;
       first = subst IsTable c.refs.ensures c.len-ascending.ensures.table;
       leaf = leaf;
       empty = empty;
@@ -84,7 +82,7 @@ returns-clause-created g c state holds unused =
       step = step-one book made (Made now) (c.in_ok-now.ensures.told book [] (Follows-none book));
       fits = fits;
       settled = λ none settled. subst (λ (h : Option (List Event)). IsSettled made new h) later
-          (c.in_ok-now.ensures.settled (λ before. settled) fits);
+          (c.in_ok-now.ensures.book.settled (λ before. settled) fits);
       sizes = rests.sizes;
       runs = rests.runs;
       held_slots = rests.held_slots;
@@ -95,35 +93,30 @@ returns-clause-created g c state holds unused =
     c.in_ok-now.ensures.made.puts.free new made c.requires.number calls (g.D.Disk.history c.make_node.new.disk) later
     c.at.result c.at.ensures
 
-pub returns-clause-book : goal.returns-clause-book
-returns-clause-book g c =
+pub returns-clause-begun : goal.returns-clause-begun
+returns-clause-begun g c =
     let book = c.args.book.now in
     let made = c.make_node.new.book in
     let now = c.in_ok-now.now in
     let step = step-one book made (Made now) (c.in_ok-now.ensures.told book [] (Follows-none book)) in
     let fits : made.misfit ≡ None = sym c.misfit.ensures ∙ c.in_default.is in
-    goes-made book made now step (fits-step book made (Made now) step fits).1
-
-pub returns-clause-heavier : goal.returns-clause-heavier
-returns-clause-heavier g c =
-    let book = c.args.book.now in
-    let made = c.make_node.new.book in
-    let now = c.in_ok-now.now in
-    let step = step-one book made (Made now) (c.in_ok-now.ensures.told book [] (Follows-none book)) in
-    let fits : made.misfit ≡ None = sym c.misfit.ensures ∙ c.in_default.is in
-    BookGetsHeavier-step book made (Made now) step (subst IsTable c.refs.ensures c.len-ascending.ensures.table)
-    (subst IsTable c.refs-2.ensures c.len-ascending_still.ensures.table)
-    (fits-step book made (Made now) step fits).1
+    record {
+      is = search rules;
+      free = search rules;
+      slots = c.in_ok-now.ensures.takes.count;
+      book = goes-made book made now step (fits-step book made (Made now) step fits).1;
+      heavier = BookGetsHeavier-step book made (Made now) step
+          (subst IsTable c.refs.ensures c.len-ascending.ensures.table)
+          (subst IsTable c.refs-2.ensures c.len-ascending_still.ensures.table)
+          (fits-step book made (Made now) step fits).1;
+    }
 
 pub returns-clause-rests : goal.returns-clause-rests
-returns-clause-rests g c = record {
-  rests = subst
-      (λ (generation : ℕ). Rests c.args.land.now c.make_node.new.land (g.D.Disk.history c.make_node.new.disk) generation)
-      (leaf-dated c.empty_leaf-node.result c.args.next c.args.sub 0 c.empty_leaf-node.ensures.leaf)
-      c.make_node.ensures.rests;
-  history = c.make_node.ensures.disk.0;
-  size = c.make_node.ensures.disk.1;
-}
+returns-clause-rests g c =
+    subst (λ (generation : ℕ). LeavesBe c.args.land.now c.make_node.new.land (g.D.Disk.history c.args.disk.now)
+    (g.D.Disk.history c.make_node.new.disk) (g.D.Disk.size c.args.disk.now) (g.D.Disk.size c.make_node.new.disk) generation)
+    (leaf-dated c.empty_leaf-node.result c.args.next c.args.sub 0 c.empty_leaf-node.ensures.leaf)
+    c.make_node.ensures.rests
 
 pub returns-clause-reads : goal.returns-clause-reads
 returns-clause-reads g c = c.make_node.ensures.reads 1 (λ q. omega arith)

@@ -1,4 +1,4 @@
-use Rattle.std.proofs.Common.{◌≡◌, ℕ, List, [], Option, Some, None, arith, refl, sym, ap, subst, ◌∙◌}
+use Rattle.std.proofs.Common.{◌≡◌, ℕ, List, [], Option, Some, None, arith, refl, rules, sym, ap, subst, ◌∙◌}
 use Rattle.std.proofs.lemmas.Option.{same_Some}
 use Rattle.qg_device.specs.History.{Event}
 use Rattle.qg_node.specs.declared.node.Node.{Node}
@@ -80,8 +80,8 @@ returns-in_err-node-clause-rests g c = record {
   size = c.visit.ensures.read.size;
 }
 
-pub make_node-requires-clause-drafted : goal.make_node-requires-clause-drafted
-make_node-requires-clause-drafted g c =
+pub make_node-requires-clause-ready : goal.make_node-requires-clause-ready
+make_node-requires-clause-ready g c =
     let mid : Ground = record c.args.land.now { blocks = c.visit.new.blocks } in
     let rests = Rests-draft c.args.land.now mid (g.D.Disk.history c.visit.new.disk) c.args.source.now.next
     c.visit.ensures.read.draft c.visit.ensures.read.bound refl c.visit.ensures.readable.backed
@@ -89,7 +89,11 @@ make_node-requires-clause-drafted g c =
     let dated = ap (λ n. (header_of n).generation) c.in_ok-node.ensures.copy
     ∙ node_copy-generation c.peek-root.result.now (header_of c.peek-root.result.now).address c.args.copy c.next.result
     ∙ c.next.ensures in
-    subst (λ (generation : ℕ). IsDrafted mid generation) (sym dated) rests.drafted
+    record {
+      backed = rests.backed;
+      drafted = subst (λ (generation : ℕ). IsDrafted mid generation) (sym dated) rests.drafted;
+      slots = c.requires.slots;
+    }
 
 pub returns-in_err-now-clause-reads : goal.returns-in_err-now-clause-reads
 returns-in_err-now-clause-reads g c =
@@ -160,8 +164,8 @@ returns-clause-copied g c state parents holds has is unused =
     let now = c.in_ok-now.now in
     let peeked = c.peek-root.result.now in
     let read = c.visit.ensures.read in
-    let rests = c.make_node.ensures.rests in
-    let later : g.D.Disk.history c.make_node.new.disk ≡ history = c.make_node.ensures.disk.0 ∙ read.history in
+    let rests = c.make_node.ensures.rests.rests in
+    let later : g.D.Disk.history c.make_node.new.disk ≡ history = c.make_node.ensures.rests.history ∙ read.history in
     let fits : made.misfit ≡ None = sym c.misfit.ensures ∙ c.in_default.is in
     let children : owings_told c.as_slice.result.now ≡ keyed_children peeked c.args.copy =
     ap owings_told c.as_slice.ensures.value ∙ c.in_ok-children.ensures in
@@ -184,7 +188,7 @@ returns-clause-copied g c state parents holds has is unused =
       step = step-one book made (Made now) (c.in_ok-now.ensures.told book [] (Follows-none book));
       fits = fits;
       settled = λ none settled. subst (λ (h : Option (List Event)). IsSettled made new h) later
-          (c.in_ok-now.ensures.settled (λ before. subst (λ (h : Option (List Event)). IsSettled book mid h)
+          (c.in_ok-now.ensures.book.settled (λ before. subst (λ (h : Option (List Event)). IsSettled book mid h)
           (sym read.history) (settled_still book land mid history refl (KeepsLevels-draft land mid read.draft) settled))
           fits);
       gives = subst (λ (owings : List Owing). Gives (book_of made.refs) (book_of given.refs) owings) children
@@ -206,19 +210,8 @@ returns-clause-copied g c state parents holds has is unused =
       next = c.next-2.ensures i;
     }))
 
-pub returns-clause-book : goal.returns-clause-book
-returns-clause-book g c =
-    let book = c.args.book.now in
-    let made = c.make_node.new.book in
-    let given = c.give_all.new.book in
-    let now = c.in_ok-now.now in
-    let step = step-one book made (Made now) (c.in_ok-now.ensures.told book [] (Follows-none book)) in
-    let fits : made.misfit ≡ None = sym c.misfit.ensures ∙ c.in_default.is in
-    goes-given book made now step (fits-step book made (Made now) step fits).1 given
-    (owings_told c.as_slice.result.now) c.in_ok-give_all.ensures.given c.give_all.ensures.others
-
-pub returns-clause-heavier : goal.returns-clause-heavier
-returns-clause-heavier g c =
+pub returns-clause-begun : goal.returns-clause-begun
+returns-clause-begun g c =
     let land = c.args.land.now in
     let book = c.args.book.now in
     let made = c.make_node.new.book in
@@ -226,19 +219,26 @@ returns-clause-heavier g c =
     let peeked = c.peek-root.result.now in
     let now = c.in_ok-now.now in
     let visited = c.in_ok-visit.ensures.visited in
+    let step = step-one book made (Made now) (c.in_ok-now.ensures.told book [] (Follows-none book)) in
+    let fits : made.misfit ≡ None = sym c.misfit.ensures ∙ c.in_default.is in
     let children : owings_told c.as_slice.result.now ≡ keyed_children peeked c.args.copy =
     ap owings_told c.as_slice.ensures.value ∙ c.in_ok-children.ensures in
     let same : visited.node ≡ peeked = same_Some visited.node peeked (sym visited.is ∙ c.peek-root.ensures) in
     let sound : IsNode land.space.sizes.nodesize peeked =
     subst (λ (node : Node). IsNode land.space.sizes.nodesize node) same
     (subst (λ (size : ℕ). IsNode size visited.node) c.requires.editable.drafted.sizes.nodesize visited.kept.sound) in
-    heavier-then book made given now (step-one book made (Made now)
-    (c.in_ok-now.ensures.told book [] (Follows-none book)))
-    (sym c.misfit.ensures ∙ c.in_default.is) peeked c.args.copy land.space.sizes.nodesize sound
-    (subst (λ (owings : List Owing). Gives (book_of made.refs) (book_of given.refs) owings) children
-    c.in_ok-give_all.ensures.given) c.give_all.ensures.others
-    (subst IsTable c.refs.ensures c.len-ascending.ensures.table)
-    (subst IsTable c.refs-2.ensures c.len-ascending_still.ensures.table)
+    record {
+      is = search rules;
+      free = search rules;
+      slots = search rules;
+      book = goes-given book made now step (fits-step book made (Made now) step fits).1 given
+          (owings_told c.as_slice.result.now) c.in_ok-give_all.ensures.given c.give_all.ensures.others;
+      heavier = heavier-then book made given now step fits peeked c.args.copy land.space.sizes.nodesize sound
+          (subst (λ (owings : List Owing). Gives (book_of made.refs) (book_of given.refs) owings) children
+          c.in_ok-give_all.ensures.given) c.give_all.ensures.others
+          (subst IsTable c.refs.ensures c.len-ascending.ensures.table)
+          (subst IsTable c.refs-2.ensures c.len-ascending_still.ensures.table);
+    }
 
 pub returns-clause-reads : goal.returns-clause-reads
 returns-clause-reads g c =

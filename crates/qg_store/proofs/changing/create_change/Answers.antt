@@ -5,8 +5,8 @@ use Rattle.qg_device.specs.History.{Event}
 use Rattle.qg_image.specs.State.{State}
 use Rattle.qg_extents.specs.Table.{IsTable}
 use Rattle.qg_ground.specs.declared.ground.Ground.{Ground}
+use Rattle.qg_ground.specs.Calls.{LeavesBe}
 use Rattle.qg_tree_edits.specs.Editing.{IsEditable}
-use Rattle.qg_tree_edits.specs.Rooting.{LeavesBe}
 use Rattle.qg_tree_refs.specs.Heavier.{BookGetsHeavier, node_bytes}
 use Rattle.qg_tree_refs.specs.declared.tree_refs.TreeRefs.{TreeRefs}
 use Rattle.qg_forest.specs.Standing.{HoldsState}
@@ -43,11 +43,13 @@ by_false : (b : Bool) → not b ≡ false → b ≡ true
 by_false true is = refl
 by_false false is = absurd (true≢false is)
 
-pub create-requires-clause-next : goal.create-requires-clause-next
-create-requires-clause-next g c =
-    ap (λ (r : TreeRefs). r.next) c.stand_for.ensures ∙ sym c.next.ensures
-    ∙ eqb-true c.next.result c.next-next.result
-    (by_false (c.next.result == c.next-next.result) (sym c.ne.ensures ∙ c.if-ne.false))
+pub create-requires-clause-book : goal.create-requires-clause-book
+create-requires-clause-book g c = (
+  ap (λ (r : TreeRefs). r.tree) c.stand_for.ensures,
+  ap (λ (r : TreeRefs). r.next) c.stand_for.ensures ∙ sym c.next.ensures
+      ∙ eqb-true c.next.result c.next-next.result
+      (by_false (c.next.result == c.next-next.result) (sym c.ne.ensures ∙ c.if-ne.false)),
+)
 
 pub create-requires-clause-slots : goal.create-requires-clause-slots
 create-requires-clause-slots g c = let room = c.requires.room.free in omega (arith, room)
@@ -150,7 +152,7 @@ returns-clause-kept g c =
     c.requires.number c.requires.few
     (subst (λ (n : ℕ). LeavesBe kept.fs.land c.create.new.land history after bytes left n) c.next-next.ensures
     c.in_ok-tree.ensures.rests)
-    (made_next tree c.args.sub next kept.fs.tree.next c.next-next.ensures c.in_ok-tree.ensures.tree.0)
+    (made_next tree c.args.sub next kept.fs.tree.next c.next-next.ensures c.in_ok-tree.ensures.begun.is)
     (ap (λ (k : Kept). k.fs.others.items) group.rest ∙ added.trees)
     (made_snapshots kept new tree c.new.result c.new.ensures (ap (λ (k : Kept). k.snapshots) group.rest ∙ added.snapshots))
     (quota-created kept mid new next same c.next-next.ensures group.tracked group.held c.args.sub group.quota)
@@ -181,7 +183,7 @@ returns-clause-changed g c = λ state keeps none.
     c.requires.kept c.requires.number c.requires.few
     (subst (λ (n : ℕ). LeavesBe kept.fs.land c.create.new.land history after bytes left n) c.next-next.ensures
     c.in_ok-tree.ensures.rests)
-    (made_next tree c.args.sub next kept.fs.tree.next c.next-next.ensures c.in_ok-tree.ensures.tree.0)
+    (made_next tree c.args.sub next kept.fs.tree.next c.next-next.ensures c.in_ok-tree.ensures.begun.is)
     (ap (λ (k : Kept). k.fs.others.items) group.rest ∙ added.trees)
     (made_snapshots kept new tree c.new.result c.new.ensures (ap (λ (k : Kept). k.snapshots) group.rest ∙ added.snapshots))
     (quota-created kept mid new next same c.next-next.ensures group.tracked group.held c.args.sub group.quota)
@@ -194,7 +196,7 @@ returns-clause-changed g c = λ state keeps none.
     (subst IsTable c.refs-2.ensures c.len-ascending_still.ensures.table))
     made.1 made.2 made.3
     (subst (λ (b : TreeRefs). BookGetsHeavier b c.create.new.book node_bytes) c.stand_for.ensures
-    c.in_ok-tree.ensures.heavier)
-    c.in_ok-tree.ensures.slots
+    c.in_ok-tree.ensures.begun.heavier)
+    c.in_ok-tree.ensures.begun.slots
     (known-now kept c.args.sub c.stand_for.new.self c.create.new.book c.stand_for.ensures
-    keeps.keeps.holds.stands.book.next c.in_ok-tree.ensures.book)
+    keeps.keeps.holds.stands.book.next c.in_ok-tree.ensures.begun.book)

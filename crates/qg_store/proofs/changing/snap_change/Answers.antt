@@ -144,7 +144,7 @@ returns-clause-kept g c =
     kept-snapped kept new land c.snapshot.new.book (g.D.Disk.history c.args.disk.now)
     (g.D.Disk.history c.snapshot.new.disk) (g.D.Disk.size c.args.disk.now) (g.D.Disk.size c.snapshot.new.disk)
     c.args.sub c.args.copy parents tree c.requires.kept c.requires.hand c.requires.number c.requires.listed.few
-    c.in_ok-tree.ensures.rests c.in_ok-tree.ensures.tree.0
+    c.in_ok-tree.ensures.rests c.in_ok-tree.ensures.begun.is
     (marked_others kept mid new land now c.args.sub stamp tree c.mark_snapshot.ensures
     (ap (λ (k : Kept). k.fs.others.items) group.rest ∙ added.trees))
     (marked_snapshots kept mid new land now c.args.sub stamp tree c.mark_snapshot.ensures c.requires.hand
@@ -180,7 +180,7 @@ returns-clause-changed g c = λ state keeps none.
     (number-new kept state history c.args.copy c.requires.kept.fitted keeps c.requires.number) in
     changed-snapped kept new land c.snapshot.new.book history (g.D.Disk.history c.snapshot.new.disk) bytes
     (g.D.Disk.size c.snapshot.new.disk) c.args.sub c.args.copy parents tree c.requires.kept c.requires.hand
-    c.requires.number c.requires.listed.few c.in_ok-tree.ensures.rests c.in_ok-tree.ensures.tree.0
+    c.requires.number c.requires.listed.few c.in_ok-tree.ensures.rests c.in_ok-tree.ensures.begun.is
     (marked_others kept mid new land now c.args.sub stamp tree c.mark_snapshot.ensures
     (ap (λ (k : Kept). k.fs.others.items) group.rest ∙ added.trees))
     (marked_snapshots kept mid new land now c.args.sub stamp tree c.mark_snapshot.ensures c.requires.hand
@@ -196,7 +196,7 @@ returns-clause-changed g c = λ state keeps none.
     (subst IsTable c.refs-2.ensures c.len-ascending_still.ensures.table))
     (subst (λ (n : ℕ). Snapshots state n parents c.args.copy made.0) c.requires.hand made.1) made.2 made.3
     (subst (λ (b : TreeRefs). BookGetsHeavier b c.snapshot.new.book
-    (node_bytes + capacity kept.fs.land.space.sizes.nodesize)) c.stand_for.ensures c.in_ok-tree.ensures.heavier)
-    c.in_ok-tree.ensures.slots
+    (node_bytes + capacity kept.fs.land.space.sizes.nodesize)) c.stand_for.ensures c.in_ok-tree.ensures.begun.heavier)
+    c.in_ok-tree.ensures.begun.slots
     (known-now kept c.args.copy c.stand_for.new.self c.snapshot.new.book c.stand_for.ensures
-    keeps.keeps.holds.stands.book.next c.in_ok-tree.ensures.book)
+    keeps.keeps.holds.stands.book.next c.in_ok-tree.ensures.begun.book)

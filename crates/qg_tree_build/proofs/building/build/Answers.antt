@@ -40,35 +40,25 @@ nodes-init g c =
       reads = λ most all. omega arith;
     }
 
-pub lay_node-requires-clause-drafted : goal.lay_node-requires-clause-drafted
-lay_node-requires-clause-drafted g c =
+pub lay_node-requires-clause-ready : goal.lay_node-requires-clause-ready
+lay_node-requires-clause-ready g c =
     let laying = c.nodes.invariant.laying in
-    let parts = split-last c.args.land.now c.nodes.land (g.D.Disk.history c.nodes.disk) c.args.owner c.args.next
-    c.nodes.nodes c.remove-node.new.self c.nodes.invariant.laid c.remove-node.result c.is_empty.result c.len-last.result
+    let history = g.D.Disk.history c.nodes.disk in
+    let parts = split-last c.args.land.now c.nodes.land history c.args.owner c.args.next c.nodes.nodes
+    c.remove-node.new.self c.nodes.invariant.laid c.remove-node.result c.is_empty.result c.len-last.result
     c.is_empty.ensures c.nodes-test.true c.len-last.ensures c.remove-node.ensures.taken
     c.remove-node.ensures.left laying in
-    drafted-last c.args.land.now c.nodes.land (g.D.Disk.history c.nodes.disk) c.args.owner c.args.next
-    c.remove-node.new.self c.nodes.invariant.laid c.remove-node.result parts.laying
-
-pub lay_node-requires-clause-sound : goal.lay_node-requires-clause-sound
-lay_node-requires-clause-sound g c =
-    let laying = c.nodes.invariant.laying in
-    let parts = split-last c.args.land.now c.nodes.land (g.D.Disk.history c.nodes.disk) c.args.owner c.args.next
-    c.nodes.nodes c.remove-node.new.self c.nodes.invariant.laid c.remove-node.result c.is_empty.result c.len-last.result
-    c.is_empty.ensures c.nodes-test.true c.len-last.ensures c.remove-node.ensures.taken
-    c.remove-node.ensures.left laying in
-    sound-last c.args.land.now c.nodes.land (g.D.Disk.history c.nodes.disk) c.args.owner c.args.next
-    c.remove-node.new.self c.nodes.invariant.laid c.remove-node.result parts.laying
-
-pub lay_node-requires-clause-free : goal.lay_node-requires-clause-free
-lay_node-requires-clause-free g c =
-    let laying = c.nodes.invariant.laying in
-    let parts = split-last c.args.land.now c.nodes.land (g.D.Disk.history c.nodes.disk) c.args.owner c.args.next
-    c.nodes.nodes c.remove-node.new.self c.nodes.invariant.laid c.remove-node.result c.is_empty.result c.len-last.result
-    c.is_empty.ensures c.nodes-test.true c.len-last.ensures c.remove-node.ensures.taken
-    c.remove-node.ensures.left laying in
-    free-last c.args.land.now c.nodes.land (g.D.Disk.history c.nodes.disk) c.args.owner c.args.next
-    c.remove-node.new.self c.nodes.invariant.laid c.remove-node.result parts.laying
+    let land = c.args.land.now in
+    let laid = c.nodes.invariant.laid in
+    record {
+      backed = laying.rests.backed;
+      drafted = drafted-last land c.nodes.land history c.args.owner c.args.next c.remove-node.new.self laid
+          c.remove-node.result parts.laying;
+      sound = sound-last land c.nodes.land history c.args.owner c.args.next c.remove-node.new.self laid
+          c.remove-node.result parts.laying;
+      free = free-last land c.nodes.land history c.args.owner c.args.next c.remove-node.new.self laid
+          c.remove-node.result parts.laying;
+    }
 
 pub nodes-preserved : goal.nodes-preserved
 nodes-preserved g c =
@@ -82,7 +72,7 @@ nodes-preserved g c =
     let made = c.in_ok-lay_node.ensures in
     let rests = rests-last c.args.land.now c.nodes.land (g.D.Disk.history c.nodes.disk) c.args.owner c.args.next
     c.remove-node.new.self invariant.laid node parts.laying c.lay_node.new.land
-    (g.D.Disk.history c.lay_node.new.disk) made.rests in
+    (g.D.Disk.history c.lay_node.new.disk) made.rests.rests in
     record {
       laid = node ∷ invariant.laid;
       whole = whole-more c.in_ok-nodes.field-0.nodes c.nodes.nodes c.remove-node.new.self invariant.laid node
@@ -90,14 +80,14 @@ nodes-preserved g c =
       laying = laying-more c.args.land.now c.nodes.land (g.D.Disk.history c.nodes.disk) c.args.owner c.args.next
           c.remove-node.new.self invariant.laid node parts.laying c.lay_node.new.land
           (g.D.Disk.history c.lay_node.new.disk) made.made made.takes rests;
-      stands = made.stands;
-      settled = λ settled. made.settled (invariant.settled settled);
+      stands = made.book.stands;
+      settled = λ settled. made.book.settled (invariant.settled settled);
       told = λ before log follows.
           subst (λ (l : List Telling). g.B.Book.follows before l c.lay_node.new.book) (log-more log node invariant.laid)
           (made.told before (log ++ map Made (slots_laid invariant.laid)) (invariant.told before log follows));
-      history = made.disk.0 ∙ invariant.history;
-      size = made.disk.1 ∙ invariant.size;
-      later = let first = invariant.later in let second = made.cause.later in omega (arith, first, second);
+      history = made.rests.history ∙ invariant.history;
+      size = made.rests.size ∙ invariant.size;
+      later = let first = invariant.later in let second = made.fails.cause.later in omega (arith, first, second);
       reads = λ most all.
           let late = made.reads in
           let few = all c.nodes.book (address_of node) in

@@ -30,7 +30,8 @@ use Rattle.qg_tree_edits.proofs.Paired.{owned-levelled}
 use Rattle.qg_tree_edits.proofs.PlacedTold.{ok-both}
 use Rattle.qg_tree_edits.proofs.Rejoined.{unbroken-other}
 use Rattle.qg_tree_edits.proofs.Served.{node-drafted, slots-most}
-use Rattle.qg_tree_edits.proofs.Stepped.{LeavesBe-after, cause-handed, cause-last}
+use Rattle.qg_ground.proofs.Calls.{LeavesBe-after}
+use Rattle.qg_tree_edits.proofs.Stepped.{cause-handed, cause-last}
 use Rattle.qg_tree_edits.proofs.Turning.{four-in-row}
 use Rattle.qg_ground.proofs.Owners.{IsOwnedBy-after}
 use Rattle.qg_tree_edits.proofs.Owners.{placed-owners}

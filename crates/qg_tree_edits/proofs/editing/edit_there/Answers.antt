@@ -23,7 +23,8 @@ use Rattle.qg_tree_edits.proofs.Levels.{rewritten-levels, rewritten-space}
 use Rattle.qg_tree_edits.proofs.Paired.{owned-levelled}
 use Rattle.qg_tree_edits.proofs.Rejoined.{unbroken-other}
 use Rattle.qg_tree_edits.proofs.Served.{fresh-leaf, sizes-drafted, slots-most}
-use Rattle.qg_tree_edits.proofs.Stepped.{LeavesBe-after, cause-handed, cause-last, cause-none}
+use Rattle.qg_ground.proofs.Calls.{LeavesBe-after}
+use Rattle.qg_tree_edits.proofs.Stepped.{cause-handed, cause-last, cause-none}
 use Rattle.qg_descent.proofs.Under.{under-leaf}
 use Rattle.qg_ground.proofs.Owners.{IsOwnedBy-after}
 use Rattle.qg_tree_edits.proofs.Owners.{placed-owners, rewritten-owners}

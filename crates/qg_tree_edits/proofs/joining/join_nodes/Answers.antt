@@ -1,5 +1,6 @@
 use Rattle.std.proofs.Common.{◌≡◌, rules, ap, ◌∙◌}
 use Rattle.std.specs.Prelude.{Ok}
+use Rattle.std.proofs.lemmas.Result.{on_err_weaker}
 use Rattle.qg_shape.specs.declared.joining.Joined.TheVariants.{Whole, Parted}
 use Rattle.qg_tree_edits.proofs.Pairs.{AreRewritten-err, AreRewritten-parted, AreRewritten-whole, AreTaken-pair, BreaksNone-joined, IsJoinedThere-err, IsJoinedThere-parted, IsJoinedThere-whole, taken-left, taken-right}
 use Rattle.qg_tree_edits.proofs.joining.join_nodes.Goals.{in_default-via-in-Ok+in_default, in_default-via-in_default}
@@ -60,7 +61,8 @@ returns-in_default-clause-rewritten c =
           let which : w.in_default.field-0 ≡ Parted = search rules in
           AreRewritten-parted c.args.land.now c.take_node-other.new.land c.args.left c.args.right c.nodesize-nodesize.result c.get_mut.result.now c.take_node-other.result c.merge-joined.new.left c.merge-joined.new.right c.merge-joined.result taken (w.in_default.is ∙ ap Ok which) c.merge-joined.ensures.nodes
       | in_default-via-in_default w ↦
-          AreRewritten-err c.args.land.now c.take_node-other.new.land c.args.left c.args.right c.nodesize-nodesize.result c.get_mut.result.now c.take_node-other.result c.merge-joined.new.left c.merge-joined.new.right w.in_default.field-0 c.merge-joined.result taken w.in_default.is c.merge-joined.ensures.left_err c.merge-joined.ensures.right_err
+          AreRewritten-err c.args.land.now c.take_node-other.new.land c.args.left c.args.right c.nodesize-nodesize.result c.get_mut.result.now c.take_node-other.result c.merge-joined.new.left c.merge-joined.new.right w.in_default.field-0 c.merge-joined.result taken w.in_default.is (on_err_weaker c.merge-joined.result (λ same. same.0) c.merge-joined.ensures.err)
+          (on_err_weaker c.merge-joined.result (λ same. same.1) c.merge-joined.ensures.err)
     ]
 
 pub returns-in_default-clause-joined : goal.returns-in_default-clause-joined
@@ -87,4 +89,5 @@ returns-in_default-clause-broken c =
     let taken = AreTaken-pair c.args.land.now c.take_node-other.new.land c.args.left c.args.right c.nodesize-nodesize.result c.get_mut.result.now c.take_node-other.result
     c.requires.apart c.requires.pair c.nodesize-nodesize.ensures c.take_node-other.ensures.taken c.take_node-other.ensures.left c.get_mut.ensures.value in
     names-joined c.args.land.now c.take_node-other.new.land c.args.left c.args.right c.nodesize-nodesize.result c.get_mut.result.now c.take_node-other.result c.merge-joined.new.left c.merge-joined.new.right
-    c.merge-joined.result taken c.merge-joined.ensures.answers c.merge-joined.ensures.left_err c.merge-joined.ensures.right_err
+    c.merge-joined.result taken c.merge-joined.ensures.answers (on_err_weaker c.merge-joined.result (λ same. same.0) c.merge-joined.ensures.err)
+    (on_err_weaker c.merge-joined.result (λ same. same.1) c.merge-joined.ensures.err)

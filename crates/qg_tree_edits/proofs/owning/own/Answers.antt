@@ -25,13 +25,17 @@ visit-requires g c = record {
   };
 }
 
-pub own_node-requires-clause-drafted : goal.own_node-requires-clause-drafted
-own_node-requires-clause-drafted g c =
+pub own_node-requires-clause-ready : goal.own_node-requires-clause-ready
+own_node-requires-clause-ready g c =
     let mid : Ground = record c.args.land.now { blocks = c.visit.new.blocks } in
     let rests = Rests-draft c.args.land.now mid (g.D.Disk.history c.visit.new.disk) c.args.tree.now.next
     c.visit.ensures.read.draft c.visit.ensures.read.bound refl c.visit.ensures.readable.backed
     c.requires.editable.drafted in
-    rw c.next.ensures rests.drafted
+    record {
+      backed = c.visit.ensures.readable.backed;
+      drafted = rw c.next.ensures rests.drafted;
+      slots = c.requires.slots;
+    }
 
 pub returns-clause-owned : goal.returns-clause-owned
 returns-clause-owned g c =
@@ -96,14 +100,14 @@ returns-clause-fails g c =
     record {
       sound = λ node there formed. owned-unbroken c.own_node.result c.visit.new.blocks.draft land.blocks.draft
           (g.D.Disk.history c.visit.new.disk) (g.D.Disk.history c.args.disk.now) at node read.draft read.history
-          (λ some. (c.own_node.ensures.same some).0) c.own_node.ensures.answers there;
+          (λ some. (c.own_node.ensures.same some).0) c.own_node.ensures.fails.answers there;
       broken = λ events told_is. names-none c.own_node.result
           (IsRefused g.P.TreePart.tree c.args.tree.now land c.own_node.new.land events c.args.way.now.expected at)
           (owned-unbroken c.own_node.result c.visit.new.blocks.draft land.blocks.draft
           (g.D.Disk.history c.visit.new.disk) (g.D.Disk.history c.args.disk.now) at visited.node read.draft read.history
-          (λ some. (c.own_node.ensures.same some).0) c.own_node.ensures.answers (visited.tells events told_is));
+          (λ some. (c.own_node.ensures.same some).0) c.own_node.ensures.fails.answers (visited.tells events told_is));
       cause = cause-last (g.D.Disk.faults c.args.disk.now) (g.D.Disk.faults c.visit.new.disk)
-          (g.D.Disk.faults c.own_node.new.disk) c.own_node.result c.visit.ensures.cause.later c.own_node.ensures.cause;
+          (g.D.Disk.faults c.own_node.new.disk) c.own_node.result c.visit.ensures.cause.later c.own_node.ensures.fails.cause;
     }
 
 -- ---- what is left so
@@ -130,9 +134,9 @@ returns-clause-rests g c =
     c.requires.editable.drafted in
     let second = rw c.next.ensures at c.own_node.ensures.rests in
     record {
-      rests = Rests-after land mid c.own_node.new.land later (g.D.Disk.history c.own_node.new.disk) next first second;
-      history = c.own_node.ensures.disk.0 ∙ read.history;
-      size = c.own_node.ensures.disk.1 ∙ read.size;
+      rests = Rests-after land mid c.own_node.new.land later (g.D.Disk.history c.own_node.new.disk) next first second.rests;
+      history = second.history ∙ read.history;
+      size = second.size ∙ read.size;
     }
 
 pub returns-clause-book : goal.returns-clause-book
@@ -141,8 +145,8 @@ returns-clause-book g c =
     let mid : Ground = record land { blocks = c.visit.new.blocks } in
     let read = c.visit.ensures.read in
     record {
-      stands = c.own_node.ensures.stands;
-      settled = λ settled. c.own_node.ensures.settled
+      stands = c.own_node.ensures.book.stands;
+      settled = λ settled. c.own_node.ensures.book.settled
           (g.met.B.Book.keeps c.args.book.now land mid c.args.disk.now c.visit.new.disk read.history refl
           (KeepsLevels-draft land mid read.draft) settled);
     }

@@ -1,5 +1,6 @@
 use Rattle.std.proofs.Common.{◌∙◌, ℕ, subst, sym, ◌≡◌}
 use Rattle.std.specs.Prelude.{Some}
+use Rattle.std.proofs.lemmas.Result.{IfOk-weaker}
 use Rattle.qg_node.specs.declared.node.Node.{Node}
 use Rattle.qg_node.specs.Nodes.{own_items}
 use Rattle.qg_shape.specs.Filled.{HasShortBodies}
@@ -16,7 +17,8 @@ use Rattle.qg_tree_edits.proofs.rewriting.rewrite_leaf.Goals as goal
 pub returns-clause-cut : goal.returns-clause-cut
 returns-clause-cut c node is = IsCutThere-edited c.args.land.now c.args.at c.args.land.now.space.sizes.nodesize c.nodesize-nodesize.result c.get_mut.result.now c.edit_leaf.new.leaf node
     (λ (n : Node). with_items n (edited c.args.edit (own_items n))) c.edit_leaf.result
-    c.get_mut.ensures.value (c.nodesize-nodesize.ensures ∙ c.requires.sizes.nodesize) c.edit_leaf.ensures.edited c.edit_leaf.ensures.rest is
+    c.get_mut.ensures.value (c.nodesize-nodesize.ensures ∙ c.requires.sizes.nodesize) (IfOk-weaker c.edit_leaf.result _ _ (λ rest left. left.cut) c.edit_leaf.ensures.edited)
+    (IfOk-weaker c.edit_leaf.result _ _ (λ rest left. left.rest) c.edit_leaf.ensures.edited) is
 
 -- ---- where a rule is named
 

@@ -23,11 +23,16 @@ use Rattle.qg_tree_edits.proofs.Unfit.{cant-grow}
 use Rattle.qg_tree_edits.specs.Failing.{CantGrow}
 use Rattle.qg_tree_edits.proofs.rooting.grow.Goals as goal
 
-pub make_node-requires-clause-drafted : goal.make_node-requires-clause-drafted
-make_node-requires-clause-drafted g c =
-    subst (λ (n : ℕ). IsDrafted c.args.land.now n)
-    (sym (ap (λ (n : Node). (header_of n).generation) c.in_ok-node.ensures.above ∙ c.next.ensures))
-    c.requires.ready.editable.drafted
+pub make_node-requires-clause-ready : goal.make_node-requires-clause-ready
+make_node-requires-clause-ready g c =
+    let ready = c.requires.ready in
+    record {
+      backed = ready.editable.backed;
+      drafted = subst (λ (n : ℕ). IsDrafted c.args.land.now n)
+          (sym (ap (λ (n : Node). (header_of n).generation) c.in_ok-node.ensures.above ∙ c.next.ensures))
+          ready.editable.drafted;
+      slots = ready.slots;
+    }
 
 pub make_node-requires-clause-sound : goal.make_node-requires-clause-sound
 make_node-requires-clause-sound g c =
@@ -74,7 +79,7 @@ returns-clause-rooted g c items stands =
     let second = fresh-held land.blocks c.args.more other.node c.peek-2.result.now other.here c.peek-2.ensures in
     let level = ap (λ (n : ℕ). n + 1) c.height-2.ensures ∙ add-one root.height in
     let dated = ap (λ (n : Node). (header_of n).generation) c.in_ok-node.ensures.above ∙ c.next.ensures in
-    let rests = subst (λ (n : ℕ). Rests land new later n) dated c.make_node.ensures.rests in
+    let rests = subst (λ (n : ℕ). Rests land new later n) dated c.make_node.ensures.rests.rests in
     record {
       rooted = subst (λ (r : Root). HasRoot tree root r land new history (two c.args.now c.args.more) items)
           (sym c.rise_to.ensures)
@@ -145,11 +150,11 @@ returns-in_err-root-clause-fails g c =
     let p = err_from_is_err_and c.from_residual-in_err-root.result c.from_residual-in_err-root.ensures.1 in
     let fault = c.in_err-root.field-0.0 in
     let old = g.D.Disk.faults c.args.disk.now in
-    let none = c.in_err-root.ensures.no_image in
+    let none = c.in_err-root.ensures.fails.sound in
     rw (p.1, p.2) (record {
       sound = λ events told_is items stands low. unbroken-other ℕ (Unit {0}) fault (none events told_is);
       broken = λ events told_is. names-none_other ℕ (Unit {0}) fault (CantGrow c.args.tree.now c.make_node.new.land)
           (none events told_is);
       cause = cause-handed ℕ (Unit {0}) old old (g.D.Disk.faults c.make_node.new.disk) fault (omega arith)
-          c.in_err-root.ensures.cause;
+          c.in_err-root.ensures.fails.cause;
     })

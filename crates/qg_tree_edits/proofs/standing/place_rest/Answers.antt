@@ -1,9 +1,10 @@
-use Rattle.std.proofs.Common.{◌≡◌, ℕ, ap, refl, subst, sym, ◌∙◌}
+use Rattle.std.proofs.Common.{◌≡◌, ℕ, ap, refl, rules, subst, sym, ◌∙◌}
 use Rattle.qg_node.specs.declared.node.Node.{Node}
 use Rattle.qg_node.specs.Nodes.{header_of}
 use Rattle.qg_node.specs.NodeText.{IsNode}
 use Rattle.qg_ground.specs.Changes.{Makes}
-use Rattle.qg_ground.specs.Land.{IsDrafted, Rests}
+use Rattle.qg_ground.specs.Calls.{LeavesBe}
+use Rattle.qg_ground.specs.Land.{IsDrafted}
 use Rattle.qg_tree_edits.specs.Editing.{with_owner}
 use Rattle.qg_tree_edits.proofs.Placed.{Moves-made, StandsInstead-made}
 use Rattle.qg_tree_edits.proofs.PlacedBehind.{IsNode-with_owner, with_owner-generation, with_owner-level}
@@ -16,11 +17,15 @@ generation_of_put : (owner generation : ℕ) (node put : Node) → put ≡ with_
 generation_of_put owner generation node put is dated =
     ap (λ (n : Node). (header_of n).generation) is ∙ with_owner-generation owner node ∙ dated
 
-pub make_node-requires-clause-drafted : goal.make_node-requires-clause-drafted
-make_node-requires-clause-drafted g c =
+pub make_node-requires-clause-ready : goal.make_node-requires-clause-ready
+make_node-requires-clause-ready g c =
     let dated = generation_of_put c.owner.result c.args.tree.now.next c.in-Some.node c.owned_by.result c.owned_by.ensures
     (rw c.in-Some.is at c.requires.rest.ready).2 in
-    subst (λ (n : ℕ). IsDrafted c.args.land.now n) (sym dated) c.requires.editable.drafted
+    record {
+      backed = c.requires.editable.backed;
+      drafted = subst (λ (n : ℕ). IsDrafted c.args.land.now n) (sym dated) c.requires.editable.drafted;
+      slots = search rules;
+    }
 
 pub make_node-requires-clause-sound : goal.make_node-requires-clause-sound
 make_node-requires-clause-sound g c =
@@ -35,12 +40,9 @@ pub returns-in_err-more-in-Some-clause-rests : goal.returns-in_err-more-in-Some-
 returns-in_err-more-in-Some-clause-rests g c =
     let dated = generation_of_put c.owner.result c.args.tree.now.next c.in-Some.node c.owned_by.result c.owned_by.ensures
     (rw c.in-Some.is at c.requires.rest.ready).2 in
-    record {
-      rests = subst (λ (n : ℕ). Rests c.args.land.now c.make_node.new.land (g.D.Disk.history c.make_node.new.disk) n)
-          dated c.make_node.ensures.rests;
-      history = c.make_node.ensures.disk.0;
-      size = c.make_node.ensures.disk.1;
-    }
+    subst (λ (n : ℕ). LeavesBe c.args.land.now c.make_node.new.land (g.D.Disk.history c.args.disk.now)
+    (g.D.Disk.history c.make_node.new.disk) (g.D.Disk.size c.args.disk.now) (g.D.Disk.size c.make_node.new.disk) n)
+    dated c.make_node.ensures.rests
 
 pub returns-in_err-more-in-Some-clause-reads : goal.returns-in_err-more-in-Some-clause-reads
 returns-in_err-more-in-Some-clause-reads g c most all = c.make_node.ensures.reads most (λ q. all c.args.book.now q)
@@ -72,12 +74,9 @@ pub returns-in_ok-more-in-Some-clause-rests : goal.returns-in_ok-more-in-Some-cl
 returns-in_ok-more-in-Some-clause-rests g c =
     let dated = generation_of_put c.owner.result c.args.tree.now.next c.in-Some.node c.owned_by.result c.owned_by.ensures
     (rw c.in-Some.is at c.requires.rest.ready).2 in
-    record {
-      rests = subst (λ (n : ℕ). Rests c.args.land.now c.make_node.new.land (g.D.Disk.history c.make_node.new.disk) n)
-          dated c.make_node.ensures.rests;
-      history = c.make_node.ensures.disk.0;
-      size = c.make_node.ensures.disk.1;
-    }
+    subst (λ (n : ℕ). LeavesBe c.args.land.now c.make_node.new.land (g.D.Disk.history c.args.disk.now)
+    (g.D.Disk.history c.make_node.new.disk) (g.D.Disk.size c.args.disk.now) (g.D.Disk.size c.make_node.new.disk) n)
+    dated c.make_node.ensures.rests
 
 pub returns-in_ok-more-in-Some-clause-reads : goal.returns-in_ok-more-in-Some-clause-reads
 returns-in_ok-more-in-Some-clause-reads g c most all = c.make_node.ensures.reads most (λ q. all c.args.book.now q)

@@ -7,7 +7,7 @@ use Rattle.tests_of_files.proofs.snap.make_both.Goals as goal
 pub snapshot-requires-clause-editable : goal.snapshot-requires-clause-editable
 snapshot-requires-clause-editable g c =
     let left = c.create.ensures.rests in
-    let next = ap (λ (tree : Root). tree.next) c.in_ok-tree.ensures.tree.0 in
+    let next = ap (λ (tree : Root). tree.next) c.in_ok-tree.ensures.begun.is in
     record {
       backed = left.rests.backed;
       drafted = subst (λ (generation : ℕ). IsDrafted c.create.new.land generation) (sym next) left.rests.drafted;

@@ -27,13 +27,6 @@ kept-in : (inside store : Stored) (state : State) (history : Option (List Event)
 kept-in inside store state history is keeps =
     subst (λ (s : Stored). IsKeptOf s.kept state history) (sym is) keeps.keeps
 
-pub returns-in-Err-clause-sound : goal.returns-in-Err-clause-sound
-returns-in-Err-clause-sound g c = λ state events store told.
-    let history = g.D.Disk.history c.args.disk.now in
-    let keeps = kept-in _ c.args.self.now state history c.self.view_is store in
-    ap is_of_image c.stop_of-stop.ensures
-    ∙ of-no-rule c.in-Err.fault (c.in-Err.ensures.sound state events told keeps)
-
 -- where a command doesn't come to the disk of a store
 comes-none : (inside store : Stored) (command : Command) → inside ≡ store → store.stopped ≡ None
     → (ComesToDisk store command → ⊥) → comes_to_disk command ≡ true → (command ≡ Commit → 0 < inside.kept.pending) → ⊥
@@ -54,15 +47,24 @@ returns-in-Err-clause-still g c = λ none. c.in-Err.ensures.still
     (comes-none _ c.args.self.now c.args.command.now c.self.view_is
     (ap (λ (s : Stored). s.stopped) (sym c.self.view_is) ∙ c.in_default.is) none)
 
-pub returns-in-Ok-clause-so_far : goal.returns-in-Ok-clause-so_far
-returns-in-Ok-clause-so_far g c = λ state events store told.
+pub returns-in-Ok-clause-machine : goal.returns-in-Ok-clause-machine
+returns-in-Ok-clause-machine g c = λ state events store told.
     let keeps = kept-in _ c.args.self.now state (g.D.Disk.history c.args.disk.now) c.self.view_is store in
-    c.in-Ok.ensures.so_far state events keeps told
+    record {
+      step = c.in-Ok.ensures.step state events keeps told;
+      so_far = c.in-Ok.ensures.so_far state events keeps told;
+      sound = tt;
+    }
 
-pub returns-in-Err-clause-so_far : goal.returns-in-Err-clause-so_far
-returns-in-Err-clause-so_far g c = λ state events store told.
+pub returns-in-Err-clause-machine : goal.returns-in-Err-clause-machine
+returns-in-Err-clause-machine g c = λ state events store told.
     let keeps = kept-in _ c.args.self.now state (g.D.Disk.history c.args.disk.now) c.self.view_is store in
-    c.in-Err.ensures.so_far state events keeps told
+    record {
+      step = tt;
+      so_far = c.in-Err.ensures.so_far state events keeps told;
+      sound = ap is_of_image c.stop_of-stop.ensures
+          ∙ of-no-rule c.in-Err.fault (c.in-Err.ensures.sound state events told keeps);
+    }
 
 -- ---- crashes
 

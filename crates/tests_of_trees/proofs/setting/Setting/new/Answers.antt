@@ -14,8 +14,8 @@ invariant_of-result g c =
     let new = c.make_node.new.land in
     let history = g.D.Disk.history c.make_node.new.disk in
     let bytes = g.D.Disk.size c.make_node.new.disk in
-    let rests = c.make_node.ensures.rests in
-    let room : second_place ≤ bytes = let same = c.make_node.ensures.disk.1 in rw same c.in_ok-lengthen.ensures in
+    let rests = c.make_node.ensures.rests.rests in
+    let room : second_place ≤ bytes = let same = c.make_node.ensures.rests.size in rw same c.in_ok-lengthen.ensures in
     let next : c.tree_at.result.next ≡ 1 = rw c.tree_at.ensures refl in
     let dated = subst (λ (generation : ℕ). Rests old new history generation) (c.empty_leaf-node.ensures ∙ sym next) rests in
     let makes = makes_files c.tree_at.result c.in_ok-root.root 0 1 c.tree_at.ensures (lit≤ tt) in

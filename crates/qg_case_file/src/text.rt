@@ -19,7 +19,7 @@ pub(crate) fn without_comment(line: &str) -> &str {
 }
 
 /// The words of a text, each behind one space but the first.
-pub(crate) fn words_of(alloc: Global, text: &str) -> Result<Vec<String>, AllocError> {
+pub fn words_of(alloc: Global, text: &str) -> Result<Vec<String>, AllocError> {
     let mut words = Vec::new(alloc);
     for word in text.split(' ') {
         words.push(String::from_str(alloc, word)?)?;

@@ -1,6 +1,6 @@
 // Why a file of cases was not read.
 ghost use Rattle.std.specs.Prelude.{◌≡◌};
-ghost use Rattle.qg_cases.specs.declared.fault.Complaint.TheVariants as complaint;
+ghost use Rattle.qg_case_file.specs.declared.fault.Complaint.TheVariants as complaint;
 
 use std::alloc::{AllocError, AllocFailed};
 use thiserror::Error;

@@ -89,8 +89,8 @@ fn lines_on_groups_have_their_commands(rt: HostRuntime) {
 }
 
 #[test]
-fn lines_that_are_nearly_those_of_groups_have_none(rt: HostRuntime) {
-    let lines: [&[u8]; 52] = [
+fn lines_that_nearly_make_groups_have_no_command(rt: HostRuntime) {
+    let lines: [&[u8]; 31] = [
         b"quota",
         b"quota ",
         b"quota on ",
@@ -122,6 +122,15 @@ fn lines_that_are_nearly_those_of_groups_have_none(rt: HostRuntime) {
         b"qgroup create \xff/1",
         b"qgroup destroy",
         b"qgroup remove 1/1",
+    ];
+    for line in lines {
+        assert_eq!(rt; told(rt.alloc(), line), [16, 0, 0, 0]);
+    }
+}
+
+#[test]
+fn lines_that_nearly_change_groups_have_no_command(rt: HostRuntime) {
+    let lines: [&[u8]; 21] = [
         b"assign",
         b"assign 0/5",
         b"assign 0/5 1",
